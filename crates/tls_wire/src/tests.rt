@@ -1,0 +1,18 @@
+use crate::{Cursor, Short};
+use std::test::Fail;
+
+#[test]
+fn forms_are_read_from_left_to_right(rt: HostRuntime) -> Result<(), Fail> {
+    let input = [1, 2, 3, 2, 0xaa, 0xbb, 0, 0, 0, 9, 0, 1, 7, 0, 5, 1];
+    let mut cursor = Cursor::new(&input);
+    assert_eq!(rt; cursor.u8()?, 1);
+    assert_eq!(rt; cursor.u16()?, 0x0203);
+    assert_eq!(rt; cursor.vec8()?, [0xaa, 0xbb].as_slice());
+    assert_eq!(rt; cursor.u32()?, 9);
+    assert_eq!(rt; cursor.vec16()?, [7].as_slice());
+    assert_eq!(rt; cursor.vec16(), Err(Short { place: 13 }));
+    assert_eq!(rt; cursor.u64(), Err(Short { place: 13 }));
+    assert_eq!(rt; cursor.bytes(4), Err(Short { place: 13 }));
+    assert_eq!(rt; (cursor.place(), cursor.left()), (13, 3));
+    Ok(())
+}
