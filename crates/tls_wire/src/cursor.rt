@@ -4,7 +4,7 @@ ghost use Rattle.std.specs.Prelude.{◌≡◌, length};
 ghost use Rattle.std.specs.Int.{w8, w16, w32, w64};
 ghost use Rattle.byte_forms.specs.Places.{at};
 ghost use Rattle.byte_forms.specs.Readings.{Reads, blamed};
-ghost use Rattle.tls_wire.specs.Reading.{short, bytes_at, number_at, vector_at};
+ghost use Rattle.tls_wire.specs.Reading.{short, bytes_at, number_at, vector_at, hashes_at};
 
 use std::marker::Model;
 
@@ -13,6 +13,25 @@ use std::marker::Model;
 pub struct Short {
     /// The offset in the input at which the form began.
     pub place: usize,
+}
+
+/// Why hashes aren't read. The tests are made in this order.
+#[derive(Clone, Copy, Debug, PartialEq, Eq)]
+pub enum HashesError {
+    /// The vector doesn't fit what is left of the input.
+    Short(Short),
+    /// The vector's length is no multiple of 32.
+    HashLength,
+}
+
+impl From<Short> for HashesError {
+    ghost use Rattle.tls_wire.specs.declared.cursor.HashesError.TheVariants.{Short as NotFitting};
+
+    ghost from_gives = { λ short e. e ≡ NotFitting short };
+
+    fn from(short: Short) -> HashesError {
+        HashesError::Short(short)
+    }
 }
 
 /// A place in an input, from which forms are read one behind the other. What it lends is part of the input.
@@ -146,6 +165,22 @@ impl<'a> Cursor<'a> {
         let mut ahead = self.ahead();
         let count = ahead.u16()?;
         self.bytes_from(ahead, count as usize)
+    }
+
+    /// A length in bytes, of two bytes, and so many bytes of hashes, 32 bytes each. Refuses with `Short` where the
+    /// vector doesn't fit, and then with `HashLength` where its length is no multiple of 32.
+    #[tactic(auto, unfolding(crate::specs::Reading::hashes_at))]
+    pub fn hashes(&mut self) -> Result<&'a [[u8; 32]], HashesError>
+        ensures { Reads (λ hashes. hashes.now) hashes_at self.old result self.new }
+    {
+        let mut ahead = self.ahead();
+        let bytes = ahead.vec16()?;
+        let (hashes, left_over) = bytes.as_chunks::<32>();
+        if !left_over.is_empty() {
+            return Err(HashesError::HashLength);
+        }
+        *self = ahead;
+        Ok(hashes)
     }
 
     /// A second cursor at this place.

@@ -7,5 +7,5 @@ mod laws;
 #[cfg(test)]
 mod tests;
 
-pub use cursor::{Cursor, Short};
+pub use cursor::{Cursor, HashesError, Short};
 pub use laws::{numbers_are_read_as_spelled, vectors_are_read_as_spelled};
