@@ -41,7 +41,7 @@ pub fn evaluate<H: TreeHash>(
     let mut last = end - 1 - start;
     let mut node = *leaf;
     let mut used = 0;
-    while last > 0 {
+    'levels: while last > 0 {
         if place % 2 == 1 || place < last {
             if used == path.len() {
                 return Err(EvalError::WrongLength);
@@ -52,9 +52,8 @@ pub fn evaluate<H: TreeHash>(
         place /= 2;
         last /= 2;
     }
-    if used == path.len() {
-        Ok(node)
-    } else {
-        Err(EvalError::WrongLength)
+    if used < path.len() {
+        return Err(EvalError::WrongLength);
     }
+    Ok(node)
 }
