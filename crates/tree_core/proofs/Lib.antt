@@ -2,3 +2,4 @@ pub mod Powers
 pub mod Subtrees
 pub mod Roots
 pub mod Evaluates
+pub mod Paths

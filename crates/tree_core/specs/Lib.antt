@@ -4,3 +4,5 @@ pub mod Subtree
 pub mod Evaluation
 pub mod Toy
 pub mod Laws
+pub mod Path
+pub mod PathLaws

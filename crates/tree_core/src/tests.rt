@@ -58,8 +58,8 @@ const N0_8: [u8; 32] = [
     0xab, 0x9d, 0x82, 0x3a, 0xad, 0x2f, 0x49, 0x60, 0xcf, 0xe3, 0x70, 0xef, 0xf4, 0x60, 0x43, 0x28,
 ];
 
-/// The hashes of nodes over the entries, from the first entry below the node up to the one behind it, by SHA-256, and the
-/// first byte of each by `Toy`.
+/// The hashes of nodes over the entries, from the first entry below the node up to the one behind
+/// it, by SHA-256, and the first byte of each by `Toy`.
 const NODES: [([u8; 32], u8); 11] = [
     (N0_1, 0x00),
     (N1_2, 0x00),
