@@ -3,3 +3,4 @@ pub mod Subtrees
 pub mod Roots
 pub mod Evaluates
 pub mod Paths
+pub mod Covers

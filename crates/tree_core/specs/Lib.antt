@@ -6,3 +6,4 @@ pub mod Toy
 pub mod Laws
 pub mod Path
 pub mod PathLaws
+pub mod Cover

@@ -1,6 +1,6 @@
 //! The eight entries that implementations of RFC 6962 and RFC 9162 are tried on.
 
-use crate::{EvalError, Sha, Toy, TreeHash, evaluate, leaf, pair, subtree_ok};
+use crate::{Cover, EvalError, Sha, Span, Toy, TreeHash, cover, evaluate, leaf, pair, subtree_ok};
 use std::process::Abort;
 
 const N0_1: [u8; 32] = [
@@ -134,6 +134,23 @@ fn tells_subtrees(rt: &impl Abort) {
     }
 }
 
+fn covers_intervals(rt: &impl Abort) {
+    let two = |start, middle, end| Cover {
+        first: Span { start, end: middle },
+        second: Some(Span { start: middle, end }),
+    };
+    let one = |start, end| Cover {
+        first: Span { start, end },
+        second: None,
+    };
+    assert_eq!(rt; cover(5, 13), two(4, 8, 13));
+    assert_eq!(rt; cover(0, 8), two(0, 4, 8));
+    assert_eq!(rt; cover(7, 8), one(7, 8));
+    assert_eq!(rt; cover(5, 9), two(4, 8, 9));
+    assert_eq!(rt; cover(1, u64::MAX), two(0, 1 << 63, u64::MAX));
+    assert_eq!(rt; cover(u64::MAX - 1, u64::MAX), one(u64::MAX - 1, u64::MAX));
+}
+
 fn evaluates_paths(rt: &impl Abort) {
     let n5_6 = leaf::<Sha>(b"\x40\x41\x42\x43");
     let cases: [(
@@ -179,5 +196,6 @@ fn evaluates_paths(rt: &impl Abort) {
 fn known_tree(rt: HostRuntime) {
     hashes_known_nodes(&rt);
     tells_subtrees(&rt);
+    covers_intervals(&rt);
     evaluates_paths(&rt);
 }
