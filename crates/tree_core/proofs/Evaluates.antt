@@ -58,12 +58,16 @@ eval-right h m n k a b leaf z q more is m_is n_is =
     ∙ ap (λ i. option_map (λ a. pair_hash h z a) (eval_from_root h i (n - split_of n) leaf q)) place
     ∙ ap (λ i. option_map (λ a. pair_hash h z a) (eval_from_root h a i leaf q)) size
 
+-- a sibling is left over, whatever stands before it
 eval-one_push : (h : List ℕ → List ℕ) (w : List (List ℕ)) (m n : ℕ) (leaf p : List ℕ) → n ≤ 1
     → eval_from_root h m n leaf (w ++ p ∷ []) ≡ None
 eval-one_push h [] m n leaf p one = eval-long h m n leaf p [] one
 eval-one_push h (z ∷ q) m n leaf p one = eval-long h m n leaf z (q ++ p ∷ []) one
 
--- two leaves, or three of which the last: of a path of one sibling
+-- The steps below: r at place m of n joins its sibling p to the node up at place a of c, where m is
+-- child i of a, c is half of n rounded up, and j is 1 where n is even.
+
+-- a path of one sibling in a tree of two leaves
 eval-pair : (h : List ℕ → List ℕ) (r p up : List ℕ) (m n a c i j : ℕ)
     → m ≡ 2 * a + i → n + 1 ≡ 2 * c + j → i ≤ 1 → j ≤ 1 → m + 1 < n + i → c ≤ 1
     → (i ≡ 0 → pair_hash h r p ≡ up) → (1 ≤ i → pair_hash h p r ≡ up)
@@ -84,7 +88,7 @@ eval-pair h r p up m n a c i j m_is n_is i_bit j_bit sibling one left right =
     ∙ sym top)
     (cases_lt m 1)
 
--- a path of one sibling is too short for more leaves
+-- a path of one sibling is too short for more than two leaves
 eval-short_step : (h : List ℕ → List ℕ) (r p up : List ℕ) (m n a c i j : ℕ)
     → m ≡ 2 * a + i → n + 1 ≡ 2 * c + j → i ≤ 1 → j ≤ 1 → m + 1 < n + i → 1 < c
     → eval_from_root h m n r (p ∷ []) ≡ eval_from_root h a c up []
@@ -124,8 +128,7 @@ eval-long_step h r p up z q m n a c i j m_is n_is i_bit j_bit sibling one =
     ∙ sym top)
     (cases_lt m 1)
 
--- The lowest sibling p of a path joins the node r at place m of n with its neighbour to the node
--- up at place a of c. Here m is the first or the second child of a, and c is half of n rounded up
+-- the lowest sibling of any path
 pub eval-step : (h : List ℕ → List ℕ) (r p up : List ℕ) (w : List (List ℕ)) (m n a c i j : ℕ)
     → m ≡ 2 * a + i → n + 1 ≡ 2 * c + j → i ≤ 1 → j ≤ 1 → m + 1 < n + i
     → (i ≡ 0 → pair_hash h r p ≡ up) → (1 ≤ i → pair_hash h p r ≡ up)

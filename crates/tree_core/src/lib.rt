@@ -1,6 +1,7 @@
 //! Merkle tree hashing: the hash function of a tree, the hashes of leaves and of pairs and what
 //! an inclusion path evaluates to, as RFC 9162 (section 2.1) defines them, and which intervals of
-//! a list of entries are subtrees, as the draft on Merkle Tree Certificates defines it.
+//! a list of entries are subtrees and which subtrees cover an interval, as the draft on Merkle
+//! Tree Certificates defines it.
 //!
 //! A hash is 32 bytes. An interval `[start, end)` holds the entries from `start` up to `end`,
 //! without `end`. Contracts see hashes and entries as lists of bytes, and name the function of a
