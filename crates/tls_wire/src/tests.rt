@@ -1,4 +1,5 @@
-use crate::{Cursor, Short};
+use crate::{Cursor, Short, put_bytes, put_u8, put_u16, put_u32, put_u64, put_vec8, put_vec16};
+use mtc_io::Bytes;
 use std::test::Fail;
 
 #[test]
@@ -14,5 +15,22 @@ fn forms_are_read_from_left_to_right(rt: HostRuntime) -> Result<(), Fail> {
     assert_eq!(rt; cursor.u64(), Err(Short { place: 13 }));
     assert_eq!(rt; cursor.bytes(4), Err(Short { place: 13 }));
     assert_eq!(rt; (cursor.place(), cursor.left()), (13, 3));
+    Ok(())
+}
+
+#[test]
+fn forms_are_written_one_behind_the_other(rt: HostRuntime) -> Result<(), Fail> {
+    let mut out = Bytes::new(rt.alloc());
+    put_u8(&mut out, 1)?;
+    put_u16(&mut out, 0x0203)?;
+    put_u32(&mut out, 9)?;
+    put_u64(&mut out, 1 << 32)?;
+    put_bytes(&mut out, &[7])?;
+    put_vec8(&mut out, &[0xaa, 0xbb])?;
+    put_vec16(&mut out, &[5])?;
+    let wanted = [
+        1, 2, 3, 0, 0, 0, 9, 0, 0, 0, 1, 0, 0, 0, 0, 7, 2, 0xaa, 0xbb, 0, 1, 5,
+    ];
+    assert_eq!(rt; out.as_slice(), wanted.as_slice());
     Ok(())
 }
