@@ -1,7 +1,7 @@
 -- Runs of calls of a disk, and what a crash leaves at their moments.
-use Rattle.std.proofs.Common.{◌≡◌, ◌⊎◌, inl, inr, ℕ, ◌≤◌, List, arith}
-use Rattle.disk_core.specs.Disk.{NoNew, Elapses}
-use Rattle.disk_core.specs.Moments.{LeavesOnly, Looks}
+use Rattle.std.proofs.Common.{◌⊎◌, inl, inr, ℕ, ◌≤◌, List, arith}
+use Rattle.disk_core.specs.Disk.{Elapses}
+use Rattle.disk_core.specs.Moments.{LeavesOnly}
 use Rattle.disk_core.specs.declared.disk.Disk.{Ghosts}
 
 module _ {D : Type 0} (g : Ghosts D) where
@@ -20,7 +20,7 @@ module _ {D : Type 0} (g : Ghosts D) where
       → ((c : List ℕ) → g.may_leave new c → P c) → LeavesOnly g old new P
   goes_on old mid new P run call now_is =
       let past_or_now : (t : ℕ) (c : List ℕ) → t ≤ g.moment old → g.left_since new t c → g.left_since mid t c ⊎ g.may_leave new c
-          = λ t c le since. call.nothing_else t c (let a = run.later in omega arith) since in
+      = λ t c le since. call.nothing_else t c (let a = run.later in omega arith) since in
       record {
         later = let a = run.later in let b = call.later in omega arith;
         each = λ c since. elim (past_or_now (g.moment old) c (omega arith) since) [ inl past ↦ run.each c past | inr now ↦ now_is c now ];

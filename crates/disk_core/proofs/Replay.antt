@@ -1,13 +1,11 @@
 -- One call more in the replay of a disk in memory.
-use Rattle.std.proofs.Common.{◌≡◌, ◌⊎◌, inl, inr, ℕ, ◌+◌, ◌<◌, ◌≤◌, Bool, true, false, if◌then◌else◌, ◌∙◌, List, [], ◌∷◌, ◌++◌, length, take, get_or, refl, ap, sym, subst, arith}
+use Rattle.std.proofs.Common.{◌≡◌, inl, inr, ℕ, ◌+◌, ◌<◌, ◌≤◌, Bool, true, false, if◌then◌else◌, ◌∙◌, List, [], ◌∷◌, ◌++◌, length, take, get_or, refl, ap, sym, subst, arith}
 use Rattle.std.proofs.lemmas.List.{take_all, take_more, take-append-le, length_push}
 use Rattle.std.proofs.lemmas.Bool.{cases_lt}
 use Rattle.disk_core.specs.Disk.{overwritten, Torn, Follows, NoNew, Only, Elapses}
 use Rattle.disk_core.specs.Writes.{torn_none}
-use Rattle.disk_core.specs.Replay.{State, settled, after_call, step, run, state_now, state_at, IsImageOf, IsImage, LeftSince}
-use Rattle.disk_core.specs.ReplayLaws.{now_seen}
-use Rattle.disk_core.specs.declared.memory.call.Call.{Call}
-use Rattle.disk_core.specs.declared.memory.call.Call.TheVariants.{Len, Read, Write, Sync}
+use Rattle.disk_core.specs.Replay.{State, settled, step, run, state_now, state_at, IsImage, LeftSince}
+use Rattle.disk_core.specs.declared.memory.call.Call.TheVariants.{Write, Sync}
 use Rattle.disk_core.specs.declared.memory.call.Made.{Made}
 
 run-append : (s : State) (calls : List Made) (made : Made) → run s (calls ++ made ∷ []) ≡ step (run s calls) made
@@ -25,16 +23,20 @@ pub time_pushed : (first : List ℕ) (calls next : List Made) (made : Made) → 
 time_pushed first calls next made is =
     let longer : length next ≡ length calls + 1 = rw is (length_push calls made) in
     let front : (count : ℕ) → count ≤ length calls → state_at first next count ≡ state_at first calls count
-        = λ count le. subst (λ (n : List Made). state_at first n count ≡ state_at first calls count) (sym is)
-            (ap (λ (kept : List Made). run (settled first) kept) (take-append-le count calls (made ∷ []) le)) in
+    = λ count le. subst (λ (n : List Made). state_at first n count ≡ state_at first calls count) (sym is)
+    (ap (λ (kept : List Made). run (settled first) kept) (take-append-le count calls (made ∷ []) le)) in
     record {
       later = omega arith;
       nothing_else = λ t c le since. elim (cases_lt (length calls) since.0) [
-          inl past ↦ inr (subst (λ (kept : List Made). IsImage (run (settled first) kept) c) (take_all since.0 next (let l = since.2 in omega arith)) since.3)
+        | inl past ↦ inr (subst (λ (kept : List Made). IsImage (run (settled first) kept) c) (take_all since.0 next (let l = since.2 in omega arith)) since.3)
         | inr within ↦ inl (since.0, since.1, within, subst (λ (s : State). IsImage s c) (front since.0 within) since.3)
-        ];
-      keeps = λ t c le since. (since.0, since.1, (let l = since.2 in omega arith),
-          subst (λ (s : State). IsImage s c) (sym (front since.0 since.2)) since.3);
+      ];
+      keeps = λ t c le since. (
+        since.0,
+        since.1,
+        (let l = since.2 in omega arith),
+        subst (λ (s : State). IsImage s c) (sym (front since.0 since.2)) since.3,
+      );
     }
 
 -- no call more
@@ -78,12 +80,12 @@ pub written_pushed : (first : List ℕ) (calls next : List Made) (place : ℕ) (
     → live ≡ (state_now first calls).seen → after ≡ overwritten place piece live → after ≡ (state_now first next).seen
 written_pushed first calls next place piece live after is was wrote =
     wrote ∙ ap (overwritten place piece) was
-      ∙ sym (ap (λ (s : State). s.seen) (state_pushed first calls next (record { call = Write place piece; ok = true }) is))
+    ∙ sym (ap (λ (s : State). s.seen) (state_pushed first calls next (record { call = Write place piece; ok = true }) is))
 
 -- the state behind one of the calls, from the one before it
 pub state_more : (first : List ℕ) (calls : List Made) (index : ℕ) (made : Made) → index < length calls → made ≡ get_or calls index made
     → state_at first calls (index + 1) ≡ step (state_at first calls index) made
 state_more first calls index made within is =
     ap (λ (kept : List Made). run (settled first) kept) (take_more calls index made within)
-      ∙ run-append (settled first) (take index calls) (get_or calls index made)
-      ∙ ap (λ (m : Made). step (state_at first calls index) m) (sym is)
+    ∙ run-append (settled first) (take index calls) (get_or calls index made)
+    ∙ ap (λ (m : Made). step (state_at first calls index) m) (sym is)

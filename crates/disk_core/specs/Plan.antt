@@ -1,5 +1,5 @@
 -- Which calls of a disk in memory fail.
-use Rattle.std.specs.Prelude.{◌≡◌, ◌⊎◌, ℕ, ◌+◌, min, Bool, true, false, Contains}
+use Rattle.std.specs.Prelude.{◌≡◌, ◌⊎◌, ◌+◌, min, Bool, true, false, Contains}
 use Rattle.mtc_io.specs.Counts.{last_count, Rose}
 use Rattle.disk_core.specs.declared.memory.plan.Plan.{Plan}
 

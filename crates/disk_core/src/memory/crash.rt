@@ -81,7 +81,12 @@ fn replay(seen: &mut Vec<u8>, image: &mut Vec<u8>, made: &Made, choice: u64) -> 
 }
 
 // One of the images, by the choice.
-pub(crate) fn left(alloc: Global, first: &[u8], calls: &[Made], pick: u64) -> Result<Vec<u8>, Memory>
+pub(crate) fn left(
+    alloc: Global,
+    first: &[u8],
+    calls: &[Made],
+    pick: u64,
+) -> Result<Vec<u8>, Memory>
     ensures { IfOk result (λ image. IsImage (state_now first.now calls.now) image.items) }
 {
     let mut seen = Vec::from_slice(alloc, first)?;

@@ -44,7 +44,12 @@ fn wake(first: &Bytes, live: &mut Vec<u8>, is_live: &mut bool) -> Result<(), Mem
 }
 
 // The write is done and noted, or nothing of it is: so it was over each first content.
-fn write_noted(live: &mut Vec<u8>, calls: &mut Vec<Made>, place: u64, piece: &[u8]) -> Result<(), Memory>
+fn write_noted(
+    live: &mut Vec<u8>,
+    calls: &mut Vec<Made>,
+    place: u64,
+    piece: &[u8],
+) -> Result<(), Memory>
     ensures ok { OnOk result (live.new.items ≡ overwritten place piece.now live.old.items) }
     ensures err { OnErr result (live.new.items ≡ live.old.items) }
     ensures seen { (first : List ℕ) → live.old.items ≡ (state_now first calls.old.items).seen → live.new.items ≡ (state_now first calls.new.items).seen }

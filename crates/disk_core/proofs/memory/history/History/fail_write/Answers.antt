@@ -10,7 +10,7 @@ pub invariant_of-self : goal.invariant_of-self
 invariant_of-self c = record {
   shown = c.args.self.now.shown
       ∙ sym (seen_kept c.args.self.now.first c.args.self.now.calls.items c.push.new.self.items (record { call = Write c.args.place c.in_ok-piece.piece; ok = false })
-          (is_ok c.push.result) (λ s. refl) c.push.ensures.items);
+      (is_ok c.push.result) (λ s. refl) c.push.ensures.items);
 }
 
 pub returns-in_err-push-clause-crash : goal.returns-in_err-push-clause-crash
@@ -19,7 +19,7 @@ returns-in_err-push-clause-crash c = torn_same _ _ _ _ _ c.in_err-push.ensures.i
 pub returns-clause-crash : goal.returns-clause-crash
 returns-clause-crash c =
     subst (λ (piece : List ℕ). Follows (Torn c.args.place (length piece)) (left_of c.args.self.now) (IsImage (state_now c.args.self.now.first c.push.new.self.items)))
-      c.in_ok-piece.ensures (torn_pushed _ _ _ _ _ _ c.in_ok-push.ensures.items)
+    c.in_ok-piece.ensures (torn_pushed _ _ _ _ _ _ c.in_ok-push.ensures.items)
 
 pub returns-clause-time : goal.returns-clause-time
 returns-clause-time c = time_pushed _ _ _ _ c.in_ok-push.ensures.items

@@ -7,7 +7,7 @@ pub invariant_of-self : goal.invariant_of-self
 invariant_of-self c = record {
   shown = c.args.self.now.shown
       ∙ sym (seen_kept c.args.self.now.first c.args.self.now.calls.items c.push.new.self.items (record { call = c.args.call; ok = c.args.ok })
-          (is_ok c.push.result) (λ s. ap (λ (t : State). t.seen) (c.requires s)) c.push.ensures.items);
+      (is_ok c.push.result) (λ s. ap (λ (t : State). t.seen) (c.requires s)) c.push.ensures.items);
 }
 
 pub returns-clause-crash : goal.returns-clause-crash
