@@ -1,0 +1,22 @@
+//! Bytes in and out, with faults counted.
+//!
+//! Everything that the program reads from or writes to is handed in as an object that may fail. Each such object
+//! counts its faults, and a call answers [`Failed`] only where that count rose. So a caller always knows whether
+//! an answer has its cause outside, and never mistakes a fault for an end of input.
+#![tactic(auto)]
+
+mod bytes;
+mod fault;
+mod memory;
+mod sink;
+mod source;
+mod std_streams;
+#[cfg(test)]
+mod tests;
+
+pub use bytes::Bytes;
+pub use fault::{Failed, Memory};
+pub use memory::{MemSink, MemSource};
+pub use sink::{Sink, write_all};
+pub use source::{ReadError, Source, read_all};
+pub use std_streams::{StdSink, StdSource};

@@ -1,0 +1,40 @@
+// Where bytes go.
+ghost use Rattle.std.specs.Prelude.{◌≡◌, ℕ, List, Option, ◌≤◌, ◌<◌, length, IfOk, OnOk, OnErr};
+ghost use Rattle.std.specs.Io.KnownBytes.{WriteAppends, Appends};
+ghost use Rattle.mtc_io.specs.Counts.{Rose, HasCause};
+ghost use Rattle.mtc_io.specs.Streams.{AppendsPrefix};
+
+use crate::fault::Failed;
+
+/// Something that takes bytes, one after the other, and may fail.
+pub trait Sink {
+    /// The bytes taken, where it tells them.
+    ghost taken: { Self → Option (List ℕ) };
+
+    /// How often it has failed. The count never falls.
+    ghost faults: { Self → ℕ };
+
+    /// Takes bytes from the front of a piece, and answers how many: at least 1 where the piece isn't empty.
+    /// `Failed` comes only with a fault, and then nothing was taken.
+    fn write(&mut self, piece: &[u8]) -> Result<usize, Failed>
+        ensures bound { IfOk result (λ count. count ≤ length piece.now) }
+        ensures some { IfOk result (λ count. 0 < length piece.now → 0 < count) }
+        ensures bytes { WriteAppends (taken self.old) (taken self.new) result piece.now }
+        ensures cause { HasCause (faults self.old) (faults self.new) result };
+}
+
+/// Writes a whole piece. `Failed` comes only with a fault of the sink, and then a prefix of the piece was taken.
+#[tactic(auto, using(crate::proofs::Streams::taken_more))]
+pub fn write_all<O: Sink>(sink: &mut O, piece: &[u8]) -> Result<(), Failed>
+    ensures ok { OnOk result (Appends (O.taken sink.old) (O.taken sink.new) piece.now) }
+    ensures cause { HasCause (O.faults sink.old) (O.faults sink.new) result }
+
+    // Of both results, for a caller that doesn't look at it.
+    ensures prefix { AppendsPrefix (O.taken sink.old) (O.taken sink.new) piece.now }
+{
+    let mut done = 0;
+    while done < piece.len() {
+        done += sink.write(&piece[done..])?;
+    }
+    Ok(())
+}
