@@ -71,10 +71,6 @@ type_of_code-typecode W2 = refl
 type_of_code-typecode W4 = refl
 type_of_code-typecode W8 = refl
 
-pub word_at-start : (n : ℕ) (rest : List ℕ) → n < 2 ^ 32 → word_at (to_be_bytes w32 n ++ rest) 0 ≡ n
-unfolding word_at
-word_at-start n rest small = from_be_bytes-to_be_bytes_4 n small
-
 -- the chain's end, reached from where the signature left it
 pub finished_end : (t : OtsType) (id : List ℕ) (q : ℕ) (seed coded s : List ℕ) (i : ℕ)
     → bytes_at s (36 + 32 * i) ≡ signed_link t id q seed coded i
@@ -114,6 +110,30 @@ typecode_small W2 = omega arith
 typecode_small W4 = omega arith
 typecode_small W8 = omega arith
 
+-- what the signature tells of a chain has 32 bytes
+length-signed_link : (t : OtsType) (id : List ℕ) (q : ℕ) (seed coded : List ℕ) (i : ℕ)
+    → length (signed_link t id q seed coded i) ≡ 32
+length-signed_link t id q seed coded i =
+    length-chain (chain_prefix id q i) 0 (digit t coded i) (secret_start id q seed i) (length-secret_start id q seed i)
+
+-- a signature has the length of its type
+pub length-signature : (t : OtsType) (id : List ℕ) (q : ℕ) (seed message : List ℕ)
+    → length (signature t id q seed message) ≡ signature_length t
+unfolding signature
+length-signature t id q seed message =
+    let c = randomizer id q seed in
+    let coded = coded_hash t (message_hash id q c message) in
+    let links = joined (signed_link t id q seed coded) (chains t) in
+    let size = length-secret_start id q seed 65533 in
+    let sizes = length-joined (signed_link t id q seed coded) (chains t) (length-signed_link t id q seed coded) in
+    omega (arith, length-append (to_be_bytes w32 (typecode t) ++ c) links, size, sizes)
+
+-- and begins with its typecode
+pub signature-typecode : (t : OtsType) (id : List ℕ) (q : ℕ) (seed message : List ℕ)
+    → word_at (signature t id q seed message) 0 ≡ typecode t
+unfolding signature word_at
+signature-typecode t id q seed message = from_be_bytes-to_be_bytes_4 (typecode t) (typecode_small t)
+
 -- whatever the secret, the signature of a message yields the public key
 pub signature_yields_key : (t : OtsType) (id seed message : List ℕ) (q : ℕ) → SignatureYieldsKey t id q seed message
 unfolding candidate_of signature public_key
@@ -121,17 +141,14 @@ signature_yields_key t id seed message q =
     let c = randomizer id q seed in
     let coded = coded_hash t (message_hash id q c message) in
     let code = to_be_bytes w32 (typecode t) in
-    let f = signed_link t id q seed coded in
-    let s = code ++ c ++ joined f (chains t) in
-    let four : length code ≡ 4 = refl in
-    let size : length c ≡ 32 = length-secret_start id q seed 65533 in
-    let sizes : (k : ℕ) → length (f k) ≡ 32 = λ k. length-chain _ _ _ _ (length-secret_start id q seed k) in
-    let whole : length s ≡ signature_length t =
-    omega (arith, length-append (code ++ c) (joined f (chains t)), length-append code c, length-joined f (chains t) sizes) in
-    let named : word_at s 0 ≡ typecode t =
-    rw append_assoc (word_at-start (typecode t) (c ++ joined f (chains t)) (typecode_small t)) in
-    let kept : bytes_at s 4 ≡ c = second_part code c (joined f (chains t)) four size in
-    let ends : joined (finished_link t id q coded s) (chains t) ≡ joined (chain_end t id q seed) (chains t) =
-    joined-same _ _ (chains t) (λ i below.
-    finished_end t id q seed coded s i (signature-part code c f (chains t) i four size sizes below)) in
-    candidate_key-whole t id q message s named whole ∙ ap Some (rw (kept, ends) refl)
+    let told = signed_link t id q seed coded in
+    let links = joined told (chains t) in
+    let size = length-secret_start id q seed 65533 in
+    let sizes = length-signed_link t id q seed coded in
+    let kept : bytes_at (code ++ c ++ links) 4 ≡ c = second_part code c links refl size in
+    let whole = candidate_key-whole t id q message (signature t id q seed message)
+        (signature-typecode t id q seed message) (length-signature t id q seed message) in
+    let ends = joined-same (finished_link t id q coded (code ++ c ++ links)) (chain_end t id q seed) (chains t)
+        (λ i below. finished_end t id q seed coded (code ++ c ++ links) i
+            (signature-part code c told (chains t) i refl size sizes below)) in
+    whole ∙ ap Some (rw (kept, ends) refl)
