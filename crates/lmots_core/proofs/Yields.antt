@@ -147,8 +147,8 @@ signature_yields_key t id seed message q =
     let sizes = length-signed_link t id q seed coded in
     let kept : bytes_at (code ++ c ++ links) 4 ≡ c = second_part code c links refl size in
     let whole = candidate_key-whole t id q message (signature t id q seed message)
-        (signature-typecode t id q seed message) (length-signature t id q seed message) in
+    (signature-typecode t id q seed message) (length-signature t id q seed message) in
     let ends = joined-same (finished_link t id q coded (code ++ c ++ links)) (chain_end t id q seed) (chains t)
-        (λ i below. finished_end t id q seed coded (code ++ c ++ links) i
-            (signature-part code c told (chains t) i refl size sizes below)) in
+    (λ i below. finished_end t id q seed coded (code ++ c ++ links) i
+    (signature-part code c told (chains t) i refl size sizes below)) in
     whole ∙ ap Some (rw (kept, ends) refl)

@@ -56,6 +56,13 @@ impl Tree {
         Ok(Tree { key, nodes })
     }
 
+    /// The number of its one-time keys.
+    pub fn leaves(&self) -> u32
+        ensures { result ≡ 2 ^ height self.now.lms }
+    {
+        self.key.lms.leaves()
+    }
+
     /// The public key: both typecodes, the identifier and the root (RFC 8554, section 5.3).
     #[tactic(auto, unfolding(crate::specs::Trees::lms_public))]
     pub fn public(&self) -> [u8; 56]
