@@ -1,4 +1,5 @@
-ghost use Rattle.std.specs.Prelude.{◌≡◌, ◌≤◌, length};
+ghost use Rattle.std.specs.Prelude.{◌≡◌, ◌≤◌, length, IfSome, Some};
+ghost use Rattle.lms_core.specs.Heights.{lms_signature_length};
 ghost use Rattle.lms_core.specs.Refusals.{front_types, front_with};
 
 use crate::heights::LmsType;
@@ -7,7 +8,8 @@ use lmots_core::{OtsType, read_u32};
 // The types of the signature that the bytes begin with, where its one-time type is this one.
 fn front_with(ots: OtsType, bytes: &[u8]) -> Option<(LmsType, OtsType)>
     requires { 8 ≤ length bytes.now }
-    ensures { result ≡ front_with (Some ots) bytes.now }
+    ensures types { result ≡ front_with (Some ots) bytes.now }
+    ensures within { IfSome result (λ k. lms_signature_length k.0 k.1 ≤ length bytes.now) }
 {
     if bytes.len() < 8 + ots.signature_len() {
         return None;
@@ -28,7 +30,8 @@ fn front_with(ots: OtsType, bytes: &[u8]) -> Option<(LmsType, OtsType)>
 /// with no whole signature. What stands behind it is not looked at.
 #[tactic(auto, unfolding(crate::specs::Refusals::front_types))]
 pub fn front(bytes: &[u8]) -> Option<(LmsType, OtsType)>
-    ensures { result ≡ front_types bytes.now }
+    ensures types { result ≡ front_types bytes.now }
+    ensures within { IfSome result (λ k. lms_signature_length k.0 k.1 ≤ length bytes.now) }
 {
     if bytes.len() < 8 {
         return None;
