@@ -47,6 +47,13 @@ impl MemSource {
             faults: 0,
         }
     }
+
+    /// How often it has failed.
+    pub fn faults(&self) -> u64
+        ensures { result ≡ self.now.faults }
+    {
+        self.faults
+    }
 }
 
 impl Source for MemSource {

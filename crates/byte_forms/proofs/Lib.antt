@@ -1,0 +1,5 @@
+pub mod Steps
+pub mod Forms
+pub mod Lists
+pub mod Loops
+pub mod Digits

@@ -1,0 +1,54 @@
+-- Forms: a spelling of values, and the reading that reads exactly the spellings.
+use Rattle.std.specs.Prelude.{◌≡◌, ◌≢◌, ℕ, ◌+◌, List, [], ◌∷◌, ◌++◌, length, Option, Some, None, Result, Ok}
+use Rattle.byte_forms.specs.Places.{At, IsBytes}
+
+-- This text stands at a, and b is the place behind it.
+pub record Stands (a : At) (text : List ℕ) (b : At) : Type 0 where
+  pub parts : a.rest ≡ text ++ b.rest
+  pub place : b.place ≡ a.place + length text
+  pub bytes : IsBytes b.rest
+
+-- What is read is spelled so, and what is spelled so is read again, before each rest that may follow it.
+pub record IsForm {X E : Type 0} (spell : X → List ℕ) (Fits : X → Type 0) (Follows : List ℕ → Type 0) (read : At → Result (X × At) E) : Type 0 where
+  pub takes : (a : At) (x : X) (b : At) → IsBytes a.rest → read a ≡ Ok (x, b) → Stands a (spell x) b × Fits x
+  pub again : (x : X) (place : ℕ) (rest : List ℕ) → Fits x → Follows rest
+      → read (record { place = place; rest = spell x ++ rest }) ≡ Ok (x, record { place = place + length (spell x); rest = rest })
+
+-- Whatever follows: the form has its own end.
+abbrev pub Anything : List ℕ → Type 0
+Anything rest = Unit {0}
+
+-- Nothing follows: the form takes all that is left.
+abbrev pub Nothing : List ℕ → Type 0
+Nothing rest = rest ≡ []
+
+-- What follows doesn't begin with this byte.
+abbrev pub OtherThan : ℕ → List ℕ → Type 0
+OtherThan byte [] = Unit {0}
+OtherThan byte (first ∷ rest) = first ≢ byte
+
+-- The bytes spell some value.
+abbrev pub IsSpelling : {X : Type 0} → (X → List ℕ) → (X → Type 0) → List ℕ → Type 0
+IsSpelling {X} spell Fits bytes = (x : X) × Fits x × (bytes ≡ spell x)
+
+-- Bytes as their own spelling.
+abbrev pub itself : List ℕ → List ℕ
+itself bytes = bytes
+
+-- Two spellings, one behind the other.
+abbrev pub both : {X Y : Type 0} → (X → List ℕ) → (Y → List ℕ) → X × Y → List ℕ
+both first second p = first p.0 ++ second p.1
+
+-- Both values have a spelling.
+abbrev pub FitsBoth : {X Y : Type 0} → (X → Type 0) → (Y → Type 0) → X × Y → Type 0
+FitsBoth First Second p = First p.0 × Second p.1
+
+-- A spelling, or no bytes.
+abbrev pub optional : {X : Type 0} → (X → List ℕ) → Option X → List ℕ
+optional spell None = []
+optional spell (Some x) = spell x
+
+-- Each value has a spelling in view of the keys of those before it.
+abbrev pub FitsEach : {X K : Type 0} → (X → K) → (List K → X → Type 0) → List K → List X → Type 0
+FitsEach key Fits seen [] = Unit {0}
+FitsEach key Fits seen (x ∷ xs) = Fits seen x × FitsEach key Fits (seen ++ key x ∷ []) xs

@@ -1,0 +1,5 @@
+pub mod Places
+pub mod Readings
+pub mod Lists
+pub mod Forms
+pub mod Numbers

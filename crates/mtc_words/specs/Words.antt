@@ -1,0 +1,50 @@
+-- The words of a command, and what they say: the first fault in the order of the tests, or the command.
+use Rattle.std.specs.Prelude.{ℕ, ◌+◌, ◌==◌, Bool, true, List, [], ◌∷◌, length, Option, Some, None, Result, Ok, Err, slice_index_or, if◌then◌else◌}
+use Rattle.mtc_words.specs.declared.error.WordError.{WordError}
+use Rattle.mtc_words.specs.declared.error.WordError.TheVariants.{NoCommand, UnknownCommand, BadWord, WrongCount}
+use Rattle.mtc_words.specs.declared.name.Name.{Name}
+use Rattle.mtc_words.specs.declared.name.Name.TheVariants.{Member}
+use Rattle.mtc_words.specs.Commands.{CommandValue, member}
+use Rattle.mtc_words.specs.Names.{name_of, count_of}
+
+-- empty, or begins with a hyphen
+abbrev pub is_bad_word : List ℕ → Bool
+is_bad_word [] = true
+is_bad_word (first ∷ rest) = first == 45
+
+-- the number of the first bad word, where k is that of the first one
+abbrev pub bad_word : ℕ → List (List ℕ) → Option ℕ
+bad_word k [] = None
+bad_word k (w ∷ ws) = if is_bad_word w then Some k else bad_word (k + 1) ws
+
+-- the fault by the count, which is told only where there is no bad word
+abbrev pub count_fault : ℕ → ℕ → Option ℕ → Option WordError
+count_fault have want (Some k) = Some (BadWord k)
+count_fault have want None = if have == want then None else Some (WrongCount have want)
+
+-- the fault of the words behind a command that wants so many
+unfoldable pub word_fault : ℕ → List (List ℕ) → Option WordError
+word_fault want ws = count_fault (length ws) want (bad_word 1 ws)
+
+-- the word at a place, counted from 0
+abbrev pub word : List (List ℕ) → ℕ → List ℕ
+word ws k = slice_index_or ws k []
+
+-- the command of this name with its words, of which there are as many as it wants
+abbrev pub command_from : Name → List (List ℕ) → Result CommandValue WordError
+command_from Member ws = Ok (member (word ws 0))
+
+-- the fault, or else the command
+abbrev pub unless_fault : {A : Type 0} → Option WordError → Result A WordError → Result A WordError
+unless_fault (Some fault) wanted = Err fault
+unless_fault None wanted = wanted
+
+-- what the words behind a name say
+abbrev pub command_named : Option Name → List (List ℕ) → Result CommandValue WordError
+command_named None ws = Err UnknownCommand
+command_named (Some name) ws = unless_fault (word_fault (count_of name) ws) (command_from name ws)
+
+-- what words say
+unfoldable pub command_of : List (List ℕ) → Result CommandValue WordError
+command_of [] = Err NoCommand
+command_of (w ∷ ws) = command_named (name_of w) ws

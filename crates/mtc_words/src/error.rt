@@ -1,0 +1,28 @@
+use thiserror::Error;
+
+/// Why words are no command. The tests are made in this order. A word's number is counted from 1 behind the
+/// command.
+#[derive(Clone, Copy, Debug, Error, PartialEq, Eq)]
+pub enum WordError {
+    /// There is no word.
+    #[error("no command")]
+    NoCommand,
+    /// The first word is no command.
+    #[error("unknown command")]
+    UnknownCommand,
+    /// The word of this number is empty, or begins with a hyphen.
+    #[error("word {0} is empty or begins with a hyphen")]
+    BadWord(usize),
+    /// There are more or fewer words behind the command than it wants.
+    #[error("{have} words where {want} are wanted")]
+    WrongCount { have: usize, want: usize },
+    /// The word of this number is no number, or lies outside its range.
+    #[error("word {0} is no number of its range")]
+    BadNumber(usize),
+    /// The word of this number is no anchor id.
+    #[error("word {0} is no id")]
+    BadId(usize),
+    /// Memory was refused.
+    #[error("out of memory")]
+    Memory,
+}

@@ -1,0 +1,16 @@
+//! The words of a command: which command they name, whether they are in their form, and what they say.
+//!
+//! All words are positional, and there are no options. Words outside their form are refused, the first fault in
+//! the order of [`WordError`]'s variants.
+#![tactic(auto)]
+
+mod command;
+mod error;
+mod name;
+mod reading;
+#[cfg(test)]
+mod tests;
+
+pub use command::Command;
+pub use error::WordError;
+pub use reading::read_words;

@@ -1,0 +1,72 @@
+ghost use Rattle.std.specs.Prelude.{◌≡◌, length, map, string_bytes, IfNone};
+ghost use Rattle.byte_forms.specs.Readings.{Gives};
+ghost use Rattle.mtc_words.specs.Commands.{command_value};
+ghost use Rattle.mtc_words.specs.Names.{count_of};
+ghost use Rattle.mtc_words.specs.Words.{is_bad_word, bad_word, word_fault, command_from, command_of};
+
+use crate::command::Command;
+use crate::error::WordError;
+use crate::name::{Name, read_name, wanted_count};
+
+fn is_bad(word: &str) -> bool
+    ensures { result ≡ is_bad_word word.now }
+{
+    matches!(word.as_bytes(), [] | [b'-', ..])
+}
+
+// The number of the first bad word.
+fn first_bad(words: &[String]) -> Option<usize>
+    ensures { result ≡ bad_word 1 (map string_bytes words.now) }
+{
+    for (i, word) in words.iter().enumerate() {
+        if is_bad(word.as_str()) {
+            return Some(i + 1);
+        }
+    }
+    None
+}
+
+// The fault of the words behind a command that wants so many.
+#[tactic(auto, unfolding(crate::specs::Words::word_fault))]
+fn fault(words: &[String], want: usize) -> Option<WordError>
+    ensures exact { result ≡ word_fault want (map string_bytes words.now) }
+    ensures counted { IfNone result (length words.now ≡ want) }
+{
+    if let Some(place) = first_bad(words) {
+        return Some(WordError::BadWord(place));
+    }
+    let have = words.len();
+    if have == want {
+        None
+    } else {
+        Some(WordError::WrongCount { have, want })
+    }
+}
+
+// The command of this name with its words, of which there are as many as it wants.
+fn build<'a>(name: Name, words: &'a [String]) -> Result<Command<'a>, WordError>
+    requires { length words.now ≡ count_of name }
+    ensures { Gives command_value result (command_from name (map string_bytes words.now)) }
+{
+    match name {
+        Name::Member => Ok(Command::Member(words[0].as_str())),
+    }
+}
+
+/// Reads the words of a command. Refuses, the first that holds: `NoCommand`, `UnknownCommand`, `BadWord` with the
+/// number of the first word that is empty or begins with a hyphen, `WrongCount`.
+#[tactic(auto, unfolding(crate::specs::Words::command_of))]
+pub fn read_words<'a>(words: &'a [String]) -> Result<Command<'a>, WordError>
+    ensures { Gives command_value result (command_of (map string_bytes words.now)) }
+{
+    let Some((first, rest)) = words.split_first() else {
+        return Err(WordError::NoCommand);
+    };
+    let Some(name) = read_name(first.as_str()) else {
+        return Err(WordError::UnknownCommand);
+    };
+    match fault(rest, wanted_count(name)) {
+        Some(why) => Err(why),
+        None => build(name, rest),
+    }
+}

@@ -1,0 +1,45 @@
+use crate::{Command, WordError, read_words};
+use std::test::Fail;
+
+#[test]
+fn words_are_refused_by_their_first_fault(rt: HostRuntime) -> Result<(), Fail> {
+    let cases: [(&[&str], WordError); 10] = [
+        (&[], WordError::NoCommand),
+        (&["frob"], WordError::UnknownCommand),
+        (&["--help"], WordError::UnknownCommand),
+        (&["", "f"], WordError::UnknownCommand),
+        (&["member"], WordError::WrongCount { have: 0, want: 1 }),
+        (
+            &["member", "f", "g"],
+            WordError::WrongCount { have: 2, want: 1 },
+        ),
+        (&["member", ""], WordError::BadWord(1)),
+        (&["member", "-x"], WordError::BadWord(1)),
+        (&["member", "f", "-x"], WordError::BadWord(2)),
+        (&["member", "", "-x"], WordError::BadWord(1)),
+    ];
+    for (texts, fault) in cases {
+        let mut words = Vec::new(rt.alloc());
+        for text in texts {
+            words.push(String::from_str(rt.alloc(), text)?)?;
+        }
+        match read_words(&words) {
+            Ok(command) => assert!(rt; false, "read as {command:?}"),
+            Err(why) => assert_eq!(rt; why, fault),
+        }
+    }
+    Ok(())
+}
+
+#[test]
+fn a_command_has_its_words(rt: HostRuntime) -> Result<(), Fail> {
+    let words = vec![in rt.alloc();
+        String::from_str(rt.alloc(), "member")?,
+        String::from_str(rt.alloc(), "f")?,
+    ]?;
+    match read_words(&words) {
+        Ok(Command::Member(file)) => assert_eq!(rt; file, "f"),
+        Err(why) => assert!(rt; false, "refused: {why}"),
+    }
+    Ok(())
+}

@@ -1,0 +1,208 @@
+//! Reading from left to right.
+
+ghost use Rattle.std.specs.Prelude.{◌≡◌, length};
+ghost use Rattle.std.specs.Int.{w8, w16, w32, w64};
+ghost use Rattle.byte_forms.specs.Places.{at};
+ghost use Rattle.byte_forms.specs.Readings.{Reads, blamed};
+ghost use Rattle.tls_wire.specs.Reading.{short, bytes_at, number_at, vector_at, hashes_at};
+
+use std::marker::Model;
+
+/// A form that doesn't fit what is left of the input.
+#[derive(Clone, Copy, Debug, PartialEq, Eq)]
+pub struct Short {
+    /// The offset in the input at which the form began.
+    pub place: usize,
+}
+
+/// Why hashes aren't read. The tests are made in this order.
+#[derive(Clone, Copy, Debug, PartialEq, Eq)]
+pub enum HashesError {
+    /// The vector doesn't fit what is left of the input.
+    Short(Short),
+    /// The vector's length is no multiple of 32.
+    HashLength,
+}
+
+impl From<Short> for HashesError {
+    ghost use Rattle.tls_wire.specs.declared.cursor.HashesError.TheVariants.{Short as NotFitting};
+
+    ghost from_gives = { λ short e. e ≡ NotFitting short };
+
+    fn from(short: Short) -> HashesError {
+        HashesError::Short(short)
+    }
+}
+
+/// A place in an input, from which forms are read one behind the other. What it lends is part of the input.
+/// After a refusal it stands where it stood.
+#[derive(Drop)]
+pub struct Cursor<'a> {
+    place: usize,
+    rest: &'a [u8],
+}
+
+impl<'a> Model for Cursor<'a> {
+    ghost use Rattle.std.specs.Prelude.{◌+◌, ◌^◌, ◌<◌, length};
+    ghost use Rattle.byte_forms.specs.Places.{At};
+
+    ghost Value = { At };
+
+    ghost view = { λ c. record { place = c.place; rest = c.rest.now } };
+
+    ghost invariant = { λ c. c.place + length c.rest.now < 2 ^ 64 };
+}
+
+impl<'a> Cursor<'a> {
+    /// The beginning of the input.
+    pub fn new(input: &'a [u8]) -> Cursor<'a>
+        ensures { result ≡ at input.now 0 }
+    {
+        Cursor {
+            place: 0,
+            rest: input,
+        }
+    }
+
+    /// How many bytes of the input stand before this place.
+    pub fn place(&self) -> usize
+        ensures { result ≡ self.now.place }
+    {
+        self.place
+    }
+
+    /// How many bytes are left.
+    pub fn left(&self) -> usize
+        ensures { result ≡ length self.now.rest }
+    {
+        self.rest.len()
+    }
+
+    /// A number of one byte.
+    pub fn u8(&mut self) -> Result<u8, Short>
+        ensures { Reads (λ n. n) (number_at w8) self.old result self.new }
+    {
+        match self.rest.split_first_chunk() {
+            Some((bytes, rest)) => {
+                self.place += 1;
+                self.rest = rest;
+                Ok(u8::from_be_bytes(*bytes))
+            }
+            None => Err(Short { place: self.place }),
+        }
+    }
+
+    /// A number of two bytes.
+    pub fn u16(&mut self) -> Result<u16, Short>
+        ensures { Reads (λ n. n) (number_at w16) self.old result self.new }
+    {
+        match self.rest.split_first_chunk() {
+            Some((bytes, rest)) => {
+                self.place += 2;
+                self.rest = rest;
+                Ok(u16::from_be_bytes(*bytes))
+            }
+            None => Err(Short { place: self.place }),
+        }
+    }
+
+    /// A number of four bytes.
+    pub fn u32(&mut self) -> Result<u32, Short>
+        ensures { Reads (λ n. n) (number_at w32) self.old result self.new }
+    {
+        match self.rest.split_first_chunk() {
+            Some((bytes, rest)) => {
+                self.place += 4;
+                self.rest = rest;
+                Ok(u32::from_be_bytes(*bytes))
+            }
+            None => Err(Short { place: self.place }),
+        }
+    }
+
+    /// A number of eight bytes.
+    pub fn u64(&mut self) -> Result<u64, Short>
+        ensures { Reads (λ n. n) (number_at w64) self.old result self.new }
+    {
+        match self.rest.split_first_chunk() {
+            Some((bytes, rest)) => {
+                self.place += 8;
+                self.rest = rest;
+                Ok(u64::from_be_bytes(*bytes))
+            }
+            None => Err(Short { place: self.place }),
+        }
+    }
+
+    /// So many bytes of the input.
+    pub fn bytes(&mut self, count: usize) -> Result<&'a [u8], Short>
+        ensures { Reads (λ bytes. bytes.now) (bytes_at count) self.old result self.new }
+    {
+        if self.rest.len() < count {
+            return Err(Short { place: self.place });
+        }
+        let (bytes, rest) = self.rest.split_at(count);
+        self.place += count;
+        self.rest = rest;
+        Ok(bytes)
+    }
+
+    /// A length of one byte, and so many bytes. A vector that doesn't fit begins at its length.
+    #[tactic(auto, unfolding(crate::specs::Reading::vector_at))]
+    pub fn vec8(&mut self) -> Result<&'a [u8], Short>
+        ensures { Reads (λ bytes. bytes.now) (vector_at w8) self.old result self.new }
+    {
+        let mut ahead = self.ahead();
+        let count = ahead.u8()?;
+        self.bytes_from(ahead, count as usize)
+    }
+
+    /// A length of two bytes, and so many bytes. A vector that doesn't fit begins at its length.
+    #[tactic(auto, unfolding(crate::specs::Reading::vector_at))]
+    pub fn vec16(&mut self) -> Result<&'a [u8], Short>
+        ensures { Reads (λ bytes. bytes.now) (vector_at w16) self.old result self.new }
+    {
+        let mut ahead = self.ahead();
+        let count = ahead.u16()?;
+        self.bytes_from(ahead, count as usize)
+    }
+
+    /// A length in bytes, of two bytes, and so many bytes of hashes, 32 bytes each. Refuses with `Short` where the
+    /// vector doesn't fit, and then with `HashLength` where its length is no multiple of 32.
+    #[tactic(auto, unfolding(crate::specs::Reading::hashes_at))]
+    pub fn hashes(&mut self) -> Result<&'a [[u8; 32]], HashesError>
+        ensures { Reads (λ hashes. hashes.now) hashes_at self.old result self.new }
+    {
+        let mut ahead = self.ahead();
+        let bytes = ahead.vec16()?;
+        let (hashes, left_over) = bytes.as_chunks::<32>();
+        if !left_over.is_empty() {
+            return Err(HashesError::HashLength);
+        }
+        *self = ahead;
+        Ok(hashes)
+    }
+
+    /// A second cursor at this place.
+    fn ahead(&self) -> Cursor<'a>
+        ensures { result ≡ self.now }
+    {
+        Cursor {
+            place: self.place,
+            rest: self.rest,
+        }
+    }
+
+    /// So many bytes from a place ahead. They are part of the form that begins here.
+    fn bytes_from(&mut self, mut ahead: Cursor<'a>, count: usize) -> Result<&'a [u8], Short>
+        ensures { Reads (λ bytes. bytes.now) (λ a. blamed (short a) (bytes_at count ahead.entry)) self.old result self.new }
+    {
+        match ahead.bytes(count) {
+            Ok(bytes) => {
+                *self = ahead;
+                Ok(bytes)
+            }
+            Err(_) => Err(Short { place: self.place }),
+        }
+    }
+}

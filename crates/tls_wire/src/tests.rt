@@ -1,0 +1,42 @@
+use crate::{Cursor, HashesError, Short};
+use std::test::Fail;
+
+#[test]
+fn forms_are_read_from_left_to_right(rt: HostRuntime) -> Result<(), Fail> {
+    let input = [1, 2, 3, 2, 0xaa, 0xbb, 0, 0, 0, 9, 0, 1, 7, 0, 5, 1];
+    let mut cursor = Cursor::new(&input);
+    assert_eq!(rt; cursor.u8()?, 1);
+    assert_eq!(rt; cursor.u16()?, 0x0203);
+    assert_eq!(rt; cursor.vec8()?, [0xaa, 0xbb].as_slice());
+    assert_eq!(rt; cursor.u32()?, 9);
+    assert_eq!(rt; cursor.vec16()?, [7].as_slice());
+    assert_eq!(rt; cursor.vec16(), Err(Short { place: 13 }));
+    assert_eq!(rt; cursor.u64(), Err(Short { place: 13 }));
+    assert_eq!(rt; cursor.bytes(4), Err(Short { place: 13 }));
+    assert_eq!(rt; (cursor.place(), cursor.left()), (13, 3));
+    Ok(())
+}
+
+#[test]
+fn hashes_have_32_bytes_each(rt: HostRuntime) -> Result<(), Fail> {
+    let mut input = [7; 68];
+    input[0] = 0;
+    input[1] = 64;
+    let mut cursor = Cursor::new(&input);
+    assert_eq!(rt; cursor.hashes()?, [[7; 32], [7; 32]].as_slice());
+    assert_eq!(rt; (cursor.place(), cursor.left()), (66, 2));
+
+    input[1] = 63;
+    let mut cursor = Cursor::new(&input);
+    assert_eq!(rt; cursor.hashes(), Err(HashesError::HashLength));
+    assert_eq!(rt; cursor.place(), 0);
+
+    // What doesn't fit is short, also where its length is no multiple of 32.
+    input[1] = 67;
+    let mut cursor = Cursor::new(&input);
+    assert_eq!(rt;
+        cursor.hashes(),
+        Err(HashesError::Short(Short { place: 0 }))
+    );
+    Ok(())
+}

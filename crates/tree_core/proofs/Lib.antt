@@ -1,0 +1,4 @@
+pub mod Powers
+pub mod Subtrees
+pub mod Roots
+pub mod Evaluates

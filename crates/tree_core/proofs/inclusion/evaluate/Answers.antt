@@ -1,0 +1,56 @@
+use Rattle.std.proofs.Common.{◌≡◌, ◌+◌, ◌%◌, ◌<◌, ◌≤◌, ⊎_elim, inl, inr, refl, sym, ◌∙◌, ap, arith}
+use Rattle.std.specs.Option.{ok_or}
+use Rattle.tree_core.proofs.Evaluates.{EvaluatesFrom-promoted, EvaluatesFrom-step, eval_of-leaf, eval_of-long, eval_of-short, evaluation-no_subtree, evaluation-outside, evaluation-value}
+use Rattle.tree_core.specs.declared.error.EvalError.TheVariants.{WrongLength}
+use Rattle.tree_core.proofs.inclusion.evaluate.Goals as goal
+use Rattle.tree_core.proofs.inclusion.evaluate.Goals.{then-place-eq1+else-used-path, else-place-eq1+else-place-last}
+
+pub returns-then-not-subtree_ok : goal.returns-then-not-subtree_ok
+returns-then-not-subtree_ok g c = sym (evaluation-no_subtree _ _ _ _ _ _ (sym c.if-not-subtree_ok.ensures))
+
+pub returns-then-index-start : goal.returns-then-index-start
+returns-then-index-start g c =
+    sym (evaluation-outside _ _ _ _ _ _ (sym c.if-not-subtree_ok.ensures)
+    (⊎_elim
+    (λ (below : c.args.index < c.args.start). inl below)
+    (λ (above : (c.args.start ≤ c.args.index) × (c.args.end ≤ c.args.index)). inr above.1)
+    c.then-index-start.either))
+
+pub returns-then-used-path : goal.returns-then-used-path
+returns-then-used-path g c =
+    let within = c.loop-last.invariant.within in
+    let short = eval_of-short g.H.TreeHash.hash c.loop-last.place (c.loop-last.last + 1) c.loop-last.node c.args.path.now c.loop-last.used (omega arith) (omega arith) in
+    sym (evaluation-value _ _ _ _ _ _ (sym c.if-not-subtree_ok.ensures) c.if-index-start.false c.if-end-index.false
+    ∙ ap (λ value. ok_or value WrongLength) (sym c.loop-last.invariant.same ∙ short))
+
+pub loop-last-preserved : goal.loop-last-preserved
+loop-last-preserved g c =
+    elim c.if-place-eq1.branch [
+      | then-place-eq1+else-used-path w ↦
+          let within = c.loop-last.invariant.within in
+          let inside = c.loop-last.invariant.inside in
+          let sibling : c.loop-last.place < c.loop-last.last + c.loop-last.place % 2 =
+          ⊎_elim
+          (λ (odd : c.loop-last.place % 2 ≡ 1). omega arith)
+          (λ (more : (c.loop-last.place % 2 ≡ 1 → ⊥) × (c.loop-last.place < c.loop-last.last)). let below = more.1 in omega arith)
+          w.then-place-eq1.either in
+          EvaluatesFrom-step _ _ _ _ _ _ _ _ _ _ _ _ c.loop-last.invariant (let u = w.if-used-path.false in omega arith) refl sibling
+          (w.node-is ∙ w.parent-node.ensures) w.used-is
+      | else-place-eq1+else-place-last w ↦
+          EvaluatesFrom-promoted _ _ _ _ _ _ _ _ _ _ _ c.loop-last.invariant c.loop-last-test.true (let u = w.if-place-eq1.false in omega arith)
+          w.if-place-last.false w.node-is w.used-is
+    ]
+
+pub returns-then-used-path-2 : goal.returns-then-used-path-2
+returns-then-used-path-2 g c =
+    let inside = c.loop-last.invariant.inside in
+    let leaf = eval_of-leaf g.H.TreeHash.hash c.loop-last.place (c.loop-last.last + 1) c.loop-last.node c.args.path.now c.loop-last.used (omega arith) (omega arith) (omega arith) in
+    sym (evaluation-value _ _ _ _ _ _ (sym c.if-not-subtree_ok.ensures) c.if-index-start.false c.if-end-index.false
+    ∙ ap (λ value. ok_or value WrongLength) (sym c.loop-last.invariant.same ∙ leaf))
+
+pub returns-else-used-path-2 : goal.returns-else-used-path-2
+returns-else-used-path-2 g c =
+    let within = c.loop-last.invariant.within in
+    let long = eval_of-long g.H.TreeHash.hash c.loop-last.place (c.loop-last.last + 1) c.loop-last.node c.args.path.now c.loop-last.used (let u = c.if-used-path-2.false in omega arith) (omega arith) in
+    sym (evaluation-value _ _ _ _ _ _ (sym c.if-not-subtree_ok.ensures) c.if-index-start.false c.if-end-index.false
+    ∙ ap (λ value. ok_or value WrongLength) (sym c.loop-last.invariant.same ∙ long))

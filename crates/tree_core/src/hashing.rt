@@ -1,0 +1,54 @@
+ghost use Rattle.std.specs.Prelude.{◌≡◌, ℕ, List, [], ◌++◌, length};
+ghost use Rattle.tree_core.specs.Tree.{leaf_hash, pair_hash};
+
+// What is hashed before an entry, and before the two hashes of a pair, so that no entry has the
+// hash of a pair.
+const LEAF: u8 = 0;
+
+const PAIR: u8 = 1;
+
+/// The hash function of a tree, as a running hash: a value stands for the bytes added so far.
+pub trait TreeHash: Sized {
+    /// The value stands for these bytes.
+    ghost stands_for: { Self → List ℕ → Type 0 };
+
+    /// The type's one function from bytes to a hash.
+    ghost hash: { List ℕ → List ℕ };
+
+    /// A running hash of no bytes.
+    fn begin() -> Self
+        ensures { stands_for result [] };
+
+    /// Adds bytes behind those so far.
+    fn add(&mut self, piece: &[u8])
+        ensures { (bytes : List ℕ) → stands_for self.old bytes → stands_for self.new (bytes ++ piece.now) };
+
+    /// The hash of all bytes so far.
+    fn end(self) -> [u8; 32]
+        ensures { (bytes : List ℕ) → stands_for self bytes → result ≡ hash bytes };
+
+    /// A hash has 32 bytes.
+    ghost sized: { (bytes : List ℕ) → length (hash bytes) ≡ 32 };
+}
+
+/// The hash of an entry as a leaf of a tree: of the byte 0 and the entry (RFC 9162, section 2.1.1).
+pub fn leaf<H: TreeHash>(entry: &[u8]) -> [u8; 32]
+    ensures { result ≡ leaf_hash H.hash entry.now }
+{
+    let mut running = H::begin();
+    running.add(&[LEAF]);
+    running.add(entry);
+    running.end()
+}
+
+/// The hash of the node above two nodes: of the byte 1, the left hash and the right one (RFC 9162,
+/// section 2.1.1).
+pub fn pair<H: TreeHash>(left: &[u8; 32], right: &[u8; 32]) -> [u8; 32]
+    ensures { result ≡ pair_hash H.hash left.now right.now }
+{
+    let mut running = H::begin();
+    running.add(&[PAIR]);
+    running.add(left);
+    running.add(right);
+    running.end()
+}

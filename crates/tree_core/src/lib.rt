@@ -1,0 +1,34 @@
+//! Merkle tree hashing, as RFC 9162 (section 2.1) and the draft on Merkle Tree Certificates (section
+//! 4) define it: the hash function of a tree, the hashes of leaves and of pairs, which intervals of
+//! a list of entries are subtrees, and what an inclusion path of a subtree evaluates to.
+//!
+//! A hash is 32 bytes. An interval `[start, end)` holds the entries from `start` up to `end`, without
+//! `end`. Contracts see hashes and entries as lists of bytes, and name the function of a tree by its
+//! meaning, `H.hash`. No call takes memory.
+//!
+//! ```rust
+//! use tree_core::{evaluate, leaf, Sha};
+//!
+//! // the entry 1 of a list of two, with the hash of entry 0 as its path
+//! let sibling = leaf::<Sha>(b"zero");
+//! let root = evaluate::<Sha>(&leaf::<Sha>(b"one"), 1, 0, 2, &[sibling])?;
+//! ```
+#![tactic(auto)]
+
+mod error;
+mod hashing;
+mod inclusion;
+mod laws;
+mod sha256;
+mod subtree;
+mod sum;
+#[cfg(test)]
+mod tests;
+
+pub use error::EvalError;
+pub use hashing::{TreeHash, leaf, pair};
+pub use inclusion::evaluate;
+pub use laws::{subtrees_by_power, tree_hash_by_clauses};
+pub use sha256::Sha;
+pub use subtree::subtree_ok;
+pub use sum::Toy;
