@@ -1,7 +1,8 @@
 // What is written is read again, and what is read is what would be written.
 ghost use Rattle.std.specs.Prelude.{◌≡◌, ℕ, ◌↔◌, ◌⊎◌, ℤ, List, length, Some};
 ghost use Rattle.cert_time.specs.Calendar.{IsMoment};
-ghost use Rattle.cert_time.specs.Times.{text_moment, text_of, time_contents, time_moment, time_tag};
+ghost use Rattle.cert_time.specs.Texts.{text_moment, text_of};
+ghost use Rattle.cert_time.specs.Times.{time_contents, time_moment, time_tag};
 
 /// Law: each moment has one text, and each text that is read is the text of its moment.
 pub fn one_text()
