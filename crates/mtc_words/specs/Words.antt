@@ -1,5 +1,5 @@
 -- The words of a command, and what they say: the first fault in the order of the tests, or the command.
-use Rattle.std.specs.Prelude.{ℕ, ◌+◌, ◌==◌, Bool, true, List, [], ◌∷◌, length, Option, Some, None, Result, Ok, Err, slice_index_or, if◌then◌else◌}
+use Rattle.std.specs.Prelude.{ℕ, ◌+◌, ◌==◌, Bool, true, List, [], ◌∷◌, length, Option, Some, None, Result, Ok, Err, slice_index_or, is_some, if◌then◌else◌}
 use Rattle.mtc_words.specs.declared.error.WordError.{WordError}
 use Rattle.mtc_words.specs.declared.error.WordError.TheVariants.{NoCommand, UnknownCommand, BadWord, WrongCount}
 use Rattle.mtc_words.specs.declared.name.Name.{Name}
@@ -48,3 +48,8 @@ command_named (Some name) ws = unless_fault (word_fault (count_of name) ws) (com
 unfoldable pub command_of : List (List ℕ) → Result CommandValue WordError
 command_of [] = Err NoCommand
 command_of (w ∷ ws) = command_named (name_of w) ws
+
+-- the first word where it is a command, and else no bytes
+abbrev pub known_word : List (List ℕ) → List ℕ
+known_word [] = []
+known_word (w ∷ ws) = if is_some (name_of w) then w else []

@@ -13,4 +13,4 @@ mod tests;
 
 pub use command::Command;
 pub use error::WordError;
-pub use reading::read_words;
+pub use reading::{command_word, read_words};

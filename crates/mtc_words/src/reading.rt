@@ -2,7 +2,7 @@ ghost use Rattle.std.specs.Prelude.{◌≡◌, length, map, string_bytes, IfNone
 ghost use Rattle.byte_forms.specs.Readings.{Gives};
 ghost use Rattle.mtc_words.specs.Commands.{command_value};
 ghost use Rattle.mtc_words.specs.Names.{count_of};
-ghost use Rattle.mtc_words.specs.Words.{is_bad_word, bad_word, word_fault, command_from, command_of};
+ghost use Rattle.mtc_words.specs.Words.{is_bad_word, bad_word, word_fault, command_from, command_of, known_word};
 
 use crate::command::Command;
 use crate::error::WordError;
@@ -68,5 +68,15 @@ pub fn read_words<'a>(words: &'a [String]) -> Result<Command<'a>, WordError>
     match fault(rest, wanted_count(name)) {
         Some(why) => Err(why),
         None => build(name, rest),
+    }
+}
+
+/// The first word where it is a command, and else an empty text: what a line about the command begins with.
+pub fn command_word(words: &[String]) -> &str
+    ensures { result.now ≡ known_word (map string_bytes words.now) }
+{
+    match words.first() {
+        Some(first) if read_name(first.as_str()).is_some() => first.as_str(),
+        _ => "",
     }
 }
