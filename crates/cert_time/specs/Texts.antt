@@ -1,5 +1,5 @@
 -- Moments as texts: YYYY-MM-DDTHH:MM:SSZ.
-use Rattle.std.specs.Prelude.{if◌then◌else◌, ℤ, List, [], ◌∷◌, ◌++◌, ℕ, codes, Option, None}
+use Rattle.std.specs.Prelude.{if◌then◌else◌, ℤ, List, ◌++◌, ℕ, codes, Option, None}
 use Rattle.cert_time.specs.declared.civil.CivilTime.{CivilTime}
 use Rattle.cert_time.specs.Calendar.{moment_from, civil_of}
 use Rattle.cert_time.specs.Forms.{fits_form, two_at, four_at, two_digits, four_digits}
@@ -14,8 +14,8 @@ text_parts t =
 
 abbrev pub text_with : CivilTime → List ℕ
 text_with c =
-    four_digits c.year ++ (45 ∷ two_digits c.month ++ (45 ∷ two_digits c.day
-    ++ (84 ∷ two_digits c.hour ++ (58 ∷ two_digits c.minute ++ (58 ∷ two_digits c.second ++ 90 ∷ [])))))
+    four_digits c.year ++ (codes "-" ++ (two_digits c.month ++ (codes "-" ++ (two_digits c.day
+    ++ (codes "T" ++ (two_digits c.hour ++ (codes ":" ++ (two_digits c.minute ++ (codes ":" ++ (two_digits c.second ++ codes "Z"))))))))))
 
 -- the moment that a text names: it has the form, and the date and the time of day exist, in 1950 or later
 unfoldable pub text_moment : List ℕ → Option ℤ

@@ -16,6 +16,6 @@ pub fn one_time()
         → (time_moment tag contents ≡ Some z)
         ↔ (IsMoment z × (tag ≡ time_tag z) × (contents ≡ time_contents z)) }
     ensures shape { (z : ℤ)
-        → ((time_tag z ≡ 23) × (length (time_contents z) ≡ 13))
-        ⊎ ((time_tag z ≡ 24) × (length (time_contents z) ≡ 15)) }
+        → ((time_tag z ≡ 0x17) × (length (time_contents z) ≡ 13))
+        ⊎ ((time_tag z ≡ 0x18) × (length (time_contents z) ≡ 15)) }
 {}
