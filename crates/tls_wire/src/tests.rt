@@ -1,4 +1,7 @@
-use crate::{Cursor, HashesError, Short};
+use crate::{
+    Cursor, HashesError, Short, put_bytes, put_u8, put_u16, put_u32, put_u64, put_vec8, put_vec16,
+};
+use mtc_io::Bytes;
 use std::test::Fail;
 
 #[test]
@@ -38,5 +41,22 @@ fn hashes_have_32_bytes_each(rt: HostRuntime) -> Result<(), Fail> {
         cursor.hashes(),
         Err(HashesError::Short(Short { place: 0 }))
     );
+    Ok(())
+}
+
+#[test]
+fn forms_are_written_one_behind_the_other(rt: HostRuntime) -> Result<(), Fail> {
+    let mut out = Bytes::new(rt.alloc());
+    put_u8(&mut out, 1)?;
+    put_u16(&mut out, 0x0203)?;
+    put_u32(&mut out, 9)?;
+    put_u64(&mut out, 1 << 32)?;
+    put_bytes(&mut out, &[7])?;
+    put_vec8(&mut out, &[0xaa, 0xbb])?;
+    put_vec16(&mut out, &[5])?;
+    let wanted = [
+        1, 2, 3, 0, 0, 0, 9, 0, 0, 0, 1, 0, 0, 0, 0, 7, 2, 0xaa, 0xbb, 0, 1, 5,
+    ];
+    assert_eq!(rt; out.as_slice(), wanted.as_slice());
     Ok(())
 }

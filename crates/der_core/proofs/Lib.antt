@@ -1,0 +1,3 @@
+pub mod Loops
+pub mod Integers
+pub mod Sets

@@ -1,0 +1,25 @@
+use Rattle.std.proofs.Common.{refl, sym, false, is_ok, subst, List, ℕ, length, ◌∙◌}
+use Rattle.disk_core.specs.Disk.{Torn, Follows}
+use Rattle.disk_core.specs.History.{left_of}
+use Rattle.disk_core.specs.Replay.{IsImage, state_now}
+use Rattle.disk_core.specs.declared.memory.call.Call.TheVariants.{Write}
+use Rattle.disk_core.proofs.Replay.{torn_pushed, torn_same, seen_kept, time_pushed}
+use Rattle.disk_core.proofs.memory.history.History.fail_write.Goals as goal
+
+pub invariant_of-self : goal.invariant_of-self
+invariant_of-self c = record {
+  shown = c.args.self.now.shown
+      ∙ sym (seen_kept c.args.self.now.first c.args.self.now.calls.items c.push.new.self.items (record { call = Write c.args.place c.in_ok-piece.piece; ok = false })
+      (is_ok c.push.result) (λ s. refl) c.push.ensures.items);
+}
+
+pub returns-in_err-push-clause-crash : goal.returns-in_err-push-clause-crash
+returns-in_err-push-clause-crash c = torn_same _ _ _ _ _ c.in_err-push.ensures.items
+
+pub returns-clause-crash : goal.returns-clause-crash
+returns-clause-crash c =
+    subst (λ (piece : List ℕ). Follows (Torn c.args.place (length piece)) (left_of c.args.self.now) (IsImage (state_now c.args.self.now.first c.push.new.self.items)))
+    c.in_ok-piece.ensures (torn_pushed _ _ _ _ _ _ c.in_ok-push.ensures.items)
+
+pub returns-clause-time : goal.returns-clause-time
+returns-clause-time c = time_pushed _ _ _ _ c.in_ok-push.ensures.items

@@ -1,0 +1,26 @@
+use Rattle.std.proofs.Common.{refl, sym, subst, true, is_ok, ◌∙◌, List, ℕ}
+use Rattle.disk_core.specs.Replay.{IsImage, state_now}
+use Rattle.disk_core.specs.ReplayLaws.{now_seen}
+use Rattle.disk_core.specs.declared.memory.call.Call.TheVariants.{Sync}
+use Rattle.disk_core.proofs.Replay.{sync_pushed, seen_kept, time_pushed}
+use Rattle.disk_core.proofs.memory.history.History.settle.Goals as goal
+
+pub invariant_of-self : goal.invariant_of-self
+invariant_of-self c = record {
+  shown = c.args.self.now.shown
+      ∙ sym (seen_kept c.args.self.now.first c.args.self.now.calls.items c.push.new.self.items (record { call = Sync; ok = true })
+      (is_ok c.push.result) (λ s. refl) c.push.ensures.items);
+}
+
+pub returns-clause-durable : goal.returns-clause-durable
+returns-clause-durable c = sync_pushed _ _ _ c.in_ok-push.ensures.items
+
+pub returns-clause-crash : goal.returns-clause-crash
+returns-clause-crash c = λ image now.
+    let first = c.args.self.now.first in
+    let calls = c.args.self.now.calls.items in
+    subst (λ (bytes : List ℕ). IsImage (state_now first calls) bytes)
+    (sym (sync_pushed first calls _ c.in_ok-push.ensures.items image now)) (now_seen first calls)
+
+pub returns-clause-time : goal.returns-clause-time
+returns-clause-time c = time_pushed _ _ _ _ c.in_ok-push.ensures.items

@@ -1,0 +1,9 @@
+use Rattle.disk_core.specs.Writes.{torn_none}
+use Rattle.disk_core.proofs.Moments.{started, goes_on}
+use Rattle.disk_core.proofs.steps.write_synced.Goals as goal
+
+pub returns-in_err-write_at-clause-any_moment : goal.returns-in_err-write_at-clause-any_moment
+returns-in_err-write_at-clause-any_moment g c =
+    goes_on g.D.Disk _ _ _ _
+    (started g.D.Disk _ _ (g.met.D.Disk.only_now _) (λ i is. (i, is, torn_none _ _ i)))
+    c.write_at.ensures.time c.write_at.ensures.crash

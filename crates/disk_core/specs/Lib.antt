@@ -1,0 +1,11 @@
+pub mod Disk
+pub mod File
+pub mod Fuse
+pub mod History
+pub mod Memory
+pub mod Moments
+pub mod Plan
+pub mod Replay
+pub mod ReplayLaws
+pub mod Same
+pub mod Writes

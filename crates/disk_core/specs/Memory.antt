@@ -1,0 +1,45 @@
+-- What a `MemDisk` shows.
+use Rattle.std.specs.Prelude.{◌≡◌, ℕ, List, []}
+use Rattle.disk_core.specs.History.{seen_of, left_of}
+use Rattle.disk_core.specs.declared.memory.call.Made.{Made}
+use Rattle.disk_core.specs.declared.memory.mem_disk.MemDisk.{MemDisk}
+
+-- what it held at first, and the record of its calls, the oldest first
+abbrev pub first_of : MemDisk → List ℕ
+first_of m = m.past.first
+
+abbrev pub calls_of : MemDisk → List Made
+calls_of m = m.past.calls.items
+
+-- what a read gives, and what a crash now may leave
+abbrev pub bytes_of : MemDisk → List ℕ
+bytes_of m = seen_of m.past
+
+abbrev pub images_of : MemDisk → List ℕ → Type 0
+images_of m = left_of m.past
+
+abbrev pub known_of : MemDisk → ℕ
+known_of m = m.known
+
+-- the number of the next call, and the numbers of those that fail
+abbrev pub made_of : MemDisk → ℕ
+made_of m = m.plan.made
+
+abbrev pub failing_of : MemDisk → List ℕ
+failing_of m = m.plan.failing.items
+
+-- how many calls have failed, and how many of them for want of memory
+abbrev pub faults_of : MemDisk → ℕ
+faults_of m = m.plan.faults
+
+abbrev pub starved_of : MemDisk → ℕ
+starved_of m = m.plan.starved
+
+-- a disk over these bytes that has had no call
+pub record IsFresh (bytes : List ℕ) (m : MemDisk) : Type 0 where
+  pub first : first_of m ≡ bytes
+  pub calls : calls_of m ≡ []
+  pub known : known_of m ≡ 0
+  pub made : made_of m ≡ 0
+  pub faults : faults_of m ≡ 0
+  pub starved : starved_of m ≡ 0

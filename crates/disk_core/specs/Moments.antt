@@ -1,0 +1,19 @@
+-- What a crash leaves over more than one call of a disk.
+use Rattle.std.specs.Prelude.{◌≡◌, ◌⊎◌, ℕ, ◌≤◌, List}
+use Rattle.disk_core.specs.Disk.{NoNew}
+use Rattle.disk_core.specs.declared.disk.Disk.{Ghosts}
+
+-- From one moment of a disk to a later one, a crash at any moment leaves an image that has P.
+pub record LeavesOnly {D : Type 0} (g : Ghosts D) (old new : D) (P : List ℕ → Type 0) : Type 0 where
+  pub later : g.moment old ≤ g.moment new
+  pub each : (c : List ℕ) → g.left_since new (g.moment old) c → P c
+  -- of an earlier moment there is nothing else but what was there before
+  pub before : (t : ℕ) (c : List ℕ) → t ≤ g.moment old → g.left_since new t c → g.left_since old t c ⊎ P c
+
+-- Calls that only look at a disk: what it tells stays, and a crash leaves nothing new at any moment.
+pub record Looks {D : Type 0} (g : Ghosts D) (old new : D) : Type 0 where
+  pub told : g.told new ≡ g.told old
+  pub crash : NoNew (g.may_leave old) (g.may_leave new)
+  pub moments : LeavesOnly g old new (g.may_leave old)
+  pub known : g.known old ≤ g.known new
+  pub faults : g.faults old ≤ g.faults new

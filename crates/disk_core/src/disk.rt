@@ -1,0 +1,94 @@
+// A disk as its user sees it: what a read gives, and what a crash leaves.
+ghost use Rattle.std.specs.Prelude.{◌≡◌, ℕ, ◌+◌, ◌^◌, ◌<◌, ◌≤◌, max, Bool, true, false, List, length, Option, is_some, is_ok, option_map, Some, IfSome, IfOk, OnOk, OnErr, MatchResult};
+ghost use Rattle.mtc_io.specs.Counts.{Rose, HasCause};
+ghost use Rattle.disk_core.specs.Disk.{overwritten, part, Torn, Follows, NoNew, Only, Elapses};
+
+use mtc_io::Failed;
+
+/// One file that keeps bytes over a crash of the machine, or doesn't.
+///
+/// Between two calls of [`Disk::sync`] nothing is certain: a crash may leave any bytes in each written range and past
+/// the old end. After a `sync` that answers Ok it leaves what a read gives.
+pub trait Disk {
+    /// The bytes that a read gives, where the disk tells them.
+    ghost told: { Self → Option (List ℕ) };
+
+    /// The known length: nothing past it is read, and no write begins past it. It is 0 at first.
+    ghost known: { Self → ℕ };
+
+    /// The clock, a number that never falls.
+    ghost moment: { Self → ℕ };
+
+    /// The images that a crash now may leave.
+    ghost may_leave: { Self → List ℕ → Type 0 };
+
+    /// The images that a crash at some moment from that one on might have left, during a call or between two.
+    ghost left_since: { Self → ℕ → List ℕ → Type 0 };
+
+    /// How often the disk has failed.
+    ghost faults: { Self → ℕ };
+
+    /// What a type says beside the rest of one call: of the disk before it, whether it is one of the two calls that
+    /// change a file, whether it was answered Ok, and of the disk after it.
+    ghost turn: { Self → Bool → Bool → Self → Type 0 } = { λ _ _ _ _. Unit {0} };
+
+    /// The number of bytes.
+    fn len(&mut self) -> Result<u64, Failed>
+        ensures length { IfOk result (λ n. IfSome (told self.old) (λ b. n ≡ length b)) }
+        ensures known { MatchResult result (λ n. known self.new ≡ max n (known self.old)) (λ _. known self.new ≡ known self.old) }
+        ensures told { told self.new ≡ told self.old }
+        ensures crash { NoNew (may_leave self.old) (may_leave self.new) }
+        ensures time { Elapses (moment self.old) (moment self.new) (left_since self.old) (left_since self.new) (may_leave self.new) }
+        ensures clock { OnOk result (Rose (moment self.old) (moment self.new)) }
+        ensures cause { HasCause (faults self.old) (faults self.new) result }
+        ensures turn { turn self.old false (is_ok result) self.new };
+
+    /// Fills `out` with the bytes from a place on. Its range ends at or below the known length.
+    fn read_at(&mut self, place: u64, out: &mut [u8]) -> Result<(), Failed>
+        requires { place + length out.old ≤ known self.old }
+        ensures read { OnOk result (IfSome (told self.old) (λ b. out.new ≡ part place (length out.old) b)) }
+        ensures known { known self.new ≡ known self.old }
+        ensures told { told self.new ≡ told self.old }
+        ensures crash { NoNew (may_leave self.old) (may_leave self.new) }
+        ensures time { Elapses (moment self.old) (moment self.new) (left_since self.old) (left_since self.new) (may_leave self.new) }
+        ensures clock { OnOk result (Rose (moment self.old) (moment self.new)) }
+        ensures cause { HasCause (faults self.old) (faults self.new) result }
+        ensures turn { turn self.old false (is_ok result) self.new };
+
+    /// Writes over what is there, and past the end. It begins at or below the known length.
+    fn write_at(&mut self, place: u64, bytes: &[u8]) -> Result<(), Failed>
+        requires place { place ≤ known self.old }
+        requires end { place + length bytes.now < 2 ^ 63 }
+        ensures written { OnOk result (told self.new ≡ option_map (overwritten place bytes.now) (told self.old)) }
+        ensures known { OnOk result (known self.new ≡ max (place + length bytes.now) (known self.old)) }
+        ensures known_err { OnErr result (known self.new ≡ known self.old) }
+        ensures told_err { OnErr result (is_some (told self.new) ≡ is_some (told self.old)) }
+        ensures crash { Follows (Torn place (length bytes.now)) (may_leave self.old) (may_leave self.new) }
+        ensures time { Elapses (moment self.old) (moment self.new) (left_since self.old) (left_since self.new) (may_leave self.new) }
+        ensures clock { OnOk result (Rose (moment self.old) (moment self.new)) }
+        ensures cause { HasCause (faults self.old) (faults self.new) result }
+        ensures turn { turn self.old true (is_ok result) self.new };
+
+    /// After an Ok a crash leaves what a read gives.
+    fn sync(&mut self) -> Result<(), Failed>
+        ensures durable { OnOk result (IfSome (told self.old) (λ b. Only b (may_leave self.new))) }
+        ensures known { known self.new ≡ known self.old }
+        ensures told { told self.new ≡ told self.old }
+        ensures crash { NoNew (may_leave self.old) (may_leave self.new) }
+        ensures time { Elapses (moment self.old) (moment self.new) (left_since self.old) (left_since self.new) (may_leave self.new) }
+        ensures clock { OnOk result (Rose (moment self.old) (moment self.new)) }
+        ensures cause { HasCause (faults self.old) (faults self.new) result }
+        ensures turn { turn self.old true (is_ok result) self.new };
+
+    /// What a read gives is one of the images.
+    ghost reads_image: { (d : Self) (b : List ℕ) → told d ≡ Some b → may_leave d b };
+
+    /// Where the bytes are told, the known length is at most their number.
+    ghost known_there: { (d : Self) (b : List ℕ) → told d ≡ Some b → known d ≤ length b };
+
+    /// This moment is one of those since an earlier one.
+    ghost counts_now: { (d : Self) (t : ℕ) (c : List ℕ) → t ≤ moment d → may_leave d c → left_since d t c };
+
+    /// Since this moment there is no other.
+    ghost only_now: { (d : Self) (c : List ℕ) → left_since d (moment d) c → may_leave d c };
+}

@@ -1,0 +1,114 @@
+// An open file as a disk.
+ghost use Rattle.std.specs.Prelude.{◌≡◌, ◌≤◌, None, IfOk, OnOk};
+ghost use Rattle.mtc_io.specs.Counts.{Rose, HasCause};
+ghost use Rattle.disk_core.specs.File.{file_faults, file_known};
+
+use crate::disk::Disk;
+use mtc_io::Failed;
+use std::fs::File;
+use std::io;
+use std::os::unix::fs::FileExt;
+
+/// An open file. It tells nothing of its bytes, nor of what a crash leaves: that the operating system keeps the rules
+/// of [`Disk`] is taken on trust. It keeps the known length, a clock and a count of its faults.
+#[derive(Debug, Drop)]
+pub struct FileDisk {
+    file: File,
+    known: u64,
+    clock: u64,
+    faults: u64,
+}
+
+impl FileDisk {
+    pub fn new(file: File) -> FileDisk
+        ensures known { file_known result ≡ 0 }
+        ensures faults { file_faults result ≡ 0 }
+    {
+        FileDisk {
+            file,
+            known: 0,
+            clock: 0,
+            faults: 0,
+        }
+    }
+
+    /// How many calls have failed, up to the last value of the count.
+    pub fn faults(&self) -> u64
+        ensures { result ≡ file_faults self.now }
+    {
+        self.faults
+    }
+
+    /// The file, for another use.
+    pub fn into_inner(self) -> File {
+        self.file
+    }
+}
+
+// The answer of the system, counted: an Ok moves the clock, and an error is a fault.
+fn count<T: Drop>(clock: &mut u64, faults: &mut u64, answer: io::Result<T>) -> Result<T, Failed>
+    ensures value { IfOk result (λ v. answer ≡ Ok v) }
+    ensures later { clock.old ≤ clock.new }
+    ensures rose { OnOk result (Rose clock.old clock.new) }
+    ensures cause { HasCause faults.old faults.new result }
+{
+    match answer {
+        Ok(value) => {
+            *clock = clock.saturating_add(1);
+            Ok(value)
+        }
+        Err(_) => {
+            *faults = faults.saturating_add(1);
+            Err(Failed)
+        }
+    }
+}
+
+fn measure(file: &File) -> io::Result<u64> {
+    Ok(file.metadata()?.len())
+}
+
+impl Disk for FileDisk {
+    ghost told = { λ _. None };
+
+    ghost known = { λ d. d.known };
+
+    ghost moment = { λ d. d.clock };
+
+    ghost may_leave = { λ _ _. Unit {0} };
+
+    ghost left_since = { λ _ _ _. Unit {0} };
+
+    ghost faults = { λ d. d.faults };
+
+    fn len(&mut self) -> Result<u64, Failed> {
+        let length = count(&mut self.clock, &mut self.faults, measure(&self.file))?;
+        self.known = self.known.max(length);
+        Ok(length)
+    }
+
+    fn read_at(&mut self, place: u64, out: &mut [u8]) -> Result<(), Failed> {
+        let answer = self.file.read_exact_at(out, place);
+        count(&mut self.clock, &mut self.faults, answer)
+    }
+
+    fn write_at(&mut self, place: u64, bytes: &[u8]) -> Result<(), Failed> {
+        let answer = self.file.write_all_at(bytes, place);
+        count(&mut self.clock, &mut self.faults, answer)?;
+        self.known = self.known.max(place + bytes.len() as u64);
+        Ok(())
+    }
+
+    fn sync(&mut self) -> Result<(), Failed> {
+        let answer = self.file.sync_all();
+        count(&mut self.clock, &mut self.faults, answer)
+    }
+
+    ghost reads_image = { λ _ _ _. tt };
+
+    ghost known_there = { λ _ _ is. Prim.cc };
+
+    ghost counts_now = { λ _ _ _ _ _. tt };
+
+    ghost only_now = { λ _ _ _. tt };
+}

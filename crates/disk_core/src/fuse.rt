@@ -1,0 +1,117 @@
+// A disk that stops at some call, as the machine does.
+ghost use Rattle.std.specs.Prelude.{◌≡◌, ◌↔◌, ◌+◌, ◌-◌, ◌==◌, ◌&&◌, ◌||◌, true, false, OnOk, OnErr, IsErr, IsTrue};
+ghost use Rattle.mtc_io.specs.Counts.{HasCause};
+
+use crate::disk::Disk;
+use mtc_io::Failed;
+
+/// Passes so many calls of `write_at` and `sync` to the disk inside, and every `len` and `read_at` before the first
+/// call that it fails. From that call on it fails every call, and none reaches the disk inside.
+#[derive(Debug, Drop)]
+pub struct Fuse<D: Disk> {
+    disk: D,
+    passes: u64,
+    blown: bool,
+    refused: u64,
+}
+
+impl<D: Disk> Fuse<D> {
+    ghost use Rattle.disk_core.specs.Fuse.{inner_of, passes_of, is_blown};
+
+    pub fn new(disk: D, passes: u64) -> Fuse<D>
+        ensures disk { inner_of result ≡ disk }
+        ensures passes { passes_of result ≡ passes }
+        ensures whole { is_blown result ≡ false }
+    {
+        Fuse {
+            disk,
+            passes,
+            blown: false,
+            refused: 0,
+        }
+    }
+
+    pub fn into_inner(self) -> D
+        ensures { result ≡ inner_of self }
+    {
+        self.disk
+    }
+}
+
+// A call that only looks: it passes unless the fuse is blown.
+fn look(blown: bool, refused: &mut u64) -> Result<(), Failed>
+    ensures burnt { IsErr result ↔ IsTrue blown }
+    ensures ok { OnOk result (refused.new ≡ refused.old) }
+    ensures cause { HasCause refused.old refused.new result }
+{
+    if blown {
+        *refused = refused.saturating_add(1);
+        return Err(Failed);
+    }
+    Ok(())
+}
+
+// A call that changes the disk: it takes one of the passes, and where none is left the fuse blows.
+fn spend(passes: &mut u64, blown: &mut bool, refused: &mut u64) -> Result<(), Failed>
+    ensures burnt { IsErr result ↔ IsTrue (blown.old || passes.old == 0) }
+    ensures ok { OnOk result (refused.new ≡ refused.old) }
+    ensures whole { OnOk result (blown.new ≡ false) }
+    ensures spent { OnOk result (passes.new ≡ passes.old - 1) }
+    ensures cause { HasCause refused.old refused.new result }
+    ensures blown { OnErr result (blown.new ≡ true) }
+    ensures kept { OnErr result (passes.new ≡ passes.old) }
+{
+    if *blown || *passes == 0 {
+        *blown = true;
+        *refused = refused.saturating_add(1);
+        return Err(Failed);
+    }
+    *passes -= 1;
+    Ok(())
+}
+
+impl<D: Disk> Disk for Fuse<D> {
+    ghost use Rattle.disk_core.specs.Fuse.{FuseTurn};
+
+    ghost told = { λ f. D.Disk.told f.disk };
+
+    ghost known = { λ f. D.Disk.known f.disk };
+
+    ghost moment = { λ f. D.Disk.moment f.disk };
+
+    ghost may_leave = { λ f. D.Disk.may_leave f.disk };
+
+    ghost left_since = { λ f. D.Disk.left_since f.disk };
+
+    ghost faults = { λ f. D.Disk.faults f.disk + f.refused };
+
+    ghost turn = { λ f changes ok h. FuseTurn D.Disk f changes ok h };
+
+    fn len(&mut self) -> Result<u64, Failed> {
+        look(self.blown, &mut self.refused)?;
+        self.disk.len()
+    }
+
+    fn read_at(&mut self, place: u64, out: &mut [u8]) -> Result<(), Failed> {
+        look(self.blown, &mut self.refused)?;
+        self.disk.read_at(place, out)
+    }
+
+    fn write_at(&mut self, place: u64, bytes: &[u8]) -> Result<(), Failed> {
+        spend(&mut self.passes, &mut self.blown, &mut self.refused)?;
+        self.disk.write_at(place, bytes)
+    }
+
+    fn sync(&mut self) -> Result<(), Failed> {
+        spend(&mut self.passes, &mut self.blown, &mut self.refused)?;
+        self.disk.sync()
+    }
+
+    ghost reads_image = { λ f b is. D.Disk.reads_image f.disk b is };
+
+    ghost known_there = { λ f b is. D.Disk.known_there f.disk b is };
+
+    ghost counts_now = { λ f t c le is. D.Disk.counts_now f.disk t c le is };
+
+    ghost only_now = { λ f c is. D.Disk.only_now f.disk c is };
+}

@@ -1,0 +1,36 @@
+// A second record of the same calls.
+ghost use Rattle.std.specs.Prelude.{◌≡◌, IfOk};
+
+use crate::memory::call::{Call, Made};
+use mtc_io::{Bytes, Memory};
+use std::alloc::Global;
+
+fn copy_of(alloc: Global, call: &Call) -> Result<Call, Memory>
+    ensures { IfOk result (λ copy. copy ≡ call.now) }
+{
+    match call {
+        Call::Len => Ok(Call::Len),
+        Call::Read { place, size } => Ok(Call::Read {
+            place: *place,
+            size: *size,
+        }),
+        Call::Write { place, piece } => Ok(Call::Write {
+            place: *place,
+            piece: Bytes::copy_of(alloc, piece.as_slice())?,
+        }),
+        Call::Sync => Ok(Call::Sync),
+    }
+}
+
+pub(crate) fn copies(alloc: Global, calls: &[Made]) -> Result<Vec<Made>, Memory>
+    ensures { IfOk result (λ kept. kept.items ≡ calls.now) }
+{
+    let mut kept = Vec::new(alloc);
+    for made in calls {
+        kept.push(Made {
+            call: copy_of(alloc, &made.call)?,
+            ok: made.ok,
+        })?;
+    }
+    Ok(kept)
+}

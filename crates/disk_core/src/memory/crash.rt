@@ -1,0 +1,104 @@
+// What is left of a disk in memory after a crash.
+ghost use Rattle.std.specs.Prelude.{◌≡◌, ◌≤◌, ◌/◌, ℕ, List, length, OnOk, IfOk};
+ghost use Rattle.disk_core.specs.Disk.{Torn};
+ghost use Rattle.disk_core.specs.Replay.{State, step, state_now, IsImage};
+
+use crate::memory::call::{Call, Made};
+use crate::memory::history::overwrite;
+use mtc_io::Memory;
+use std::alloc::{AllocError, Global};
+
+// What becomes of a write, by the lowest bits of the choice: nothing of it is left, all, its front alone, or its front
+// with other bytes behind it. The next bits say how long the front is, in quarters.
+fn tear(image: &mut Vec<u8>, place: u64, piece: &[u8], choice: u64) -> Result<(), Memory>
+    ensures { OnOk result (Torn place (length piece.now) image.old.items image.new.items) }
+{
+    let front = piece.len() / 4 * (choice / 4 % 4) as usize;
+    match choice % 4 {
+        0 => Ok(()),
+        1 => overwrite(image, place, piece),
+        2 => put_front(image, place, piece, front),
+        _ => spoil(image, place, piece, front),
+    }
+}
+
+// The front of the piece alone: where it reaches past the end, the file is cut short behind it.
+fn put_front(image: &mut Vec<u8>, place: u64, piece: &[u8], front: usize) -> Result<(), Memory>
+    requires { front ≤ length piece.now }
+    ensures { OnOk result (Torn place (length piece.now) image.old.items image.new.items) }
+{
+    overwrite(image, place, &piece[..front])?;
+    Ok(())
+}
+
+// The front of the piece and other bytes behind it, also past the end of the file where the piece reaches it.
+fn spoil(image: &mut Vec<u8>, place: u64, piece: &[u8], front: usize) -> Result<(), Memory>
+    requires { front ≤ length piece.now }
+    ensures { OnOk result (Torn place (length piece.now) image.old.items image.new.items) }
+{
+    let reaches = image.len() <= piece.len() || place as usize >= image.len() - piece.len();
+    let spoilt = spoilt(*image.allocator(), piece, front)?;
+    overwrite(image, place, &spoilt)?;
+    if reaches {
+        image.extend_from_slice(&piece[..front])?;
+    }
+    Ok(())
+}
+
+// The piece with each byte from a place on turned into another.
+fn spoilt(alloc: Global, piece: &[u8], front: usize) -> Result<Vec<u8>, AllocError>
+    ensures { IfOk result (λ v. length v.items ≡ length piece.now) }
+{
+    piece
+        .iter()
+        .enumerate()
+        .map(|(i, byte)| if i < front { *byte } else { 255 - *byte })
+        .collect(alloc)
+}
+
+// A copy of what is seen, for a sync; a torn write; or nothing.
+fn replay(seen: &mut Vec<u8>, image: &mut Vec<u8>, made: &Made, choice: u64) -> Result<(), Memory>
+    ensures { OnOk result ((s : State) → seen.old.items ≡ s.seen → IsImage s image.old.items
+        → (seen.new.items ≡ (step s made.now).seen) × IsImage (step s made.now) image.new.items) }
+{
+    match &made.call {
+        Call::Len => Ok(()),
+        Call::Read { .. } => Ok(()),
+        Call::Write { place, piece } => {
+            tear(image, *place, piece.as_slice(), choice)?;
+            if made.ok {
+                overwrite(seen, *place, piece.as_slice())?;
+            }
+            Ok(())
+        }
+        Call::Sync => {
+            if made.ok {
+                *image = Vec::from_slice(*seen.allocator(), seen)?;
+            }
+            Ok(())
+        }
+    }
+}
+
+// One of the images, by the choice.
+pub(crate) fn left(
+    alloc: Global,
+    first: &[u8],
+    calls: &[Made],
+    pick: u64,
+) -> Result<Vec<u8>, Memory>
+    ensures { IfOk result (λ image. IsImage (state_now first.now calls.now) image.items) }
+{
+    let mut seen = Vec::from_slice(alloc, first)?;
+    let mut image = Vec::from_slice(alloc, first)?;
+    let mut choice = pick;
+    for made in calls {
+        replay(&mut seen, &mut image, made, choice)?;
+        choice = match made.call {
+            Call::Write { .. } => choice / 4 + choice % 4 * (1 << 62),
+            Call::Sync => pick,
+            _ => choice,
+        };
+    }
+    Ok(image)
+}

@@ -1,0 +1,222 @@
+// A disk in memory, which tells all, fails where it is told to, and can crash.
+ghost use Rattle.std.specs.Prelude.{◌≡◌, ◌+◌, ◌≤◌, ◌<◌, ℕ, List, [], length, true, Some, is_ok, if◌then◌else◌, OnOk, OnErr, IfOk};
+ghost use Rattle.mtc_io.specs.Counts.{HasCause};
+ghost use Rattle.disk_core.specs.Disk.{overwritten, Torn, Follows, NoNew, Only, Elapses};
+ghost use Rattle.disk_core.specs.History.{seen_of, left_of, moment_of, since_of};
+ghost use Rattle.disk_core.specs.Plan.{PlanTurn};
+ghost use Rattle.disk_core.specs.Replay.{State, after_call};
+ghost use Rattle.disk_core.specs.ReplayLaws.{told_seen, told_length, now_since, since_now};
+
+use crate::disk::Disk;
+use crate::memory::call::{Call, Made};
+use crate::memory::history::History;
+use crate::memory::plan::Plan;
+use mtc_io::{Bytes, Failed, Memory};
+use std::alloc::Global;
+
+/// A disk in memory. It tells its bytes, fails the calls whose numbers are listed, counted from 0, and keeps a record of
+/// its calls. A call whose growth finds no memory fails too, leaves no trace, and is counted apart.
+#[derive(Debug, Drop)]
+pub struct MemDisk {
+    past: History,
+    plan: Plan,
+    known: u64,
+    ghost there: { known ≤ length (seen_of past) },
+}
+
+// A call that only looks, noted with its answer.
+fn look(plan: &mut Plan, past: &mut History, call: Call) -> Result<(), Failed>
+    requires { (s : State) (ok : _) → after_call s call ok ≡ s }
+    ensures seen { seen_of past.new ≡ seen_of past.old }
+    ensures crash { NoNew (left_of past.old) (left_of past.new) }
+    ensures time { Elapses (moment_of past.old) (moment_of past.new) (since_of past.old) (since_of past.new) (left_of past.new) }
+    ensures clock { OnOk result (moment_of past.old < moment_of past.new) }
+    ensures cause { HasCause plan.old.faults plan.new.faults result }
+    ensures turn { PlanTurn plan.old (is_ok result) plan.new }
+{
+    if plan.begin() {
+        let _ = past.note(call, false);
+        return Err(Failed);
+    }
+    match past.note(call, true) {
+        Ok(()) => Ok(()),
+        Err(Memory) => Err(plan.starve()),
+    }
+}
+
+// A sync, noted with its answer.
+fn settle(plan: &mut Plan, past: &mut History) -> Result<(), Failed>
+    ensures durable { OnOk result (Only (seen_of past.old) (left_of past.new)) }
+    ensures seen { seen_of past.new ≡ seen_of past.old }
+    ensures crash { NoNew (left_of past.old) (left_of past.new) }
+    ensures time { Elapses (moment_of past.old) (moment_of past.new) (since_of past.old) (since_of past.new) (left_of past.new) }
+    ensures clock { OnOk result (moment_of past.old < moment_of past.new) }
+    ensures cause { HasCause plan.old.faults plan.new.faults result }
+    ensures turn { PlanTurn plan.old (is_ok result) plan.new }
+{
+    if plan.begin() {
+        let _ = past.note(Call::Sync, false);
+        return Err(Failed);
+    }
+    match past.settle() {
+        Ok(()) => Ok(()),
+        Err(Memory) => Err(plan.starve()),
+    }
+}
+
+// A write, noted with its answer.
+fn write(plan: &mut Plan, past: &mut History, place: u64, piece: &[u8]) -> Result<(), Failed>
+    ensures ok { OnOk result (seen_of past.new ≡ overwritten place piece.now (seen_of past.old)) }
+    ensures err { OnErr result (seen_of past.new ≡ seen_of past.old) }
+    ensures crash { Follows (Torn place (length piece.now)) (left_of past.old) (left_of past.new) }
+    ensures time { Elapses (moment_of past.old) (moment_of past.new) (since_of past.old) (since_of past.new) (left_of past.new) }
+    ensures clock { OnOk result (moment_of past.old < moment_of past.new) }
+    ensures cause { HasCause plan.old.faults plan.new.faults result }
+    ensures turn { PlanTurn plan.old (is_ok result) plan.new }
+{
+    if plan.begin() {
+        let _ = past.fail_write(place, piece);
+        return Err(Failed);
+    }
+    match past.write(place, piece) {
+        Ok(()) => Ok(()),
+        Err(Memory) => Err(plan.starve()),
+    }
+}
+
+impl MemDisk {
+    ghost use Rattle.disk_core.specs.Memory.{bytes_of, images_of, calls_of, known_of, made_of, failing_of, faults_of, starved_of, IsFresh};
+    ghost use Rattle.disk_core.specs.Same.{SameDevice};
+
+    /// An empty disk that fails the calls with these numbers.
+    pub fn new(alloc: Global, failing: Vec<u64>) -> MemDisk
+        ensures fresh { IsFresh [] result }
+        ensures failing { failing_of result ≡ failing.items }
+    {
+        MemDisk::over(alloc, Bytes::new(alloc), failing)
+    }
+
+    /// A disk that holds these bytes, and leaves them after a crash.
+    pub fn over(alloc: Global, bytes: Bytes, failing: Vec<u64>) -> MemDisk
+        ensures fresh { IsFresh bytes result }
+        ensures failing { failing_of result ≡ failing.items }
+    {
+        MemDisk {
+            past: History::new(alloc, bytes),
+            plan: Plan::new(failing),
+            known: 0,
+        }
+    }
+
+    /// A copy that reads alike and leaves the same after a crash. Its count of faults and its known length begin anew; the
+    /// numbers of its calls go on.
+    pub fn lend(&self) -> Result<MemDisk, Memory>
+        ensures same { IfOk result (λ it. SameDevice ⟦<MemDisk as Disk>⟧ self.now it) }
+        ensures known { IfOk result (λ it. known_of it ≡ 0) }
+        ensures made { IfOk result (λ it. made_of it ≡ made_of self.now) }
+        ensures failing { IfOk result (λ it. failing_of it ≡ failing_of self.now) }
+        ensures faults { IfOk result (λ it. faults_of it ≡ 0) }
+        ensures starved { IfOk result (λ it. starved_of it ≡ 0) }
+    {
+        let alloc = *self.plan.failing.allocator();
+        let failing = Vec::from_slice(alloc, &self.plan.failing)?;
+        Ok(MemDisk {
+            past: self.past.again(alloc)?,
+            plan: Plan {
+                made: self.plan.made,
+                ..Plan::new(failing)
+            },
+            known: 0,
+        })
+    }
+
+    /// A disk over one image that a crash now may leave, chosen by `pick`. Of each write since the last sync nothing is
+    /// left, all of it, its front alone, or its front with other bytes behind: two bits of `pick` choose, and the next
+    /// two the length of the front, in quarters. The same pick gives the same image.
+    pub fn crash(self, pick: u64) -> Result<MemDisk, Memory>
+        ensures image { IfOk result (λ it. images_of self (bytes_of it)) }
+        ensures fresh { IfOk result (λ it. IsFresh (bytes_of it) it) }
+        ensures failing { IfOk result (λ it. failing_of it ≡ []) }
+    {
+        let alloc = *self.plan.failing.allocator();
+        let image = self.past.left(alloc, pick)?;
+        Ok(MemDisk::over(alloc, image, Vec::new(alloc)))
+    }
+
+    /// What a read gives.
+    pub fn bytes(&self) -> &[u8]
+        ensures { result.now ≡ bytes_of self.now }
+    {
+        self.past.bytes()
+    }
+
+    /// The calls so far, the oldest first.
+    pub fn calls(&self) -> &[Made]
+        ensures { result.now ≡ calls_of self.now }
+    {
+        self.past.calls.as_slice()
+    }
+
+    /// How many calls have failed, up to the last value of the count.
+    pub fn faults(&self) -> u64
+        ensures { result ≡ faults_of self.now }
+    {
+        self.plan.faults
+    }
+
+    /// How many of them found no memory.
+    pub fn starved(&self) -> u64
+        ensures { result ≡ starved_of self.now }
+    {
+        self.plan.starved
+    }
+}
+
+impl Disk for MemDisk {
+    ghost told = { λ m. Some (seen_of m.past) };
+
+    ghost known = { λ m. m.known };
+
+    ghost moment = { λ m. moment_of m.past };
+
+    ghost may_leave = { λ m. left_of m.past };
+
+    ghost left_since = { λ m. since_of m.past };
+
+    ghost faults = { λ m. m.plan.faults };
+
+    ghost turn = { λ m _ ok n. PlanTurn m.plan ok n.plan };
+
+    fn len(&mut self) -> Result<u64, Failed> {
+        look(&mut self.plan, &mut self.past, Call::Len)?;
+        let length = self.past.bytes().len() as u64;
+        self.known = self.known.max(length);
+        Ok(length)
+    }
+
+    fn read_at(&mut self, place: u64, out: &mut [u8]) -> Result<(), Failed> {
+        let size = out.len();
+        look(&mut self.plan, &mut self.past, Call::Read { place, size })?;
+        let start = place as usize;
+        out.copy_from_slice(&self.past.bytes()[start..start + size]);
+        Ok(())
+    }
+
+    fn write_at(&mut self, place: u64, bytes: &[u8]) -> Result<(), Failed> {
+        write(&mut self.plan, &mut self.past, place, bytes)?;
+        self.known = self.known.max(place + bytes.len() as u64);
+        Ok(())
+    }
+
+    fn sync(&mut self) -> Result<(), Failed> {
+        settle(&mut self.plan, &mut self.past)
+    }
+
+    ghost reads_image = { λ m b is. told_seen m.past.first m.past.calls.items b is };
+
+    ghost known_there = { λ m b is. told_length m.known (seen_of m.past) b m.there is };
+
+    ghost counts_now = { λ m t c le is. now_since m.past.first m.past.calls.items t c le is };
+
+    ghost only_now = { λ m c is. since_now m.past.first m.past.calls.items c is };
+}
