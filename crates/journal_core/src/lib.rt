@@ -7,6 +7,8 @@ mod format;
 mod journal;
 mod opening;
 mod record;
+#[cfg(test)]
+mod tests;
 
 pub use error::{AppendError, OpenError, Refused, StartError};
 pub use first_record::start;
