@@ -1,6 +1,8 @@
 -- What calls do to the bytes that a source has left and a sink has taken, where these are told.
 -- std's words of the same subject (`Consumes`, `Appends`, `Keeps`, `IsAtEnd`) stand beside these.
 use Rattle.std.specs.Prelude.{ℕ, List, Option, take}
+use Rattle.std.specs.Borrow.{Bor}
+use Rattle.std.specs.List.{flat_map}
 use Rattle.std.specs.Io.KnownBytes.{Consumes, Appends}
 
 -- the bytes left lose some bytes from their front
@@ -10,3 +12,7 @@ ConsumesSome old new = (bs : List ℕ) × Consumes old new bs
 -- the bytes taken grow by a prefix of bs
 abbrev pub AppendsPrefix : Option (List ℕ) → Option (List ℕ) → List ℕ → Type 0
 AppendsPrefix old new bs = (k : ℕ) × Appends old new (take k bs)
+
+-- pieces, one behind the other
+abbrev pub joined : List (Bor (List ℕ)) → List ℕ
+joined pieces = flat_map (λ piece. piece.now) pieces

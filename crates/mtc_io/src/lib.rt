@@ -17,6 +17,6 @@ mod tests;
 pub use bytes::Bytes;
 pub use fault::{Failed, Memory};
 pub use memory::{MemSink, MemSource};
-pub use sink::{Sink, write_all};
+pub use sink::{Sink, write_all, write_pieces};
 pub use source::{ReadError, Source, read_all};
 pub use std_streams::{StdSink, StdSource};

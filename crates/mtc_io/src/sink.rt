@@ -2,7 +2,7 @@
 ghost use Rattle.std.specs.Prelude.{◌≡◌, ℕ, List, Option, ◌≤◌, ◌<◌, length, IfOk, OnOk, OnErr};
 ghost use Rattle.std.specs.Io.KnownBytes.{WriteAppends, Appends};
 ghost use Rattle.mtc_io.specs.Counts.{Rose, HasCause};
-ghost use Rattle.mtc_io.specs.Streams.{AppendsPrefix};
+ghost use Rattle.mtc_io.specs.Streams.{AppendsPrefix, joined};
 
 use crate::fault::Failed;
 
@@ -35,6 +35,21 @@ pub fn write_all<O: Sink>(sink: &mut O, piece: &[u8]) -> Result<(), Failed>
     let mut done = 0;
     while done < piece.len() {
         done += sink.write(&piece[done..])?;
+    }
+    Ok(())
+}
+
+/// Writes pieces one behind the other. `Failed` comes only with a fault of the sink, and then a prefix of the whole
+/// was taken.
+pub fn write_pieces<O: Sink>(sink: &mut O, pieces: &[&[u8]]) -> Result<(), Failed>
+    ensures ok { OnOk result (Appends (O.taken sink.old) (O.taken sink.new) (joined pieces.now)) }
+    ensures cause { HasCause (O.faults sink.old) (O.faults sink.new) result }
+
+    // Of both results, for a caller that doesn't look at it.
+    ensures prefix { AppendsPrefix (O.taken sink.old) (O.taken sink.new) (joined pieces.now) }
+{
+    for piece in pieces {
+        write_all(sink, piece)?;
     }
     Ok(())
 }

@@ -20,6 +20,13 @@ impl<R: Read> StdSource<R> {
     {
         StdSource { reader, faults: 0 }
     }
+
+    /// How often it has failed.
+    pub fn faults(&self) -> u64
+        ensures { result ≡ ⟦<StdSource<R> as Source>⟧.faults self.now }
+    {
+        self.faults
+    }
 }
 
 impl<R: Read> Source for StdSource<R> {

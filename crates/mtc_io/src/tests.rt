@@ -1,7 +1,7 @@
 // The streams and the loops over them, each call once with ample memory.
 use crate::{
     Bytes, Failed, MemSink, MemSource, Memory, ReadError, Sink, Source, StdSink, StdSource,
-    read_all, write_all,
+    read_all, write_all, write_pieces,
 };
 use std::alloc::Global;
 use std::test::Fail;
@@ -55,6 +55,13 @@ fn writes_the_whole_or_a_prefix(rt: HostRuntime) -> Result<(), Fail> {
         assert_eq!(rt; write_all(&mut sink, b"member 0\n"), answer);
         assert_eq!(rt; sink.taken(), taken);
         assert_eq!(rt; sink.starved(), 0);
+
+        let mut sink = MemSink::new(rt.alloc(), per_call, Vec::from_slice(rt.alloc(), failing)?);
+        assert_eq!(rt;
+            write_pieces(&mut sink, &[b"mem".as_slice(), b"", b"ber 0", b"\n"]),
+            answer
+        );
+        assert_eq!(rt; sink.taken(), taken);
     }
     Ok(())
 }

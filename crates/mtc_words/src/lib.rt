@@ -7,10 +7,11 @@
 mod command;
 mod error;
 mod name;
+mod number;
 mod reading;
 #[cfg(test)]
 mod tests;
 
 pub use command::Command;
 pub use error::WordError;
-pub use reading::read_words;
+pub use reading::{command_word, read_words};

@@ -78,6 +78,13 @@ impl<'a> Cursor<'a> {
         self.rest.len()
     }
 
+    /// What is left of the input.
+    pub fn rest(&self) -> &'a [u8]
+        ensures { result.now ≡ self.now.rest }
+    {
+        self.rest
+    }
+
     /// A number of one byte.
     pub fn u8(&mut self) -> Result<u8, Short>
         ensures { Reads (λ n. n) (number_at w8) self.old result self.new }

@@ -1,4 +1,5 @@
--- Evaluation from the leaf up, one level after another, is the definition's recursion from the root down.
+-- Evaluation from the leaf up, one level after another, is the definition's recursion from the
+-- root down.
 use Rattle.std.proofs.Common.{◌≡◌, ℕ, ◌+◌, ◌*◌, ◌-◌, ◌/◌, ◌%◌, ◌<◌, ◌≤◌, ◌⊎◌, ⊎_elim, true, false, ◌&&◌, eqb, ltb, leb, List, [], ◌∷◌, ◌++◌, length, drop, get_or, Some, None, Err, sym, ◌∙◌, ap, refl, arith}
 use Rattle.std.specs.Prelude.{option_map, reverse}
 use Rattle.std.specs.Option.{ok_or}
@@ -13,12 +14,14 @@ use Rattle.tree_core.specs.Tree.{pair_hash}
 
 -- The cases of the definition, with the numbers of the recursion as variables.
 
-pub eval-leaf : (h : List ℕ → List ℕ) (m n : ℕ) (leaf : List ℕ) → m ≡ 0 → n ≡ 1 → eval_from_root h m n leaf [] ≡ Some leaf
+pub eval-leaf : (h : List ℕ → List ℕ) (m n : ℕ) (leaf : List ℕ) → m ≡ 0 → n ≡ 1
+    → eval_from_root h m n leaf [] ≡ Some leaf
 unfolding eval_from_root
 eval-leaf h m n leaf first only = cond-true _ _ _ (and_from _ _ (eq-eqb m 0 first) (eq-eqb n 1 only))
 
 -- no sibling is left, and this is no tree of one leaf with that leaf
-pub eval-short : (h : List ℕ → List ℕ) (m n : ℕ) (leaf : List ℕ) → 2 ≤ m + n → eval_from_root h m n leaf [] ≡ None
+pub eval-short : (h : List ℕ → List ℕ) (m n : ℕ) (leaf : List ℕ) → 2 ≤ m + n
+    → eval_from_root h m n leaf [] ≡ None
 unfolding eval_from_root
 eval-short h m n leaf more =
     ⊎_elim
@@ -32,7 +35,8 @@ pub eval-long : (h : List ℕ → List ℕ) (m n : ℕ) (leaf z : List ℕ) (q :
 unfolding eval_from_root
 eval-long h m n leaf z q one = cond-true _ _ _ (le-leb n 1 one)
 
-pub eval-left : (h : List ℕ → List ℕ) (m n k : ℕ) (leaf z : List ℕ) (q : List (List ℕ)) → 1 < n → split_of n ≡ k → m < k
+pub eval-left : (h : List ℕ → List ℕ) (m n k : ℕ) (leaf z : List ℕ) (q : List (List ℕ)) → 1 < n
+    → split_of n ≡ k → m < k
     → eval_from_root h m n leaf (z ∷ q) ≡ option_map (λ a. pair_hash h a z) (eval_from_root h m k leaf q)
 unfolding eval_from_root
 eval-left h m n k leaf z q more is left =
@@ -41,7 +45,8 @@ eval-left h m n k leaf z q more is left =
     ∙ cond-true _ _ _ (lt-ltb m (split_of n) here)
     ∙ ap (λ k. option_map (λ a. pair_hash h a z) (eval_from_root h m k leaf q)) is
 
-pub eval-right : (h : List ℕ → List ℕ) (m n k a b : ℕ) (leaf z : List ℕ) (q : List (List ℕ)) → 1 < n → split_of n ≡ k
+pub eval-right : (h : List ℕ → List ℕ) (m n k a b : ℕ) (leaf z : List ℕ) (q : List (List ℕ))
+    → 1 < n → split_of n ≡ k
     → m ≡ k + a → n ≡ k + b
     → eval_from_root h m n leaf (z ∷ q) ≡ option_map (λ a. pair_hash h z a) (eval_from_root h a b leaf q)
 unfolding eval_from_root
@@ -53,12 +58,16 @@ eval-right h m n k a b leaf z q more is m_is n_is =
     ∙ ap (λ i. option_map (λ a. pair_hash h z a) (eval_from_root h i (n - split_of n) leaf q)) place
     ∙ ap (λ i. option_map (λ a. pair_hash h z a) (eval_from_root h a i leaf q)) size
 
+-- a sibling is left over, whatever stands before it
 eval-one_push : (h : List ℕ → List ℕ) (w : List (List ℕ)) (m n : ℕ) (leaf p : List ℕ) → n ≤ 1
     → eval_from_root h m n leaf (w ++ p ∷ []) ≡ None
 eval-one_push h [] m n leaf p one = eval-long h m n leaf p [] one
 eval-one_push h (z ∷ q) m n leaf p one = eval-long h m n leaf z (q ++ p ∷ []) one
 
--- two leaves, or three of which the last: of a path of one sibling
+-- The steps below: r at place m of n joins its sibling p to the node up at place a of c, where m is
+-- child i of a, c is half of n rounded up, and j is 1 where n is even.
+
+-- a path of one sibling in a tree of two leaves
 eval-pair : (h : List ℕ → List ℕ) (r p up : List ℕ) (m n a c i j : ℕ)
     → m ≡ 2 * a + i → n + 1 ≡ 2 * c + j → i ≤ 1 → j ≤ 1 → m + 1 < n + i → c ≤ 1
     → (i ≡ 0 → pair_hash h r p ≡ up) → (1 ≤ i → pair_hash h p r ≡ up)
@@ -79,7 +88,7 @@ eval-pair h r p up m n a c i j m_is n_is i_bit j_bit sibling one left right =
     ∙ sym top)
     (cases_lt m 1)
 
--- a path of one sibling is too short for more leaves
+-- a path of one sibling is too short for more than two leaves
 eval-short_step : (h : List ℕ → List ℕ) (r p up : List ℕ) (m n a c i j : ℕ)
     → m ≡ 2 * a + i → n + 1 ≡ 2 * c + j → i ≤ 1 → j ≤ 1 → m + 1 < n + i → 1 < c
     → eval_from_root h m n r (p ∷ []) ≡ eval_from_root h a c up []
@@ -95,7 +104,8 @@ eval-short_step h r p up m n a c i j m_is n_is i_bit j_bit sibling some =
     ∙ ap (option_map (λ x. pair_hash h x p)) (eval-short h m (2 * split_of c) r (omega arith))
     ∙ sym top)
     (λ (second : 2 * split_of c ≤ m).
-    eval-right h m n (2 * split_of c) (m - 2 * split_of c) (n - 2 * split_of c) r p [] (omega arith) split (omega arith) (omega arith)
+    eval-right h m n (2 * split_of c) (m - 2 * split_of c) (n - 2 * split_of c) r p [] (omega arith) split
+    (omega arith) (omega arith)
     ∙ ap (option_map (λ x. pair_hash h p x)) (eval-short h (m - 2 * split_of c) (n - 2 * split_of c) r (omega arith))
     ∙ sym top)
     (cases_lt m (2 * split_of c))
@@ -118,8 +128,7 @@ eval-long_step h r p up z q m n a c i j m_is n_is i_bit j_bit sibling one =
     ∙ sym top)
     (cases_lt m 1)
 
--- The lowest sibling p of a path joins the node r at place m of n with its neighbour to the node up at place a
--- of c. Here m is the first or the second child of a, and c is half of n rounded up
+-- the lowest sibling of any path
 pub eval-step : (h : List ℕ → List ℕ) (r p up : List ℕ) (w : List (List ℕ)) (m n a c i j : ℕ)
     → m ≡ 2 * a + i → n + 1 ≡ 2 * c + j → i ≤ 1 → j ≤ 1 → m + 1 < n + i
     → (i ≡ 0 → pair_hash h r p ≡ up) → (1 ≤ i → pair_hash h p r ≡ up)
@@ -140,19 +149,23 @@ eval-step h r p up (z ∷ q) m n a c i j m_is n_is i_bit j_bit sibling left righ
     (λ (first : a < split_of c).
     eval-left h m n (2 * split_of c) r z (q ++ p ∷ []) (omega arith) split (omega arith)
     ∙ ap (option_map (λ x. pair_hash h x z))
-    (eval-step h r p up q m (2 * split_of c) a (split_of c) i 1 m_is (omega arith) i_bit (omega arith) (omega arith) left right)
+    (eval-step h r p up q m (2 * split_of c) a (split_of c) i 1 m_is (omega arith) i_bit (omega arith)
+    (omega arith) left right)
     ∙ sym (eval-left h a c (split_of c) up z q some refl first))
     (λ (second : split_of c ≤ a).
-    eval-right h m n (2 * split_of c) (m - 2 * split_of c) (n - 2 * split_of c) r z (q ++ p ∷ []) (omega arith) split (omega arith) (omega arith)
+    eval-right h m n (2 * split_of c) (m - 2 * split_of c) (n - 2 * split_of c) r z (q ++ p ∷ []) (omega arith)
+    split (omega arith) (omega arith)
     ∙ ap (option_map (λ x. pair_hash h z x))
     (eval-step h r p up q (m - 2 * split_of c) (n - 2 * split_of c) (a - split_of c) (c - split_of c) i j
     (omega arith) (omega arith) i_bit j_bit (omega arith) left right)
-    ∙ sym (eval-right h a c (split_of c) (a - split_of c) (c - split_of c) up z q some refl (omega arith) (omega arith)))
+    ∙ sym (eval-right h a c (split_of c) (a - split_of c) (c - split_of c) up z q some refl (omega arith)
+    (omega arith)))
     (cases_lt a (split_of c)))
     (λ (one : c ≤ 1). eval-long_step h r p up z q m n a c i j m_is n_is i_bit j_bit sibling one)
     (cases_lt 1 c)
 
--- The last node of a level with an even place has no sibling: it stands for itself on the level above
+-- The last node of a level with an even place has no sibling: it stands for itself on the level
+-- above
 pub eval-promoted : (h : List ℕ → List ℕ) (r : List ℕ) (w : List (List ℕ)) (m n a c : ℕ)
     → m ≡ 2 * a → n ≡ m + 1 → c ≡ a + 1 → 1 ≤ a
     → eval_from_root h m n r w ≡ eval_from_root h a c r w
@@ -163,7 +176,8 @@ eval-promoted h r (z ∷ q) m n a c m_is n_is c_is some =
     let bounds = split_bounds c in
     let positive = bounds.positive in
     let below = bounds.below in
-    eval-right h m n (2 * split_of c) (m - 2 * split_of c) (n - 2 * split_of c) r z q (omega arith) split (omega arith) (omega arith)
+    eval-right h m n (2 * split_of c) (m - 2 * split_of c) (n - 2 * split_of c) r z q (omega arith) split
+    (omega arith) (omega arith)
     ∙ ap (option_map (λ x. pair_hash h z x))
     (⊎_elim
     (λ (inside : split_of c < a).
@@ -172,9 +186,11 @@ eval-promoted h r (z ∷ q) m n a c m_is n_is c_is some =
     (λ (end : a ≤ split_of c).
     let place : m - 2 * split_of c ≡ a - split_of c = omega arith in
     let size : n - 2 * split_of c ≡ c - split_of c = omega arith in
-    ap (λ i. eval_from_root h i (n - 2 * split_of c) r q) place ∙ ap (λ i. eval_from_root h (a - split_of c) i r q) size)
+    ap (λ i. eval_from_root h i (n - 2 * split_of c) r q) place ∙ ap
+    (λ i. eval_from_root h (a - split_of c) i r q) size)
     (cases_lt (split_of c) a))
-    ∙ sym (eval-right h a c (split_of c) (a - split_of c) (c - split_of c) r z q (omega arith) refl (omega arith) (omega arith))
+    ∙ sym (eval-right h a c (split_of c) (a - split_of c) (c - split_of c) r z q (omega arith) refl
+    (omega arith) (omega arith))
 
 -- The same for a path, from the hash that comes next.
 
@@ -219,15 +235,17 @@ eval_of-long h m n r path used more one =
     ∙ ap (eval_from_root h m n r) (reverse-append (p ∷ []) (drop (used + 1) path))
     ∙ eval-one_push h (reverse (drop (used + 1) path)) m n r p one
 
--- what a loop over the levels keeps: from the node at this place of its level and the hashes that are not used,
--- the definition gives what it gives from the leaf and the whole path
-pub record EvaluatesFrom (h : List ℕ → List ℕ) (leaf : List ℕ) (m n : ℕ) (path : List (List ℕ)) (place last used : ℕ) (node : List ℕ) : Type 0 where
+-- what a loop over the levels keeps: from the node at this place of its level and the hashes that
+-- are not used, the definition gives what it gives from the leaf and the whole path
+pub record EvaluatesFrom (h : List ℕ → List ℕ) (leaf : List ℕ) (m n : ℕ) (path : List (List ℕ))
+    (place last used : ℕ) (node : List ℕ) : Type 0 where
   pub inside : place ≤ last
   pub within : used ≤ length path
   pub same : eval_of h place (last + 1) node (drop used path) ≡ eval_of h m n leaf path
 
 -- one level up, where the node has a sibling
-pub EvaluatesFrom-step : (h : List ℕ → List ℕ) (leaf : List ℕ) (m n : ℕ) (path : List (List ℕ)) (place last used more : ℕ) (node p up : List ℕ)
+pub EvaluatesFrom-step : (h : List ℕ → List ℕ) (leaf : List ℕ) (m n : ℕ) (path : List (List ℕ))
+    (place last used more : ℕ) (node p up : List ℕ)
     → EvaluatesFrom h leaf m n path place last used node
     → used < length path → p ≡ get_or path used [] → place < last + place % 2
     → up ≡ parent_hash h place node p → more ≡ used + 1
@@ -239,7 +257,8 @@ EvaluatesFrom-step h leaf m n path place last used more node p up before here p_
       within = omega arith;
       same =
           ap (λ u. eval_of h (place / 2) (last / 2 + 1) up (drop u path)) more_is
-          ∙ sym (eval_of-step h node p up path used place (last + 1) (place / 2) (last / 2 + 1) (place % 2) (last % 2) here p_is
+          ∙ sym (eval_of-step h node p up path used place (last + 1) (place / 2) (last / 2 + 1) (place % 2)
+          (last % 2) here p_is
           (omega arith) (omega arith) (omega arith) (omega arith) (omega arith)
           (λ even. sym (up_is ∙ cond-true _ _ _ (eq-eqb (place % 2) 0 even)))
           (λ odd. sym (up_is ∙ cond-false _ _ _ (ne_eqb (place % 2) 0 (λ even. omega arith)))))
@@ -247,7 +266,8 @@ EvaluatesFrom-step h leaf m n path place last used more node p up before here p_
     }
 
 -- one level up, where it has none
-pub EvaluatesFrom-promoted : (h : List ℕ → List ℕ) (leaf : List ℕ) (m n : ℕ) (path : List (List ℕ)) (place last used more : ℕ) (node up : List ℕ)
+pub EvaluatesFrom-promoted : (h : List ℕ → List ℕ) (leaf : List ℕ) (m n : ℕ) (path : List (List ℕ))
+    (place last used more : ℕ) (node up : List ℕ)
     → EvaluatesFrom h leaf m n path place last used node
     → 0 < last → place % 2 ≡ 0 → last ≤ place → up ≡ node → more ≡ used
     → EvaluatesFrom h leaf m n path (place / 2) (last / 2) more up
@@ -273,7 +293,8 @@ unfolding evaluation
 evaluation-no_subtree h leaf index start end path bad = cond-true _ _ _ (not_from_false _ bad)
 
 pub evaluation-outside : (h : List ℕ → List ℕ) (leaf : List ℕ) (index start end : ℕ) (path : List (List ℕ))
-    → is_subtree start end ≡ true → (index < start) ⊎ (end ≤ index) → evaluation h leaf index start end path ≡ Err Outside
+    → is_subtree start end ≡ true → (index < start) ⊎ (end ≤ index)
+    → evaluation h leaf index start end path ≡ Err Outside
 unfolding evaluation
 evaluation-outside h leaf index start end path ok outside =
     let out : (leb start index && ltb index end) ≡ false =
@@ -288,5 +309,6 @@ pub evaluation-value : (h : List ℕ → List ℕ) (leaf : List ℕ) (index star
     → evaluation h leaf index start end path ≡ ok_or (eval_of h (index - start) (end - start) leaf path) WrongLength
 unfolding evaluation
 evaluation-value h leaf index start end path ok from below =
-    let inside : (leb start index && ltb index end) ≡ true = and_from _ _ (le-leb start index from) (lt-ltb index end below) in
+    let inside : (leb start index && ltb index end) ≡ true = and_from _ _ (le-leb start index from)
+    (lt-ltb index end below) in
     cond-false _ _ _ (not_from_true _ ok) ∙ cond-false _ _ _ (not_from_true _ inside)

@@ -1,4 +1,5 @@
--- The split of a number and the power of two over it: bounds, and that these bounds determine them.
+-- The split of a number and the power of two over it: bounds, and that these bounds determine
+-- them.
 use Rattle.std.proofs.Common.{◌≡◌, ℕ, zero, suc, ◌+◌, ◌*◌, ◌/◌, ◌^◌, ◌<◌, ◌≤◌, ⊎_elim, ltb, leb, max, sym, ◌∙◌, ap, refl, subst, arith}
 use Rattle.std.proofs.Math.Nat.{pow-succ'}
 use Rattle.std.proofs.Math.Pow.{pow_mono}
@@ -83,7 +84,8 @@ power_over_unique n p next = of_exponent n p next.0.0 next.0.1 next.1 next.2
         let double = pow-succ' 2 e in
         let positive = pow_pos e in
         let large : 1 < n = omega arith in
-        is ∙ double ∙ ap (λ k. 2 * k) (sym (split_unique n e (omega arith) (omega arith))) ∙ sym (power_over-more n large)
+        is ∙ double ∙ ap (λ k. 2 * k) (sym (split_unique n e (omega arith) (omega arith))) ∙ sym
+        (power_over-more n large)
 
 -- the power over a number that no power of 64 bits reaches
 pub power_over_large : (n : ℕ) → 2 ^ 63 < n → n ≤ 2 ^ 64 → power_over n ≡ 2 ^ 64
@@ -129,8 +131,10 @@ reach e f h =
 pub power_over_least : (n : ℕ) → IsLeastPowerFrom n (power_over n)
 power_over_least n =
     ⊎_elim
-    (λ (large : 1 < n). let P : ℕ → Type 0 = IsLeastPowerFrom n in subst P (sym (power_over-more n large)) (more n large))
-    (λ (small : n ≤ 1). let P : ℕ → Type 0 = IsLeastPowerFrom n in subst P (sym (power_over-one n small)) (one n small))
+    (λ (large : 1 < n). let P : ℕ → Type 0 = IsLeastPowerFrom n in subst P (sym (power_over-more n large))
+    (more n large))
+    (λ (small : n ≤ 1). let P : ℕ → Type 0 = IsLeastPowerFrom n in subst P (sym (power_over-one n small))
+    (one n small))
     (cases_lt 1 n)
   where
     one : (n : ℕ) → n ≤ 1 → IsLeastPowerFrom n 1

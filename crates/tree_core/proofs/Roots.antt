@@ -9,7 +9,8 @@ use Rattle.tree_core.specs.Split.{split_of}
 use Rattle.tree_core.specs.Tree.{leaf_hash, pair_hash, root_of, root_within, tree_hash}
 
 -- a bound on the depth that is not below the number of leaves changes nothing
-root_within_more : (d e : ℕ) (h : List ℕ → List ℕ) (leaves : List (List ℕ)) → length leaves ≤ d → length leaves ≤ e
+root_within_more : (d e : ℕ) (h : List ℕ → List ℕ) (leaves : List (List ℕ)) → length leaves ≤ d
+    → length leaves ≤ e
     → root_within d h leaves ≡ root_within e h leaves
 unfolding root_within
 root_within_more zero zero h leaves small same = refl
@@ -32,7 +33,8 @@ root_within_more (suc d) (suc e) h (x ∷ y ∷ rest) small same =
     (root_within_more d e h (drop (split_of (length leaves)) leaves) (omega arith) (omega arith))
 
 pub root_of-split : (h : List ℕ → List ℕ) (leaves : List (List ℕ)) → 1 < length leaves
-    → root_of h leaves ≡ pair_hash h (root_of h (take (split_of (length leaves)) leaves)) (root_of h (drop (split_of (length leaves)) leaves))
+    → root_of h leaves ≡ pair_hash h (root_of h (take (split_of (length leaves)) leaves))
+    (root_of h (drop (split_of (length leaves)) leaves))
 unfolding root_of root_within
 root_of-split h [] more = let none : ⊥ = omega arith in absurd none
 root_of-split h (x ∷ []) more = let none : ⊥ = omega arith in absurd none
@@ -45,9 +47,12 @@ root_of-split h (x ∷ y ∷ rest) more =
     let front = length-take (split_of (length leaves)) leaves in
     let back = length-drop (split_of (length leaves)) leaves in
     ap (λ l. pair_hash h l (root_within (length (y ∷ rest)) h (drop (split_of (length leaves)) leaves)))
-    (root_within_more (length (y ∷ rest)) (length (take (split_of (length leaves)) leaves)) h (take (split_of (length leaves)) leaves) (omega arith) (omega arith))
-    ∙ ap (λ r. pair_hash h (root_within (length (take (split_of (length leaves)) leaves)) h (take (split_of (length leaves)) leaves)) r)
-    (root_within_more (length (y ∷ rest)) (length (drop (split_of (length leaves)) leaves)) h (drop (split_of (length leaves)) leaves) (omega arith) (omega arith))
+    (root_within_more (length (y ∷ rest)) (length (take (split_of (length leaves)) leaves)) h
+    (take (split_of (length leaves)) leaves) (omega arith) (omega arith))
+    ∙ ap (λ r. pair_hash h (root_within (length (take (split_of (length leaves)) leaves)) h
+    (take (split_of (length leaves)) leaves)) r)
+    (root_within_more (length (y ∷ rest)) (length (drop (split_of (length leaves)) leaves)) h
+    (drop (split_of (length leaves)) leaves) (omega arith) (omega arith))
 
 pub root_of-one : (h : List ℕ → List ℕ) (leaf : List ℕ) → root_of h (leaf ∷ []) ≡ leaf
 unfolding root_of root_within
@@ -58,17 +63,21 @@ unfolding root_of root_within
 root_of-none h = refl
 
 pub tree_hash-split : (h : List ℕ → List ℕ) (entries : List (List ℕ)) → 1 < length entries
-    → tree_hash h entries ≡ pair_hash h (tree_hash h (take (split_of (length entries)) entries)) (tree_hash h (drop (split_of (length entries)) entries))
+    → tree_hash h entries ≡ pair_hash h (tree_hash h (take (split_of (length entries)) entries))
+    (tree_hash h (drop (split_of (length entries)) entries))
 tree_hash-split h entries more =
     let leaves : List (List ℕ) = map (leaf_hash h) entries in
     let size = length-map entries (leaf_hash h) in
     let split : split_of (length (map (leaf_hash h) entries)) ≡ split_of (length entries) = ap split_of size in
     root_of-split h leaves (omega arith)
     ∙ ap (λ k. pair_hash h (root_of h (take k leaves)) (root_of h (drop k leaves))) split
-    ∙ ap (λ l. pair_hash h (root_of h l) (root_of h (drop (split_of (length entries)) leaves))) (take-map (leaf_hash h) (split_of (length entries)) entries)
-    ∙ ap (λ r. pair_hash h (tree_hash h (take (split_of (length entries)) entries)) (root_of h r)) (drop-map (leaf_hash h) (split_of (length entries)) entries)
+    ∙ ap (λ l. pair_hash h (root_of h l) (root_of h (drop (split_of (length entries)) leaves)))
+    (take-map (leaf_hash h) (split_of (length entries)) entries)
+    ∙ ap (λ r. pair_hash h (tree_hash h (take (split_of (length entries)) entries)) (root_of h r))
+    (drop-map (leaf_hash h) (split_of (length entries)) entries)
 
-pub tree_hash-more : (h : List ℕ → List ℕ) (entries : List (List ℕ)) (k : ℕ) → IsLargestPowerBelow (length entries) k
+pub tree_hash-more : (h : List ℕ → List ℕ) (entries : List (List ℕ)) (k : ℕ)
+    → IsLargestPowerBelow (length entries) k
     → tree_hash h entries ≡ pair_hash h (tree_hash h (take k entries)) (tree_hash h (drop k entries))
 tree_hash-more h entries k is =
     let power = is.power in
@@ -76,7 +85,13 @@ tree_hash-more h entries k is =
     let positive = pow_pos power.0 in
     let below = is.below in
     tree_hash-split h entries (omega arith)
-    ∙ ap (λ k. pair_hash h (tree_hash h (take k entries)) (tree_hash h (drop k entries))) (sym (largest_unique (length entries) k is))
+    ∙ ap (λ k. pair_hash h (tree_hash h (take k entries)) (tree_hash h (drop k entries)))
+    (sym (largest_unique (length entries) k is))
 
 pub IsTreeHash_always : (h : List ℕ → List ℕ) → IsTreeHash h
-IsTreeHash_always h = record { none = root_of-none h; one = λ entry. root_of-one h (leaf_hash h entry); more = tree_hash-more h }
+IsTreeHash_always h = record {
+  none = root_of-none h;
+  one = λ entry. root_of-one h (leaf_hash h entry);
+  more =
+      tree_hash-more h;
+}

@@ -1,4 +1,5 @@
--- The test of a subtree: at the power of two over its length, and against the words of the standard.
+-- The test of a subtree: at the power of two over its length, and against the words of the
+-- standard.
 use Rattle.std.proofs.Common.{◌≡◌, ℕ, ◌-◌, ◌%◌, ◌^◌, ◌<◌, ◌≤◌, ◌↔◌, true, false, eqb, sym, ◌∙◌, ap, refl, arith}
 use Rattle.std.proofs.lemmas.Bool.{and_left, and_parts, eq-eqb, eqb-true, le-ltb, lt-ltb, ltb-true}
 use Rattle.std.specs.Prelude.{IsTrue}
@@ -35,7 +36,7 @@ IsSubtree-from start end is =
       aligned = (power_over (end - start), (power_over_least (end - start), eqb-true _ _ both.1));
     }
 
-is_subtree-from : (start end : ℕ) → IsSubtree start end → is_subtree start end ≡ true
+pub is_subtree-from : (start end : ℕ) → IsSubtree start end → is_subtree start end ≡ true
 is_subtree-from start end is =
     let over = least_unique (end - start) is.aligned.0 is.aligned.1.0 in
     is_subtree-over start end is.aligned.0 is.inhabited over ∙ eq-eqb _ _ is.aligned.1.1

@@ -6,9 +6,10 @@ use Rattle.tree_core.specs.Split.{split_of}
 use Rattle.tree_core.specs.Subtree.{is_subtree}
 use Rattle.tree_core.specs.Tree.{pair_hash}
 
--- the root of a tree of n leaves that has this leaf hash at place m, by the siblings of its nodes from the
--- root's children down. Of one leaf it is that leaf, where m is 0 and no sibling is left. Of more the first
--- sibling is the right one where m lies left of the split, and else the left one. No value in all other cases
+-- the root of a tree of n leaves that has this leaf hash at place m, by the siblings of its nodes
+-- from the root's children down. Of one leaf it is that leaf, where m is 0 and no sibling is
+-- left. Of more the first sibling is the right one where m lies left of the split, and else the
+-- left one. No value in all other cases
 unfoldable pub eval_from_root : (List ℕ → List ℕ) → ℕ → ℕ → List ℕ → List (List ℕ) → Option (List ℕ)
 eval_from_root h m n leaf [] = if (m == 0) && (n == 1) then Some leaf else None
 eval_from_root h m n leaf (z ∷ q) =
@@ -22,13 +23,16 @@ eval_from_root h m n leaf (z ∷ q) =
 unfoldable pub eval_of : (List ℕ → List ℕ) → ℕ → ℕ → List ℕ → List (List ℕ) → Option (List ℕ)
 eval_of h m n leaf path = eval_from_root h m n leaf (reverse path)
 
--- the node above the node at place m of its level and its sibling, which is on the right of an even place
+-- the node above the node at place m of its level and its sibling, which is on the right of an
+-- even place
 abbrev pub parent_hash : (List ℕ → List ℕ) → ℕ → List ℕ → List ℕ → List ℕ
-parent_hash h m node sibling = if m % 2 == 0 then pair_hash h node sibling else pair_hash h sibling node
+parent_hash h m node sibling =
+    if m % 2 == 0 then pair_hash h node sibling else pair_hash h sibling node
 
--- the whole answer for the entry at index in the subtree [start, end): the first refusal that holds, or the
--- subtree's hash
-unfoldable pub evaluation : (List ℕ → List ℕ) → List ℕ → ℕ → ℕ → ℕ → List (List ℕ) → Result (List ℕ) EvalError
+-- the whole answer for the entry at index in the subtree [start, end): the first refusal that
+-- holds, or the subtree's hash
+unfoldable pub evaluation : (List ℕ → List ℕ) → List ℕ → ℕ → ℕ → ℕ → List (List ℕ)
+    → Result (List ℕ) EvalError
 evaluation h leaf index start end path =
     if not (is_subtree start end) then Err BadSubtree
     else (if not (nat_le start index && nat_lt index end) then Err Outside

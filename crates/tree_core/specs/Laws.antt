@@ -1,5 +1,5 @@
--- The tree hash and subtrees in the standard's own words, with powers of two as such and numbers without
--- a bound.
+-- The tree hash and subtrees in the standard's own words, with powers of two as such and numbers
+-- without a bound.
 use Rattle.std.specs.Prelude.{◌≡◌, ℕ, ◌-◌, ◌%◌, ◌<◌, ◌≤◌, ◌↔◌, List, [], ◌∷◌, ◌++◌, length, take, drop, IsTrue}
 use Rattle.std.specs.Int.{IsPowerOfTwo}
 use Rattle.tree_core.specs.Split.{split_of}
@@ -12,8 +12,9 @@ pub record IsLargestPowerBelow (n k : ℕ) : Type 0 where
   pub below : k < n
   pub largest : (p : ℕ) → IsPowerOfTwo p → p < n → p ≤ k
 
--- the tree hash of no entries is the hash of no bytes; of one, of 0 and the entry; of more, of 1 and the tree
--- hashes of the first k and of the rest, for k the largest power of two below their number
+-- the tree hash of no entries is the hash of no bytes; of one, of 0 and the entry; of more, of 1
+-- and the tree hashes of the first k and of the rest, for k the largest power of two below their
+-- number
 pub record IsTreeHash (h : List ℕ → List ℕ) : Type 0 where
   pub none : tree_hash h [] ≡ h []
   pub one : (entry : List ℕ) → tree_hash h (entry ∷ []) ≡ h (0 ∷ entry)
@@ -30,7 +31,8 @@ pub record IsLeastPowerFrom (n p : ℕ) : Type 0 where
   pub from : n ≤ p
   pub least : (q : ℕ) → IsPowerOfTwo q → n ≤ q → p ≤ q
 
--- [start, end) has entries, and start is a multiple of the least power of two that is not below their number
+-- [start, end) has entries, and start is a multiple of the least power of two that is not below
+-- their number
 pub record IsSubtree (start end : ℕ) : Type 0 where
   pub inhabited : start < end
   pub aligned : (power : ℕ) × (IsLeastPowerFrom (end - start) power × (start % power ≡ 0))

@@ -4,3 +4,6 @@ pub mod Subtree
 pub mod Evaluation
 pub mod Toy
 pub mod Laws
+pub mod Path
+pub mod PathLaws
+pub mod Cover

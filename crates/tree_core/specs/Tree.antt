@@ -11,15 +11,17 @@ leaf_hash h entry = h (0 ∷ entry)
 abbrev pub pair_hash : (List ℕ → List ℕ) → List ℕ → List ℕ → List ℕ
 pair_hash h left right = h (1 ∷ left ++ right)
 
--- the root over leaf hashes: of none it is the hash of no bytes, of one that leaf hash, and of more the
--- pair of the roots of the first split_of of them and of the rest. The first number bounds the depth
+-- the root over leaf hashes: of none it is the hash of no bytes, of one that leaf hash, and of
+-- more the pair of the roots of the first split_of of them and of the rest. The first number
+-- bounds the depth
 unfoldable pub root_within : ℕ → (List ℕ → List ℕ) → List (List ℕ) → List ℕ
 root_within zero h leaves = h []
 root_within (suc depth) h [] = h []
 root_within (suc depth) h (x ∷ []) = x
 root_within (suc depth) h (x ∷ y ∷ rest) =
-    let k = split_of (length (x ∷ y ∷ rest)) in
-    pair_hash h (root_within depth h (take k (x ∷ y ∷ rest))) (root_within depth h (drop k (x ∷ y ∷ rest)))
+    let leaves = x ∷ y ∷ rest in
+    let k = split_of (length leaves) in
+    pair_hash h (root_within depth h (take k leaves)) (root_within depth h (drop k leaves))
 
 -- the root over leaf hashes
 unfoldable pub root_of : (List ℕ → List ℕ) → List (List ℕ) → List ℕ

@@ -1,8 +1,8 @@
 ghost use Rattle.std.specs.Prelude.{◌≡◌, ℕ, List, [], ◌++◌, length};
 ghost use Rattle.tree_core.specs.Tree.{leaf_hash, pair_hash};
 
-// What is hashed before an entry, and before the two hashes of a pair, so that no entry has the
-// hash of a pair.
+// The byte before an entry, and the one before the two hashes of a pair, so that an entry and a
+// pair are never hashed as the same bytes.
 const LEAF: u8 = 0;
 
 const PAIR: u8 = 1;
@@ -21,17 +21,18 @@ pub trait TreeHash: Sized {
 
     /// Adds bytes behind those so far.
     fn add(&mut self, piece: &[u8])
-        ensures { (bytes : List ℕ) → stands_for self.old bytes → stands_for self.new (bytes ++ piece.now) };
+        ensures { (b : List ℕ) → stands_for self.old b → stands_for self.new (b ++ piece.now) };
 
     /// The hash of all bytes so far.
     fn end(self) -> [u8; 32]
-        ensures { (bytes : List ℕ) → stands_for self bytes → result ≡ hash bytes };
+        ensures { (b : List ℕ) → stands_for self b → result ≡ hash b };
 
     /// A hash has 32 bytes.
-    ghost sized: { (bytes : List ℕ) → length (hash bytes) ≡ 32 };
+    ghost sized: { (b : List ℕ) → length (hash b) ≡ 32 };
 }
 
-/// The hash of an entry as a leaf of a tree: of the byte 0 and the entry (RFC 9162, section 2.1.1).
+/// The hash of an entry as a leaf of a tree: of the byte 0 and the entry (RFC 9162, section
+/// 2.1.1).
 pub fn leaf<H: TreeHash>(entry: &[u8]) -> [u8; 32]
     ensures { result ≡ leaf_hash H.hash entry.now }
 {
@@ -41,8 +42,8 @@ pub fn leaf<H: TreeHash>(entry: &[u8]) -> [u8; 32]
     running.end()
 }
 
-/// The hash of the node above two nodes: of the byte 1, the left hash and the right one (RFC 9162,
-/// section 2.1.1).
+/// The hash of the node above two nodes: of the byte 1, the left hash and the right one (RFC
+/// 9162, section 2.1.1).
 pub fn pair<H: TreeHash>(left: &[u8; 32], right: &[u8; 32]) -> [u8; 32]
     ensures { result ≡ pair_hash H.hash left.now right.now }
 {

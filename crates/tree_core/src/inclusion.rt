@@ -15,11 +15,12 @@ fn parent<H: TreeHash>(place: u64, node: &[u8; 32], sibling: &[u8; 32]) -> [u8; 
 }
 
 /// The hash of the subtree `[start, end)` that an inclusion path gives, from the leaf hash of the
-/// entry at `index` (RFC 9162, section 2.1.3.2). The path's first hash is the sibling of the leaf.
+/// entry at `index` (RFC 9162, section 2.1.3.2). The path's first hash is the sibling of the
+/// leaf.
 ///
-/// Refuses, the first that holds: `BadSubtree` where the interval is no subtree, `Outside` where the
-/// index is not in it, `WrongLength` where the path is not as long as the inclusion path of that
-/// index.
+/// Refuses, the first that holds: `BadSubtree` where the interval is no subtree, `Outside` where
+/// the index is not in it, `WrongLength` where the path is not as long as the inclusion path of
+/// that index.
 pub fn evaluate<H: TreeHash>(
     leaf: &[u8; 32],
     index: u64,
@@ -41,7 +42,7 @@ pub fn evaluate<H: TreeHash>(
     let mut last = end - 1 - start;
     let mut node = *leaf;
     let mut used = 0;
-    while last > 0 {
+    'levels: while last > 0 {
         if place % 2 == 1 || place < last {
             if used == path.len() {
                 return Err(EvalError::WrongLength);
@@ -52,9 +53,8 @@ pub fn evaluate<H: TreeHash>(
         place /= 2;
         last /= 2;
     }
-    if used == path.len() {
-        Ok(node)
-    } else {
-        Err(EvalError::WrongLength)
+    if used < path.len() {
+        return Err(EvalError::WrongLength);
     }
+    Ok(node)
 }

@@ -1,15 +1,27 @@
 ghost use Rattle.std.specs.Prelude.{ℕ, List};
 ghost use Rattle.tree_core.specs.Laws.{IsTreeHash, SplitsAtLargestPower, SubtreesByPower};
+ghost use Rattle.tree_core.specs.PathLaws.{PathsByLength, PathsEvaluate, SubtreePathsEvaluate};
+ghost use Rattle.tree_core.specs.PathLaws.{WrongLengthByPath};
 
-/// The law of the tree hash, for every hash function: the hash of no entries, of one, and of more by
-/// their split at the largest power of two below their number (RFC 9162, section 2.1.1).
+/// The law of the tree hash, for every hash function: the hash of no entries, of one, and of more
+/// by their split at the largest power of two below their number (RFC 9162, section 2.1.1).
 pub fn tree_hash_by_clauses()
     ensures hash { (h : List ℕ → List ℕ) → IsTreeHash h }
     ensures split { SplitsAtLargestPower }
 {}
 
-/// The law of subtrees: an interval is one exactly where it has entries and starts at a multiple of
-/// the least power of two that is not below its length, in numbers without a bound.
+/// The law of subtrees: an interval is one exactly where it has entries and starts at a multiple
+/// of the least power of two that is not below its length, in numbers without a bound.
 pub fn subtrees_by_power()
     ensures { SubtreesByPower }
+{}
+
+/// The law of inclusion paths, for every hash function: the inclusion path of an entry, as RFC
+/// 9162 (section 2.1.3.1) makes it, evaluates to the tree hash, and a path has a value exactly
+/// where it is as long as that one.
+pub fn inclusion_paths_evaluate()
+    ensures evaluates { (h : List ℕ → List ℕ) → PathsEvaluate h }
+    ensures lengths { (h : List ℕ → List ℕ) → PathsByLength h }
+    ensures in_subtrees { (h : List ℕ → List ℕ) → SubtreePathsEvaluate h }
+    ensures wrong_length { (h : List ℕ → List ℕ) → WrongLengthByPath h }
 {}

@@ -1,10 +1,11 @@
-//! Merkle tree hashing, as RFC 9162 (section 2.1) and the draft on Merkle Tree Certificates (section
-//! 4) define it: the hash function of a tree, the hashes of leaves and of pairs, which intervals of
-//! a list of entries are subtrees, and what an inclusion path of a subtree evaluates to.
+//! Merkle tree hashing: the hash function of a tree, the hashes of leaves and of pairs and what
+//! an inclusion path evaluates to, as RFC 9162 (section 2.1) defines them, and which intervals of
+//! a list of entries are subtrees and which subtrees cover an interval, as the draft on Merkle
+//! Tree Certificates defines it.
 //!
-//! A hash is 32 bytes. An interval `[start, end)` holds the entries from `start` up to `end`, without
-//! `end`. Contracts see hashes and entries as lists of bytes, and name the function of a tree by its
-//! meaning, `H.hash`. No call takes memory.
+//! A hash is 32 bytes. An interval `[start, end)` holds the entries from `start` up to `end`,
+//! without `end`. Contracts see hashes and entries as lists of bytes, and name the function of a
+//! tree by its meaning, `H.hash`. No call takes memory.
 //!
 //! ```rust
 //! use tree_core::{evaluate, leaf, Sha};
@@ -15,20 +16,24 @@
 //! ```
 #![tactic(auto)]
 
+mod covering;
 mod error;
 mod hashing;
 mod inclusion;
 mod laws;
 mod sha256;
+mod spans;
 mod subtree;
 mod sum;
 #[cfg(test)]
 mod tests;
 
+pub use covering::cover;
 pub use error::EvalError;
 pub use hashing::{TreeHash, leaf, pair};
 pub use inclusion::evaluate;
-pub use laws::{subtrees_by_power, tree_hash_by_clauses};
+pub use laws::{inclusion_paths_evaluate, subtrees_by_power, tree_hash_by_clauses};
 pub use sha256::Sha;
+pub use spans::{Cover, Span};
 pub use subtree::subtree_ok;
 pub use sum::Toy;

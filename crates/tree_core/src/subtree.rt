@@ -1,8 +1,9 @@
 ghost use Rattle.std.specs.Prelude.{◌≡◌};
 ghost use Rattle.tree_core.specs.Subtree.{is_subtree};
 
-/// Whether the interval `[start, end)` is a subtree: it has entries, and `start` is a multiple of the
-/// least power of two that is not below `end - start` (draft on Merkle Tree Certificates, section 4.1).
+/// Whether the interval `[start, end)` is a subtree: it has entries, and `start` is a multiple of
+/// the least power of two that is not below `end - start` (the draft on Merkle Tree Certificates,
+/// where it defines subtrees).
 pub fn subtree_ok(start: u64, end: u64) -> bool
     ensures { result ≡ is_subtree start end }
 {

@@ -3,7 +3,8 @@ ghost use Rattle.tree_core.specs.Toy.{toy_hash};
 
 use crate::TreeHash;
 
-/// A hash function for tests, whose collisions are easy to find: the sum of the bytes modulo 256, and 31 bytes 0.
+/// A hash function for tests, whose collisions are easy to find: the sum of the bytes modulo 256,
+/// and 31 bytes 0.
 #[derive(Drop)]
 pub struct Toy {
     sum: u8,

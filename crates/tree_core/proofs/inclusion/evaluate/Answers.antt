@@ -18,39 +18,44 @@ returns-then-index-start g c =
 
 pub returns-then-used-path : goal.returns-then-used-path
 returns-then-used-path g c =
-    let within = c.loop-last.invariant.within in
-    let short = eval_of-short g.H.TreeHash.hash c.loop-last.place (c.loop-last.last + 1) c.loop-last.node c.args.path.now c.loop-last.used (omega arith) (omega arith) in
+    let within = c.levels.invariant.within in
+    let short = eval_of-short g.H.TreeHash.hash c.levels.place (c.levels.last + 1) c.levels.node
+    c.args.path.now c.levels.used (omega arith) (omega arith) in
     sym (evaluation-value _ _ _ _ _ _ (sym c.if-not-subtree_ok.ensures) c.if-index-start.false c.if-end-index.false
-    ∙ ap (λ value. ok_or value WrongLength) (sym c.loop-last.invariant.same ∙ short))
+    ∙ ap (λ value. ok_or value WrongLength) (sym c.levels.invariant.same ∙ short))
 
-pub loop-last-preserved : goal.loop-last-preserved
-loop-last-preserved g c =
+pub levels-preserved : goal.levels-preserved
+levels-preserved g c =
     elim c.if-place-eq1.branch [
       | then-place-eq1+else-used-path w ↦
-          let within = c.loop-last.invariant.within in
-          let inside = c.loop-last.invariant.inside in
-          let sibling : c.loop-last.place < c.loop-last.last + c.loop-last.place % 2 =
+          let within = c.levels.invariant.within in
+          let inside = c.levels.invariant.inside in
+          let sibling : c.levels.place < c.levels.last + c.levels.place % 2 =
           ⊎_elim
-          (λ (odd : c.loop-last.place % 2 ≡ 1). omega arith)
-          (λ (more : (c.loop-last.place % 2 ≡ 1 → ⊥) × (c.loop-last.place < c.loop-last.last)). let below = more.1 in omega arith)
+          (λ (odd : c.levels.place % 2 ≡ 1). omega arith)
+          (λ (more : (c.levels.place % 2 ≡ 1 → ⊥) × (c.levels.place < c.levels.last)). let below = more.1 in
+          omega arith)
           w.then-place-eq1.either in
-          EvaluatesFrom-step _ _ _ _ _ _ _ _ _ _ _ _ c.loop-last.invariant (let u = w.if-used-path.false in omega arith) refl sibling
+          EvaluatesFrom-step _ _ _ _ _ _ _ _ _ _ _ _ c.levels.invariant
+          (let u = w.if-used-path.false in omega arith) refl sibling
           (w.node-is ∙ w.parent-node.ensures) w.used-is
       | else-place-eq1+else-place-last w ↦
-          EvaluatesFrom-promoted _ _ _ _ _ _ _ _ _ _ _ c.loop-last.invariant c.loop-last-test.true (let u = w.if-place-eq1.false in omega arith)
+          EvaluatesFrom-promoted _ _ _ _ _ _ _ _ _ _ _ c.levels.invariant c.levels-test.true
+          (let u = w.if-place-eq1.false in omega arith)
           w.if-place-last.false w.node-is w.used-is
     ]
 
 pub returns-then-used-path-2 : goal.returns-then-used-path-2
 returns-then-used-path-2 g c =
-    let inside = c.loop-last.invariant.inside in
-    let leaf = eval_of-leaf g.H.TreeHash.hash c.loop-last.place (c.loop-last.last + 1) c.loop-last.node c.args.path.now c.loop-last.used (omega arith) (omega arith) (omega arith) in
+    let long = eval_of-long g.H.TreeHash.hash c.levels.place (c.levels.last + 1) c.levels.node c.args.path.now
+    c.levels.used c.if-used-path-2.true (omega arith) in
     sym (evaluation-value _ _ _ _ _ _ (sym c.if-not-subtree_ok.ensures) c.if-index-start.false c.if-end-index.false
-    ∙ ap (λ value. ok_or value WrongLength) (sym c.loop-last.invariant.same ∙ leaf))
+    ∙ ap (λ value. ok_or value WrongLength) (sym c.levels.invariant.same ∙ long))
 
-pub returns-else-used-path-2 : goal.returns-else-used-path-2
-returns-else-used-path-2 g c =
-    let within = c.loop-last.invariant.within in
-    let long = eval_of-long g.H.TreeHash.hash c.loop-last.place (c.loop-last.last + 1) c.loop-last.node c.args.path.now c.loop-last.used (let u = c.if-used-path-2.false in omega arith) (omega arith) in
+pub returns : goal.returns
+returns g c =
+    let inside = c.levels.invariant.inside in
+    let leaf = eval_of-leaf g.H.TreeHash.hash c.levels.place (c.levels.last + 1) c.levels.node c.args.path.now
+    c.levels.used (omega arith) (omega arith) (omega arith) in
     sym (evaluation-value _ _ _ _ _ _ (sym c.if-not-subtree_ok.ensures) c.if-index-start.false c.if-end-index.false
-    ∙ ap (λ value. ok_or value WrongLength) (sym c.loop-last.invariant.same ∙ long))
+    ∙ ap (λ value. ok_or value WrongLength) (sym c.levels.invariant.same ∙ leaf))

@@ -1,10 +1,12 @@
--- what the rest of the path gives from the node at this place is what the whole path gives from the leaf
+-- what the rest of the path gives from the node at this place is what the whole path gives from
+-- the leaf
 use Rattle.std.proofs.Common.{◌-◌}
 use Rattle.tree_core.proofs.Evaluates.{EvaluatesFrom}
 use Rattle.tree_core.proofs.inclusion.evaluate.Given as goal
 
-abbrev pub decreases-loop-last : goal.decreases-loop-last
-decreases-loop-last g l = l.last
+abbrev pub decreases-levels : goal.decreases-levels
+decreases-levels g l = l.last
 
-abbrev pub invariant-loop-last : goal.invariant-loop-last
-invariant-loop-last g l = EvaluatesFrom g.H.TreeHash.hash l.fn.leaf (l.fn.index - l.fn.start) (l.fn.end - l.fn.start) l.path l.place l.last l.used l.node
+abbrev pub invariant-levels : goal.invariant-levels
+invariant-levels g l = EvaluatesFrom g.H.TreeHash.hash l.fn.leaf (l.fn.index - l.fn.start)
+    (l.fn.end - l.fn.start) l.path l.place l.last l.used l.node

@@ -1,0 +1,5 @@
+pub mod BothWays
+pub mod Dates
+pub mod Forms
+pub mod Moments
+pub mod Spelling

@@ -1,0 +1,62 @@
+//! What can be wrong with an element, and with a certificate.
+
+/// A fault of one element. The number is the offset of that element in the input. The faults of one element are
+/// looked for in the order `WrongTag` where it is missing, `HighTag`, `WrongTag`, `Truncated` where the length is
+/// missing, `LongForm`, `Truncated`, and then those of its contents.
+#[derive(Clone, Copy, Debug, PartialEq, Eq)]
+pub enum DerError {
+    /// The element ends past what surrounds it.
+    Truncated(usize),
+    /// The length isn't definite, isn't in the fewest bytes, or has more than three.
+    LongForm(usize),
+    /// The tag goes on in further bytes.
+    HighTag(usize),
+    /// Another tag was wanted, or an element where nothing is left.
+    WrongTag(usize),
+    /// A whole number that is empty or isn't in the fewest bytes.
+    BadInteger(usize),
+    /// A truth value other than one byte of 00 or FF.
+    BadBool(usize),
+    /// An object identifier that is empty, unfinished, or has an arc that isn't in the fewest bytes.
+    BadOid(usize),
+    /// A string of bits whose unused bits are more than seven or aren't zero.
+    BadBits(usize),
+    /// A set whose encodings don't rise.
+    SetOrder(usize),
+    /// Something stands behind the last field.
+    Trailing(usize),
+}
+
+/// Why bytes aren't a certificate (RFC 5280, section 4.1) in the form that is taken here.
+#[derive(Clone, Copy, Debug, PartialEq, Eq)]
+pub enum CertError {
+    /// A fault of an element.
+    Der(DerError),
+    /// The version is absent or isn't version 3.
+    BadVersion,
+    /// The serial number isn't from 1 to 2 ^ 64 - 1.
+    BadSerial,
+    /// A time that isn't in its form, or names no moment.
+    BadTime,
+    /// The algorithm beside the signature isn't the one in the certificate.
+    AlgorithmsDiffer,
+    /// A second extension with the same identifier.
+    RepeatedExtension,
+    /// A unique identifier of the issuer or the subject.
+    UniqueId,
+    /// An extension outside its form, or a list of extensions without one.
+    BadExtension,
+    /// A name with a set that is empty.
+    BadName,
+}
+
+impl From<DerError> for CertError {
+    ghost use Rattle.std.specs.Prelude.{◌≡◌};
+    ghost use Rattle.der_core.specs.declared.fault.CertError.TheVariants.{Der};
+
+    ghost from_gives = { λ d e. e ≡ Der d };
+
+    fn from(fault: DerError) -> CertError {
+        CertError::Der(fault)
+    }
+}

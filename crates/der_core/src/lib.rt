@@ -1,0 +1,26 @@
+//! Elements in the distinguished encoding rules (X.690): reading them from left to right, the rules for their
+//! contents, and writing them. Each value has one spelling, and the first fault from the left is answered.
+//!
+//! Tags have one byte, and contents fewer than 2 ^ 24 bytes; lengths are definite and in the fewest bytes.
+#![tactic(auto)]
+
+mod contents;
+mod element;
+mod fault;
+mod laws;
+mod reader;
+mod set;
+#[cfg(test)]
+mod tests;
+mod writing;
+
+pub use contents::{bits, boolean, oid, unsigned};
+pub use element::Element;
+pub use fault::{CertError, DerError};
+pub use laws::{
+    contents_are_read_as_spelled, elements_are_read_as_spelled, elements_have_one_spelling,
+    numbers_are_read_as_spelled, sets_are_read_as_spelled,
+};
+pub use reader::{Reader, expect, read};
+pub use set::set_in_order;
+pub use writing::{put, put_unsigned};

@@ -1,0 +1,74 @@
+//! Writing elements behind the bytes that are there. Where memory is refused, these bytes stay as they were.
+
+ghost use Rattle.std.specs.Prelude.{◌≡◌, ◌≢◌, ◌%◌, ◌^◌, ◌<◌, ◌≤◌, ◌++◌, false, length, slice_index, OnOk, OnErr};
+ghost use Rattle.byte_forms.specs.Places.{IsBytes};
+ghost use Rattle.byte_forms.specs.Numbers.{value};
+ghost use Rattle.der_core.specs.Elements.{element};
+ghost use Rattle.der_core.specs.Integers.{integer};
+ghost use Rattle.der_core.specs.Contents.{is_padded};
+
+use mtc_io::{Bytes, Memory};
+
+/// Puts an element behind the bytes: its tag, the length of the contents in the fewest bytes, and the contents.
+#[tactic(auto, unfolding(crate::specs::Elements::element))]
+pub fn put(tag: u8, contents: &[u8], out: &mut Bytes) -> Result<(), Memory>
+    requires tag { tag % 32 ≢ 31 }
+    requires short { length contents.now < 2 ^ 24 }
+    ensures ok { OnOk result (out.new ≡ out.old ++ element tag contents.now) }
+    ensures err { OnErr result (out.new ≡ out.old) }
+{
+    let count = contents.len();
+    if count < 128 {
+        out.append_both(&[tag, count as u8], contents)
+    } else if count < 256 {
+        out.append_both(&[tag, 0x81, count as u8], contents)
+    } else if count < 65536 {
+        out.append_both(
+            &[tag, 0x82, (count / 256) as u8, (count % 256) as u8],
+            contents,
+        )
+    } else {
+        let high = (count / 65536) as u8;
+        out.append_both(
+            &[
+                tag,
+                0x83,
+                high,
+                (count / 256 % 256) as u8,
+                (count % 256) as u8,
+            ],
+            contents,
+        )
+    }
+}
+
+/// Puts an INTEGER with this value behind the bytes.
+pub fn put_unsigned(value: u64, out: &mut Bytes) -> Result<(), Memory>
+    ensures ok { OnOk result (out.new ≡ out.old ++ element 2 (integer value)) }
+    ensures err { OnErr result (out.new ≡ out.old) }
+{
+    let [a, b, c, d, e, f, g, h] = value.to_be_bytes();
+    let all = [0, a, b, c, d, e, f, g, h];
+    let contents = fewest(&all);
+    put(2, contents, out)
+}
+
+/// The same number without the bytes at its front that can be left out.
+fn fewest(bytes: &[u8]) -> &[u8]
+    requires some { 0 < length bytes.now }
+    requires positive { slice_index bytes.now 0 < 128 }
+    ensures bytes { IsBytes result.now }
+    ensures some { 0 < length result.now }
+    ensures shorter { length result.now ≤ length bytes.now }
+    ensures positive { slice_index result.now 0 < 128 }
+    ensures fewest { is_padded result.now ≡ false }
+    ensures same { value 256 result.now ≡ value 256 bytes.now }
+{
+    let mut rest = bytes;
+    while let [0, next, ..] = rest
+        && *next < 128
+    {
+        rest = &rest[1..];
+    }
+    rest
+}

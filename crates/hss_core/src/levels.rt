@@ -1,0 +1,56 @@
+ghost use Rattle.std.specs.Prelude.{◌≡◌, ◌≤◌, true, length};
+ghost use Rattle.lms_core.specs.Refusals.{answer_of};
+ghost use Rattle.hss_core.specs.Hss.{front_length, levels_refusal, parts_fit};
+
+use lms_core::{SigError, check, front};
+
+// The bytes of the LMS signature that these begin with; 0 where they begin with none.
+fn front_len(bytes: &[u8]) -> usize
+    ensures value { result ≡ front_length bytes.now }
+    ensures within { result ≤ length bytes.now }
+{
+    match front(bytes) {
+        None => 0,
+        Some((lms, ots)) => lms.signature_len(ots),
+    }
+}
+
+// Whether the bytes are so many pairs of a signature and a public key, and one last signature.
+#[tactic(auto, unfolding(crate::specs::Hss::parts_fit))]
+pub fn parts_fit(count: u32, bytes: &[u8]) -> bool
+    ensures { result ≡ parts_fit count bytes.now }
+{
+    let mut rest = bytes;
+    for done in 0..count {
+        let length = front_len(rest);
+        if length == 0 || rest.len() - length < 56 {
+            return false;
+        }
+        let (_, behind) = rest.split_at(length + 56);
+        rest = behind;
+    }
+    let length = front_len(rest);
+    length != 0 && length == rest.len()
+}
+
+// Checks the levels from the top: each signed key by the key above it, and the message by the last.
+#[tactic(auto, unfolding(crate::specs::Hss::levels_refusal, crate::specs::Hss::parts_fit))]
+pub fn check_levels(count: u32, key: &[u8], message: &[u8], bytes: &[u8]) -> Result<(), SigError>
+    requires key { length key.now ≡ 56 }
+    requires parts { parts_fit count bytes.now ≡ true }
+    ensures { result ≡ answer_of (levels_refusal count key.now message.now bytes.now) }
+{
+    let mut key = key;
+    let mut rest = bytes;
+    for done in 0..count {
+        let (signature, behind) = rest.split_at(front_len(rest));
+        let (next, behind) = behind.split_at(56);
+        match check(key, next, signature) {
+            Err(refusal) => return Err(refusal),
+            Ok(()) => {}
+        }
+        key = next;
+        rest = behind;
+    }
+    check(key, message, rest)
+}

@@ -1,0 +1,98 @@
+ghost use Rattle.std.specs.Prelude.{◌≡◌, ◌+◌, ◌<◌, ◌≤◌, ◌*◌, ◌++◌, length};
+ghost use Rattle.lmots_core.specs.Parameters.{chains, signature_length};
+ghost use Rattle.lmots_core.specs.Strings.{joined};
+ghost use Rattle.lmots_core.specs.Ots.{chain_end, coded_hash, public_key, signature, signed_link};
+
+use crate::chains::{Chain, secret_start};
+use crate::digits::{coef, message_hash, with_checksum};
+use crate::parameters::OtsType;
+use crate::signature_buffer::SigBuf;
+use sha2::{Digest, Sha256};
+
+// D_PBLC: the hash that is a public key begins with these two bytes (RFC 8554, section 4.3).
+pub const KEY_MARK: [u8; 2] = [0x80, 0x80];
+
+// The place of the randomizer in the derivation of secrets.
+const RANDOMIZER: u16 = 65533;
+
+// The end of chain i.
+fn chain_end(ots: OtsType, id: &[u8; 16], q: u32, secret: &[u8; 32], i: u16) -> [u8; 32]
+    ensures { result ≡ chain_end ots id.now q secret.now i }
+{
+    let start = secret_start(id, q, secret, i);
+    Chain::new(id, q, i).run(0, ots.steps(), start)
+}
+
+/// The public key of one-time key `q`, 32 bytes (RFC 8554, section 4.3).
+#[tactic(auto, unfolding(crate::specs::Ots::public_key, crate::specs::Ots::key_of_ends, crate::specs::Strings::joined))]
+pub fn public(ots: OtsType, id: &[u8; 16], q: u32, secret: &[u8; 32]) -> [u8; 32]
+    ensures { result ≡ public_key ots id.now q secret.now }
+{
+    let mut hasher = Sha256::new();
+    hasher.update(id);
+    hasher.update(&q.to_be_bytes());
+    hasher.update(&KEY_MARK);
+    for i in 0..ots.chains() {
+        hasher.update(&chain_end(ots, id, q, secret, i));
+    }
+    hasher.finalize()
+}
+
+// Chain i after as many steps as its digit says.
+fn signed_link(
+    ots: OtsType,
+    id: &[u8; 16],
+    q: u32,
+    secret: &[u8; 32],
+    coded: &[u8; 34],
+    i: u16,
+) -> [u8; 32]
+    requires { i < chains ots }
+    ensures { result ≡ signed_link ots id.now q secret.now coded.now i }
+{
+    let digit = coef(coded, i as usize, ots);
+    let start = secret_start(id, q, secret, i);
+    Chain::new(id, q, i).run(0, digit, start)
+}
+
+// Puts each chain, as far as its digit says, behind what `out` holds.
+#[tactic(auto, unfolding(crate::specs::Strings::joined))]
+fn put_links(
+    ots: OtsType,
+    id: &[u8; 16],
+    q: u32,
+    secret: &[u8; 32],
+    coded: &[u8; 34],
+    out: &mut SigBuf,
+)
+    requires { length out.old + 32 * chains ots ≤ 17748 }
+    ensures bytes { out.new ≡ out.old ++ joined (signed_link ots id.now q secret.now coded.now) (chains ots) }
+    ensures size { length out.new ≡ length out.old + 32 * chains ots }
+{
+    for i in 0..ots.chains() {
+        out.append(&signed_link(ots, id, q, secret, coded, i));
+    }
+}
+
+/// Puts the signature of a message by one-time key `q` behind what `out` holds (RFC 8554, section
+/// 4.5). A key is to sign one message alone.
+#[tactic(auto, unfolding(crate::specs::Ots::signature))]
+pub fn sign(
+    ots: OtsType,
+    id: &[u8; 16],
+    q: u32,
+    secret: &[u8; 32],
+    message: &[u8],
+    out: &mut SigBuf,
+)
+    requires { length out.old + signature_length ots ≤ 17748 }
+    ensures bytes { out.new ≡ out.old ++ signature ots id.now q secret.now message.now }
+    ensures size { length out.new ≡ length out.old + signature_length ots }
+{
+    let randomizer = secret_start(id, q, secret, RANDOMIZER);
+    let hash = message_hash(id, q, &randomizer, message);
+    let coded = with_checksum(ots, &hash);
+    out.append(&ots.typecode().to_be_bytes());
+    out.append(&randomizer);
+    put_links(ots, id, q, secret, &coded, out);
+}

@@ -1,0 +1,5 @@
+pub mod Places
+pub mod Levels
+pub mod Parts
+pub mod Climbs
+pub mod Verifies

@@ -1,0 +1,4 @@
+pub mod Heights
+pub mod Trees
+pub mod Held
+pub mod Refusals

@@ -1,0 +1,34 @@
+ghost use Rattle.std.specs.Prelude.{◌≡◌, ℕ, ◌*◌, ◌≤◌, ◌^◌, length};
+ghost use Rattle.lms_core.specs.Heights.{height};
+ghost use Rattle.lms_core.specs.Held.{HoldsFrom};
+
+use crate::nodes::inner_node;
+use crate::private_key::PrivateKey;
+
+// Fills the places of the leaves.
+pub fn fill_leaves(key: &PrivateKey, leaves: u32, nodes: &mut [[u8; 32]])
+    requires low { height key.now.lms ≤ 10 }
+    requires leaves { leaves ≡ 2 ^ height key.now.lms }
+    requires count { length nodes.old ≡ 2 * leaves }
+    ensures { HoldsFrom key.now leaves nodes.new }
+{
+    for q in 0..leaves {
+        nodes[(leaves + q) as usize] = key.leaf(q);
+    }
+}
+
+// Fills the places above the leaves, from the lowest level to the root.
+pub fn fill_inner(key: &PrivateKey, leaves: u32, nodes: &mut [[u8; 32]])
+    requires low { height key.now.lms ≤ 10 }
+    requires leaves { leaves ≡ 2 ^ height key.now.lms }
+    requires count { length nodes.old ≡ 2 * leaves }
+    requires below { HoldsFrom key.now leaves nodes.old }
+    ensures { HoldsFrom key.now 1 nodes.new }
+{
+    for step in 1..leaves {
+        let place = leaves - step;
+        let left = nodes[2 * place as usize];
+        let right = nodes[2 * place as usize + 1];
+        nodes[place as usize] = inner_node(&key.id, place, &left, &right);
+    }
+}

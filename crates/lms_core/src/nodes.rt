@@ -1,0 +1,86 @@
+ghost use Rattle.std.specs.Prelude.{◌≡◌, ◌+◌, ◌<◌, ◌≤◌, ◌^◌};
+ghost use Rattle.lms_core.specs.Heights.{height};
+ghost use Rattle.lms_core.specs.Trees.{inner_node, leaf_node, parent, private_key, sibling, tree_value};
+
+use crate::heights::LmsType;
+use crate::private_key::PrivateKey;
+use lmots_core::{OtsType, public, read_32};
+use sha2::{Digest, Sha256};
+
+// D_LEAF: the hash that is a leaf goes on with these two bytes (RFC 8554, section 5.3).
+const LEAF_MARK: [u8; 2] = [0x82, 0x82];
+
+// D_INTR: the hash that is an inner node goes on with these.
+const INNER_MARK: [u8; 2] = [0x83, 0x83];
+
+// The leaf at this place, over the one-time public key there.
+#[tactic(auto, unfolding(crate::specs::Trees::leaf_node))]
+pub fn leaf_node(id: &[u8; 16], place: u32, key: &[u8; 32]) -> [u8; 32]
+    ensures { result ≡ leaf_node id.now place key.now }
+{
+    let mut hasher = Sha256::new();
+    hasher.update(id);
+    hasher.update(&place.to_be_bytes());
+    hasher.update(&LEAF_MARK);
+    hasher.update(key);
+    hasher.finalize()
+}
+
+// The inner node at this place, over the two nodes below it.
+#[tactic(auto, unfolding(crate::specs::Trees::inner_node))]
+pub fn inner_node(id: &[u8; 16], place: u32, left: &[u8; 32], right: &[u8; 32]) -> [u8; 32]
+    ensures { result ≡ inner_node id.now place left.now right.now }
+{
+    let mut hasher = Sha256::new();
+    hasher.update(id);
+    hasher.update(&place.to_be_bytes());
+    hasher.update(&INNER_MARK);
+    hasher.update(left);
+    hasher.update(right);
+    hasher.finalize()
+}
+
+// The parent of the node at this place, from its value and its sibling's.
+pub fn parent(id: &[u8; 16], place: u32, value: &[u8; 32], beside: &[u8; 32]) -> [u8; 32]
+    ensures { result ≡ parent id.now place value.now beside.now }
+{
+    if place % 2 == 0 {
+        inner_node(id, place / 2, value, beside)
+    } else {
+        inner_node(id, place / 2, beside, value)
+    }
+}
+
+// The place of the other node below the same parent.
+pub fn sibling(place: u32) -> u32
+    requires { place < 2 ^ 31 }
+    ensures { result ≡ sibling place }
+{
+    if place % 2 == 0 { place + 1 } else { place - 1 }
+}
+
+impl PrivateKey {
+    /// The private key of a secret: 16 bytes of identifier and 32 of seed.
+    pub fn of_secret(lms: LmsType, ots: OtsType, secret: &[u8; 48]) -> PrivateKey
+        ensures { result ≡ private_key lms ots secret.now }
+    {
+        let mut id = [0; 16];
+        id.copy_from_slice(&secret[..16]);
+        PrivateKey {
+            lms,
+            ots,
+            id,
+            seed: read_32(secret, 16),
+        }
+    }
+
+    // The leaf of one-time key q.
+    #[tactic(auto, unfolding(crate::specs::Trees::tree_value))]
+    pub fn leaf(&self, q: u32) -> [u8; 32]
+        requires { q < 2 ^ height self.now.lms }
+        ensures { result ≡ tree_value self.now 0 (2 ^ height self.now.lms + q) }
+    {
+        let key = public(self.ots, &self.id, q, &self.seed);
+        leaf_node(&self.id, self.lms.leaves() + q, &key)
+    }
+}

@@ -1,0 +1,10 @@
+pub mod Answers
+pub mod KeygenOutcome
+pub mod Lines
+pub mod Member
+pub mod MemberNames
+pub mod MemberOutcome
+pub mod Outcome
+pub mod Settled
+pub mod Steps
+pub mod WordsOutcome

@@ -1,0 +1,28 @@
+-- What a command leaves of a room, and why it ends without an answer.
+use Rattle.std.specs.Prelude.{◌≡◌, ℕ, ◌≤◌, List, Option, Result, Ok, Err}
+use Rattle.mtc_room.specs.Room.{AllStay}
+use Rattle.mtc_top.specs.Answers.{status_of}
+use Rattle.mtc_top.specs.declared.answer.Answer.{Answer}
+use Rattle.mtc_top.specs.declared.answer.Stop.{Stop}
+use Rattle.mtc_top.specs.declared.answer.Stop.TheVariants.{Room, Memory}
+
+-- all that was lent is given back, the count of faults hasn't fallen, and each file is as it was
+pub record Settled (lent lent' faults faults' : ℕ) (file file' : List ℕ → Option (List ℕ)) : Type 0 where
+  pub out : lent' ≡ lent
+  pub later : faults ≤ faults'
+  pub stay : AllStay file file'
+
+-- the room is named as the cause only where it failed; want of memory is free
+abbrev pub FailedOnly : Type 0 → Stop → Type 0
+FailedOnly Fault (Room file) = Fault
+FailedOnly Fault Memory = Unit {0}
+
+-- the status of such an end
+abbrev pub stop_code : Stop → ℕ
+stop_code (Room file) = 5
+stop_code Memory = 8
+
+-- the answer is one to words that are no command, unless memory was refused
+abbrev pub AnswersBadWords : Result Answer Stop → Type 0
+AnswersBadWords (Ok answer) = status_of answer ≡ 1
+AnswersBadWords (Err stop) = stop ≡ Memory

@@ -1,0 +1,140 @@
+ghost use Rattle.std.specs.Prelude.{◌≡◌, ◌≢◌, ◌<◌, ◌^◌, ℕ, List, [], ◌≤◌, map, string_bytes, codes, IfOk, IfErr, IsErr};
+ghost use Rattle.std.specs.Io.KnownBytes.{Appends};
+ghost use Rattle.mtc_io.specs.Counts.{Rose};
+ghost use Rattle.mtc_io.specs.Streams.{AppendsPrefix};
+ghost use Rattle.mtc_room.specs.Room.{AllStay};
+ghost use Rattle.mtc_words.specs.Commands.{command_value, IsInRange};
+ghost use Rattle.mtc_words.specs.Words.{command_of, known_word};
+ghost use Rattle.mtc_top.specs.Answers.{status_of, out_of, err_of};
+ghost use Rattle.mtc_top.specs.Lines.{command_line, file_line, memory_line, WritesLine};
+ghost use Rattle.mtc_top.specs.Outcome.{command_outcome, outcome};
+ghost use Rattle.mtc_top.specs.Settled.{Settled, FailedOnly, AnswersBadWords};
+ghost use Rattle.mtc_top.specs.WordsOutcome.{first_word};
+
+use crate::answer::{Answer, Stop};
+use crate::finish::{conclude, fail};
+use crate::keygen::keygen;
+use crate::member::member;
+use crate::refused_words::refuse_words;
+use mtc_io::Sink;
+use mtc_room::Room;
+use mtc_words::{Command, command_word, read_words};
+use std::alloc::Global;
+use tree_core::TreeHash;
+
+// The first word, or an empty text.
+fn first(words: &[String]) -> &str
+    ensures { result.now ≡ first_word (map string_bytes words.now) }
+{
+    match words.first() {
+        Some(first) => first.as_str(),
+        None => "",
+    }
+}
+
+// Carries out a command. There is one arm for each.
+fn perform<'a, H: TreeHash, R: Room>(
+    alloc: Global,
+    room: &mut R,
+    command: Command<'a>,
+) -> Result<Answer, Stop<'a>>
+    requires lent { R.lent room.old < 2 ^ 32 }
+    requires range { IsInRange (command_value command) }
+    ensures settled { Settled (R.lent room.old) (R.lent room.new) (R.faults room.old) (R.faults room.new)
+        (R.file room.old) (R.file room.new) }
+    ensures tells { R.tells room.old → R.tells room.new }
+    ensures answer { IfOk result (λ answer. R.tells room.old
+        → answer ≡ (command_outcome H.hash (command_value command.entry) (R.file room.old)).answer) }
+    ensures not_words { IfOk result (λ answer. status_of answer ≢ 1) }
+    ensures fault { IfErr result (FailedOnly (Rose (R.faults room.old) (R.faults room.new))) }
+{
+    match command {
+        Command::Member(file) => member::<H, R>(alloc, room, file),
+        Command::Keygen(height, width, secret) => keygen(alloc, room, height, width, secret),
+    }
+}
+
+// Reads the words, and carries out what they say.
+fn answer<'a, H: TreeHash, R: Room>(
+    alloc: Global,
+    words: &'a [String],
+    room: &mut R,
+) -> Result<Answer, Stop<'a>>
+    requires { R.lent room.old < 2 ^ 32 }
+    ensures settled { Settled (R.lent room.old) (R.lent room.new) (R.faults room.old) (R.faults room.new)
+        (R.file room.old) (R.file room.new) }
+    ensures answer { IfOk result (λ answer. R.tells room.old
+        → answer ≡ (outcome H.hash (map string_bytes words.now) (R.file room.old)).answer) }
+    ensures bad_words { IfOk result (λ answer. status_of answer ≡ 1
+        → IsErr (command_of (map string_bytes words.now))) }
+    ensures words_first { IsErr (command_of (map string_bytes words.now)) → AnswersBadWords result }
+    ensures fault { IfErr result (FailedOnly (Rose (R.faults room.old) (R.faults room.new))) }
+{
+    match read_words(words) {
+        Ok(command) => perform::<H, R>(alloc, room, command),
+        Err(why) => Ok(refuse_words(alloc, first(words), why)?),
+    }
+}
+
+/// Does all that the program does: reads the words of a command, carries it out over a room, and writes its text
+/// to `out` or a line to `err`. Everything that the room lends is given back, and each file stays as it was.
+///
+/// Answers the status: 0 the command did its work, and 3 the judgement is against; both wrote to `out`. 1 the words
+/// are no command, 2 a named file isn't in its grammar, 5 the room failed, 6 `out` failed, 7 a named file isn't
+/// there, 8 memory was refused, 9 an input is over its limit; these wrote a line to `err`. Tests come in the order
+/// of the program's steps: the words, then each file in the order of the words, then its grammar, then the
+/// command's own. A fault of `err` changes no status.
+pub fn run<H: TreeHash, R: Room, O: Sink, E: Sink>(
+    alloc: Global,
+    words: &[String],
+    room: &mut R,
+    out: &mut O,
+    err: &mut E,
+) -> u8
+    requires { R.lent room.old ≡ 0 }
+
+    // Without a failure the status and the text are the outcome's.
+    ensures status { R.tells room.old → result ≢ 5 → result ≢ 6 → result ≢ 8
+        → result ≡ status_of (outcome H.hash (map string_bytes words.now) (R.file room.old)).answer }
+    ensures took { R.tells room.old → result ≢ 5 → result ≢ 6 → result ≢ 8
+        → Appends (O.taken out.old) (O.taken out.new)
+        (out_of (outcome H.hash (map string_bytes words.now) (R.file room.old)).answer) }
+    ensures complete { R.tells room.old → (Rose (R.faults room.old) (R.faults room.new) → ⊥)
+        → (Rose (O.faults out.old) (O.faults out.new) → ⊥) → result ≢ 8
+        → result ≡ status_of (outcome H.hash (map string_bytes words.now) (R.file room.old)).answer }
+
+    // The causes of the failures.
+    ensures room_failed { result ≡ 5 → Rose (R.faults room.old) (R.faults room.new) }
+    ensures out_failed { result ≡ 6 → Rose (O.faults out.old) (O.faults out.new) }
+    ensures prefix { R.tells room.old → result ≡ 6 → AppendsPrefix (O.taken out.old) (O.taken out.new)
+        (out_of (outcome H.hash (map string_bytes words.now) (R.file room.old)).answer) }
+
+    // Of each room, also of one that doesn't tell its files.
+    ensures bad_words { result ≡ 1 → IsErr (command_of (map string_bytes words.now)) }
+    ensures words_first { IsErr (command_of (map string_bytes words.now)) → result ≢ 8 → result ≡ 1 }
+    ensures nothing { result ≢ 0 → result ≢ 3 → result ≢ 6 → Appends (O.taken out.old) (O.taken out.new) [] }
+
+    // The line on `err`, or where `err` failed a prefix of it.
+    ensures line { R.tells room.old → result ≢ 5 → result ≢ 6 → result ≢ 8
+        → WritesLine (Rose (E.faults err.old) (E.faults err.new)) (E.taken err.old) (E.taken err.new)
+        (err_of (outcome H.hash (map string_bytes words.now) (R.file room.old)).answer) }
+    ensures room_line { result ≡ 5 → (file : List ℕ) × WritesLine (Rose (E.faults err.old) (E.faults err.new))
+        (E.taken err.old) (E.taken err.new)
+        (file_line (known_word (map string_bytes words.now)) file (codes "Failed")) }
+    ensures out_line { result ≡ 6 → WritesLine (Rose (E.faults err.old) (E.faults err.new))
+        (E.taken err.old) (E.taken err.new)
+        (command_line (known_word (map string_bytes words.now)) (codes "OutputFailed")) }
+    ensures memory_line { result ≡ 8 → WritesLine (Rose (E.faults err.old) (E.faults err.new))
+        (E.taken err.old) (E.taken err.new) (memory_line (known_word (map string_bytes words.now))) }
+
+    // What was lent is given back, and each file is as it was.
+    ensures given_back { R.lent room.new ≡ 0 }
+    ensures stay { AllStay (R.file room.old) (R.file room.new) }
+    ensures count { R.faults room.old ≤ R.faults room.new }
+{
+    let command = command_word(words);
+    match answer::<H, R>(alloc, words, room) {
+        Ok(answer) => conclude(command, out, err, &answer),
+        Err(stop) => fail(command, err, stop),
+    }
+}

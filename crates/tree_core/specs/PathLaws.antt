@@ -1,0 +1,36 @@
+-- What holds of inclusion paths and their evaluation, for a hash function h.
+use Rattle.std.specs.Prelude.{◌≡◌, ◌≢◌, ℕ, ◌-◌, ◌<◌, ◌≤◌, ◌↔◌, List, [], length, map, slice_index_or, IsSome, Some, Ok, Err}
+use Rattle.tree_core.specs.declared.error.EvalError.TheVariants.{WrongLength}
+use Rattle.tree_core.specs.Evaluation.{eval_of, evaluation}
+use Rattle.tree_core.specs.Laws.{IsSubtree}
+use Rattle.tree_core.specs.Path.{part_of, path_of}
+use Rattle.tree_core.specs.Tree.{leaf_hash, root_of, tree_hash}
+
+-- the inclusion path of a leaf evaluates to the root
+abbrev pub PathsEvaluate : (List ℕ → List ℕ) → Type 0
+PathsEvaluate h = (leaves : List (List ℕ)) (m : ℕ) → m < length leaves
+    → let leaf = slice_index_or leaves m [] in
+    eval_of h m (length leaves) leaf (path_of h m leaves) ≡ Some (root_of h leaves)
+
+-- a path has a value exactly where it is as long as the inclusion path
+abbrev pub PathsByLength : (List ℕ → List ℕ) → Type 0
+PathsByLength h = (leaves path : List (List ℕ)) (m : ℕ) (leaf : List ℕ) → m < length leaves
+    → IsSome (eval_of h m (length leaves) leaf path) ↔ (length path ≡ length (path_of h m leaves))
+
+-- in a list of entries, for each subtree and each entry in it: its inclusion path there is
+-- answered with the tree hash of the subtree
+abbrev pub SubtreePathsEvaluate : (List ℕ → List ℕ) → Type 0
+SubtreePathsEvaluate h = (entries : List (List ℕ)) (index start end : ℕ)
+    → IsSubtree start end → end ≤ length entries → start ≤ index → index < end
+    → let part = part_of entries start end in
+    let entry = slice_index_or entries index [] in
+    let path = path_of h (index - start) (map (leaf_hash h) part) in
+    evaluation h (leaf_hash h entry) index start end path ≡ Ok (tree_hash h part)
+
+-- in a subtree and for an index in it, the answer is WrongLength exactly where the path is not as
+-- long as the inclusion path of that place, whatever the leaves are
+abbrev pub WrongLengthByPath : (List ℕ → List ℕ) → Type 0
+WrongLengthByPath h = (leaves path : List (List ℕ)) (index start end : ℕ) (leaf : List ℕ)
+    → IsSubtree start end → start ≤ index → index < end → length leaves ≡ end - start
+    → (evaluation h leaf index start end path ≡ Err WrongLength)
+    ↔ (length path ≢ length (path_of h (index - start) leaves))
