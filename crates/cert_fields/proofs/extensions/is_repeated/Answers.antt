@@ -1,0 +1,26 @@
+use Rattle.std.proofs.Common.{rules, ◌≡◌, ◌<◌, List, [], length, Ok, Err, OnOk, IfErr, ℕ, ◌+◌, ◌-◌, ◌*◌, ◌≤◌, ◌/◌, ◌%◌, Bool, true, false, nat_eq, nat_lt, ◌∷◌, ◌++◌, slice_index_or, slice_set, bit_and, bit_or, Fits, w8, w32, w64, Bor, MutBor}
+use Rattle.std.specs.List.{list_any}
+use Rattle.byte_forms.specs.Readings.{Moves, Gives, discarded}
+use Rattle.cert_fields.specs.Extensions.{is_among, new_identifier_at, critical_at, has_its_form, extension_at, extension_list_at, extension_sequence_at, extensions_at, head_at, identifiers, extensions_left, list_in, is_unknown_critical, has_unknown_critical, alt_name_octets, extensions_in, dns_names_in}
+use Rattle.cert_fields.specs.Views.{extension_fields}
+use Rattle.cert_fields.proofs.extensions.is_repeated.Goals as goal
+
+-- src/extensions.rt:44:5
+pub loop-left-init : goal.loop-left-init
+loop-left-init c = ?
+
+-- src/extensions.rt:46:49
+pub returns-in-Ok : goal.returns-in-Ok
+returns-in-Ok c = ?
+
+-- src/extensions.rt:44:5
+pub loop-left-preserved : goal.loop-left-preserved
+loop-left-preserved c = ?
+
+-- src/extensions.rt:48:23
+pub returns-in-Err : goal.returns-in-Err
+returns-in-Err c = ?
+
+-- src/extensions.rt:39:1
+pub returns : goal.returns
+returns c = ?

@@ -1,0 +1,9 @@
+pub mod Identifiers
+pub mod Keys
+pub mod Names
+pub mod Times
+pub mod AltNames
+pub mod Extensions
+pub mod Certificate
+pub mod Places
+pub mod Views
