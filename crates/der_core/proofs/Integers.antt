@@ -8,7 +8,7 @@ use Rattle.std.proofs.Math.Nat.{pow-le-pow_right, div-lt_iff_lt-mul, pow-zero}
 use Rattle.byte_forms.specs.Places.{IsBytes}
 use Rattle.byte_forms.specs.Numbers.{value, digits}
 use Rattle.byte_forms.proofs.Steps.{guard_ok, ok_is, chosen, IsBytes-rest}
-use Rattle.byte_forms.proofs.Digits.{value-lt, value-digits, digits-value, power_pos}
+use Rattle.byte_forms.proofs.Digits.{value-lt, value-digits, digits-value, power_pos, length-digits}
 use Rattle.der_core.specs.declared.fault.DerError.{DerError}
 use Rattle.der_core.specs.declared.fault.DerError.TheVariants.{BadInteger}
 use Rattle.der_core.specs.Contents.{is_padded, if_small, unsigned_of}
@@ -194,3 +194,9 @@ eight_bytes a b c d e f g h = omega arith
 -- The bytes of a number of 64 bits stand for it.
 pub value_of_bytes : (n : ℕ) → n < 2 ^ 64 → value 256 (0 ∷ to_be_bytes w64 n) ≡ n
 value_of_bytes n small = eight_bytes _ _ _ _ _ _ _ _ ∙ from_be_bytes-to_be_bytes_8 n small
+
+-- The encoding has at most nine bytes.
+pub length-integer : (n : ℕ) → n < 2 ^ 64 → length (integer n) ≤ 9
+length-integer n small =
+    let w = integer_width n small in
+    omega (arith, small_width n w.0 small w.1, ap length (integer_is n w.0 small w.1), length-digits 256 (w.0 + 1) n)

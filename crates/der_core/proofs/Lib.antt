@@ -1,3 +1,6 @@
 pub mod Loops
 pub mod Integers
 pub mod Sets
+pub mod Elements
+pub mod Rules
+pub mod Fields

@@ -5,3 +5,4 @@ pub mod Integers
 pub mod Contents
 pub mod Sets
 pub mod Fields
+pub mod Forms

@@ -7,13 +7,20 @@
 mod contents;
 mod element;
 mod fault;
+mod laws;
 mod reader;
 mod set;
+#[cfg(test)]
+mod tests;
 mod writing;
 
 pub use contents::{bits, boolean, oid, unsigned};
 pub use element::Element;
 pub use fault::{CertError, DerError};
+pub use laws::{
+    contents_are_read_as_spelled, elements_are_read_as_spelled, elements_have_one_spelling,
+    numbers_are_read_as_spelled, sets_are_read_as_spelled,
+};
 pub use reader::{Reader, expect, read};
 pub use set::set_in_order;
 pub use writing::{put, put_unsigned};

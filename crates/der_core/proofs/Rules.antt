@@ -1,0 +1,71 @@
+-- The rules for contents read exactly the spellings of their values.
+use Rattle.std.proofs.Common.{◌≡◌, ◌≢◌, ℕ, Bool, true, false, ◌&&◌, List, [], ◌∷◌, length, Result, Ok, Err, refl, sym, ap, subst, ◌∙◌, arith, inl, inr, eq-eqb, ne_eqb, eqb-true, le-leb, leb-true, true≢false}
+use Rattle.std.specs.Prelude.{if◌then◌else◌, ◌==◌, nat_le}
+use Rattle.byte_forms.specs.Places.{IsBytes}
+use Rattle.byte_forms.specs.Forms.{itself}
+use Rattle.byte_forms.proofs.Steps.{guard_ok, pass_ok, chosen, ok_is}
+use Rattle.der_core.specs.declared.fault.DerError.{DerError}
+use Rattle.der_core.specs.declared.fault.DerError.TheVariants.{BadBool, BadOid, BadBits}
+use Rattle.der_core.specs.Contents.{boolean_of, are_arcs, oid_of, are_unused, bits_of}
+use Rattle.der_core.specs.Forms.{IsContents, boolean, FitsBoolean, IsOid, bit_string, IsBitString}
+
+boolean_takes : (place : ℕ) (contents : List ℕ) (x : Bool) → IsBytes contents → boolean_of place contents ≡ Ok x → (contents ≡ boolean x) × FitsBoolean x
+unfolding boolean_of
+boolean_takes place [] x h e = absurd cc
+boolean_takes place (b ∷ []) x h e =
+    let P : Bool → Type 0 = λ v. (b ∷ [] ≡ boolean v) × FitsBoolean v in
+    let other : Result Bool DerError = if b == 255 then Ok true else Err (BadBool place) in
+    elim (chosen (b == 0) (Ok false) other (Ok x) e) [
+      | inl c ↦ subst P (ok_is DerError false x c.1) (ap (λ (n : ℕ). n ∷ []) (eqb-true b 0 c.0), tt)
+      | inr c ↦
+          let g = pass_ok (b == 255) (Ok true) (BadBool place) x c.1 in
+          subst P (ok_is DerError true x g.1) (ap (λ (n : ℕ). n ∷ []) (eqb-true b 255 g.0), tt)
+    ]
+boolean_takes place (b ∷ c ∷ contents) x h e = absurd cc
+
+boolean_again : (place : ℕ) (x : Bool) → FitsBoolean x → boolean_of place (boolean x) ≡ Ok x
+unfolding boolean_of
+boolean_again place true f = refl
+boolean_again place false f = refl
+
+pub boolean_contents : IsContents boolean FitsBoolean boolean_of
+boolean_contents = record { takes = boolean_takes; again = boolean_again }
+
+oid_takes : (place : ℕ) (contents x : List ℕ) → IsBytes contents → oid_of place contents ≡ Ok x → (contents ≡ x) × IsOid x
+unfolding oid_of
+oid_takes place contents x h e =
+    let inner : Result (List ℕ) DerError = if are_arcs true contents then Ok contents else Err (BadOid place) in
+    let g = guard_ok (length contents == 0) (BadOid place) inner x e in
+    let p = pass_ok (are_arcs true contents) (Ok contents) (BadOid place) x g.1 in
+    let some : length contents ≢ 0 = λ none. true≢false (sym (eq-eqb (length contents) 0 none) ∙ g.0) in
+    let P : List ℕ → Type 0 = λ v. (contents ≡ v) × IsOid v in
+    subst P (ok_is DerError contents x p.1) (refl, record { some = omega arith; arcs = p.0 })
+
+oid_again : (place : ℕ) (x : List ℕ) → IsOid x → oid_of place x ≡ Ok x
+unfolding oid_of
+oid_again place x f =
+    let some : length x ≢ 0 = omega (arith, f.some) in
+    rw (ne_eqb (length x) 0 some, f.arcs) refl
+
+pub oid_contents : IsContents itself IsOid oid_of
+oid_contents = record { takes = oid_takes; again = oid_again }
+
+and_true : (a b : Bool) → (a && b) ≡ true → (a ≡ true) × (b ≡ true)
+and_true true b e = (refl, e)
+and_true false b e = absurd cc
+
+bits_takes : (place : ℕ) (contents : List ℕ) (x : ℕ × List ℕ) → IsBytes contents → bits_of place contents ≡ Ok x → (contents ≡ bit_string x) × IsBitString x
+unfolding bits_of
+bits_takes place [] x h e = absurd cc
+bits_takes place (unused ∷ bytes) x h e =
+    let p = pass_ok (nat_le unused 7 && are_unused unused bytes) (Ok (unused, bytes)) (BadBits place) x e in
+    let t = and_true (nat_le unused 7) (are_unused unused bytes) p.0 in
+    let P : ℕ × List ℕ → Type 0 = λ v. (unused ∷ bytes ≡ bit_string v) × IsBitString v in
+    subst P (ok_is DerError (unused, bytes) x p.1) (refl, record { few = leb-true unused 7 t.0; zero = t.1 })
+
+bits_again : (place : ℕ) (x : ℕ × List ℕ) → IsBitString x → bits_of place (bit_string x) ≡ Ok x
+unfolding bits_of
+bits_again place x f = rw (le-leb x.0 7 f.few, f.zero) refl
+
+pub bits_contents : IsContents bit_string IsBitString bits_of
+bits_contents = record { takes = bits_takes; again = bits_again }

@@ -1,0 +1,62 @@
+-- What is read is spelled so, and what is spelled so is read again: elements and contents.
+use Rattle.std.specs.Prelude.{◌≡◌, ℕ, ◌<◌, ◌≤◌, Bool, true, false, List, [], ◌∷◌, length, Result, Ok}
+use Rattle.std.specs.Ordering.{nat_cmp, is_gt}
+use Rattle.std.specs.Cmp.Lexicographic.{slice_cmp}
+use Rattle.byte_forms.specs.Places.{At, IsBytes}
+use Rattle.byte_forms.specs.Forms.{Stands}
+use Rattle.der_core.specs.Elements.{element, FitsElement}
+use Rattle.der_core.specs.Items.{Item}
+use Rattle.der_core.specs.Contents.{are_arcs, are_unused}
+use Rattle.der_core.specs.Sets.{last_of}
+use Rattle.der_core.specs.declared.fault.DerError.{DerError}
+
+-- This element was read at a, and b is the place behind it.
+pub record IsRead (a : At) (e : Item) (b : At) : Type 0 where
+  pub stands : Stands a (element e.tag e.contents) b
+  pub fits : FitsElement e.tag e.contents
+  pub whole : e.whole ≡ element e.tag e.contents
+  pub place : e.place ≡ a.place
+  pub bytes : IsBytes e.contents
+
+-- The element with this tag and these contents, at this offset.
+abbrev pub element_item : ℕ → List ℕ → ℕ → Item
+element_item tag contents place = record { tag = tag; place = place; whole = element tag contents; contents = contents }
+
+-- The bytes are one element.
+pub record IsElement (bytes : List ℕ) : Type 0 where
+  pub tag : ℕ
+  pub contents : List ℕ
+  pub fits : FitsElement tag contents
+  pub spelled : bytes ≡ element tag contents
+
+-- A rule for contents reads exactly the spellings of its values.
+pub record IsContents {X : Type 0} (spell : X → List ℕ) (Fits : X → Type 0) (decode : ℕ → List ℕ → Result X DerError) : Type 0 where
+  pub takes : (place : ℕ) (contents : List ℕ) (x : X) → IsBytes contents → decode place contents ≡ Ok x → (contents ≡ spell x) × Fits x
+  pub again : (place : ℕ) (x : X) → Fits x → decode place (spell x) ≡ Ok x
+
+-- The contents of a BOOLEAN (X.690, 11.1).
+abbrev pub boolean : Bool → List ℕ
+boolean false = 0 ∷ []
+boolean true = 255 ∷ []
+
+-- Any truth value has contents.
+abbrev pub FitsBoolean : Bool → Type 0
+FitsBoolean b = Unit {0}
+
+-- The contents of an OBJECT IDENTIFIER: arcs, at least one.
+pub record IsOid (contents : List ℕ) : Type 0 where
+  pub some : 0 < length contents
+  pub arcs : are_arcs true contents ≡ true
+
+-- The contents of a BIT STRING: the number of unused bits and the bytes.
+abbrev pub bit_string : ℕ × List ℕ → List ℕ
+bit_string (unused, bytes) = unused ∷ bytes
+
+pub record IsBitString (b : ℕ × List ℕ) : Type 0 where
+  pub few : b.0 ≤ 7
+  pub zero : are_unused b.0 b.1 ≡ true
+
+-- One more element of a set: it isn't below the last one.
+pub record IsNext (seen : List (List ℕ)) (bytes : List ℕ) : Type 0 where
+  pub is_element : IsElement bytes
+  pub risen : is_gt (slice_cmp nat_cmp (last_of seen) bytes) ≡ false
