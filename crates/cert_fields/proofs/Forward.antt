@@ -1,9 +1,8 @@
 -- An element that is read takes bytes away.
-use Rattle.std.proofs.Common.{◌≡◌, ℕ, ◌+◌, ◌-◌, ◌*◌, ◌%◌, ◌<◌, ◌≤◌, true, false, List, [], ◌∷◌, length, take, drop, Result, Ok, Err, refl, sym, subst, ◌∙◌, arith, inl, inr}
+use Rattle.std.proofs.Common.{◌≡◌, ℕ, ◌+◌, ◌-◌, ◌*◌, ◌%◌, ◌<◌, ◌≤◌, List, [], ◌∷◌, length, take, drop, Result, Ok, Err, subst, arith, inl, inr}
 use Rattle.std.specs.Prelude.{if◌then◌else◌, ◌==◌, nat_lt}
 use Rattle.std.proofs.lemmas.List.{length-drop}
 use Rattle.byte_forms.specs.Places.{At, after}
-use Rattle.byte_forms.specs.Readings.{◌>>=◌}
 use Rattle.byte_forms.proofs.Steps.{bind_ok, chosen, guard_ok, ok_is}
 use Rattle.der_core.specs.Items.{Item}
 use Rattle.der_core.specs.Reading.{tag_at, one_at, two_at, three_at, length_at, behind_tag, element_at}

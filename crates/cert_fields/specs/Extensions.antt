@@ -1,5 +1,5 @@
 -- Extensions (RFC 5280, sections 4.1 and 4.2).
-use Rattle.std.specs.Prelude.{ℕ, zero, suc, ◌&&◌, Bool, true, not, List, [], ◌∷◌, length, Option, is_some, Result, Ok, Err, if◌then◌else◌}
+use Rattle.std.specs.Prelude.{ℕ, zero, suc, ◌&&◌, Bool, true, not, List, [], ◌∷◌, length, is_some, Result, Ok, Err, if◌then◌else◌}
 use Rattle.std.specs.List.{list_any}
 use Rattle.std.specs.Str.{bytes_eq}
 use Rattle.byte_forms.specs.Places.{At, at}

@@ -1,5 +1,4 @@
 -- Parts of the code's values as contracts see them: slices as their bytes.
-use Rattle.std.specs.Prelude.{ℕ, List}
 use Rattle.cert_fields.specs.Certificate.{Parts, Body}
 use Rattle.cert_fields.specs.Extensions.{ExtensionFields}
 use Rattle.cert_fields.specs.declared.cert.Cert.{Cert}

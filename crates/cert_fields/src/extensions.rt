@@ -1,6 +1,6 @@
 //! Extensions (RFC 5280, sections 4.1.2.9 and 4.2).
 
-ghost use Rattle.std.specs.Prelude.{◌≡◌, ◌<◌, List, [], length, Ok, Err, OnOk, IfErr};
+ghost use Rattle.std.specs.Prelude.{◌≡◌, ◌^◌, ◌<◌, List, [], length, Ok, Err, OnOk, IfErr};
 ghost use Rattle.std.specs.List.{list_any};
 ghost use Rattle.byte_forms.specs.Readings.{Moves, Gives, discarded};
 ghost use Rattle.cert_fields.specs.Extensions.{is_among, new_identifier_at, critical_at, has_its_form, extension_at, extension_list_at, extension_sequence_at, extensions_at, head_at, identifiers, extensions_left, list_in, is_unknown_critical, has_unknown_critical, alt_name_octets, extensions_in, dns_names_in};
@@ -43,8 +43,12 @@ fn is_repeated(identifier: &[u8], list: &Reader, count: usize) -> bool
     let mut left = count;
     while left > 0 {
         match head(&mut reader) {
-            Ok(other) if other == identifier => return true,
-            Ok(_) => left -= 1,
+            Ok(other) => {
+                if other == identifier {
+                    return true;
+                }
+                left -= 1;
+            }
             Err(_) => return false,
         }
     }
@@ -121,6 +125,7 @@ fn one_extension<'a>(
 
 /// Extensions with different identifiers, up to the end.
 fn extension_list(reader: &mut Reader) -> Result<(), CertError>
+    requires { length reader.old.rest < 2 ^ 64 }
     ensures ok { OnOk result (discarded (extension_list_at reader.old) ≡ Ok reader.new) }
     ensures err { IfErr result (λ e. discarded (extension_list_at reader.old) ≡ Err e) }
 {
@@ -194,12 +199,19 @@ pub fn unknown_critical(extensions: &[u8]) -> bool
     }
 }
 
+/// The extension is critical and isn't one of the known ones.
+fn is_unknown_critical(extension: &Extension) -> bool
+    ensures { result ≡ is_unknown_critical (extension_fields extension.now) }
+{
+    extension.critical && !is_known(extension.identifier)
+}
+
 fn any_unknown_critical(list: Reader) -> bool
     ensures { result ≡ list_any is_unknown_critical (extensions_left list.entry) }
 {
     let mut reader = list;
     while let Ok(extension) = next_extension(&mut reader) {
-        if extension.critical && !is_known(extension.identifier) {
+        if is_unknown_critical(&extension) {
             return true;
         }
     }

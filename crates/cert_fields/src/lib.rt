@@ -13,6 +13,8 @@ mod extensions;
 mod identifiers;
 mod keys;
 mod names;
+#[cfg(test)]
+mod tests;
 mod times;
 
 pub use alt_names::DnsNames;

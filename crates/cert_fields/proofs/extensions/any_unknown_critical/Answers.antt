@@ -1,26 +1,22 @@
-use Rattle.std.proofs.Common.{rules, ◌≡◌, ◌<◌, List, [], length, Ok, Err, OnOk, IfErr, ℕ, ◌+◌, ◌-◌, ◌*◌, ◌≤◌, ◌/◌, ◌%◌, Bool, true, false, nat_eq, nat_lt, ◌∷◌, ◌++◌, slice_index_or, slice_set, bit_and, bit_or, Fits, w8, w32, w64, Bor, MutBor}
+use Rattle.std.proofs.Common.{refl}
 use Rattle.std.specs.List.{list_any}
-use Rattle.byte_forms.specs.Readings.{Moves, Gives, discarded}
-use Rattle.cert_fields.specs.Extensions.{is_among, new_identifier_at, critical_at, has_its_form, extension_at, extension_list_at, extension_sequence_at, extensions_at, head_at, identifiers, extensions_left, list_in, is_unknown_critical, has_unknown_critical, alt_name_octets, extensions_in, dns_names_in}
+use Rattle.cert_fields.specs.Extensions.{is_unknown_critical}
 use Rattle.cert_fields.specs.Views.{extension_fields}
+use Rattle.cert_fields.proofs.Walks.{seeks_from, seeks_more, seeks_found, seeks_end}
 use Rattle.cert_fields.proofs.extensions.any_unknown_critical.Goals as goal
 
--- src/extensions.rt:201:5
 pub loop-extension-init : goal.loop-extension-init
-loop-extension-init c = ?
+loop-extension-init c = seeks_from (list_any is_unknown_critical) _
 
--- src/extensions.rt:203:13
-pub returns-then-not-is_known : goal.returns-then-not-is_known
-returns-then-not-is_known c = ?
+pub returns-then-is_unknown_critical : goal.returns-then-is_unknown_critical
+returns-then-is_unknown_critical c =
+    seeks_found (list_any is_unknown_critical) _ c.loop-extension.reader (extension_fields c.in-Ok.extension) c.next_extension.new.reader _
+    c.in-Ok.ensures.exact c.in-Ok.ensures.forward (λ xs. rw (← c.if-is_unknown_critical.ensures) refl) c.loop-extension.invariant
 
--- src/extensions.rt:201:5
-pub loop-extension-smaller : goal.loop-extension-smaller
-loop-extension-smaller c = ?
-
--- src/extensions.rt:201:5
 pub loop-extension-preserved : goal.loop-extension-preserved
-loop-extension-preserved c = ?
+loop-extension-preserved c =
+    seeks_more (list_any is_unknown_critical) _ c.loop-extension.reader (extension_fields c.in-Ok.extension) c.next_extension.new.reader
+    c.in-Ok.ensures.exact c.in-Ok.ensures.forward (λ xs. rw (← c.if-is_unknown_critical.ensures) refl) c.loop-extension.invariant
 
--- src/extensions.rt:197:1
 pub returns : goal.returns
-returns c = ?
+returns c = seeks_end (list_any is_unknown_critical) _ c.loop-extension.reader _ c.in_default.ensures.exact c.loop-extension.invariant

@@ -1,12 +1,12 @@
-use Rattle.std.proofs.Common.{◌≡◌, ◌<◌, List, [], length, Ok, Err, OnOk, IfErr, ℕ, ◌+◌, ◌-◌, ◌*◌, ◌≤◌}
+use Rattle.std.proofs.Common.{length}
 use Rattle.std.specs.List.{list_any}
-use Rattle.byte_forms.specs.Readings.{Moves, Gives, discarded}
-use Rattle.cert_fields.specs.Extensions.{is_among, new_identifier_at, critical_at, has_its_form, extension_at, extension_list_at, extension_sequence_at, extensions_at, head_at, identifiers, extensions_left, list_in, is_unknown_critical, has_unknown_critical, alt_name_octets, extensions_in, dns_names_in}
-use Rattle.cert_fields.specs.Views.{extension_fields}
+use Rattle.cert_fields.specs.Extensions.{is_unknown_critical, extensions_left}
+use Rattle.cert_fields.proofs.Walks.{Seeks}
 use Rattle.cert_fields.proofs.extensions.any_unknown_critical.Given as goal
 
+-- What is left decides as all extensions do.
 abbrev pub invariant-loop-extension : goal.invariant-loop-extension
-invariant-loop-extension l = ?
+invariant-loop-extension l = Seeks (list_any is_unknown_critical) ((list_any is_unknown_critical) (extensions_left l.fn.list)) l.reader
 
 abbrev pub decreases-loop-extension : goal.decreases-loop-extension
-decreases-loop-extension l = ?
+decreases-loop-extension l = length l.reader.rest

@@ -1,26 +1,23 @@
-use Rattle.std.proofs.Common.{rules, ◌≡◌, ◌<◌, List, [], length, Ok, Err, OnOk, IfErr, ℕ, ◌+◌, ◌-◌, ◌*◌, ◌≤◌, ◌/◌, ◌%◌, Bool, true, false, nat_eq, nat_lt, ◌∷◌, ◌++◌, slice_index_or, slice_set, bit_and, bit_or, Fits, w8, w32, w64, Bor, MutBor}
-use Rattle.std.specs.List.{list_any}
-use Rattle.byte_forms.specs.Readings.{Moves, Gives, discarded}
-use Rattle.cert_fields.specs.Extensions.{is_among, new_identifier_at, critical_at, has_its_form, extension_at, extension_list_at, extension_sequence_at, extensions_at, head_at, identifiers, extensions_left, list_in, is_unknown_critical, has_unknown_critical, alt_name_octets, extensions_in, dns_names_in}
-use Rattle.cert_fields.specs.Views.{extension_fields}
+use Rattle.std.proofs.Common.{ap}
+use Rattle.cert_fields.specs.Extensions.{is_among, identifiers}
+use Rattle.cert_fields.proofs.Walks.{among_more, among_found, among_fails, among_end}
 use Rattle.cert_fields.proofs.extensions.is_repeated.Goals as goal
 
--- src/extensions.rt:44:5
 pub loop-left-init : goal.loop-left-init
-loop-left-init c = ?
+loop-left-init c = ap (λ a. is_among c.args.identifier.now (identifiers c.args.count a)) c.fork-reader.ensures
 
--- src/extensions.rt:46:49
-pub returns-in-Ok : goal.returns-in-Ok
-returns-in-Ok c = ?
+pub returns-then-eq : goal.returns-then-eq
+returns-then-eq c =
+    among_found _ c.args.identifier.now c.loop-left.left c.loop-left.reader c.in-Ok.other.now c.head.new.reader
+    c.loop-left-test.true c.in-Ok.ensures.exact c.if-eq.ensures c.loop-left.invariant
 
--- src/extensions.rt:44:5
 pub loop-left-preserved : goal.loop-left-preserved
-loop-left-preserved c = ?
+loop-left-preserved c =
+    among_more _ c.args.identifier.now c.loop-left.left c.loop-left.reader c.in-Ok.other.now c.head.new.reader
+    c.loop-left-test.true c.in-Ok.ensures.exact c.if-eq.ensures c.loop-left.invariant
 
--- src/extensions.rt:48:23
 pub returns-in-Err : goal.returns-in-Err
-returns-in-Err c = ?
+returns-in-Err c = among_fails _ c.args.identifier.now c.loop-left.left c.loop-left.reader _ c.in-Err.ensures.exact c.loop-left.invariant
 
--- src/extensions.rt:39:1
 pub returns : goal.returns
-returns c = ?
+returns c = among_end _ c.args.identifier.now c.loop-left.left c.loop-left.reader c.loop-left-test.false c.loop-left.invariant

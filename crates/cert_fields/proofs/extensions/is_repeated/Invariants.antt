@@ -1,13 +1,10 @@
-use Rattle.std.proofs.Common.{◌≡◌, ◌<◌, List, [], length, Ok, Err, OnOk, IfErr, ℕ, ◌+◌, ◌-◌, ◌*◌, ◌≤◌}
-use Rattle.std.specs.List.{list_any}
-use Rattle.byte_forms.specs.Readings.{Moves, Gives, discarded}
-use Rattle.cert_fields.specs.Extensions.{is_among, new_identifier_at, critical_at, has_its_form, extension_at, extension_list_at, extension_sequence_at, extensions_at, head_at, identifiers, extensions_left, list_in, is_unknown_critical, has_unknown_critical, alt_name_octets, extensions_in, dns_names_in}
-use Rattle.cert_fields.specs.Views.{extension_fields}
+use Rattle.cert_fields.specs.Extensions.{is_among, identifiers}
+use Rattle.cert_fields.proofs.Walks.{StillAmong}
 use Rattle.cert_fields.proofs.extensions.is_repeated.Given as goal
 
+-- The extensions that are left to look at have the identifier as all of them have.
 abbrev pub invariant-loop-left : goal.invariant-loop-left
-invariant-loop-left l = ?
+invariant-loop-left l = StillAmong (is_among l.fn.identifier (identifiers l.fn.count l.fn.list)) l.fn.identifier l.left l.reader
 
--- proposed from the loop's first test
 abbrev pub decreases-loop-left : goal.decreases-loop-left
 decreases-loop-left l = l.left
