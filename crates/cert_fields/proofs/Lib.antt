@@ -1,3 +1,7 @@
 pub mod Forward
-pub mod Parts
+pub mod Sizes
+pub mod Steps
 pub mod Walks
+pub mod FieldForms
+pub mod ExtensionForms
+pub mod CertificateForm

@@ -18,7 +18,7 @@ use Rattle.der_core.specs.declared.fault.CertError.TheVariants.{BadExtension, Re
 use Rattle.cert_fields.specs.AltNames.{dns_name, name_then, names_from, names_left}
 use Rattle.cert_fields.specs.Extensions.{ExtensionFields, is_among, new_identifier_at, critical_at, to_extension, has_its_form, identifier_of, extension_at, extension_list_at, head_at, identifiers, value_then, extensions_from, extensions_left}
 use Rattle.cert_fields.proofs.Forward.{element_forward}
-use Rattle.cert_fields.proofs.Parts.{inside_ok, first_ok, mapped_ok, tested_ok, decoded_ok}
+use Rattle.cert_fields.proofs.Steps.{inside_ok, first_ok, mapped_ok, tested_ok, decoded_ok}
 
 -- ---- dNSNames
 

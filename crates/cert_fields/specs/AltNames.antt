@@ -26,12 +26,12 @@ abbrev pub is_ascii : List ℕ → Bool
 is_ascii bytes = list_all (λ b. nat_lt b 128) bytes
 
 -- One of these tags; a dNSName is ASCII.
-abbrev pub is_general_name : Item → Bool
-is_general_name e = is_name_tag e.tag && (if e.tag == dns_name then is_ascii e.contents else true)
+abbrev pub is_general_name : ℕ → List ℕ → Bool
+is_general_name tag contents = is_name_tag tag && (if tag == dns_name then is_ascii contents else true)
 
 -- GeneralName.
 unfoldable pub general_name_at : At → Result (List ℕ × At) CertError
-general_name_at a = der (element_at a) >>= λ e. if is_general_name e.0 then Ok (e.0.whole, e.1) else Err BadExtension
+general_name_at a = der (element_at a) >>= λ e. if is_general_name e.0.tag e.0.contents then Ok (e.0.whole, e.1) else Err BadExtension
 
 -- GeneralNames: a SEQUENCE of names, at least one.
 unfoldable pub general_names_at : At → Result (List ℕ × At) CertError

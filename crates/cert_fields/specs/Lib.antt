@@ -7,3 +7,6 @@ pub mod Extensions
 pub mod Certificate
 pub mod Places
 pub mod Views
+pub mod Spelling
+pub mod Given
+pub mod Grammar

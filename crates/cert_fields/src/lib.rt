@@ -12,13 +12,19 @@ mod checks;
 mod extensions;
 mod identifiers;
 mod keys;
+mod laws;
 mod names;
+mod parts;
 #[cfg(test)]
 mod tests;
 mod times;
+mod writing;
 
 pub use alt_names::DnsNames;
 pub use cert::Cert;
 pub use certificate::parse;
 pub use checks::{check_algorithm, check_extensions, check_name, check_spki, check_validity};
 pub use extensions::{dns_names, unknown_critical};
+pub use laws::{certificates_are_read_as_spelled, extensions_are_read_as_spelled, fields_are_read_as_spelled, one_spelling};
+pub use parts::CertParts;
+pub use writing::write;
