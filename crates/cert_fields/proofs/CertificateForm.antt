@@ -1,5 +1,5 @@
 -- A whole certificate: what is read is spelled so, and what is spelled so is read again.
-use Rattle.std.proofs.Common.{◌≡◌, ◌≢◌, ℕ, ◌+◌, ◌^◌, ◌<◌, ◌≤◌, Bool, true, false, List, [], ◌∷◌, ◌++◌, length, Result, Ok, Err, refl, sym, ap, subst, ◌∙◌, arith, inl, inr, ◌⊎◌, lit<, eqb-true, lt-ltb, ltb-true}
+use Rattle.std.proofs.Common.{◌≡◌, ◌≢◌, ℕ, ◌+◌, ◌^◌, ◌<◌, ◌≤◌, Bool, true, false, List, [], ◌∷◌, ◌++◌, length, Result, Ok, Err, IfOk, refl, sym, ap, subst, ◌∙◌, arith, inl, inr, ◌⊎◌, lit<, eqb-true, lt-ltb, ltb-true}
 use Rattle.std.specs.Prelude.{◌==◌, ◌||◌, nat_lt}
 use Rattle.std.specs.Str.{bytes_eq}
 use Rattle.std.proofs.lemmas.List.{length-append}
@@ -23,6 +23,8 @@ use Rattle.cert_fields.specs.Extensions.{extensions_at}
 use Rattle.cert_fields.specs.Certificate.{Parts, Body, nothing, version_at, serial_at, is_unique_id, body_at, tbs_at, same_algorithm, signed_at, to_parts, certificate_at, parts_of}
 use Rattle.cert_fields.specs.Spelling.{version, tbs_fields, certificate_fields, certificate}
 use Rattle.cert_fields.specs.Grammar.{IsAlgorithm, IsPublicKey, IsName, IsValidity, IsSignature, IsExtensionsField, IsCertificate}
+use Rattle.cert_fields.specs.Views.{parts}
+use Rattle.cert_fields.specs.declared.cert.Cert.{Cert}
 use Rattle.cert_fields.proofs.FieldForms.{algorithm_form, spki_form, name_form, validity_form, signature_form}
 use Rattle.cert_fields.proofs.ExtensionForms.{IsExtensions, extensions_form, all_takes, all_again}
 
@@ -228,3 +230,16 @@ parts_again p f = all_again certificate IsCertificate certificate_at certificate
 
 pub one_certificate : (p q : Parts) (s t : List ℕ) → IsCertificate p → IsCertificate q → certificate p ++ s ≡ certificate q ++ t → (p ≡ q) × (s ≡ t)
 one_certificate p q s t = one_form certificate IsCertificate certificate_at certificate_form p q s t
+
+-- ---- an answer that is exactly what is wanted
+
+pub gives_found : (bytes : List ℕ) (r : Result Cert CertError) → IsBytes bytes → Gives parts r (parts_of bytes)
+    → IfOk r (λ c. (bytes ≡ certificate (parts c)) × IsCertificate (parts c))
+gives_found bytes (Ok c) h e = parts_only bytes (parts c) h e
+gives_found bytes (Err fault) h e = tt
+
+pub gives_only : (bytes : List ℕ) (r : Result Cert CertError) → Gives parts r (parts_of bytes)
+    → (p : Parts) → IsCertificate p → bytes ≡ certificate p → Gives parts r (Ok p)
+gives_only bytes r e p f same =
+    let P : Result Parts CertError → Type 0 = λ wanted. Gives parts r wanted in
+    subst P (ap parts_of same ∙ parts_again p f) e

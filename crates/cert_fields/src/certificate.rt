@@ -1,8 +1,10 @@
 //! A whole certificate (RFC 5280, section 4.1).
 
-ghost use Rattle.std.specs.Prelude.{◌≡◌};
+ghost use Rattle.std.specs.Prelude.{◌≡◌, Ok, IfOk};
 ghost use Rattle.byte_forms.specs.Readings.{Moves, Gives};
-ghost use Rattle.cert_fields.specs.Certificate.{version_at, serial_at, body_at, tbs_at, signed_at, certificate_at, parts_of, is_unique_id};
+ghost use Rattle.cert_fields.specs.Certificate.{Parts, version_at, serial_at, body_at, tbs_at, signed_at, certificate_at, parts_of, is_unique_id};
+ghost use Rattle.cert_fields.specs.Spelling.{certificate};
+ghost use Rattle.cert_fields.specs.Grammar.{IsCertificate};
 ghost use Rattle.cert_fields.specs.Views.{parts, body};
 
 use crate::cert::Cert;
@@ -141,6 +143,17 @@ fn certificate<'a>(reader: &mut Reader<'a>) -> Result<Cert<'a>, CertError>
     })
 }
 
+/// All of the bytes.
+#[tactic(auto, unfolding(crate::specs::Certificate::parts_of))]
+fn whole<'a>(bytes: &'a [u8]) -> Result<Cert<'a>, CertError>
+    ensures { Gives parts result (parts_of bytes.now) }
+{
+    let mut reader = Reader::at(bytes, 0);
+    let cert = certificate(&mut reader)?;
+    reader.end()?;
+    Ok(cert)
+}
+
 /// Reads a certificate, without taking memory.
 ///
 /// The first fault from the left is answered, an outer element before its parts. Beside the faults of elements these are, in
@@ -150,12 +163,10 @@ fn certificate<'a>(reader: &mut Reader<'a>) -> Result<Cert<'a>, CertError>
 /// [`check_extensions`](crate::check_extensions); `AlgorithmsDiffer` where the algorithm beside the signature isn't the one
 /// that is signed; `BadBits` where the signature has unused bits; `Trailing` with the offset of what stands behind the last
 /// field of a constructed element or of the certificate.
-#[tactic(auto, unfolding(crate::specs::Certificate::parts_of))]
 pub fn parse<'a>(bytes: &'a [u8]) -> Result<Cert<'a>, CertError>
+    ensures found { IfOk result (λ c. (bytes.now ≡ certificate (parts c)) × IsCertificate (parts c)) }
+    ensures only { (p : Parts) → IsCertificate p → bytes.now ≡ certificate p → Gives parts result (Ok p) }
     ensures exact { Gives parts result (parts_of bytes.now) }
 {
-    let mut reader = Reader::at(bytes, 0);
-    let cert = certificate(&mut reader)?;
-    reader.end()?;
-    Ok(cert)
+    whole(bytes)
 }
