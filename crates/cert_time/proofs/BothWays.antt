@@ -5,7 +5,9 @@ use Rattle.std.proofs.lemmas.Bool.Decides.{nat_tests}
 use Rattle.jiff_core.proofs.CalendarLemmas.{days_in_month_bounds}
 use Rattle.cert_time.specs.declared.civil.CivilTime.{CivilTime}
 use Rattle.cert_time.specs.Calendar.{exists, moment, moment_from, IsMoment, civil_of}
-use Rattle.cert_time.specs.Times.{HasDigits, fits_form, text_form, text_parts, text_with, text_moment, text_of, utc_form, utc_parts, utc_with, utc_moment, general_form, general_parts, general_with, general_moment, time_moment, time_tag, time_contents, tag_with, contents_with}
+use Rattle.cert_time.specs.Forms.{HasDigits, fits_form}
+use Rattle.cert_time.specs.Texts.{text_form, text_parts, text_with, text_moment, text_of}
+use Rattle.cert_time.specs.Times.{utc_form, utc_parts, utc_with, utc_moment, general_form, general_parts, general_with, general_moment, time_moment, time_tag, time_contents, tag_with, contents_with}
 use Rattle.cert_time.proofs.Moments.{Exists, exists-from, exists-to, Names, civil_of-names, names-civil_of, IsMoment-names}
 use Rattle.cert_time.proofs.Spelling.{text_back, text_fits, text_read, utc_back, utc_fits, utc_read, utc_year, general_back, general_fits, general_read}
 

@@ -1,7 +1,7 @@
 -- Texts that have a form.
 use Rattle.std.proofs.Common.{◌≡◌, ℕ, true, false, List, [], ◌∷◌, length, arith, refl}
 use Rattle.std.proofs.lemmas.Bool.{and_parts, false_from_ne_true}
-use Rattle.cert_time.specs.Times.{fits_byte, fits_form}
+use Rattle.cert_time.specs.Forms.{fits_byte, fits_form}
 
 -- a text that has a form is as long
 pub fits_form-length : (form text : List ℕ) → fits_form form text ≡ true → length text ≡ length form

@@ -5,7 +5,9 @@ use Rattle.std.proofs.lemmas.Bool.Decides.{nat_tests}
 use Rattle.std.specs.Char.{is_ascii_digit}
 use Rattle.std.specs.Cmp.Derive.{both_true}
 use Rattle.cert_time.specs.declared.civil.CivilTime.{CivilTime}
-use Rattle.cert_time.specs.Times.{fits_byte, fits_form, two_digits, four_digits, HasDigits, text_form, text_parts, text_with, utc_form, utc_parts, utc_with, general_form, general_parts, general_with, full_year}
+use Rattle.cert_time.specs.Forms.{fits_byte, fits_form, two_digits, four_digits, HasDigits}
+use Rattle.cert_time.specs.Texts.{text_form, text_parts, text_with}
+use Rattle.cert_time.specs.Times.{utc_form, utc_parts, utc_with, general_form, general_parts, general_with, full_year}
 use Rattle.cert_time.proofs.Forms.{fits_form-length}
 use Rattle.cert_time.proofs.Moments.{same_civil}
 

@@ -1,2 +1,4 @@
 pub mod Calendar
+pub mod Forms
+pub mod Texts
 pub mod Times

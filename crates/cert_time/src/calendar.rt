@@ -1,7 +1,7 @@
 // Dates to moments and back, by the calendar of `jiff_core`.
 ghost use Rattle.std.specs.Prelude.{◌≡◌, ◌≤◌, IfSome};
 ghost use Rattle.cert_time.specs.Calendar.{IsMoment, civil_of, moment_from};
-ghost use Rattle.cert_time.specs.Times.{HasDigits};
+ghost use Rattle.cert_time.specs.Forms.{HasDigits};
 
 use crate::civil::CivilTime;
 use jiff_core::civil::{Date, DateTime, Time};

@@ -1,7 +1,8 @@
 // What is written is read again, and what is read is what would be written.
 ghost use Rattle.std.specs.Prelude.{◌≡◌, ℕ, ◌↔◌, ◌⊎◌, ℤ, List, length, Some};
 ghost use Rattle.cert_time.specs.Calendar.{IsMoment};
-ghost use Rattle.cert_time.specs.Times.{text_moment, text_of, time_contents, time_moment, time_tag};
+ghost use Rattle.cert_time.specs.Texts.{text_moment, text_of};
+ghost use Rattle.cert_time.specs.Times.{time_contents, time_moment, time_tag};
 
 /// Law: each moment has one text, and each text that is read is the text of its moment.
 pub fn one_text()
@@ -15,6 +16,6 @@ pub fn one_time()
         → (time_moment tag contents ≡ Some z)
         ↔ (IsMoment z × (tag ≡ time_tag z) × (contents ≡ time_contents z)) }
     ensures shape { (z : ℤ)
-        → ((time_tag z ≡ 23) × (length (time_contents z) ≡ 13))
-        ⊎ ((time_tag z ≡ 24) × (length (time_contents z) ≡ 15)) }
+        → ((time_tag z ≡ 0x17) × (length (time_contents z) ≡ 13))
+        ⊎ ((time_tag z ≡ 0x18) × (length (time_contents z) ≡ 15)) }
 {}

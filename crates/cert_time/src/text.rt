@@ -1,7 +1,7 @@
 // Moments as texts.
 ghost use Rattle.std.specs.Prelude.{◌≡◌, IfSome};
 ghost use Rattle.cert_time.specs.Calendar.{IsMoment};
-ghost use Rattle.cert_time.specs.Times.{text_moment, text_of};
+ghost use Rattle.cert_time.specs.Texts.{text_moment, text_of};
 
 use crate::calendar::{civil_at, moment_of};
 use crate::civil::CivilTime;
@@ -11,7 +11,7 @@ use crate::time::generalized;
 /// The moment that a text `YYYY-MM-DDTHH:MM:SSZ` names, in seconds since 1970-01-01T00:00:00Z.
 ///
 /// `None` exactly where the text hasn't this form, its year is before 1950, or no such date or time of day exists.
-#[tactic(auto, unfolding(crate::specs::Times::text_moment))]
+#[tactic(auto, unfolding(crate::specs::Texts::text_moment))]
 pub fn text_to_seconds(text: &str) -> Option<i64>
     ensures value { result ≡ text_moment text.now }
     ensures range { IfSome result IsMoment }
@@ -32,7 +32,7 @@ pub fn text_to_seconds(text: &str) -> Option<i64>
 }
 
 /// The text `YYYY-MM-DDTHH:MM:SSZ` of a moment from 1950 to 9999.
-#[tactic(auto, unfolding(crate::specs::Times::text_of))]
+#[tactic(auto, unfolding(crate::specs::Texts::text_of))]
 pub fn seconds_to_text(seconds: i64) -> [u8; 20]
     requires { IsMoment seconds }
     ensures { result ≡ text_of seconds }

@@ -1,7 +1,8 @@
 // The times of a certificate: UTCTime and GeneralizedTime.
 ghost use Rattle.std.specs.Prelude.{◌≡◌, ◌+◌, ◌<◌, ◌++◌, length, nat_lt, OnOk, OnErr, IfSome};
 ghost use Rattle.cert_time.specs.Calendar.{IsMoment};
-ghost use Rattle.cert_time.specs.Times.{HasDigits, contents_with, full_year, general_moment, general_with, parts_at, short_element, tag_with, time_moment, utc_moment};
+ghost use Rattle.cert_time.specs.Forms.{HasDigits};
+ghost use Rattle.cert_time.specs.Times.{contents_with, full_year, general_moment, general_with, parts_at, short_element, tag_with, time_moment, utc_moment};
 
 use crate::calendar::moment_of;
 use crate::civil::CivilTime;

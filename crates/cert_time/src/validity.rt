@@ -1,7 +1,8 @@
 // A certificate's validity.
 ghost use Rattle.std.specs.Prelude.{◌≡◌, ◌++◌, length, take, OnOk, OnErr};
 ghost use Rattle.cert_time.specs.Calendar.{IsMoment};
-ghost use Rattle.cert_time.specs.Times.{HasDigits, contents_with, sequence_of_times, tag_with, validity_element};
+ghost use Rattle.cert_time.specs.Forms.{HasDigits};
+ghost use Rattle.cert_time.specs.Times.{contents_with, sequence_of_times, tag_with, validity_element};
 
 use crate::calendar::civil_at;
 use crate::civil::CivilTime;

@@ -1,7 +1,7 @@
 -- Runs of calls of a disk, and what a crash leaves at their moments.
-use Rattle.std.proofs.Common.{◌⊎◌, inl, inr, ℕ, ◌≤◌, List, arith}
+use Rattle.std.proofs.Common.{◌⊎◌, inl, inr, ℕ, ◌≤◌, List, ◌∙◌, arith}
 use Rattle.disk_core.specs.Disk.{Elapses}
-use Rattle.disk_core.specs.Moments.{LeavesOnly}
+use Rattle.disk_core.specs.Moments.{LeavesOnly, Looks}
 use Rattle.disk_core.specs.declared.disk.Disk.{Ghosts}
 
 module _ {D : Type 0} (g : Ghosts D) where
@@ -41,4 +41,19 @@ module _ {D : Type 0} (g : Ghosts D) where
     later = run.later;
     each = λ c since. is c (run.each c since);
     before = λ t c le since. elim (run.before t c le since) [ inl past ↦ inl past | inr p ↦ inr (is c p) ];
+  }
+
+  -- what a crash leaves now, it leaves at a moment of the run
+  pub left_now : (old new : D) (P : List ℕ → Type 0) → ((t : ℕ) (c : List ℕ) → t ≤ g.moment new → g.may_leave new c → g.left_since new t c)
+      → LeavesOnly g old new P → (c : List ℕ) → g.may_leave new c → P c
+  left_now old new P counts_now run = λ c left. run.each c (counts_now (g.moment old) c run.later left)
+
+  -- a look behind another
+  pub looked_on : (old mid new : D) → Looks g old mid → Looks g mid new → Looks g old new
+  looked_on old mid new first second = record {
+    told = second.told ∙ first.told;
+    crash = λ c left. first.crash c (second.crash c left);
+    moments = joined old mid new (g.may_leave old) first.moments (weaker mid new (g.may_leave mid) (g.may_leave old) first.crash second.moments);
+    known = let a = first.known in let b = second.known in omega arith;
+    faults = let a = first.faults in let b = second.faults in omega arith;
   }

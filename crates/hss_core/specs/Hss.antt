@@ -1,6 +1,6 @@
 -- HSS, levels of LMS trees (RFC 8554, 6): the tree of each level signs the public key of the next one,
 -- and the lowest signs the message.
-use Rattle.std.specs.Prelude.{◌≡◌, ℕ, zero, suc, ◌+◌, ◌==◌, ◌&&◌, if◌then◌else◌, Bool, nat_le, nat_lt, List, ◌++◌, length, take, drop, Option, Some, None}
+use Rattle.std.specs.Prelude.{◌≡◌, ℕ, zero, suc, ◌+◌, ◌==◌, ◌&&◌, if◌then◌else◌, Bool, nat_le, nat_lt, not, List, ◌++◌, length, take, drop, Option, Some, None}
 use Rattle.std.specs.Int.{w32, to_be_bytes}
 use Rattle.lmots_core.specs.declared.parameters.OtsType.{OtsType}
 use Rattle.lmots_core.specs.Strings.{word_at}
@@ -77,10 +77,9 @@ levels_refusal (suc n) key message s =
 abbrev pub refusal_at : Option (ℕ × LmsType × OtsType) → List ℕ → List ℕ → List ℕ → Option SigError
 refusal_at None key message s = Some BadKey
 refusal_at (Some (levels, l, t)) key message s =
-    if nat_le 4 (length s) && parts_fit (word_at s 0) (drop 4 s) then
-    (if word_at s 0 + 1 == levels then levels_refusal (word_at s 0) (drop 4 key) message (drop 4 s)
-    else Some TypeDiffers)
-    else Some BadLength
+    if not (nat_le 4 (length s) && parts_fit (word_at s 0) (drop 4 s)) then Some BadLength
+    else (if not (word_at s 0 + 1 == levels) then Some TypeDiffers
+    else levels_refusal (word_at s 0) (drop 4 key) message (drop 4 s))
 
 -- what a public key, a message and a signature are answered: the first refusal that holds, if any
 unfoldable pub hss_refusal : List ℕ → List ℕ → List ℕ → Option SigError

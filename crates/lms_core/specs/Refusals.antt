@@ -1,6 +1,6 @@
 -- What an LMS public key, a message and a signature are answered (RFC 8554, 5.4.2): nothing where the
 -- signature verifies, and otherwise the first refusal that holds.
-use Rattle.std.specs.Prelude.{◌≡◌, ℕ, ◌+◌, ◌^◌, ◌==◌, ◌&&◌, if◌then◌else◌, Bool, false, nat_lt, List, length, take, drop, Option, Some, None, Result, Ok, Err}
+use Rattle.std.specs.Prelude.{◌≡◌, ℕ, ◌+◌, ◌^◌, ◌==◌, ◌&&◌, if◌then◌else◌, Bool, false, nat_lt, not, List, length, take, drop, Option, Some, None, Result, Ok, Err}
 use Rattle.std.specs.Str.{bytes_eq}
 use Rattle.lmots_core.specs.declared.parameters.OtsType.{OtsType}
 use Rattle.lmots_core.specs.Parameters.{signature_length, typecode, type_of_code}
@@ -66,11 +66,9 @@ yields_root l t id message s root =
 -- of a whole signature with these types, under a key of 56 bytes, which need not be in its grammar
 unfoldable pub level_refusal : List ℕ → List ℕ → LmsType → OtsType → List ℕ → Option SigError
 level_refusal key message l t s =
-    if (lms_code l == word_at key 0) && (typecode t == word_at key 4) then
-    (if nat_lt (word_at s 0) (2 ^ height l) then
-    (if yields_root l t (take 16 (drop 8 key)) message s (bytes_at key 24) then None else Some WrongRoot)
-    else Some BadIndex)
-    else Some TypeDiffers
+    if not ((lms_code l == word_at key 0) && (typecode t == word_at key 4)) then Some TypeDiffers
+    else (if not (nat_lt (word_at s 0) (2 ^ height l)) then Some BadIndex
+    else (if yields_root l t (take 16 (drop 8 key)) message s (bytes_at key 24) then None else Some WrongRoot))
 
 abbrev pub refusal_with : List ℕ → List ℕ → Option (LmsType × OtsType) → List ℕ → Option SigError
 refusal_with key message None s = Some BadLength

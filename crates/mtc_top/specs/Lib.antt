@@ -1,4 +1,5 @@
 pub mod Answers
+pub mod KeygenOutcome
 pub mod Lines
 pub mod Member
 pub mod MemberNames

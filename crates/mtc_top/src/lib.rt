@@ -8,6 +8,7 @@
 mod answer;
 mod finish;
 mod input;
+mod keygen;
 mod line;
 mod member;
 mod refused_words;

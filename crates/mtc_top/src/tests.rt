@@ -31,6 +31,18 @@ const MEMBER: Case = Case {
     err: b"",
 };
 
+const KEYGEN: Case = Case {
+    words: &["keygen", "5", "4", "f"],
+    file: &[SECRET_BEGINS, SECRET_ENDS],
+    out: b"AAAAAQAAAAUAAAADAAECAwQFBgcICQoLDA0OD2Ya6x2F5qmT4OVbu60lZPG0Xj4bqLm0yRfpk+u9rxni\n",
+    ..MEMBER
+};
+
+// The bytes from 0 to 47.
+const SECRET_BEGINS: &str = "000102030405060708090a0b0c0d0e0f1011121314151617";
+
+const SECRET_ENDS: &str = "18191a1b1c1d1e1f202122232425262728292a2b2c2d2e2f";
+
 // The nodes of a list of eight entries, of which the first is empty and the second is the byte 0: the hash of the
 // first, of the third and the fourth, of the last four, and of all.
 const NODE_0_1: &str = "6e340b9cffb37a989ca544e6bb780a2c78901d3fb33738768511a30617afa01d";
@@ -50,7 +62,7 @@ const FIRST: [&str; 5] = [
     "0000",
 ];
 
-const CASES: [Case; 24] = [
+const CASES: [Case; 34] = [
     MEMBER,
     Case {
         file: &[
@@ -266,6 +278,68 @@ const CASES: [Case; 24] = [
         status: 3,
         out: b"refused BadSubtree\n",
         ..MEMBER
+    },
+    KEYGEN,
+    Case {
+        words: &["keygen", "5", "1", "f"],
+        out: b"AAAAAQAAAAUAAAABAAECAwQFBgcICQoLDA0OD6hmQGdWCnf3wA0qC+1XtEHIN0Wu+EbC8mL4GUGzluZS\n",
+        ..KEYGEN
+    },
+    Case {
+        file: &[SECRET_BEGINS],
+        status: 2,
+        out: b"",
+        err: b"mtc: keygen: f: Short 0\n",
+        ..KEYGEN
+    },
+    Case {
+        file: &[SECRET_BEGINS, SECRET_ENDS, "00"],
+        status: 2,
+        out: b"",
+        err: b"mtc: keygen: f: Trailing\n",
+        ..KEYGEN
+    },
+    Case {
+        words: &["keygen", "05", "4", "f"],
+        status: 1,
+        out: b"",
+        err: b"mtc: keygen: BadNumber 1\n",
+        ..KEYGEN
+    },
+    Case {
+        words: &["keygen", "6", "4", "f"],
+        status: 1,
+        out: b"",
+        err: b"mtc: keygen: BadNumber 1\n",
+        ..KEYGEN
+    },
+    Case {
+        words: &["keygen", "5", "99999999999999999999", "f"],
+        status: 1,
+        out: b"",
+        err: b"mtc: keygen: BadNumber 2\n",
+        ..KEYGEN
+    },
+    Case {
+        words: &["keygen", "5", "3", "f"],
+        status: 1,
+        out: b"",
+        err: b"mtc: keygen: BadNumber 2\n",
+        ..KEYGEN
+    },
+    Case {
+        words: &["keygen", "6", "4", "-x"],
+        status: 1,
+        out: b"",
+        err: b"mtc: keygen: BadWord 3\n",
+        ..KEYGEN
+    },
+    Case {
+        words: &["keygen", "5", "4", "g"],
+        status: 7,
+        out: b"",
+        err: b"mtc: keygen: g: Absent\n",
+        ..KEYGEN
     },
 ];
 

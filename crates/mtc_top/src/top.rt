@@ -3,7 +3,7 @@ ghost use Rattle.std.specs.Io.KnownBytes.{Appends};
 ghost use Rattle.mtc_io.specs.Counts.{Rose};
 ghost use Rattle.mtc_io.specs.Streams.{AppendsPrefix};
 ghost use Rattle.mtc_room.specs.Room.{AllStay};
-ghost use Rattle.mtc_words.specs.Commands.{command_value};
+ghost use Rattle.mtc_words.specs.Commands.{command_value, IsInRange};
 ghost use Rattle.mtc_words.specs.Words.{command_of, known_word};
 ghost use Rattle.mtc_top.specs.Answers.{status_of, out_of, err_of};
 ghost use Rattle.mtc_top.specs.Lines.{command_line, file_line, memory_line, WritesLine};
@@ -13,6 +13,7 @@ ghost use Rattle.mtc_top.specs.WordsOutcome.{first_word};
 
 use crate::answer::{Answer, Stop};
 use crate::finish::{conclude, fail};
+use crate::keygen::keygen;
 use crate::member::member;
 use crate::refused_words::refuse_words;
 use mtc_io::Sink;
@@ -37,7 +38,8 @@ fn perform<'a, H: TreeHash, R: Room>(
     room: &mut R,
     command: Command<'a>,
 ) -> Result<Answer, Stop<'a>>
-    requires { R.lent room.old < 2 ^ 32 }
+    requires lent { R.lent room.old < 2 ^ 32 }
+    requires range { IsInRange (command_value command) }
     ensures settled { Settled (R.lent room.old) (R.lent room.new) (R.faults room.old) (R.faults room.new)
         (R.file room.old) (R.file room.new) }
     ensures tells { R.tells room.old → R.tells room.new }
@@ -48,6 +50,7 @@ fn perform<'a, H: TreeHash, R: Room>(
 {
     match command {
         Command::Member(file) => member::<H, R>(alloc, room, file),
+        Command::Keygen(height, width, secret) => keygen(alloc, room, height, width, secret),
     }
 }
 

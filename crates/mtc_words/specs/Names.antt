@@ -1,14 +1,16 @@
 -- The table of the commands: the name of each, and how many words it wants.
 use Rattle.std.specs.Prelude.{ℕ, List, Option, Some, None, codes, bytes_eq, if◌then◌else◌}
 use Rattle.mtc_words.specs.declared.name.Name.{Name}
-use Rattle.mtc_words.specs.declared.name.Name.TheVariants.{Member}
+use Rattle.mtc_words.specs.declared.name.Name.TheVariants.{Member, Keygen}
 
 -- the command that a word names
 unfoldable pub name_of : List ℕ → Option Name
 name_of word =
     if bytes_eq word (codes "member") then Some Member
-    else None
+    else (if bytes_eq word (codes "keygen") then Some Keygen
+    else None)
 
 -- how many words stand behind a command
 abbrev pub count_of : Name → ℕ
 count_of Member = 1
+count_of Keygen = 3

@@ -1,11 +1,13 @@
 -- The words of a command, and what they say: the first fault in the order of the tests, or the command.
 use Rattle.std.specs.Prelude.{ℕ, ◌+◌, ◌==◌, Bool, true, List, [], ◌∷◌, length, Option, Some, None, Result, Ok, Err, slice_index_or, is_some, if◌then◌else◌}
+use Rattle.byte_forms.specs.Readings.{◌>>=◌}
 use Rattle.mtc_words.specs.declared.error.WordError.{WordError}
-use Rattle.mtc_words.specs.declared.error.WordError.TheVariants.{NoCommand, UnknownCommand, BadWord, WrongCount}
+use Rattle.mtc_words.specs.declared.error.WordError.TheVariants.{NoCommand, UnknownCommand, BadWord, WrongCount, BadNumber}
 use Rattle.mtc_words.specs.declared.name.Name.{Name}
-use Rattle.mtc_words.specs.declared.name.Name.TheVariants.{Member}
-use Rattle.mtc_words.specs.Commands.{CommandValue, member}
+use Rattle.mtc_words.specs.declared.name.Name.TheVariants.{Member, Keygen}
+use Rattle.mtc_words.specs.Commands.{CommandValue, member, keygen, is_height, is_width}
 use Rattle.mtc_words.specs.Names.{name_of, count_of}
+use Rattle.mtc_words.specs.Numbers.{number_of}
 
 -- empty, or begins with a hyphen
 abbrev pub is_bad_word : List ℕ → Bool
@@ -30,9 +32,21 @@ word_fault want ws = count_fault (length ws) want (bad_word 1 ws)
 abbrev pub word : List (List ℕ) → ℕ → List ℕ
 word ws k = slice_index_or ws k []
 
+-- a number that passes a test; else the word of this number is a bad one
+abbrev pub ranged : ℕ → (ℕ → Bool) → Option ℕ → Result ℕ WordError
+ranged place test None = Err (BadNumber place)
+ranged place test (Some n) = if test n then Ok n else Err (BadNumber place)
+
+abbrev pub number_at : ℕ → (ℕ → Bool) → List ℕ → Result ℕ WordError
+number_at place test w = ranged place test (number_of w)
+
 -- the command of this name with its words, of which there are as many as it wants
 abbrev pub command_from : Name → List (List ℕ) → Result CommandValue WordError
 command_from Member ws = Ok (member (word ws 0))
+command_from Keygen ws = do
+  height ← number_at 1 is_height (word ws 0)
+  width ← number_at 2 is_width (word ws 1)
+  Ok (keygen height width (word ws 2))
 
 -- the fault, or else the command
 abbrev pub unless_fault : {A : Type 0} → Option WordError → Result A WordError → Result A WordError

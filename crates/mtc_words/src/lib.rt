@@ -7,6 +7,7 @@
 mod command;
 mod error;
 mod name;
+mod number;
 mod reading;
 #[cfg(test)]
 mod tests;

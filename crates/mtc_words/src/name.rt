@@ -5,6 +5,7 @@ ghost use Rattle.mtc_words.specs.Names.{name_of, count_of};
 #[derive(Clone, Copy, Debug, PartialEq, Eq)]
 pub enum Name {
     Member,
+    Keygen,
 }
 
 // The name that a word is, if it is one.
@@ -14,6 +15,7 @@ pub fn read_name(word: &str) -> Option<Name>
 {
     match word {
         "member" => Some(Name::Member),
+        "keygen" => Some(Name::Keygen),
         _ => None,
     }
 }
@@ -24,5 +26,6 @@ pub fn wanted_count(name: Name) -> usize
 {
     match name {
         Name::Member => 1,
+        Name::Keygen => 3,
     }
 }

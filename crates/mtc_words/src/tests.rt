@@ -3,7 +3,7 @@ use std::test::Fail;
 
 #[test]
 fn words_are_refused_by_their_first_fault(rt: HostRuntime) -> Result<(), Fail> {
-    let cases: [(&[&str], WordError); 10] = [
+    let cases: [(&[&str], WordError); 14] = [
         (&[], WordError::NoCommand),
         (&["frob"], WordError::UnknownCommand),
         (&["--help"], WordError::UnknownCommand),
@@ -17,6 +17,13 @@ fn words_are_refused_by_their_first_fault(rt: HostRuntime) -> Result<(), Fail> {
         (&["member", "-x"], WordError::BadWord(1)),
         (&["member", "f", "-x"], WordError::BadWord(2)),
         (&["member", "", "-x"], WordError::BadWord(1)),
+        (&["keygen", "", "4", "-x"], WordError::BadWord(1)),
+        (&["keygen", "05", "3", "f"], WordError::BadNumber(1)),
+        (&["keygen", "10", "+4", "f"], WordError::BadNumber(2)),
+        (
+            &["keygen", "10", "18446744073709551617", "f"],
+            WordError::BadNumber(2),
+        ),
     ];
     for (texts, fault) in cases {
         let mut words = Vec::new(rt.alloc());
@@ -39,6 +46,7 @@ fn a_command_has_its_words(rt: HostRuntime) -> Result<(), Fail> {
     ]?;
     match read_words(&words) {
         Ok(Command::Member(file)) => assert_eq!(rt; file, "f"),
+        Ok(command) => assert!(rt; false, "read as {command:?}"),
         Err(why) => assert!(rt; false, "refused: {why}"),
     }
     Ok(())

@@ -1,2 +1,4 @@
 pub mod Reading
 pub mod Spelling
+pub mod Arcs
+pub mod Anchors

@@ -1,5 +1,6 @@
 use crate::{
-    Cursor, HashesError, Short, put_bytes, put_u8, put_u16, put_u32, put_u64, put_vec8, put_vec16,
+    AnchorBytesError, AnchorError, AnchorId, Cursor, HashesError, Short, put_bytes, put_u8,
+    put_u16, put_u32, put_u64, put_vec8, put_vec16,
 };
 use mtc_io::Bytes;
 use std::test::Fail;
@@ -58,5 +59,74 @@ fn forms_are_written_one_behind_the_other(rt: HostRuntime) -> Result<(), Fail> {
         1, 2, 3, 0, 0, 0, 9, 0, 0, 0, 1, 0, 0, 0, 0, 7, 2, 0xaa, 0xbb, 0, 1, 5,
     ];
     assert_eq!(rt; out.as_slice(), wanted.as_slice());
+    Ok(())
+}
+
+#[test]
+fn anchor_ids_are_read_from_texts(rt: HostRuntime) -> Result<(), Fail> {
+    let faults = [
+        ("", AnchorError::Empty),
+        ("1.", AnchorError::NotDecimal(2)),
+        (".1", AnchorError::NotDecimal(0)),
+        ("1..2", AnchorError::NotDecimal(2)),
+        ("1a", AnchorError::NotDecimal(1)),
+        ("00a", AnchorError::LeadingZero(0)),
+        ("32473.01", AnchorError::LeadingZero(6)),
+        ("1.18446744073709551616", AnchorError::ArcTooLarge(2)),
+        ("18446744073709551616x", AnchorError::ArcTooLarge(0)),
+    ];
+    for (text, fault) in faults {
+        assert_eq!(rt;
+            AnchorId::from_text(rt.alloc(), text).err(),
+            Some(fault),
+            "of {text}"
+        );
+    }
+    let mut long = String::from_str(rt.alloc(), "1")?;
+    for _ in 0..255 {
+        long.push_str(".1")?;
+    }
+    assert_eq!(rt;
+        AnchorId::from_text(rt.alloc(), long.as_str()).err(),
+        Some(AnchorError::TooLong)
+    );
+    for text in ["32473.1", "0.0", "18446744073709551615.127.128"] {
+        let id = AnchorId::from_text(rt.alloc(), text)?;
+        assert_eq!(rt; id.to_text()?.as_slice(), text.as_bytes());
+    }
+    assert_eq!(rt;
+        AnchorId::from_text(rt.alloc(), "32473.1")?.as_bytes(),
+        [0x81, 0xfd, 0x59, 1].as_slice()
+    );
+    Ok(())
+}
+
+#[test]
+fn anchor_ids_are_read_from_bytes(rt: HostRuntime) -> Result<(), Fail> {
+    let faults: [(&[u8], AnchorBytesError); 7] = [
+        (&[], AnchorBytesError::Empty),
+        (&[0x80; 256], AnchorBytesError::TooLong),
+        (&[0x80, 1], AnchorBytesError::Padding(0)),
+        (&[1, 0x80, 1], AnchorBytesError::Padding(1)),
+        (&[0x81], AnchorBytesError::Unfinished),
+        (
+            &[0x82, 0x80, 0x80, 0x80, 0x80, 0x80, 0x80, 0x80, 0x80, 0],
+            AnchorBytesError::ArcTooLarge(0),
+        ),
+        (
+            &[0x82, 0x80, 0x80, 0x80, 0x80, 0x80, 0x80, 0x80, 0x80, 0x80],
+            AnchorBytesError::ArcTooLarge(0),
+        ),
+    ];
+    for (bytes, fault) in faults {
+        assert_eq!(rt;
+            AnchorId::from_bytes(rt.alloc(), bytes).err(),
+            Some(fault),
+            "of {bytes:?}"
+        );
+    }
+    let id = AnchorId::from_bytes(rt.alloc(), &[1; 255])?;
+    let text = id.to_text()?;
+    assert_eq!(rt; text.len(), 509);
     Ok(())
 }

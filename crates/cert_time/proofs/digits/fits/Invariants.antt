@@ -1,5 +1,5 @@
 use Rattle.std.proofs.Common.{◌≡◌, drop}
-use Rattle.cert_time.specs.Times.{fits_form}
+use Rattle.cert_time.specs.Forms.{fits_form}
 use Rattle.cert_time.proofs.digits.fits.Given as goal
 
 abbrev pub invariant-loop-place : goal.invariant-loop-place

@@ -1,0 +1,37 @@
+-- Forms of texts made of digits, and the numbers that digits write.
+use Rattle.std.specs.Prelude.{ℕ, ◌+◌, ◌-◌, ◌*◌, ◌/◌, ◌%◌, ◌<◌, ◌==◌, ◌&&◌, Bool, true, false, if◌then◌else◌, List, [], ◌∷◌, ◌++◌, slice_index}
+use Rattle.std.specs.Char.{is_ascii_digit}
+use Rattle.cert_time.specs.declared.civil.CivilTime.{CivilTime}
+
+-- a byte at a place of a form, where 0 in the form stands for any digit, and anything else for itself
+abbrev pub fits_byte : ℕ → ℕ → Bool
+fits_byte form byte = if form == 48 then is_ascii_digit byte else byte == form
+
+-- a text that has a form: each of its bytes fits, and it is as long
+abbrev pub fits_form : List ℕ → List ℕ → Bool
+fits_form [] [] = true
+fits_form (f ∷ form) (b ∷ text) = fits_byte f b && fits_form form text
+fits_form _ _ = false
+
+-- the number that two digits, or four, of a text write
+abbrev pub two_at : List ℕ → ℕ → ℕ
+two_at text i = 10 * (slice_index text i - 48) + (slice_index text (i + 1) - 48)
+
+abbrev pub four_at : List ℕ → ℕ → ℕ
+four_at text i = 100 * two_at text i + two_at text (i + 2)
+
+-- the digits of a number below 100, and of one below 10000
+abbrev pub two_digits : ℕ → List ℕ
+two_digits n = (48 + n / 10) ∷ (48 + n % 10) ∷ []
+
+abbrev pub four_digits : ℕ → List ℕ
+four_digits n = two_digits (n / 100) ++ two_digits (n % 100)
+
+-- the parts of a date and a time of day have as many digits as the forms have places
+pub record HasDigits (c : CivilTime) : Type 0 where
+  pub year : c.year < 10000
+  pub month : c.month < 100
+  pub day : c.day < 100
+  pub hour : c.hour < 100
+  pub minute : c.minute < 100
+  pub second : c.second < 100

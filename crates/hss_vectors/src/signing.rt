@@ -1,0 +1,76 @@
+ghost use Rattle.std.specs.Prelude.{◌≤◌, IfSome, length};
+ghost use Rattle.lms_core.specs.Heights.{height};
+
+use crate::verifying::{bytes_of, name_of};
+use anyhow::{Context, Result, bail, ensure};
+use hss_core::{Key, LmsType, OtsType, SigBuf, verify};
+use sha2::{Digest, Sha256};
+use std::alloc::Global;
+
+// A height of which keys are made.
+fn height_of(word: &str) -> Option<LmsType>
+    ensures { IfSome result (λ l. height l ≤ 10) }
+{
+    match word {
+        "5" => Some(LmsType::H5),
+        "10" => Some(LmsType::H10),
+        _ => None,
+    }
+}
+
+fn width_of(word: &str) -> Option<OtsType> {
+    match word {
+        "1" => Some(OtsType::W1),
+        "2" => Some(OtsType::W2),
+        "4" => Some(OtsType::W4),
+        "8" => Some(OtsType::W8),
+        _ => None,
+    }
+}
+
+// The key that the words describe.
+fn key_of(alloc: Global, height: &str, width: &str, secret: &str, next: &str) -> Result<Key> {
+    let lms = height_of(height).context("no height of keys")?;
+    let ots = width_of(width).context("no width")?;
+    let bytes = bytes_of(alloc, secret)?;
+    ensure!(bytes.len() == 48, "no secret of 48 bytes");
+    let mut secret = [0; 48];
+    secret.copy_from_slice(&bytes);
+    let next = next.parse::<u32>().context("no number")?;
+    ensure!(next <= lms.leaves(), "no number of the tree");
+    match Key::make(alloc, lms, ots, &secret, next) {
+        Ok(key) => Ok(key),
+        Err(_) => bail!("no memory"),
+    }
+}
+
+// Signs a message, and answers with the number used, the signature's length and SHA-256, and whether
+// it verifies.
+fn signed(alloc: Global, key: &mut Key, message: &[u8]) -> Result<String> {
+    ensure!(key.left() != 0, "no one-time key is left");
+    let used = key.next();
+    let public = key.public();
+    let mut out = SigBuf::new();
+    key.sign(message, &mut out);
+    let length = out.as_slice().len();
+    let digest = hex::encode(alloc, Sha256::digest(out.as_slice()))?;
+    let name = name_of(verify(&public, message, out.as_slice()));
+    Ok(format!(in alloc; "{used} {length} {digest} {name}\n")?)
+}
+
+// The public key and each signature in turn, for `HEIGHT WIDTH SECRET NEXT MESSAGE ..`.
+pub fn answer(alloc: Global, rest: &str) -> Result<String> {
+    let mut words = rest.split(' ');
+    let height = words.next().context("no height")?;
+    let width = words.next().context("no width")?;
+    let secret = words.next().context("no secret")?;
+    let next = words.next().context("no number")?;
+    let mut key = key_of(alloc, height, width, secret, next)?;
+    let public = hex::encode(alloc, key.public())?;
+    let mut text = format!(in alloc; "{height} {width} {public}\n")?;
+    for word in words {
+        let message = bytes_of(alloc, word)?;
+        text.push_str(signed(alloc, &mut key, &message)?.as_str())?;
+    }
+    Ok(text)
+}

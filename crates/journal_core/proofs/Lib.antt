@@ -1,0 +1,7 @@
+pub mod Append
+pub mod FirstRecord
+pub mod OpeningSteps
+pub mod ReadOn
+pub mod Records
+pub mod Steps
+pub mod Told

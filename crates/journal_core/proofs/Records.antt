@@ -1,0 +1,141 @@
+-- Records depend on the bytes up to their end alone, and are found again from the bytes.
+use Rattle.std.proofs.Common.{◌≡◌, ◌≢◌, ℕ, zero, suc, ◌+◌, ◌<◌, ◌≤◌, ◌==◌, nat_lt, true, false, List, [], ◌∷◌, ◌++◌, length, take, drop, get_or, slice_index, refl, ap, sym, ◌∙◌, arith}
+use Rattle.std.specs.Int.{w32, to_be_bytes, from_be_bytes}
+use Rattle.std.proofs.lemmas.List.{take-take, drop-take, get_or-take, length-take, length-drop}
+use Rattle.std.proofs.lemmas.Bool.{ne_eqb, lt-ltb, le-ltb}
+use Rattle.std.proofs.lemmas.Nat.{from_be_bytes-to_be_bytes_4}
+use Rattle.disk_core.specs.Disk.{part}
+use Rattle.journal_core.specs.Format.{header, IsRecordAt, AreRecordsAt, behind, IsClosedAt, StandsFor, size_at, body_at, records_from, records_of, records_to, records_before}
+
+part_front : (n place count : ℕ) (bytes : List ℕ) → place + count ≤ n → part place count bytes ≡ drop place (take (place + count) (take n bytes))
+part_front n place count bytes within =
+    sym (drop-take place count bytes) ∙ ap (drop place) (sym (take-take (place + count) n bytes within))
+
+-- of two files that are the same up to some length: a part
+pub part_kept : (n place count : ℕ) (old new : List ℕ) → take n new ≡ take n old → place + count ≤ n → part place count new ≡ part place count old
+part_kept n place count old new same within =
+    part_front n place count new within ∙ ap (λ (front : List ℕ). drop place (take (place + count) front)) same
+    ∙ sym (part_front n place count old within)
+
+-- a byte
+pub byte_kept : (n place : ℕ) (old new : List ℕ) → take n new ≡ take n old → place < n → slice_index new place ≡ slice_index old place
+byte_kept n place old new same within =
+    sym (get_or-take n new place 0 within) ∙ ap (λ (front : List ℕ). get_or front place 0) same ∙ get_or-take n old place 0 within
+
+-- a record
+pub record_kept : (n place : ℕ) (body old new : List ℕ) → take n new ≡ take n old → place + 5 + length body ≤ n
+    → IsRecordAt old place body → IsRecordAt new place body
+record_kept n place body old new same within is = record {
+  some = is.some;
+  few = is.few;
+  open_gate = λ shut. is.open_gate (sym (byte_kept n place old new same (omega arith)) ∙ shut);
+  size = part_kept n (place + 1) 4 old new same (omega arith) ∙ is.size;
+  body_is = part_kept n (place + 5) (length body) old new same within ∙ is.body_is;
+}
+
+-- records take place
+pub behind_later : (place : ℕ) (records : List (List ℕ)) → place ≤ behind place records
+behind_later place [] = omega arith
+behind_later place (body ∷ bodies) = let later = behind_later (place + 5 + length body) bodies in omega arith
+
+pub behind_far : (place : ℕ) (records : List (List ℕ)) → place + length records ≤ behind place records
+behind_far place [] = omega arith
+behind_far place (body ∷ bodies) = let later = behind_far (place + 5 + length body) bodies in omega arith
+
+pub behind-append : (place : ℕ) (records : List (List ℕ)) (body : List ℕ) → behind place (records ++ body ∷ []) ≡ behind place records + 5 + length body
+behind-append place [] body = refl
+behind-append place (first ∷ records) body = behind-append (place + 5 + length first) records body
+
+-- the records that end within the same front
+pub records_kept : (n place : ℕ) (records : List (List ℕ)) (old new : List ℕ) → take n new ≡ take n old → behind place records ≤ n
+    → AreRecordsAt old place records → AreRecordsAt new place records
+records_kept n place [] old new same within are = tt
+records_kept n place (body ∷ bodies) old new same within are = (
+  record_kept n place body old new same (let later = behind_later (place + 5 + length body) bodies in omega arith) are.0,
+  records_kept n (place + 5 + length body) bodies old new same within are.1,
+)
+
+-- a closed gate
+pub closed_kept : (n place : ℕ) (old new : List ℕ) → take n new ≡ take n old → place < n → n ≤ length new → IsClosedAt old place → IsClosedAt new place
+closed_kept n place old new same within there is = record {
+  there = omega arith;
+  shut = byte_kept n place old new same within ∙ is.shut;
+}
+
+-- the header
+pub header_kept : (n : ℕ) (old new : List ℕ) → take n new ≡ take n old → 16 ≤ n → take 16 old ≡ header → take 16 new ≡ header
+header_kept n old new same within is = part_kept n 0 16 old new same (omega arith) ∙ is
+
+-- the journal as a whole
+pub stands_kept : (n : ℕ) (records : List (List ℕ)) (old new : List ℕ) → take n new ≡ take n old → behind 16 records < n → n ≤ length new
+    → StandsFor old records → StandsFor new records
+stands_kept n records old new same within there is = record {
+  begins = header_kept n old new same (let later = behind_later 16 records in omega arith) is.begins;
+  holds = records_kept n 16 records old new same (omega arith) is.holds;
+  ends = closed_kept n (behind 16 records) old new same within there is.ends;
+}
+
+-- one record more
+pub records-append : (bytes : List ℕ) (place : ℕ) (records : List (List ℕ)) (body : List ℕ) → AreRecordsAt bytes place records
+    → IsRecordAt bytes (behind place records) body → AreRecordsAt bytes place (records ++ body ∷ [])
+records-append bytes place [] body are is = (is, tt)
+records-append bytes place (first ∷ records) body are is = (are.0, records-append bytes (place + 5 + length first) records body are.1 is)
+
+-- what is read at a record
+pub size_is : (bytes : List ℕ) (place : ℕ) (body : List ℕ) → IsRecordAt bytes place body → size_at bytes place ≡ length body
+size_is bytes place body is =
+    ap (from_be_bytes w32) is.size ∙ from_be_bytes-to_be_bytes_4 (length body) (let few = is.few in omega arith)
+
+pub body_found : (bytes : List ℕ) (place : ℕ) (body : List ℕ) → IsRecordAt bytes place body → body_at bytes place ≡ body
+body_found bytes place body is = ap (λ (n : ℕ). part (place + 5) n bytes) (size_is bytes place body is) ∙ is.body_is
+
+gate_open : (bytes : List ℕ) (place : ℕ) (body : List ℕ) → IsRecordAt bytes place body → (slice_index bytes place == 0) ≡ false
+gate_open bytes place body is = ne_eqb (slice_index bytes place) 0 is.open_gate
+
+pub records_from-are : (most : ℕ) (bytes : List ℕ) (place : ℕ) (records : List (List ℕ)) → AreRecordsAt bytes place records
+    → IsClosedAt bytes (behind place records) → length records ≤ most → records_from most bytes place ≡ records
+records_from-are zero bytes place [] are ends few = refl
+records_from-are zero bytes place (body ∷ bodies) are ends few = absurd (omega arith)
+records_from-are (suc most) bytes place [] are ends few = rw ends.shut refl
+records_from-are (suc most) bytes place (body ∷ bodies) are ends few =
+    let next : records_from most bytes (place + 5 + length body) ≡ bodies
+    = records_from-are most bytes (place + 5 + length body) bodies are.1 ends (omega arith) in
+    rw (gate_open bytes place body are.0, body_found bytes place body are.0, size_is bytes place body are.0) (ap (λ (rest : List (List ℕ)). body ∷ rest) next)
+
+-- a file stands for one list at most
+pub records_of-stands : (bytes : List ℕ) (records : List (List ℕ)) → StandsFor bytes records → records_of bytes ≡ records
+records_of-stands bytes records is =
+    records_from-are (length bytes) bytes 16 records is.holds is.ends
+    (let there = is.ends.there in let far = behind_far 16 records in omega arith)
+
+pub records_to-are : (most : ℕ) (bytes : List ℕ) (place : ℕ) (records : List (List ℕ)) (end : ℕ) → AreRecordsAt bytes place records
+    → end ≡ behind place records → length records ≤ most → records_to most bytes place end ≡ records
+records_to-are zero bytes place [] end are is few = refl
+records_to-are zero bytes place (body ∷ bodies) end are is few = absurd (omega arith)
+records_to-are (suc most) bytes place [] end are is few =
+    let none : nat_lt place end ≡ false = le-ltb place end (omega arith) in rw none refl
+records_to-are (suc most) bytes place (body ∷ bodies) end are is few =
+    let more : nat_lt place end ≡ true = lt-ltb place end (let later = behind_later (place + 5 + length body) bodies in omega arith) in
+    let next : records_to most bytes (place + 5 + length body) end ≡ bodies
+    = records_to-are most bytes (place + 5 + length body) bodies end are.1 is (omega arith) in
+    rw (more, body_found bytes place body are.0, size_is bytes place body are.0) (ap (λ (rest : List (List ℕ)). body ∷ rest) next)
+
+-- the records before the place behind them
+pub records_before-are : (bytes : List ℕ) (records : List (List ℕ)) (place : ℕ) → AreRecordsAt bytes 16 records → place ≡ behind 16 records
+    → place ≤ length bytes → records_before bytes place ≡ records
+records_before-are bytes records place are is within =
+    records_to-are (length bytes) bytes 16 records place are is (let far = behind_far 16 records in omega arith)
+
+-- what was read at a place is the record there
+pub record_read : (bytes : List ℕ) (place count : ℕ) (buffer : List ℕ) → slice_index bytes place ≢ 0 → part (place + 1) 4 bytes ≡ to_be_bytes w32 count
+    → take count buffer ≡ part (place + 5) count bytes → 1 ≤ count → count ≤ 131072 → place + 5 + count ≤ length bytes
+    → IsRecordAt bytes place (take count buffer)
+record_read bytes place count buffer opened size body some few there =
+    let whole : length (take count buffer) ≡ count = ap length body ∙ (simp (length-take, length-drop) (omega arith)) in
+    record {
+      some = omega arith;
+      few = omega arith;
+      open_gate = opened;
+      size = size ∙ ap (to_be_bytes w32) (sym whole);
+      body_is = ap (λ (n : ℕ). part (place + 5) n bytes) whole ∙ sym body;
+    }

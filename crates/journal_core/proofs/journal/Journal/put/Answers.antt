@@ -1,0 +1,54 @@
+use Rattle.std.proofs.Common.{◌≡◌, ◌+◌, ℕ, List, length, take, ap, ◌∙◌, add_comm, arith, refl}
+use Rattle.journal_core.specs.Format.{tail_of}
+use Rattle.journal_core.proofs.Steps.{done_settled, done_all, done_records, one_step, both_steps}
+use Rattle.journal_core.proofs.journal.Journal.put.Goals as goal
+
+-- the piece that was written
+piece_is : (buffer room : List ℕ) (body : List ℕ) → buffer ≡ room → take (5 + length body) room ≡ tail_of body → take (length body + 5) buffer ≡ tail_of body
+piece_is buffer room body same is =
+    ap (λ (b : List ℕ). take (length body + 5) b) same ∙ ap (λ (n : ℕ). take n room) (add_comm (length body) 5) ∙ is
+
+pub invariant_of-self-2-clause-settled : goal.invariant_of-self-2-clause-settled
+invariant_of-self-2-clause-settled g c = λ sound b told.
+    done_settled g.D.Disk c.args.self.now.disk c.write_synced.new.disk c.write_synced-2.new.disk c.args.body.now
+    (take (length c.args.body.now + 5) c.deref.result.now) c.args.self.now.end (c.args.self.now.settled c.if-self.false)
+    (piece_is _ _ _ c.deref.ensures.value c.pack.ensures.tail) c.requires.some c.requires.few
+    c.in_ok-write_synced.ensures.written c.in_ok-write_synced-2.ensures.written c.in_ok-write_synced-2.ensures.durable b told
+
+pub returns-clause-leaves : goal.returns-clause-leaves
+returns-clause-leaves g c = record {
+  records = done_records g.D.Disk c.args.self.now.disk c.write_synced.new.disk c.write_synced-2.new.disk c.args.body.now
+      (take (length c.args.body.now + 5) c.deref.result.now) c.args.self.now.end (c.args.self.now.settled c.if-self.false)
+      (piece_is _ _ _ c.deref.ensures.value c.pack.ensures.tail) c.requires.some c.requires.few
+      c.in_ok-write_synced.ensures.written c.in_ok-write_synced-2.ensures.written c.in_ok-write_synced-2.ensures.durable;
+  end = omega arith;
+  was_sound = c.if-self.false;
+  sound = refl;
+  all = done_all g.D.Disk c.args.self.now.disk c.write_synced.new.disk c.write_synced-2.new.disk c.args.body.now
+      (take (length c.args.body.now + 5) c.deref.result.now) c.args.self.now.end (c.args.self.now.settled c.if-self.false)
+      (piece_is _ _ _ c.deref.ensures.value c.pack.ensures.tail) c.requires.some c.requires.few
+      c.in_ok-write_synced.ensures.written c.in_ok-write_synced-2.ensures.written c.in_ok-write_synced-2.ensures.durable;
+}
+
+pub returns-in_err-write_synced-clause-any_moment : goal.returns-in_err-write_synced-clause-any_moment
+returns-in_err-write_synced-clause-any_moment g c = λ sound.
+    one_step g.D.Disk c.args.self.now.disk c.write_synced.new.disk c.write_synced.new.disk c.args.body.now
+    (take (length c.args.body.now + 5) c.deref.result.now) c.args.self.now.end (c.args.self.now.settled c.if-self.false)
+    (piece_is _ _ _ c.deref.ensures.value c.pack.ensures.tail) c.requires.some c.requires.few
+    (length (take (length c.args.body.now + 5) c.deref.result.now)) c.write_synced.ensures.any_moment
+
+pub returns-in_err-write_synced-2-clause-any_moment : goal.returns-in_err-write_synced-2-clause-any_moment
+returns-in_err-write_synced-2-clause-any_moment g c = λ sound.
+    both_steps g.D.Disk c.args.self.now.disk c.write_synced.new.disk c.write_synced-2.new.disk c.args.body.now
+    (take (length c.args.body.now + 5) c.deref.result.now) c.args.self.now.end (c.args.self.now.settled c.if-self.false)
+    (piece_is _ _ _ c.deref.ensures.value c.pack.ensures.tail) c.requires.some c.requires.few
+    (length (take (length c.args.body.now + 5) c.deref.result.now)) c.write_synced.ensures.any_moment
+    c.in_ok-write_synced.ensures.written c.in_ok-write_synced.ensures.durable c.write_synced-2.ensures.any_moment
+
+pub returns-clause-any_moment : goal.returns-clause-any_moment
+returns-clause-any_moment g c = λ sound.
+    both_steps g.D.Disk c.args.self.now.disk c.write_synced.new.disk c.write_synced-2.new.disk c.args.body.now
+    (take (length c.args.body.now + 5) c.deref.result.now) c.args.self.now.end (c.args.self.now.settled c.if-self.false)
+    (piece_is _ _ _ c.deref.ensures.value c.pack.ensures.tail) c.requires.some c.requires.few
+    (length (take (length c.args.body.now + 5) c.deref.result.now)) c.write_synced.ensures.any_moment
+    c.in_ok-write_synced.ensures.written c.in_ok-write_synced.ensures.durable c.write_synced-2.ensures.any_moment

@@ -1,0 +1,15 @@
+use Rattle.journal_core.proofs.OpeningSteps.{ended_settled, ended_records, ended_all, ended_place}
+use Rattle.journal_core.proofs.opening.Opening.ready.Goals as goal
+
+pub invariant_of-result-clause-settled : goal.invariant_of-result-clause-settled
+invariant_of-result-clause-settled g c = λ sound b told.
+    ended_settled g.D.Disk c.args.self.disk c.args.self.place c.args.self.reading (c.args.self.closed c.requires) b told
+
+pub returns-clause-list : goal.returns-clause-list
+returns-clause-list g c = ended_records g.D.Disk c.args.self.disk c.args.self.place c.args.self.reading (c.args.self.closed c.requires)
+
+pub returns-clause-all : goal.returns-clause-all
+returns-clause-all g c = ended_all g.D.Disk c.args.self.disk c.args.self.place c.args.self.reading (c.args.self.closed c.requires)
+
+pub returns-clause-end : goal.returns-clause-end
+returns-clause-end g c = ended_place g.D.Disk c.args.self.disk c.args.self.place c.args.self.reading (c.args.self.closed c.requires)

@@ -1,0 +1,77 @@
+use Rattle.std.proofs.Common.{◌≡◌, ◌+◌, ◌≤◌, ℕ, List, length, take, [], ◌∷◌, ◌++◌, option_map, true, false, sym, ap, subst, ◌∙◌, refl, arith, rules}
+use Rattle.std.proofs.lemmas.List.{length-take, with_items_is}
+use Rattle.std.specs.Vec.{with_items}
+use Rattle.journal_core.specs.Format.{records_before}
+use Rattle.journal_core.proofs.OpeningSteps.{step_reading, step_list, same_list, only_fails}
+use Rattle.journal_core.proofs.opening.Opening.step.Goals as goal
+
+length_is : (n : ℕ) (buffer : List ℕ) → length buffer ≡ 131094 → n ≤ 131072 → length (take n buffer) ≡ n
+length_is n buffer room few = simp length-take (omega arith)
+
+next_is : (place n : ℕ) (body : List ℕ) → length body ≡ n → place + (5 + n) ≡ place + 5 + length body
+next_is place n body size = omega arith
+
+pub invariant_of-self-clause-reading : goal.invariant_of-self-clause-reading
+invariant_of-self-clause-reading g c =
+    let n = c.in-Ok-Some.length in
+    let buffer = c.read_record.new.buffer in
+    let body : List ℕ = take n buffer in
+    let room : length buffer ≡ 131094 = search rules in
+    let within : (1 ≤ n) × (n ≤ 131072) × (c.args.self.now.place + 5 + n ≤ c.args.self.now.size) = rw c.in-Ok-Some.field-0-is at c.in-Ok-Some.ensures.within in
+    step_reading g.D.Disk c.args.self.now.disk c.read_record.new.disk c.read_record.ensures.looks c.args.self.now.place c.args.self.now.reading
+    body (rw c.in-Ok-Some.field-0-is at c.in-Ok-Some.ensures.found) (c.args.self.now.place + (5 + n))
+    (next_is c.args.self.now.place n body (length_is n buffer room within.1))
+
+pub returns-in-Ok-Some : goal.returns-in-Ok-Some
+returns-in-Ok-Some g c =
+    let n = c.in-Ok-Some.length in
+    let place = c.args.self.now.place in
+    let buffer = c.read_record.new.buffer in
+    let body : List ℕ = take n buffer in
+    let room : length buffer ≡ 131094 = search rules in
+    let within : (1 ≤ n) × (n ≤ 131072) × (place + 5 + n ≤ c.args.self.now.size) = rw c.in-Ok-Some.field-0-is at c.in-Ok-Some.ensures.within in
+    let size : length body ≡ n = length_is n buffer room within.1 in
+    let kept : (with_items c.args.self.now.buffer buffer).items ≡ buffer = with_items_is c.args.self.now.buffer buffer (search rules) in
+    let last : take n (with_items c.args.self.now.buffer buffer).items ≡ body = ap (take n) kept in
+    let last_size : length (take n (with_items c.args.self.now.buffer buffer).items) ≡ n = ap length last ∙ size in
+    let some = within.0 in
+    let few = within.1 in
+    let ends = within.2 in (
+      record {
+        list = subst (λ (b : List ℕ). option_map (λ bytes. records_before bytes (place + (5 + n))) (g.D.Disk.told c.read_record.new.disk)
+            ≡ option_map (λ list. list ++ b ∷ []) (option_map (λ bytes. records_before bytes place) (g.D.Disk.told c.args.self.now.disk))) (sym last)
+            (step_list g.D.Disk c.args.self.now.disk c.read_record.new.disk c.read_record.ensures.looks place c.args.self.now.reading
+            body (rw c.in-Ok-Some.field-0-is at c.in-Ok-Some.ensures.found) (place + (5 + n)) (next_is place n body size));
+        some = omega arith;
+        few = omega arith;
+        place = omega arith;
+        shorter = omega arith;
+        goes_on = (c.if-self.false, c.in-None.is);
+      },
+      record {
+        again = rw c.in-None.is tt;
+        rests = λ ended none. let wrong : true ≡ false = sym ended ∙ c.if-self.false in cc;
+        reason = λ none. tt;
+        kind = λ none. tt;
+        whole = λ none. tt;
+        looks = c.read_record.ensures.looks;
+      },
+    )
+
+pub returns-in-Err : goal.returns-in-Err
+returns-in-Err g c = (
+  record {
+    list = same_list g.D.Disk c.args.self.now.disk c.read_record.new.disk c.read_record.ensures.looks c.args.self.now.place c.args.self.now.reading;
+    kept = refl;
+    goes_on = refl;
+  },
+  record {
+    again = rw c.in-None.is tt;
+    rests = λ ended none. let wrong : true ≡ false = sym ended ∙ c.if-self.false in cc;
+    reason = λ none. c.in-Err.ensures.reason;
+    kind = λ none. c.in-Err.ensures.kind;
+    whole = λ none. only_fails g.D.Disk c.args.self.now.disk c.read_record.new.disk c.read_record.ensures.looks c.args.self.now.place c.args.self.now.reading
+        _ c.in-Err.ensures.reason c.in-Err.ensures.kind;
+    looks = c.read_record.ensures.looks;
+  },
+)

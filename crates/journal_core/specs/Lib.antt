@@ -1,0 +1,6 @@
+pub mod Format
+pub mod Openings
+pub mod Opens
+pub mod Settled
+pub mod Starts
+pub mod Words

@@ -1,0 +1,31 @@
+-- Why a file is not read on.
+use Rattle.std.specs.Prelude.{◌≡◌, ◌≢◌, ℕ, take, IfSome}
+use Rattle.mtc_io.specs.Counts.{Rose}
+use Rattle.disk_core.specs.declared.disk.Disk.{Ghosts}
+use Rattle.journal_core.specs.Format.{header, IsBadLengthAt, IsCutShortAt}
+use Rattle.journal_core.specs.declared.error.OpenError.{OpenError}
+use Rattle.journal_core.specs.declared.error.OpenError.TheVariants.{NotJournal, BadLength, CutShort, Failed, Memory}
+
+-- the cause of a refusal at a place, over the disk before the call and after it
+abbrev pub HasReason : {D : Type 0} → Ghosts D → D → D → ℕ → OpenError → Type 0
+HasReason g old new place NotJournal = IfSome (g.told old) (λ bytes. take 16 bytes ≢ header)
+HasReason g old new place (BadLength at) = (at ≡ place) × IfSome (g.told old) (λ bytes. IsBadLengthAt bytes place)
+HasReason g old new place (CutShort at) = (at ≡ place) × IfSome (g.told old) (λ bytes. IsCutShortAt bytes place)
+HasReason g old new place Failed = Rose (g.faults old) (g.faults new)
+HasReason g old new place Memory = Unit {0}
+
+-- behind the header a file is refused for what stands at the place, or for a fault
+abbrev pub IsOfRecord : OpenError → Type 0
+IsOfRecord NotJournal = ⊥
+IsOfRecord (BadLength at) = Unit {0}
+IsOfRecord (CutShort at) = Unit {0}
+IsOfRecord Failed = Unit {0}
+IsOfRecord Memory = ⊥
+
+-- the header is refused, or a fault told, or want of memory
+abbrev pub IsOfHeader : OpenError → Type 0
+IsOfHeader NotJournal = Unit {0}
+IsOfHeader (BadLength at) = ⊥
+IsOfHeader (CutShort at) = ⊥
+IsOfHeader Failed = Unit {0}
+IsOfHeader Memory = Unit {0}

@@ -1,0 +1,30 @@
+-- What `start` makes of a disk, and what it leaves of one where it refuses.
+use Rattle.std.specs.Prelude.{◌≡◌, ◌≢◌, ℕ, ◌+◌, ◌≤◌, false, List, [], ◌∷◌, length, is_some, option_map, IfSome}
+use Rattle.mtc_io.specs.Counts.{Rose}
+use Rattle.disk_core.specs.Moments.{Looks}
+use Rattle.disk_core.specs.declared.disk.Disk.{Ghosts}
+use Rattle.journal_core.specs.Words.{AllStandFor, disk_of, end_of, is_broken, records}
+use Rattle.journal_core.specs.declared.error.StartError.{StartError}
+use Rattle.journal_core.specs.declared.error.StartError.TheVariants.{Failed, NotEmpty, Memory}
+use Rattle.journal_core.specs.declared.journal.Journal.{Journal}
+
+-- An empty disk became a journal of one record, and every image of it stands for that record.
+pub record HasStarted {D : Type 0} {g : Ghosts D} (first : List ℕ) (old : D) (new : Journal D g) : Type 0 where
+  pub empty : IfSome (g.told old) (λ bytes. bytes ≡ [])
+  pub told : is_some (g.told (disk_of new)) ≡ is_some (g.told old)
+  pub list : records new ≡ option_map (λ _. first ∷ []) (g.told old)
+  pub sound : is_broken new ≡ false
+  pub end : end_of new ≡ 22 + length first
+  pub all : IfSome (records new) (AllStandFor g (disk_of new))
+  pub later : g.faults old ≤ g.faults (disk_of new)
+
+-- a disk that failed
+pub record HasFailed {D : Type 0} (g : Ghosts D) (old new : D) : Type 0 where
+  pub later : g.faults old ≤ g.faults new
+  pub cause : Rose (g.faults old) (g.faults new)
+
+-- the disk that is handed back, by the refusal
+abbrev pub IsNotStarted : {D : Type 0} → Ghosts D → D → D → StartError → Type 0
+IsNotStarted g old new Failed = HasFailed g old new
+IsNotStarted g old new NotEmpty = IfSome (g.told old) (λ bytes. bytes ≢ []) × Looks g old new
+IsNotStarted g old new Memory = Looks g old new

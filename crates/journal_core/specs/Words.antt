@@ -1,0 +1,55 @@
+-- What a journal shows, and what `append` makes of it.
+use Rattle.std.specs.Prelude.{◌≡◌, ℕ, ◌+◌, Bool, true, false, List, [], ◌∷◌, ◌++◌, length, Option, option_map, IfSome, Result, Ok, Err}
+use Rattle.mtc_io.specs.Counts.{Rose}
+use Rattle.disk_core.specs.declared.disk.Disk.{Ghosts}
+use Rattle.journal_core.specs.Format.{StandsFor, records_of}
+use Rattle.journal_core.specs.declared.error.AppendError.{AppendError}
+use Rattle.journal_core.specs.declared.error.AppendError.TheVariants.{Failed, Broken, Full}
+use Rattle.journal_core.specs.declared.journal.Journal.{Journal}
+
+-- each image that a crash now may leave stands for these records
+abbrev pub AllStandFor : {D : Type 0} → Ghosts D → D → List (List ℕ) → Type 0
+AllStandFor g disk list = (c : List ℕ) → g.may_leave disk c → StandsFor c list
+
+module _ {D : Type 0} {g : Ghosts D} where
+  abbrev pub disk_of : Journal D g → D
+  disk_of journal = journal.disk
+
+  -- the place behind the closed gate
+  abbrev pub end_of : Journal D g → ℕ
+  end_of journal = journal.end
+
+  -- an earlier append has failed
+  abbrev pub is_broken : Journal D g → Bool
+  is_broken journal = journal.broken
+
+  -- the records, where the disk tells its bytes
+  abbrev pub records : Journal D g → Option (List (List ℕ))
+  records journal = option_map records_of (g.told journal.disk)
+
+  -- no call of the disk
+  pub record IsUntouched (old new : Journal D g) : Type 0 where
+    pub disk : new.disk ≡ old.disk
+    pub end : new.end ≡ old.end
+    pub broken : new.broken ≡ old.broken
+
+  -- a call of the disk failed, and the journal is to be opened again
+  pub record HasBroken (old new : Journal D g) : Type 0 where
+    pub cause : Rose (g.faults old.disk) (g.faults new.disk)
+    pub broken : new.broken ≡ true
+    pub end : new.end ≡ old.end
+
+  -- one record more, and every image of the disk stands for the records with it
+  pub record HasAppended (body : List ℕ) (old new : Journal D g) : Type 0 where
+    pub records : records new ≡ option_map (λ list. list ++ body ∷ []) (records old)
+    pub end : new.end ≡ old.end + 5 + length body
+    pub was_sound : old.broken ≡ false
+    pub sound : new.broken ≡ false
+    pub all : IfSome (g.told new.disk) (λ bytes. AllStandFor g new.disk (records_of bytes))
+
+  -- what an append leaves, by its answer
+  abbrev pub Leaves : List ℕ → Journal D g → Journal D g → Result (Unit {0}) AppendError → Type 0
+  Leaves body old new (Ok done) = HasAppended body old new
+  Leaves body old new (Err Failed) = HasBroken old new
+  Leaves body old new (Err Broken) = IsUntouched old new
+  Leaves body old new (Err Full) = IsUntouched old new

@@ -1,0 +1,105 @@
+// A journal that is open for more records.
+ghost use Rattle.std.specs.Prelude.{◌≡◌, ◌↔◌, ◌≤◌, ◌<◌, ◌+◌, ◌^◌, ℕ, List, length, take, true, false, is_some, Some, IsTrue, IsErrOf, IfSome, OnOk};
+ghost use Rattle.std.proofs.Props.{props};
+ghost use Rattle.mtc_io.specs.Counts.{HasCause};
+ghost use Rattle.disk_core.specs.Disk.{part};
+ghost use Rattle.disk_core.specs.Moments.{LeavesOnly, Looks};
+ghost use Rattle.journal_core.specs.Format.{StandsForEither};
+ghost use Rattle.journal_core.specs.Settled.{IsSettled, IsSettled-prop};
+
+use crate::error::AppendError;
+use crate::format::pack;
+use disk_core::{Disk, look_at, write_synced};
+use mtc_io::Failed;
+
+// A journal file has at most so many bytes.
+const LIMIT: u64 = 1 << 31;
+
+/// A journal on a disk: all its records are on the disk, unless an append has failed.
+#[derive(Drop)]
+pub struct Journal<D: Disk> {
+    pub(crate) disk: D,
+    pub(crate) end: u64,
+    pub(crate) broken: bool,
+    pub(crate) buffer: Vec<u8>,
+    ghost room: { length buffer.items ≡ 131094 },
+    ghost there: { end ≤ D.Disk.known disk },
+    ghost begun: { 17 ≤ end },
+    ghost settled: { broken ≡ false → (b : List ℕ) → D.Disk.told disk ≡ Some b → IsSettled b (D.Disk.may_leave disk) end } by { Prim.hlevel (props, IsSettled-prop) },
+}
+
+impl<D: Disk> Journal<D> {
+    ghost use Rattle.journal_core.specs.Words.{disk_of, end_of, is_broken, records, Leaves};
+
+    /// Adds a record of 1 to 131,072 bytes. At Ok a crash leaves the records with it; at any moment of the call it leaves
+    /// the old records, or these and the new one.
+    ///
+    /// Errors, in the order of the tests: `Broken` where an earlier call answered `Failed`; `Full` where the file would
+    /// pass 2^31 bytes; `Failed`. The first two make no call of the disk. It takes no memory.
+    pub fn append(&mut self, body: &[u8]) -> Result<(), AppendError>
+        requires some { 1 ≤ length body.now }
+        requires few { length body.now ≤ 131072 }
+        ensures leaves { Leaves body.now self.old self.new result }
+        ensures broken { IsErrOf result AppendError.Broken ↔ IsTrue (is_broken self.old) }
+        ensures full { IsErrOf result AppendError.Full ↔ (is_broken self.old ≡ false) × (2 ^ 31 < end_of self.old + 5 + length body.now) }
+        ensures told { is_some (records self.new) ≡ is_some (records self.old) }
+        ensures count { D.faults (disk_of self.old) ≤ D.faults (disk_of self.new) }
+        ensures as_read { is_broken self.old ≡ false → IfSome (records self.old) (λ list. IfSome (D.told (disk_of self.new)) (StandsForEither list body.now)) }
+        ensures afterwards { is_broken self.old ≡ false → IfSome (records self.old) (λ list. (c : List ℕ) → D.may_leave (disk_of self.new) c → StandsForEither list body.now c) }
+        ensures any_moment { is_broken self.old ≡ false → IfSome (records self.old) (λ list. LeavesOnly D.Disk (disk_of self.old) (disk_of self.new) (StandsForEither list body.now)) }
+    {
+        self.put(body)
+    }
+
+    /// Fills `out` with the bytes from a place on. Its range ends at or below the end.
+    pub fn read(&mut self, place: u64, out: &mut [u8]) -> Result<(), Failed>
+        requires { place + length out.old ≤ end_of self.old }
+        ensures read { OnOk result (IfSome (D.told (disk_of self.old)) (λ bytes. out.new ≡ part place (length out.old) bytes)) }
+        ensures records { records self.new ≡ records self.old }
+        ensures end { end_of self.new ≡ end_of self.old }
+        ensures broken { is_broken self.new ≡ is_broken self.old }
+        ensures looks { Looks D.Disk (disk_of self.old) (disk_of self.new) }
+        ensures cause { HasCause (D.faults (disk_of self.old)) (D.faults (disk_of self.new)) result }
+    {
+        look_at(&mut self.disk, place, out)
+    }
+
+    /// The place behind the closed gate. The next body would begin four bytes further on.
+    pub fn end(&self) -> u64
+        ensures { result ≡ end_of self.now }
+    {
+        self.end
+    }
+
+    pub fn into_disk(self) -> D
+        ensures { result ≡ disk_of self }
+    {
+        self.disk
+    }
+
+    fn put(&mut self, body: &[u8]) -> Result<(), AppendError>
+        requires some { 1 ≤ length body.now }
+        requires few { length body.now ≤ 131072 }
+        ensures leaves { Leaves body.now self.old self.new result }
+        ensures broken { IsErrOf result AppendError.Broken ↔ IsTrue (is_broken self.old) }
+        ensures full { IsErrOf result AppendError.Full ↔ (is_broken self.old ≡ false) × (2 ^ 31 < end_of self.old + 5 + length body.now) }
+        ensures told { is_some (records self.new) ≡ is_some (records self.old) }
+        ensures any_moment { is_broken self.old ≡ false → IfSome (records self.old) (λ list. LeavesOnly D.Disk (disk_of self.old) (disk_of self.new) (StandsForEither list body.now)) }
+        ensures count { D.faults (disk_of self.old) ≤ D.faults (disk_of self.new) }
+    {
+        if self.broken {
+            return Err(AppendError::Broken);
+        }
+        let size = body.len() as u64 + 5;
+        if self.end > LIMIT - size {
+            return Err(AppendError::Full);
+        }
+        self.broken = true;
+        pack(&mut self.buffer, body);
+        write_synced(&mut self.disk, self.end, &self.buffer[..body.len() + 5])?;
+        write_synced(&mut self.disk, self.end - 1, &[1])?;
+        self.end += size;
+        self.broken = false;
+        Ok(())
+    }
+}

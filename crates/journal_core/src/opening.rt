@@ -1,0 +1,178 @@
+// A file that is read as a journal.
+ghost use Rattle.std.specs.Prelude.{◌≡◌, ◌≢◌, ◌+◌, ◌<◌, ◌≤◌, ℕ, List, [], length, take, true, false, MatchBool, MatchOption, Some, None, option_map, IfSome, IfOk, IfErr, OnOk};
+ghost use Rattle.std.proofs.Props.{props};
+ghost use Rattle.mtc_io.specs.Counts.{HasCause};
+ghost use Rattle.disk_core.specs.Disk.{Only};
+ghost use Rattle.disk_core.specs.Moments.{Looks};
+ghost use Rattle.journal_core.specs.Format.{header, behind, IsClosedAt, StandsFor};
+ghost use Rattle.journal_core.specs.Opens.{HasReason, IsOfHeader};
+ghost use Rattle.journal_core.specs.Settled.{IsReading, IsReading-prop, IsClosedAt-prop};
+
+use crate::error::{OpenError, Refused, hand_back};
+use crate::format::{HEADER, buffer};
+use crate::journal::Journal;
+use crate::record::read_record;
+use disk_core::{Disk, look_at, look_len, look_settled};
+use mtc_io::{Failed, Memory};
+use std::alloc::Global;
+
+/// A file that is read record by record. All of it is on the disk.
+#[derive(Drop)]
+pub struct Opening<D: Disk> {
+    disk: D,
+    size: u64,
+    place: u64,
+    body: usize,
+    ended: bool,
+    refused: Option<OpenError>,
+    buffer: Vec<u8>,
+    ghost room: { length buffer.items ≡ 131094 },
+    ghost held: { body ≤ 131072 },
+    ghost known: { size ≤ D.Disk.known disk },
+    ghost begun: { 16 ≤ place },
+    ghost within: { ended ≡ true → place < size },
+    ghost exact: { (b : List ℕ) → D.Disk.told disk ≡ Some b → size ≡ length b },
+    ghost reading: { (b : List ℕ) → D.Disk.told disk ≡ Some b → IsReading b (D.Disk.may_leave disk) place } by { Prim.hlevel (props, IsReading-prop) },
+    ghost closed: { ended ≡ true → (b : List ℕ) → D.Disk.told disk ≡ Some b → IsClosedAt b place } by { Prim.hlevel (props, IsClosedAt-prop) },
+}
+
+// The header stands where it is to stand.
+fn read_header<D: Disk>(disk: &mut D) -> Result<bool, Failed>
+    requires { 16 ≤ D.known disk.old }
+    ensures header { IfOk result (λ is. IfSome (D.told disk.old) (λ b. MatchBool is (take 16 b ≡ header) (take 16 b ≢ header))) }
+    ensures known { D.known disk.new ≡ D.known disk.old }
+    ensures looks { Looks D.Disk disk.old disk.new }
+    ensures cause { HasCause (D.faults disk.old) (D.faults disk.new) result }
+{
+    let mut first = [0; 16];
+    look_at(disk, 0, &mut first)?;
+    Ok(first == HEADER)
+}
+
+// The length of a file that begins with the header. All of it is on the disk then.
+fn measure<D: Disk>(disk: &mut D) -> Result<Option<u64>, Failed>
+    ensures header { IfOk result (λ r. IfSome (D.told disk.old) (λ b. MatchOption r (take 16 b ≢ header) (λ n. (take 16 b ≡ header) × (n ≡ length b)))) }
+    ensures known { IfOk result (λ r. IfSome r (λ n. (16 ≤ n) × (n ≤ D.known disk.new))) }
+    ensures durable { OnOk result (IfSome (D.told disk.new) (λ b. Only b (D.may_leave disk.new))) }
+    ensures looks { Looks D.Disk disk.old disk.new }
+    ensures cause { HasCause (D.faults disk.old) (D.faults disk.new) result }
+{
+    look_settled(disk)?;
+    let size = look_len(disk)?;
+    if size < 16 {
+        return Ok(None);
+    }
+    let is_journal = read_header(disk)?;
+    Ok(if is_journal { Some(size) } else { None })
+}
+
+impl<D: Disk> Opening<D> {
+    ghost use Rattle.journal_core.specs.Openings.{opening_disk, read_list, next_place, is_ended, refusal, last_body, HasBegun, Steps, Nexts};
+    ghost use Rattle.journal_core.specs.contracts.opening.Opening.{the_row};
+    ghost use Rattle.std.specs.Borrow.{sem};
+    ghost use Rattle.std.specs.Io.BufRead.{Rests};
+    ghost use Rattle.journal_core.specs.Words.{AllStandFor, disk_of, end_of, is_broken, records};
+
+    /// Takes a file to read it as a journal. It syncs first, so that what is read is on the disk.
+    ///
+    /// Errors, in the order of the tests: `Failed`; `NotJournal` where the first sixteen bytes aren't the header;
+    /// `Memory` for the buffer. The disk is handed back.
+    pub fn begin(alloc: Global, mut disk: D) -> Result<Opening<D>, Refused<D, OpenError>>
+        ensures ok { IfOk result (HasBegun disk) }
+        ensures reason { IfErr result (λ e. HasReason D.Disk disk e.disk 0 e.why) }
+        ensures kind { IfErr result (λ e. IsOfHeader e.why) }
+        ensures whole { IfErr result (λ e. IfSome (D.told disk) (λ bytes. (list : List (List ℕ)) → StandsFor bytes list → e.why ≢ OpenError.NotJournal)) }
+        ensures looks { IfErr result (λ e. Looks D.Disk disk e.disk) }
+    {
+        let size = match measure(&mut disk) {
+            Ok(Some(size)) => size,
+            Ok(None) => return Err(hand_back(disk, OpenError::NotJournal)),
+            Err(failed) => return Err(hand_back(disk, failed.into())),
+        };
+        let buffer = match buffer(alloc) {
+            Ok(buffer) => buffer,
+            Err(Memory) => return Err(hand_back(disk, OpenError::Memory)),
+        };
+        Ok(Opening {
+            disk,
+            size,
+            place: 16,
+            body: 0,
+            ended: false,
+            refused: None,
+            buffer,
+        })
+    }
+
+    /// The body of the next record, or none at the closed gate, and then none again.
+    ///
+    /// Errors, of which each is given again from then on: `CutShort` where the file ends before the gate or within the
+    /// record; `BadLength` where an open record's length is 0 or above 131,072; `Failed`. A file that is a journal is
+    /// refused for a fault alone. It takes no memory.
+    pub fn next(&mut self) -> Result<Option<&[u8]>, OpenError>
+        ensures* after_borrow { sem 𝓛 (Rests (the_row D.row D.Disk) self.entry (λ new. Nexts self.old new result)) }
+    {
+        match self.step() {
+            Ok(true) => Ok(Some(self.last())),
+            Ok(false) => Ok(None),
+            Err(why) => Err(why),
+        }
+    }
+
+    /// The journal, once its closed gate was read.
+    pub fn ready(self) -> Journal<D>
+        requires { is_ended self ≡ true }
+        ensures list { records result ≡ read_list self }
+        ensures disk { disk_of result ≡ opening_disk self }
+        ensures sound { is_broken result ≡ false }
+        ensures all { IfSome (records result) (AllStandFor D.Disk (disk_of result)) }
+        ensures end { IfSome (records result) (λ list. end_of result ≡ behind 16 list + 1) }
+    {
+        Journal {
+            disk: self.disk,
+            end: self.place + 1,
+            broken: false,
+            buffer: self.buffer,
+        }
+    }
+
+    pub fn into_disk(self) -> D
+        ensures { result ≡ opening_disk self }
+    {
+        self.disk
+    }
+
+    fn last(&self) -> &[u8]
+        ensures { result.now ≡ last_body self.now }
+    {
+        &self.buffer[..self.body]
+    }
+
+    // Reads on by one record: whether there was one.
+    fn step(&mut self) -> Result<bool, OpenError>
+        ensures { Steps self.old self.new result }
+    {
+        match self.refused {
+            Some(why) => return Err(why),
+            None => {}
+        }
+        if self.ended {
+            return Ok(false);
+        }
+        match read_record(&mut self.disk, self.size, self.place, &mut self.buffer) {
+            Ok(Some(length)) => {
+                self.place += 5 + length as u64;
+                self.body = length;
+                Ok(true)
+            }
+            Ok(None) => {
+                self.ended = true;
+                Ok(false)
+            }
+            Err(why) => {
+                self.refused = Some(why);
+                Err(why)
+            }
+        }
+    }
+}
