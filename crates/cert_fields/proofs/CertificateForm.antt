@@ -59,11 +59,11 @@ version_form =
     let two : Unit {0} → ℕ = λ x. 2 in
     spelled_form (λ x. spell (two x)) version_text NoValue Anything version_at (λ x f. version_is)
     (said_form (λ x. spell (two x)) (λ x. Fits (two x)) NoValue Anything Anything version_at (λ x f. tt) (λ x f. ((lit< tt, refl), version-short)) (λ rest q. q)
-        (mapped_form spell Fits Anything (headed_at 160 BadVersion (inside_at 160 read)) nothing two (λ n f. sym (eqb-true n 2 f.0.1)) (λ y f. refl)
-            (headed_form spell Fits Anything (inside_at 160 read) 160 BadVersion (λ n rest f. begins_with-element 160 (number n) rest)
-                (inside_form 160 number IsVersion read (tag_of 160 (lit< tt) refl)
-                    (ended_form number IsVersion Anything read tt
-                        (tested_form number (λ n. n < 2 ^ 64) Anything (unsigned_at BadVersion) (λ n. n == 2) BadVersion (unsigned_form BadVersion)))))))
+    (mapped_form spell Fits Anything (headed_at 160 BadVersion (inside_at 160 read)) nothing two (λ n f. sym (eqb-true n 2 f.0.1)) (λ y f. refl)
+    (headed_form spell Fits Anything (inside_at 160 read) 160 BadVersion (λ n rest f. begins_with-element 160 (number n) rest)
+    (inside_form 160 number IsVersion read (tag_of 160 (lit< tt) refl)
+    (ended_form number IsVersion Anything read tt
+    (tested_form number (λ n. n < 2 ^ 64) Anything (unsigned_at BadVersion) (λ n. n == 2) BadVersion (unsigned_form BadVersion)))))))
 
 abbrev pub IsSerial : ℕ → Type 0
 IsSerial n = (n < 2 ^ 64) × (nat_lt 0 n ≡ true)
@@ -105,16 +105,16 @@ body_form =
     (both itself (both moments_text (both itself (both itself itself)))) (FitsBoth IsName (FitsBoth IsValidity (FitsBoth IsName (FitsBoth IsPublicKey IsExtensions)))) Nothing
     (both_at name_at (both_at validity_at (both_at name_at (both_at spki_at last)))) algorithm_form
     (both_form itself IsName Anything name_at
-        (both moments_text (both itself (both itself itself))) (FitsBoth IsValidity (FitsBoth IsName (FitsBoth IsPublicKey IsExtensions))) Nothing
-        (both_at validity_at (both_at name_at (both_at spki_at last))) name_form
-        (both_form moments_text IsValidity Anything validity_at
-            (both itself (both itself itself)) (FitsBoth IsName (FitsBoth IsPublicKey IsExtensions)) Nothing
-            (both_at name_at (both_at spki_at last)) validity_form
-            (both_form itself IsName Anything name_at (both itself itself) (FitsBoth IsPublicKey IsExtensions) Nothing (both_at spki_at last) name_form
-                (both_form itself IsPublicKey Anything spki_at itself IsExtensions Nothing last spki_form last_field (λ y rest f q. tt))
-                (λ y rest f q. tt))
-            (λ y rest f q. tt))
-        (λ y rest f q. tt))
+    (both moments_text (both itself (both itself itself))) (FitsBoth IsValidity (FitsBoth IsName (FitsBoth IsPublicKey IsExtensions))) Nothing
+    (both_at validity_at (both_at name_at (both_at spki_at last))) name_form
+    (both_form moments_text IsValidity Anything validity_at
+    (both itself (both itself itself)) (FitsBoth IsName (FitsBoth IsPublicKey IsExtensions)) Nothing
+    (both_at name_at (both_at spki_at last)) validity_form
+    (both_form itself IsName Anything name_at (both itself itself) (FitsBoth IsPublicKey IsExtensions) Nothing (both_at spki_at last) name_form
+    (both_form itself IsPublicKey Anything spki_at itself IsExtensions Nothing last spki_form last_field (λ y rest f q. tt))
+    (λ y rest f q. tt))
+    (λ y rest f q. tt))
+    (λ y rest f q. tt))
     (λ y rest f q. tt)
 
 -- ---- what is signed, and the whole
@@ -139,8 +139,8 @@ unfolding tbs_at
 tbs_form =
     inside_form 48 signed_text IsSigned (both_at version_at (both_at serial_at body_at)) (tag_of 48 (lit< tt) refl)
     (both_form version_text NoValue Anything version_at (both number body_text) (FitsBoth IsSerial IsBody) Nothing (both_at serial_at body_at) version_form
-        (both_form number IsSerial Anything serial_at body_text IsBody Nothing body_at serial_form body_form (λ y rest f q. tt))
-        (λ y rest f q. tt))
+    (both_form number IsSerial Anything serial_at body_text IsBody Nothing body_at serial_form body_form (λ y rest f q. tt))
+    (λ y rest f q. tt))
 
 abbrev IsSequence : List ℕ → Type 0
 IsSequence = IsSpelling (element 48) (λ contents. length contents < 2 ^ 24)
@@ -215,9 +215,9 @@ certificate_form =
     let spell : Whole → List ℕ = λ x. element 48 (whole_text x) in
     said_form (λ p. spell (from_parts p)) (λ p. Known (from_parts p)) IsCertificate Anything Anything (mapped_at to_parts (inside_at 48 read)) parts_to parts_from (λ rest q. q)
     (mapped_form spell Known Anything (inside_at 48 read) to_parts from_parts (λ x f. same_ways x f.0) (λ p f. refl)
-        (inside_form 48 whole_text IsWhole read (tag_of 48 (lit< tt) refl)
-            (ended_form whole_text IsWhole Anything read tt
-                (both_form (both tbs_text itself) IsPair Anything signed_at signature_text IsSignature Anything signature_at signed_form signature_form (λ y rest f q. tt)))))
+    (inside_form 48 whole_text IsWhole read (tag_of 48 (lit< tt) refl)
+    (ended_form whole_text IsWhole Anything read tt
+    (both_form (both tbs_text itself) IsPair Anything signed_at signature_text IsSignature Anything signature_at signed_form signature_form (λ y rest f q. tt)))))
 
 -- What parse reads is the certificate of its parts, and only a certificate is read.
 pub parts_only : (bytes : List ℕ) (p : Parts) → IsBytes bytes → parts_of bytes ≡ Ok p → (bytes ≡ certificate p) × IsCertificate p

@@ -49,7 +49,7 @@ pub all_again : {X : Type 0} (spell : X → List ℕ) (Fits : X → Type 0) (rea
     → (x : X) → Fits x → all_of read (spell x) ≡ Ok x
 all_again spell Fits read form x f =
     let step : read (at (spell x) 0) ≡ Ok (x, record { place = 0 + length (spell x); rest = [] }) =
-        ap (λ (c : List ℕ). read (record { place = 0; rest = c })) (sym (append-nil (spell x))) ∙ form.again x 0 [] f tt in
+    ap (λ (c : List ℕ). read (record { place = 0; rest = c })) (sym (append-nil (spell x))) ∙ form.again x 0 [] f tt in
     rw step refl
 
 -- ---- general names
@@ -77,8 +77,8 @@ unfolding general_names_at
 general_names_form =
     whole_form 48 (flat_map itself) (λ names. AllByRecursion IsGeneralName names × (0 < length (flat_map itself names))) (some_at BadExtension (up_to_end general_name_at)) (tag_of 48 (lit< tt) refl)
     (some_form (flat_map itself) (AllByRecursion IsGeneralName) (up_to_end general_name_at) BadExtension
-        (up_to_end_drains itself IsGeneralName Anything general_name_at general_name_some general_name_form)
-        (many_form itself IsGeneralName general_name_at general_name_some general_name_form))
+    (up_to_end_drains itself IsGeneralName Anything general_name_at general_name_some general_name_form)
+    (many_form itself IsGeneralName general_name_at general_name_some general_name_form))
 
 read_ok : {X E : Type 0} (r : Result X E) → is_read r ≡ true → (x : X) × (r ≡ Ok x)
 read_ok (Ok x) e = (x, refl)
@@ -153,11 +153,11 @@ critical_form =
     let read : At → Result (Bool × At) CertError = tested_at (λ b. b) BadExtension (decoded_at 1 boolean_of) in
     spelled_form (λ b. optional truth (marked b)) mark AnyMark (OtherThan 1) (mapped_at is_some (optional_at 1 read)) (λ b f. mark_is b)
     (said_form (λ b. optional truth (marked b)) (λ b. IfSome (marked b) IsTruth) AnyMark (λ rest. Anything rest × OtherThan 1 rest) (OtherThan 1) (mapped_at is_some (optional_at 1 read))
-        (λ b f. tt) (λ b f. marked_fits b) (λ rest q. (tt, q))
-        (mapped_form (optional truth) (λ o. IfSome o IsTruth) (λ rest. Anything rest × OtherThan 1 rest) (optional_at 1 read) is_some marked marked_back marked_there
-            (optional_form truth IsTruth Anything read 1 (λ b rest f. begins_with-element 1 (boolean b) rest)
-                (tested_form truth (λ b. FitsBoolean b × (length (boolean b) < 2 ^ 24)) Anything (decoded_at 1 boolean_of) (λ b. b) BadExtension
-                    (decoded_form 1 boolean FitsBoolean boolean_of (tag_of 1 (lit< tt) refl) boolean_contents)))))
+    (λ b f. tt) (λ b f. marked_fits b) (λ rest q. (tt, q))
+    (mapped_form (optional truth) (λ o. IfSome o IsTruth) (λ rest. Anything rest × OtherThan 1 rest) (optional_at 1 read) is_some marked marked_back marked_there
+    (optional_form truth IsTruth Anything read 1 (λ b rest f. begins_with-element 1 (boolean b) rest)
+    (tested_form truth (λ b. FitsBoolean b × (length (boolean b) < 2 ^ 24)) Anything (decoded_at 1 boolean_of) (λ b. b) BadExtension
+    (decoded_form 1 boolean FitsBoolean boolean_of (tag_of 1 (lit< tt) refl) boolean_contents)))))
 
 other_element : (byte tag : ℕ) (contents rest : List ℕ) → tag ≢ byte → OtherThan byte (element tag contents ++ rest)
 unfolding element
@@ -219,19 +219,19 @@ extension_form seen =
     said_form extension Known (IsExtension seen) Anything Anything (extension_at seen)
     (λ x f. record { identifier = f.0.0.0.0.0; new = not_true (is_among x.identifier seen) f.0.0.0.1; names = f.0.1; short = f.1 })
     (λ x f.
-        let short = contents_short seen x f in
-        (((((f.identifier, short.0), not_false (is_among x.identifier seen) f.new), (tt, short.1)), f.names), f.short))
+    let short = contents_short seen x f in
+    (((((f.identifier, short.0), not_false (is_among x.identifier seen) f.new), (tt, short.1)), f.names), f.short))
     (λ rest q. q)
     (inside_form 48 extension_contents (λ x. Fields seen (from_extension x) × HasNames x) (tested_at has_its_form BadExtension read) (tag_of 48 (lit< tt) refl)
-        (ended_form extension_contents (λ x. Fields seen (from_extension x) × HasNames x) Anything (tested_at has_its_form BadExtension read) tt
-            (tested_as extension_contents (λ x. Fields seen (from_extension x)) Anything read has_its_form BadExtension HasNames names_to names_from
-                (mapped_form (both (element 6) (both mark (element 4))) (Fields seen) Anything fields to_extension from_extension (λ x f. refl) (λ y f. refl)
-                    (both_form (element 6) (λ identifier. IsIdentifier identifier × (not (is_among identifier seen) ≡ true)) Anything (new_identifier_at seen)
-                        (both mark (element 4)) (FitsBoth AnyMark Octets) Anything (both_at critical_at (contents_at 4))
-                        (new_identifier_form seen)
-                        (both_form mark AnyMark (OtherThan 1) critical_at (element 4) Octets Anything (contents_at 4) critical_form (contents_form 4 (tag_of 4 (lit< tt) refl))
-                            (λ y rest f q. other_element 1 4 y rest (λ e. absurd (omega arith))))
-                        (λ y rest f q. tt))))))
+    (ended_form extension_contents (λ x. Fields seen (from_extension x) × HasNames x) Anything (tested_at has_its_form BadExtension read) tt
+    (tested_as extension_contents (λ x. Fields seen (from_extension x)) Anything read has_its_form BadExtension HasNames names_to names_from
+    (mapped_form (both (element 6) (both mark (element 4))) (Fields seen) Anything fields to_extension from_extension (λ x f. refl) (λ y f. refl)
+    (both_form (element 6) (λ identifier. IsIdentifier identifier × (not (is_among identifier seen) ≡ true)) Anything (new_identifier_at seen)
+    (both mark (element 4)) (FitsBoth AnyMark Octets) Anything (both_at critical_at (contents_at 4))
+    (new_identifier_form seen)
+    (both_form mark AnyMark (OtherThan 1) critical_at (element 4) Octets Anything (contents_at 4) critical_form (contents_form 4 (tag_of 4 (lit< tt) refl))
+    (λ y rest f q. other_element 1 4 y rest (λ e. absurd (omega arith))))
+    (λ y rest f q. tt))))))
 
 -- ---- the field
 
@@ -252,8 +252,8 @@ unfolding extension_sequence_at
 sequence_form =
     whole_form 48 (flat_map extension) AreExtensions (some_at BadExtension extension_list_at) (tag_of 48 (lit< tt) refl)
     (said_form (flat_map extension) (λ xs. FitsEach identifier_of IsExtension [] xs × (0 < length (flat_map extension xs))) AreExtensions Nothing Nothing (some_at BadExtension extension_list_at)
-        (λ xs f. record { some = f.1; each = f.0 }) (λ xs f. (f.each, f.some)) (λ rest q. q)
-        (some_form (flat_map extension) (FitsEach identifier_of IsExtension []) extension_list_at BadExtension list_drains list_form))
+    (λ xs f. record { some = f.1; each = f.0 }) (λ xs f. (f.each, f.some)) (λ rest q. q)
+    (some_form (flat_map extension) (FitsEach identifier_of IsExtension []) extension_list_at BadExtension list_drains list_form))
 
 abbrev pub IsExtensions : List ℕ → Type 0
 IsExtensions bytes = (bytes ≡ []) ⊎ IsExtensionsField bytes
@@ -263,7 +263,7 @@ unfolding extensions_at
 extensions_form =
     or_nothing_form IsExtensionsField Anything (whole_at 163 extension_sequence_at) 163
     (λ bytes rest f.
-        let P : List ℕ → Type 0 = λ t. begins_with 163 (t ++ rest) ≡ true in
-        subst P (sym f.2) (begins_with-element 163 f.0 rest))
+    let P : List ℕ → Type 0 = λ t. begins_with 163 (t ++ rest) ≡ true in
+    subst P (sym f.2) (begins_with-element 163 f.0 rest))
     (whole_form 163 itself IsExtensionSequence extension_sequence_at (tag_of 163 (lit< tt) refl)
-        (ended_form itself IsExtensionSequence Anything extension_sequence_at tt sequence_form))
+    (ended_form itself IsExtensionSequence Anything extension_sequence_at tt sequence_form))

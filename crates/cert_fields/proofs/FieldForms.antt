@@ -47,7 +47,7 @@ unfolding algorithm_at
 algorithm_form =
     whole_form 48 (both (element 6) itself) (FitsBoth IsIdentifier IsElementOrNothing) (both_at (decoded_at 6 oid_of) (last_at any_at)) (tag_of 48 (lit< tt) refl)
     (both_form (element 6) IsIdentifier Anything (decoded_at 6 oid_of) itself IsElementOrNothing Nothing (last_at any_at)
-        identifier_form (last_form IsElement Anything any_at element_some tt any_form) (λ y rest f q. tt))
+    identifier_form (last_form IsElement Anything any_at element_some tt any_form) (λ y rest f q. tt))
 
 bits_form : IsForm (λ b. element 3 (bit_string b)) IsBits Anything (decoded_at 3 bits_of)
 bits_form = decoded_form 3 bit_string IsBitString bits_of (tag_of 3 (lit< tt) refl) bits_contents
@@ -57,8 +57,8 @@ unfolding spki_at
 spki_form =
     whole_form 48 (both itself (λ b. element 3 (bit_string b))) (FitsBoth IsAlgorithm IsBits) (both_at algorithm_at (decoded_at 3 bits_of)) (tag_of 48 (lit< tt) refl)
     (ended_form (both itself (λ b. element 3 (bit_string b))) (FitsBoth IsAlgorithm IsBits) Anything (both_at algorithm_at (decoded_at 3 bits_of)) tt
-        (both_form itself IsAlgorithm Anything algorithm_at (λ b. element 3 (bit_string b)) IsBits Anything (decoded_at 3 bits_of)
-            algorithm_form bits_form (λ y rest f q. tt)))
+    (both_form itself IsAlgorithm Anything algorithm_at (λ b. element 3 (bit_string b)) IsBits Anything (decoded_at 3 bits_of)
+    algorithm_form bits_form (λ y rest f q. tt)))
 
 -- ---- the signature
 
@@ -99,12 +99,15 @@ unfolding attribute_at
 attribute_form =
     whole_form 48 (both (element 6) itself) (FitsBoth IsIdentifier IsElement) (both_at (decoded_at 6 oid_of) any_at) (tag_of 48 (lit< tt) refl)
     (ended_form (both (element 6) itself) (FitsBoth IsIdentifier IsElement) Anything (both_at (decoded_at 6 oid_of) any_at) tt
-        (both_form (element 6) IsIdentifier Anything (decoded_at 6 oid_of) itself IsElement Anything any_at identifier_form any_form (λ y rest f q. tt)))
+    (both_form (element 6) IsIdentifier Anything (decoded_at 6 oid_of) itself IsElement Anything any_at identifier_form any_form (λ y rest f q. tt)))
 
 -- An element of some kind is an element.
 attribute_is : (bytes : List ℕ) → IsAttribute bytes → IsElement bytes
 attribute_is bytes f = record {
-  tag = 48; contents = both (element 6) itself f.0; fits = record { is_tag = tag_of 48 (lit< tt) refl; short = f.1.1 }; spelled = f.2;
+  tag = 48;
+  contents = both (element 6) itself f.0;
+  fits = record { is_tag = tag_of 48 (lit< tt) refl; short = f.1.1 };
+  spelled = f.2;
 }
 
 attribute_some : (bytes : List ℕ) → IsAttribute bytes → 0 < length bytes
@@ -214,9 +217,9 @@ set_again bytes p rest f =
     let fits : FitsElement 49 cs = record { is_tag = tag_of 49 (lit< tt) refl; short = f.1.1 } in
     let some : length cs ≢ 0 = omega (arith, f.1.0.some) in
     let rising : rising_at p (record { place = inner; rest = cs }) ≡ Ok (xs, record { place = inner + length cs; rest = [] }) =
-        ap (λ (c : List ℕ). rising_at p (record { place = inner; rest = c })) (sym (append-nil cs)) ∙ (rising_form p).again xs inner [] f.1.0.rise refl in
+    ap (λ (c : List ℕ). rising_at p (record { place = inner; rest = c })) (sym (append-nil cs)) ∙ (rising_form p).again xs inner [] f.1.0.rise refl in
     let attributes : up_to_end attribute_at (record { place = inner; rest = cs }) ≡ Ok (xs, record { place = inner + length cs; rest = [] }) =
-        ap (λ (c : List ℕ). up_to_end attribute_at (record { place = inner; rest = c })) (sym (append-nil cs)) ∙ attributes_form.again xs inner [] f.1.0.each refl in
+    ap (λ (c : List ℕ). up_to_end attribute_at (record { place = inner; rest = c })) (sym (append-nil cs)) ∙ attributes_form.again xs inner [] f.1.0.each refl in
     let P : List ℕ → Type 0 = λ t. set_at (record { place = p; rest = t ++ rest }) ≡ Ok (t, record { place = p + length t; rest = rest }) in
     subst P (sym f.2) (rw (wanted_again 49 cs p rest fits, ne_eqb (length cs) 0 some, rising, attributes) refl)
 
@@ -243,12 +246,12 @@ tag_is tag contents rest (inl same) = let P : ℕ → Type 0 = λ t. tag_wanted 
 tag_is tag contents rest (inr same) = let P : ℕ → Type 0 = λ t. tag_wanted (element t contents ++ rest) ≡ t in subst P (sym same) refl
 
 time_tag-is : (z : ℤ) → (time_tag z ≡ 23) ⊎ (time_tag z ≡ 24)
-time_tag-is z = elim (time_shape z) [ | inl s ↦ inl s.0 | inr s ↦ inr s.0 ]
+time_tag-is z = elim (time_shape z) [ inl s ↦ inl s.0 | inr s ↦ inr s.0 ]
 
 time_fits : (z : ℤ) → FitsElement (time_tag z) (time_contents z)
 time_fits z =
     let short = time-short z in
-    record { is_tag = elim (time_tag-is z) [ | inl s ↦ subst IsTag (sym s) (tag_of 23 (lit< tt) refl) | inr s ↦ subst IsTag (sym s) (tag_of 24 (lit< tt) refl) ]; short = omega (arith, short) }
+    record { is_tag = elim (time_tag-is z) [ inl s ↦ subst IsTag (sym s) (tag_of 23 (lit< tt) refl) | inr s ↦ subst IsTag (sym s) (tag_of 24 (lit< tt) refl) ]; short = omega (arith, short) }
 
 pub time_form : IsForm time_text IsMoment Anything time_at
 unfolding time_at
@@ -260,7 +263,7 @@ time_form = record {
       let known = time_moment-only tag s.0.0.contents t.0 (some_is BadTime (time_moment tag s.0.0.contents) t.0 t.1) in
       let read = wanted_takes tag a s.0.0 s.0.1 h (der_ok (wanted_at tag a) s.0 s.1) in
       let text : element s.0.0.tag s.0.0.contents ≡ time_text t.0 =
-          ap (λ (n : ℕ). element n s.0.0.contents) (read.1 ∙ known.1) ∙ ap (element (time_tag t.0)) known.2 in
+      ap (λ (n : ℕ). element n s.0.0.contents) (read.1 ∙ known.1) ∙ ap (element (time_tag t.0)) known.2 in
       let Q : List ℕ → Type 0 = λ w. Stands a w s.0.1 in
       let P : ℤ × At → Type 0 = λ v. Stands a (time_text v.0) v.1 × IsMoment v.0 in
       subst P (ok_is CertError (t.0, s.0.1) (z, b) t.2) (subst Q text read.0.stands, known.0);
@@ -308,6 +311,6 @@ validity_form =
     (λ v f. (f.spelled ∙ sym (validity_is v.1), ((f.not_before, f.not_after), omega (arith, times-short v.1))))
     (λ rest q. q)
     (noted_form 48 times_text Moments (mapped_at from_to (both_at time_at time_at)) (tag_of 48 (lit< tt) refl)
-        (ended_form times_text Moments Anything (mapped_at from_to (both_at time_at time_at)) tt
-            (mapped_form (both time_text time_text) (FitsBoth IsMoment IsMoment) Anything (both_at time_at time_at) from_to from_and_to (λ x f. refl) (λ y f. refl)
-                (both_form time_text IsMoment Anything time_at time_text IsMoment Anything time_at time_form time_form (λ y rest f q. tt)))))
+    (ended_form times_text Moments Anything (mapped_at from_to (both_at time_at time_at)) tt
+    (mapped_form (both time_text time_text) (FitsBoth IsMoment IsMoment) Anything (both_at time_at time_at) from_to from_and_to (λ x f. refl) (λ y f. refl)
+    (both_form time_text IsMoment Anything time_at time_text IsMoment Anything time_at time_form time_form (λ y rest f q. tt)))))

@@ -1,11 +1,12 @@
 //! The certificate of one name that a log with id 32473.1 issues, and what is told of changes to it.
 
 use crate::{
-    check_algorithm, check_extensions, check_name, check_spki, check_validity, dns_names, parse,
-    unknown_critical,
+    CertParts, check_algorithm, check_extensions, check_name, check_spki, check_validity,
+    dns_names, parse, unknown_critical, write,
 };
 use cert_time::Validity;
 use der_core::{CertError, DerError};
+use mtc_io::Bytes;
 use std::test::Fail;
 
 /// Serial number 1, issuer of log 32473.1, 2026-01-01 to 2026-01-08, no subject, an Ed25519 key of zeros, one critical
@@ -60,6 +61,20 @@ fn certificates_and_changes(rt: HostRuntime) -> Result<(), Fail> {
     let mut names = dns_names(&cert);
     assert_eq!(rt; names.next(), Some(b"a.example".as_slice()));
     assert_eq!(rt; names.next(), None);
+    let alloc = rt.alloc();
+    let written = write(
+        alloc,
+        &CertParts {
+            serial: 1,
+            issuer: Bytes::copy_of(alloc, &CERTIFICATE[28..55])?,
+            validity: cert.validity,
+            subject: Bytes::copy_of(alloc, &[0x30, 0x00])?,
+            spki: Bytes::copy_of(alloc, &CERTIFICATE[89..133])?,
+            extensions: Bytes::copy_of(alloc, &CERTIFICATE[133..162])?,
+            proof: Bytes::copy_of(alloc, &CERTIFICATE[179..])?,
+        },
+    )?;
+    assert_eq!(rt; written.as_slice(), CERTIFICATE.as_slice());
     let faults: [(&[(usize, u8)], CertError); 13] = [
         (&[(0, 0x31)], CertError::Der(DerError::WrongTag(0))),
         (&[(1, 0x80)], CertError::Der(DerError::LongForm(0))),
