@@ -1,16 +1,15 @@
 -- A whole certificate: what is read is spelled so, and what is spelled so is read again.
-use Rattle.std.proofs.Common.{◌≡◌, ◌≢◌, ℕ, ◌+◌, ◌^◌, ◌<◌, ◌≤◌, Bool, true, false, List, [], ◌∷◌, ◌++◌, length, Result, Ok, Err, IfOk, refl, sym, ap, subst, ◌∙◌, arith, inl, inr, ◌⊎◌, lit<, eqb-true, lt-ltb, ltb-true}
-use Rattle.std.specs.Prelude.{◌==◌, ◌||◌, nat_lt}
-use Rattle.std.specs.Str.{bytes_eq}
+use Rattle.std.proofs.Common.{◌≡◌, ℕ, ◌^◌, ◌<◌, true, false, List, [], ◌∷◌, ◌++◌, length, Result, Ok, Err, IfOk, refl, sym, ap, subst, ◌∙◌, arith, inl, inr, lit<, eqb-true, lt-ltb, ltb-true}
+use Rattle.std.specs.Prelude.{◌==◌, nat_lt}
 use Rattle.std.proofs.lemmas.List.{length-append}
 use Rattle.std.proofs.lemmas.Slice.Eq.{bytes_eq-Decides}
-use Rattle.byte_forms.specs.Places.{At, at, IsBytes, begins_with}
-use Rattle.byte_forms.specs.Readings.{◌>>=◌, both_at, mapped_at, tested_at, headed_at, refused_at, Gives}
-use Rattle.byte_forms.specs.Forms.{Stands, IsForm, Anything, Nothing, OtherThan, IsSpelling, itself, both, FitsBoth}
+use Rattle.byte_forms.specs.Places.{At, IsBytes}
+use Rattle.byte_forms.specs.Readings.{both_at, mapped_at, tested_at, headed_at, refused_at, Gives}
+use Rattle.byte_forms.specs.Forms.{IsForm, Anything, Nothing, OtherThan, IsSpelling, itself, both, FitsBoth}
 use Rattle.byte_forms.proofs.Forms.{said_form, spelled_form, ended_form, both_form, mapped_form, tested_form, headed_form, refused_form, one_form}
 use Rattle.der_core.specs.Elements.{element}
 use Rattle.der_core.specs.Integers.{integer}
-use Rattle.der_core.specs.Fields.{inside_at, element_with_at, unsigned_at, all_of}
+use Rattle.der_core.specs.Fields.{inside_at, element_with_at, unsigned_at}
 use Rattle.der_core.specs.declared.fault.CertError.{CertError}
 use Rattle.der_core.specs.declared.fault.CertError.TheVariants.{BadVersion, BadSerial, AlgorithmsDiffer, UniqueId}
 use Rattle.der_core.proofs.Elements.{element-longer, begins_with-element}
@@ -21,8 +20,8 @@ use Rattle.cert_fields.specs.Names.{name_at}
 use Rattle.cert_fields.specs.Times.{validity_at}
 use Rattle.cert_fields.specs.Extensions.{extensions_at}
 use Rattle.cert_fields.specs.Certificate.{Parts, Body, nothing, version_at, serial_at, is_unique_id, body_at, tbs_at, same_algorithm, signed_at, to_parts, certificate_at, parts_of}
-use Rattle.cert_fields.specs.Spelling.{version, tbs_fields, certificate_fields, certificate}
-use Rattle.cert_fields.specs.Grammar.{IsAlgorithm, IsPublicKey, IsName, IsValidity, IsSignature, IsExtensionsField, IsCertificate}
+use Rattle.cert_fields.specs.Spelling.{version, tbs_fields, certificate}
+use Rattle.cert_fields.specs.Grammar.{IsAlgorithm, IsPublicKey, IsName, IsValidity, IsSignature, IsCertificate}
 use Rattle.cert_fields.specs.Views.{parts}
 use Rattle.cert_fields.specs.declared.cert.Cert.{Cert}
 use Rattle.cert_fields.proofs.FieldForms.{algorithm_form, spki_form, name_form, validity_form, signature_form}
@@ -243,3 +242,8 @@ pub gives_only : (bytes : List ℕ) (r : Result Cert CertError) → Gives parts 
 gives_only bytes r e p f same =
     let P : Result Parts CertError → Type 0 = λ wanted. Gives parts r wanted in
     subst P (ap parts_of same ∙ parts_again p f) e
+
+pub written_again : {E : Type 0} (p : Parts) (r : Result (List ℕ) E) → IfOk r (λ bytes. bytes ≡ certificate p)
+    → IsCertificate p → IfOk r (λ bytes. parts_of bytes ≡ Ok p)
+written_again p (Ok bytes) same f = ap parts_of same ∙ parts_again p f
+written_again p (Err e) same f = tt

@@ -1,26 +1,25 @@
 -- Extensions: what is read is spelled so, and what is spelled so is read again.
-use Rattle.std.proofs.Common.{◌≡◌, ◌≢◌, ℕ, zero, suc, ◌+◌, ◌^◌, ◌<◌, ◌≤◌, Bool, true, false, List, [], ◌∷◌, ◌++◌, length, drop, Result, Ok, Err, Option, Some, None, IfSome, refl, sym, ap, subst, ◌∙◌, append-nil, arith, inl, inr, ◌⊎◌, lit<, eqb-true}
+use Rattle.std.proofs.Common.{◌≡◌, ◌≢◌, ℕ, ◌+◌, ◌^◌, ◌<◌, Bool, true, false, List, [], ◌∷◌, ◌++◌, length, Result, Ok, Err, Option, Some, None, IfSome, refl, sym, ap, subst, ◌∙◌, append-nil, arith, ◌⊎◌, lit<, eqb-true}
 use Rattle.std.specs.Prelude.{if◌then◌else◌, ◌==◌, not, is_some}
 use Rattle.std.specs.List.{flat_map, AllByRecursion}
 use Rattle.std.proofs.lemmas.List.{length-append, nil_from_length}
 use Rattle.byte_forms.specs.Places.{At, at, IsBytes, begins_with}
 use Rattle.byte_forms.specs.Readings.{◌>>=◌, both_at, mapped_at, tested_at, optional_at, some_at}
-use Rattle.byte_forms.specs.Forms.{Stands, IsForm, Anything, Nothing, OtherThan, IsSpelling, itself, both, FitsBoth, optional, FitsEach}
-use Rattle.byte_forms.specs.Lists.{up_to_end, each_at}
+use Rattle.byte_forms.specs.Forms.{Stands, IsForm, Anything, Nothing, OtherThan, itself, both, FitsBoth, optional, FitsEach}
+use Rattle.byte_forms.specs.Lists.{up_to_end}
 use Rattle.byte_forms.proofs.Steps.{bind_ok, pass_ok, ok_is, IsBytes-front, IsBytes-back}
 use Rattle.byte_forms.proofs.Forms.{said_form, spelled_form, ended_form, both_form, mapped_form, tested_form, optional_form, or_nothing_form, some_form}
 use Rattle.byte_forms.proofs.Lists.{many_form, up_to_end_drains, each_form}
-use Rattle.der_core.specs.Elements.{element, length_octets, IsTag, FitsElement}
-use Rattle.der_core.specs.Items.{Item, inside}
-use Rattle.der_core.specs.Reading.{element_at, wanted_at, end_at}
+use Rattle.der_core.specs.Elements.{element, length_octets}
+use Rattle.der_core.specs.Items.{Item}
+use Rattle.der_core.specs.Reading.{element_at, end_at}
 use Rattle.der_core.specs.Contents.{boolean_of, oid_of}
 use Rattle.der_core.specs.Fields.{der, decoded_at, contents_at, all_of, whole_at}
-use Rattle.der_core.specs.Forms.{IsRead, element_item, IsElement, IsOid, boolean, FitsBoolean}
-use Rattle.der_core.specs.declared.fault.DerError.{DerError}
+use Rattle.der_core.specs.Forms.{boolean, FitsBoolean}
 use Rattle.der_core.specs.declared.fault.DerError.TheVariants.{Trailing}
 use Rattle.der_core.specs.declared.fault.CertError.{CertError}
 use Rattle.der_core.specs.declared.fault.CertError.TheVariants.{BadExtension, RepeatedExtension}
-use Rattle.der_core.proofs.Elements.{element_takes, element_again, wanted_again, element-longer, begins_with-element}
+use Rattle.der_core.proofs.Elements.{element_takes, element_again, element-longer, begins_with-element}
 use Rattle.der_core.proofs.Rules.{boolean_contents}
 use Rattle.der_core.proofs.Fields.{tag_of, der_ok, decoded_form, contents_form, inside_form, whole_form}
 use Rattle.cert_fields.specs.AltNames.{is_general_name, general_name_at, general_names_at, is_read, are_general_names}

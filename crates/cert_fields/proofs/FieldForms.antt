@@ -1,14 +1,14 @@
 -- The fields of a certificate but its extensions: what is read is spelled so, and what is spelled so is read again.
-use Rattle.std.proofs.Common.{◌≡◌, ◌≢◌, ℕ, zero, suc, ◌+◌, ◌-◌, ◌%◌, ◌^◌, ◌<◌, ◌≤◌, Bool, true, false, List, [], ◌∷◌, ◌++◌, length, slice_index, Result, Ok, Err, Option, Some, None, refl, sym, ap, subst, ◌∙◌, append-nil, arith, inl, inr, ◌⊎◌, lit<, lit≤, eqb-true, ne_eqb, lt-ltb}
+use Rattle.std.proofs.Common.{◌≡◌, ◌≢◌, ℕ, zero, suc, ◌+◌, ◌-◌, ◌%◌, ◌^◌, ◌<◌, ◌≤◌, true, false, List, [], ◌∷◌, ◌++◌, length, slice_index, Result, Ok, Err, Option, Some, None, refl, sym, ap, subst, ◌∙◌, append-nil, arith, inl, inr, ◌⊎◌, lit<, lit≤, eqb-true, ne_eqb, lt-ltb}
 use Rattle.std.specs.Prelude.{if◌then◌else◌, ◌==◌, ℤ}
 use Rattle.std.specs.List.{flat_map, AllByRecursion}
 use Rattle.std.proofs.lemmas.List.{length-append, nil_from_length}
-use Rattle.byte_forms.specs.Places.{At, IsBytes, begins_with}
+use Rattle.byte_forms.specs.Places.{At, IsBytes}
 use Rattle.byte_forms.specs.Readings.{◌>>=◌, some_or, discarded, both_at, mapped_at, last_at}
-use Rattle.byte_forms.specs.Forms.{Stands, IsForm, Anything, Nothing, IsSpelling, itself, both, FitsBoth, FitsEach}
+use Rattle.byte_forms.specs.Forms.{Stands, IsForm, Anything, Nothing, itself, both, FitsBoth, FitsEach}
 use Rattle.byte_forms.specs.Lists.{up_to_end, each_at}
 use Rattle.byte_forms.proofs.Steps.{bind_ok, chosen, guard_ok, pass_ok, ok_is}
-use Rattle.byte_forms.proofs.Forms.{said_form, spelled_form, ended_form, both_form, mapped_form, last_form, one_value}
+use Rattle.byte_forms.proofs.Forms.{said_form, ended_form, both_form, mapped_form, last_form, one_value}
 use Rattle.byte_forms.proofs.Lists.{many_form, up_to_end_drains}
 use Rattle.der_core.specs.Elements.{element, IsTag, FitsElement}
 use Rattle.der_core.specs.Items.{Item, inside}
@@ -16,7 +16,7 @@ use Rattle.der_core.specs.Reading.{wanted_at, end_at}
 use Rattle.der_core.specs.Contents.{oid_of, bits_of, are_unused}
 use Rattle.der_core.specs.Fields.{der, decoded_at, any_at}
 use Rattle.der_core.specs.Sets.{risen_at, last_of, rising_at, checked, order_of}
-use Rattle.der_core.specs.Forms.{IsRead, element_item, IsElement, IsContents, IsOid, bit_string, IsBitString, IsNext}
+use Rattle.der_core.specs.Forms.{IsElement, IsContents, IsOid, bit_string, IsBitString, IsNext}
 use Rattle.der_core.specs.declared.fault.DerError.{DerError}
 use Rattle.der_core.specs.declared.fault.DerError.TheVariants.{BadBits}
 use Rattle.der_core.specs.declared.fault.CertError.{CertError}
@@ -31,7 +31,7 @@ use Rattle.cert_time.proofs.BothWays.{time_moment-only, time_moment-time, time_s
 use Rattle.cert_fields.specs.Keys.{algorithm_at, spki_at, whole_bits_of, signature_at}
 use Rattle.cert_fields.specs.Names.{attribute_at, set_at, name_at}
 use Rattle.cert_fields.specs.Times.{tag_wanted, time_at, from_to, validity_at}
-use Rattle.cert_fields.specs.Grammar.{IsIdentifier, IsElementOrNothing, IsAlgorithm, IsBits, IsPublicKey, IsAttribute, AreAttributes, IsSet, IsName, IsValidity, IsSignature}
+use Rattle.cert_fields.specs.Grammar.{IsIdentifier, IsElementOrNothing, IsAlgorithm, IsBits, IsPublicKey, IsAttribute, IsSet, IsName, IsValidity, IsSignature}
 use Rattle.cert_fields.proofs.Sizes.{time-short}
 
 -- ---- algorithms and keys

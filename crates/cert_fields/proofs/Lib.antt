@@ -5,3 +5,4 @@ pub mod Walks
 pub mod FieldForms
 pub mod ExtensionForms
 pub mod CertificateForm
+pub mod Found

@@ -51,7 +51,7 @@ names_enough n a le =
     let e : n ≡ length a.rest + (n - length a.rest) = omega arith in
     ap (λ (m : ℕ). names_from m a) e ∙ names_plus (n - length a.rest) a
 
-names_step : (a : At) (e : Item) (b : At) → element_at a ≡ Ok (e, b)
+pub names_step : (a : At) (e : Item) (b : At) → element_at a ≡ Ok (e, b)
     → names_left a ≡ (if e.tag == dns_name then e.contents ∷ names_left b else names_left b)
 unfolding names_from
 names_step a e b step =

@@ -10,3 +10,4 @@ pub mod Views
 pub mod Spelling
 pub mod Given
 pub mod Grammar
+pub mod Found

@@ -26,8 +26,8 @@ pub use certificate::parse;
 pub use checks::{check_algorithm, check_extensions, check_name, check_spki, check_validity};
 pub use extensions::{dns_names, unknown_critical};
 pub use laws::{
-    certificates_are_read_as_spelled, extensions_are_read_as_spelled, fields_are_read_as_spelled,
-    one_spelling,
+    certificates_are_read_as_spelled, extensions_are_found, extensions_are_read_as_spelled,
+    fields_are_read_as_spelled, one_spelling,
 };
 pub use parts::CertParts;
 pub use writing::write;

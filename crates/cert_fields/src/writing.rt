@@ -1,8 +1,10 @@
 //! Writing a certificate.
 
-ghost use Rattle.std.specs.Prelude.{◌≡◌, ◌^◌, ◌<◌, ◌≤◌, ◌++◌, ◌∷◌, length, IfOk};
+ghost use Rattle.std.specs.Prelude.{◌≡◌, ◌^◌, ◌<◌, ◌≤◌, ◌++◌, ◌∷◌, length, Ok, IfOk};
 ghost use Rattle.cert_time.specs.Calendar.{IsMoment};
 ghost use Rattle.der_core.specs.Elements.{element};
+ghost use Rattle.cert_fields.specs.Certificate.{parts_of};
+ghost use Rattle.cert_fields.specs.Grammar.{IsCertificate};
 ghost use Rattle.cert_fields.specs.Spelling.{tbs_fields, certificate_fields, certificate};
 ghost use Rattle.cert_fields.specs.Given.{given, size_of};
 
@@ -22,14 +24,25 @@ const MTC_PROOF: [u8; 14] = [
 /// Writes a certificate (RFC 5280, section 4.1) whose algorithm is that of Merkle tree proofs. Want of memory is the only
 /// refusal.
 ///
-/// The parts are put together as they are. Where they are a certificate's, which has a serial number from 1 on and elements in
-/// the grammar of their fields, [`parse`](crate::parse) reads them again from what is written.
-#[tactic(auto, unfolding(crate::specs::Spelling::certificate))]
+/// The parts are put together as they are. Where they are those of a certificate, which has a serial number from 1 on and
+/// elements in the grammar of their fields, [`parse`](crate::parse) reads them again from what is written.
 pub fn write(alloc: Global, parts: &CertParts) -> Result<Bytes, Memory>
     requires not_before { IsMoment parts.now.validity.not_before }
     requires not_after { IsMoment parts.now.validity.not_after }
     requires short { size_of parts.now ≤ 16000000 }
     ensures exact { IfOk result (λ bytes. bytes ≡ certificate (given parts.now)) }
+    ensures read { IsCertificate (given parts.now) → IfOk result (λ bytes. parts_of bytes ≡ Ok (given parts.now)) }
+{
+    certificate_element(alloc, parts)
+}
+
+/// The whole certificate.
+#[tactic(auto, unfolding(crate::specs::Spelling::certificate))]
+fn certificate_element(alloc: Global, parts: &CertParts) -> Result<Bytes, Memory>
+    requires not_before { IsMoment parts.now.validity.not_before }
+    requires not_after { IsMoment parts.now.validity.not_after }
+    requires short { size_of parts.now ≤ 16000000 }
+    ensures { IfOk result (λ bytes. bytes ≡ certificate (given parts.now)) }
 {
     let fields = certificate_contents(alloc, parts)?;
     let mut out = Bytes::new(alloc);

@@ -1,8 +1,6 @@
-use Rattle.std.proofs.Common.{ap, length, arith}
-use Rattle.cert_fields.proofs.Sizes.{given-short}
+use Rattle.cert_fields.specs.Given.{given}
+use Rattle.cert_fields.proofs.CertificateForm.{written_again}
 use Rattle.cert_fields.proofs.writing.write.Goals as goal
 
-pub put-requires-clause-short : goal.put-requires-clause-short
-put-requires-clause-short c =
-    let short = given-short c.args.parts.now c.in_ok-fields.ensures.serial c.requires.short in
-    omega (arith, ap length c.as_slice.ensures, ap length c.in_ok-fields.ensures.exact, short.whole)
+pub returns-clause-read : goal.returns-clause-read
+returns-clause-read c = written_again (given c.args.parts.now) c.certificate_element.result c.certificate_element.ensures
