@@ -1,0 +1,233 @@
+-- Loops over names and extensions: what is left decides as the whole does.
+use Rattle.std.proofs.Common.{◌≡◌, ◌≢◌, ℕ, zero, suc, ◌+◌, ◌-◌, ◌<◌, ◌≤◌, Bool, true, false, ◌||◌, List, [], ◌∷◌, ◌++◌, length, Result, Ok, Err, refl, sym, ap, ◌∙◌, append_assoc, ne_eqb, arith}
+use Rattle.std.proofs.lemmas.List.{append-nil}
+use Rattle.std.specs.Prelude.{if◌then◌else◌, ◌==◌, not}
+use Rattle.std.specs.Str.{bytes_eq}
+use Rattle.byte_forms.specs.Places.{At}
+use Rattle.byte_forms.specs.Readings.{discarded, both_at, mapped_at, tested_at}
+use Rattle.byte_forms.proofs.Loops.{WalksEach, each_from, each_more, each_fails, each_end}
+use Rattle.byte_forms.proofs.Steps.{guard_ok, pass_ok, ok_is}
+use Rattle.der_core.specs.Items.{Item, inside}
+use Rattle.der_core.specs.Reading.{element_at}
+use Rattle.der_core.specs.Contents.{are_arcs, oid_of}
+use Rattle.der_core.specs.Fields.{decoded_at, contents_at}
+use Rattle.der_core.specs.declared.fault.DerError.{DerError}
+use Rattle.der_core.specs.declared.fault.DerError.TheVariants.{BadOid}
+use Rattle.der_core.specs.declared.fault.CertError.{CertError}
+use Rattle.der_core.specs.declared.fault.CertError.TheVariants.{BadExtension, RepeatedExtension}
+use Rattle.cert_fields.specs.AltNames.{dns_name, name_then, names_from, names_left}
+use Rattle.cert_fields.specs.Extensions.{ExtensionFields, is_among, new_identifier_at, critical_at, to_extension, has_its_form, identifier_of, extension_at, extension_list_at, head_at, identifiers, value_then, extensions_from, extensions_left}
+use Rattle.cert_fields.proofs.Forward.{element_forward}
+use Rattle.cert_fields.proofs.Steps.{inside_ok, first_ok, mapped_ok, tested_ok, decoded_ok}
+
+-- ---- dNSNames
+
+names_one : (n : ℕ) (a : At) → length a.rest ≤ n → names_from (suc n) a ≡ names_from n a
+unfolding names_from
+names_one zero a le = go (element_at a) refl
+  where
+    go : (r : Result (Item × At) DerError) → element_at a ≡ r → name_then r (λ (b : At). names_from zero b) ≡ []
+    go (Ok x) e = let less : length x.1.rest < length a.rest = element_forward a x e in absurd (omega arith)
+    go (Err fault) e = refl
+names_one (suc n) a le = go (element_at a) refl (λ b le'. names_one n b le')
+  where
+    go : (r : Result (Item × At) DerError) → element_at a ≡ r → ((b : At) → length b.rest ≤ n → names_from (suc n) b ≡ names_from n b)
+        → name_then r (λ (b : At). names_from (suc n) b) ≡ name_then r (λ (b : At). names_from n b)
+    go (Ok x) e next =
+        let less : length x.1.rest < length a.rest = element_forward a x e in
+        let same = next x.1 (omega arith) in
+        ap (λ (ns : List (List ℕ)). if x.0.tag == dns_name then x.0.contents ∷ ns else ns) same
+    go (Err fault) e next = refl
+
+names_plus : (k : ℕ) (a : At) → names_from (length a.rest + k) a ≡ names_left a
+names_plus zero a = ap (λ (n : ℕ). names_from n a) (omega arith)
+names_plus (suc k) a =
+    let e : length a.rest + suc k ≡ suc (length a.rest + k) = omega arith in
+    ap (λ (n : ℕ). names_from n a) e ∙ names_one (length a.rest + k) a (omega arith) ∙ names_plus k a
+
+-- A larger number than that of the bytes that are left makes no difference.
+names_enough : (n : ℕ) (a : At) → length a.rest ≤ n → names_from n a ≡ names_left a
+names_enough n a le =
+    let e : n ≡ length a.rest + (n - length a.rest) = omega arith in
+    ap (λ (m : ℕ). names_from m a) e ∙ names_plus (n - length a.rest) a
+
+pub names_step : (a : At) (e : Item) (b : At) → element_at a ≡ Ok (e, b)
+    → names_left a ≡ (if e.tag == dns_name then e.contents ∷ names_left b else names_left b)
+unfolding names_from
+names_step a e b step =
+    let less : length b.rest < length a.rest = element_forward a (e, b) step in
+    let more : names_left a ≡ names_from (suc (length a.rest)) a = sym (names_one (length a.rest) a (omega arith)) in
+    let read : names_from (suc (length a.rest)) a ≡ name_then (Ok (e, b)) (λ (c : At). names_from (length a.rest) c) =
+    ap (λ (r : Result (Item × At) DerError). name_then r (λ (c : At). names_from (length a.rest) c)) step in
+    more ∙ read ∙ ap (λ (ns : List (List ℕ)). if e.tag == dns_name then e.contents ∷ ns else ns) (names_enough (length a.rest) b (omega arith))
+
+-- An element with another tag.
+pub names_more : (total : List (List ℕ)) (a : At) (e : Item) (b : At) → element_at a ≡ Ok (e, b) → e.tag ≢ dns_name → total ≡ names_left a → total ≡ names_left b
+names_more total a e b step other so_far = so_far ∙ names_step a e b step ∙ rw (ne_eqb e.tag 130 other) refl
+
+-- A dNSName.
+pub names_found : (total : List (List ℕ)) (a : At) (e : Item) (b : At) → element_at a ≡ Ok (e, b) → e.tag ≡ dns_name → total ≡ names_left a → total ≡ e.contents ∷ names_left b
+names_found total a e b step same so_far = so_far ∙ names_step a e b step ∙ rw same refl
+
+-- No element is left that reads.
+pub names_end : (a : At) (fault : DerError) → element_at a ≡ Err fault → names_left a ≡ []
+unfolding names_from
+names_end a fault step =
+    let more : names_left a ≡ names_from (suc (length a.rest)) a = sym (names_one (length a.rest) a (omega arith)) in
+    more ∙ ap (λ (r : Result (Item × At) DerError). name_then r (λ (c : At). names_from (length a.rest) c)) step
+
+-- ---- identifiers before an extension
+
+-- The first n extensions here have the identifier as the whole list has.
+abbrev pub StillAmong : Bool → List ℕ → ℕ → At → Type 0
+StillAmong total identifier n a = is_among identifier (identifiers n a) ≡ total
+
+-- An extension with another identifier.
+pub among_more : (total : Bool) (identifier : List ℕ) (n : ℕ) (a : At) (other : List ℕ) (b : At) → 0 < n → head_at a ≡ Ok (other, b)
+    → false ≡ bytes_eq other identifier → StillAmong total identifier n a → StillAmong total identifier (n - 1) b
+unfolding identifiers
+among_more total identifier zero a other b pos step differs so_far = absurd (omega arith)
+among_more total identifier (suc n) a other b pos step differs so_far =
+    let one : suc n - 1 ≡ n = omega arith in
+    let read : is_among identifier (identifiers (suc n) a) ≡ (bytes_eq other identifier || is_among identifier (identifiers n b)) =
+    ap (λ (r : Result (List ℕ × At) DerError). is_among identifier (value_then r (λ (c : At). identifiers n c))) step in
+    rw one (sym (read ∙ ap (λ (t : Bool). t || is_among identifier (identifiers n b)) (sym differs)) ∙ so_far)
+
+-- An extension with this identifier.
+pub among_found : (total : Bool) (identifier : List ℕ) (n : ℕ) (a : At) (other : List ℕ) (b : At) → 0 < n → head_at a ≡ Ok (other, b)
+    → true ≡ bytes_eq other identifier → StillAmong total identifier n a → true ≡ total
+unfolding identifiers
+among_found total identifier zero a other b pos step same so_far = absurd (omega arith)
+among_found total identifier (suc n) a other b pos step same so_far =
+    let read : is_among identifier (identifiers (suc n) a) ≡ (bytes_eq other identifier || is_among identifier (identifiers n b)) =
+    ap (λ (r : Result (List ℕ × At) DerError). is_among identifier (value_then r (λ (c : At). identifiers n c))) step in
+    sym (read ∙ ap (λ (t : Bool). t || is_among identifier (identifiers n b)) (sym same)) ∙ so_far
+
+-- No extension is left that reads.
+pub among_fails : (total : Bool) (identifier : List ℕ) (n : ℕ) (a : At) (fault : DerError) → head_at a ≡ Err fault
+    → StillAmong total identifier n a → false ≡ total
+unfolding identifiers
+among_fails total identifier zero a fault step so_far = so_far
+among_fails total identifier (suc n) a fault step so_far =
+    let read : is_among identifier (identifiers (suc n) a) ≡ false =
+    ap (λ (r : Result (List ℕ × At) DerError). is_among identifier (value_then r (λ (c : At). identifiers n c))) step in
+    sym read ∙ so_far
+
+-- No extension is to be looked at.
+pub among_end : (total : Bool) (identifier : List ℕ) (n : ℕ) (a : At) → n ≤ 0 → StillAmong total identifier n a → false ≡ total
+unfolding identifiers
+among_end total identifier zero a le so_far = so_far
+among_end total identifier (suc n) a le so_far = absurd (omega arith)
+
+-- ---- the list of extensions
+
+oid_same : (place : ℕ) (contents x : List ℕ) → oid_of place contents ≡ Ok x → contents ≡ x
+unfolding oid_of
+oid_same place contents x e =
+    let g = guard_ok (length contents == 0) (BadOid place) (if are_arcs true contents then Ok contents else Err (BadOid place)) x e in
+    let p = pass_ok (are_arcs true contents) (Ok contents) (BadOid place) x g.1 in
+    ok_is DerError contents x p.1
+
+-- An extension that reads begins with its identifier.
+head_of : (seen : List (List ℕ)) (a : At) (x : ExtensionFields) (b : At) → extension_at seen a ≡ Ok (x, b) → head_at a ≡ Ok (x.identifier, b)
+unfolding extension_at new_identifier_at head_at
+head_of seen a x b h =
+    let fields : At → Result ((List ℕ × (Bool × List ℕ)) × At) CertError = both_at (new_identifier_at seen) (both_at critical_at (contents_at 4)) in
+    let s = inside_ok 48 (tested_at has_its_form BadExtension (mapped_at to_extension fields)) a x b h in
+    let t = tested_ok has_its_form BadExtension (mapped_at to_extension fields) (inside s.0) x s.2.0 s.2.1 in
+    let m = mapped_ok to_extension fields (inside s.0) x s.2.0 t.0 in
+    let f = first_ok (new_identifier_at seen) (both_at critical_at (contents_at 4)) (inside s.0) m.0 s.2.0 m.1 in
+    let i = tested_ok (λ (identifier : List ℕ). not (is_among identifier seen)) RepeatedExtension (decoded_at 6 oid_of) (inside s.0) m.0.0 f.0 f.1 in
+    let d = decoded_ok 6 oid_of (inside s.0) m.0.0 f.0 i.0 in
+    let same : d.0.contents ≡ x.identifier = oid_same d.0.place d.0.contents m.0.0 d.2 ∙ ap identifier_of m.2 in
+    rw (s.1, d.1) (ap (λ (t : List ℕ). Ok (t, b)) same)
+
+-- Behind so many extensions of a list: those that are left read on as the whole list does, and the first ones are known.
+pub record Passes (total : Result At CertError) (list : At) (count : ℕ) (a : At) : Type 0 where
+  pub seen : List (List ℕ)
+  pub walks : WalksEach identifier_of extension_at total seen a
+  pub passed : (n : ℕ) → identifiers (count + n) list ≡ seen ++ identifiers n a
+  pub room : count + length a.rest ≤ length list.rest
+
+pub passes_from : (a list : At) → list ≡ a → Passes (discarded (extension_list_at a)) list 0 a
+unfolding extension_list_at
+passes_from a list same = record {
+  seen = [];
+  walks = each_from identifier_of extension_at [] a;
+  passed = λ n. ap (λ (l : At). identifiers (0 + n) l) same ∙ ap (λ (m : ℕ). identifiers m a) (omega arith);
+  room = rw same (omega arith);
+}
+
+-- The identifiers before this extension.
+before : (total : Result At CertError) (list : At) (count : ℕ) (a : At) (p : Passes total list count a) → identifiers count list ≡ p.seen
+unfolding identifiers
+before total list count a p =
+    let e : count ≡ count + 0 = omega arith in
+    ap (λ (n : ℕ). identifiers n list) e ∙ p.passed 0 ∙ append-nil p.seen
+
+pub passes_more : (total : Result At CertError) (list : At) (count : ℕ) (a : At) (x : ExtensionFields) (b : At)
+    → extension_at (identifiers count list) a ≡ Ok (x, b) → length b.rest < length a.rest → Passes total list count a → Passes total list (count + 1) b
+unfolding identifiers
+passes_more total list count a x b step less p = record {
+  seen = p.seen ++ x.identifier ∷ [];
+  walks = each_more identifier_of extension_at total p.seen a x b (ap (λ (seen : List (List ℕ)). extension_at seen a) (sym (before total list count a p)) ∙ step) less p.walks;
+  passed = λ n.
+      let e : count + 1 + n ≡ count + suc n = omega arith in
+      let read : identifiers (suc n) a ≡ x.identifier ∷ identifiers n b =
+      ap (λ (r : Result (List ℕ × At) DerError). value_then r (λ (c : At). identifiers n c)) (head_of (identifiers count list) a x b step) in
+      ap (λ (m : ℕ). identifiers m list) e ∙ p.passed (suc n) ∙ ap (λ (ids : List (List ℕ)). p.seen ++ ids) read
+      ∙ sym (append_assoc p.seen (x.identifier ∷ []) (identifiers n b));
+  room = omega (arith, p.room);
+}
+
+pub passes_fails : (total : Result At CertError) (list : At) (count : ℕ) (a : At) (e : CertError)
+    → extension_at (identifiers count list) a ≡ Err e → (length a.rest == 0) ≡ false → Passes total list count a → total ≡ Err e
+passes_fails total list count a e step other p =
+    each_fails identifier_of extension_at total p.seen a e (ap (λ (seen : List (List ℕ)). extension_at seen a) (sym (before total list count a p)) ∙ step) other p.walks
+
+pub passes_end : (total : Result At CertError) (list : At) (count : ℕ) (a : At)
+    → (length a.rest == 0) ≡ true → Passes total list count a → total ≡ Ok a
+passes_end total list count a none p = each_end identifier_of extension_at total p.seen a none p.walks
+
+-- ---- looking for an extension
+
+-- What is left gives f as the whole does.
+pub record Seeks {A : Type 0} (f : List ExtensionFields → A) (total : A) (a : At) : Type 0 where
+  pub fuel : ℕ
+  pub enough : length a.rest ≤ fuel
+  pub rest : f (extensions_from fuel a) ≡ total
+
+pub seeks_from : {A : Type 0} (f : List ExtensionFields → A) (a : At) → Seeks f (f (extensions_left a)) a
+seeks_from f a = record { fuel = length a.rest; enough = omega arith; rest = refl }
+
+seeks_step : {A : Type 0} (f : List ExtensionFields → A) (n : ℕ) (a : At) (r : Result (ExtensionFields × At) CertError) → extension_at [] a ≡ r
+    → f (extensions_from (suc n) a) ≡ f (value_then r (λ (b : At). extensions_from n b))
+unfolding extensions_from
+seeks_step f n a r step = ap (λ (s : Result (ExtensionFields × At) CertError). f (value_then s (λ (b : At). extensions_from n b))) step
+
+-- An extension that doesn't decide.
+pub seeks_more : {A : Type 0} (f : List ExtensionFields → A) (total : A) (a : At) (x : ExtensionFields) (b : At) → extension_at [] a ≡ Ok (x, b)
+    → length b.rest < length a.rest → ((xs : List ExtensionFields) → f (x ∷ xs) ≡ f xs) → Seeks f total a → Seeks f total b
+seeks_more {A} f total a x b step less passes s = go s.fuel s.enough s.rest
+  where
+    go : (n : ℕ) → length a.rest ≤ n → f (extensions_from n a) ≡ total → Seeks f total b
+    go zero le e = absurd (omega arith)
+    go (suc n) le e = record { fuel = n; enough = omega arith; rest = sym (seeks_step f n a (Ok (x, b)) step ∙ passes (extensions_from n b)) ∙ e }
+
+-- An extension that decides.
+pub seeks_found : {A : Type 0} (f : List ExtensionFields → A) (total : A) (a : At) (x : ExtensionFields) (b : At) (y : A) → extension_at [] a ≡ Ok (x, b)
+    → length b.rest < length a.rest → ((xs : List ExtensionFields) → f (x ∷ xs) ≡ y) → Seeks f total a → y ≡ total
+seeks_found {A} f total a x b y step less found s = go s.fuel s.enough s.rest
+  where
+    go : (n : ℕ) → length a.rest ≤ n → f (extensions_from n a) ≡ total → y ≡ total
+    go zero le e = absurd (omega arith)
+    go (suc n) le e = sym (seeks_step f n a (Ok (x, b)) step ∙ found (extensions_from n b)) ∙ e
+
+-- No extension is left that reads.
+pub seeks_end : {A : Type 0} (f : List ExtensionFields → A) (total : A) (a : At) (fault : CertError) → extension_at [] a ≡ Err fault → Seeks f total a → f [] ≡ total
+unfolding extensions_from
+seeks_end {A} f total a fault step s = go s.fuel s.rest
+  where
+    go : (n : ℕ) → f (extensions_from n a) ≡ total → f [] ≡ total
+    go zero e = e
+    go (suc n) e = sym (seeks_step f n a (Err fault) step) ∙ e

@@ -1,0 +1,13 @@
+use Rattle.std.proofs.Common.{length}
+use Rattle.byte_forms.specs.Readings.{discarded}
+use Rattle.byte_forms.specs.Lists.{up_to_end}
+use Rattle.byte_forms.proofs.Loops.{Walks}
+use Rattle.cert_fields.specs.AltNames.{general_name_at}
+use Rattle.cert_fields.proofs.alt_names.general_name_list.Given as goal
+
+-- Reading on from here ends as reading all of them does.
+abbrev pub invariant-loop-reader : goal.invariant-loop-reader
+invariant-loop-reader l = Walks general_name_at (discarded (up_to_end general_name_at l.fn.reader)) l.reader
+
+abbrev pub decreases-loop-reader : goal.decreases-loop-reader
+decreases-loop-reader l = length l.reader.rest

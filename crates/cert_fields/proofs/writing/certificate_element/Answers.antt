@@ -1,0 +1,8 @@
+use Rattle.std.proofs.Common.{ap, length, arith}
+use Rattle.cert_fields.proofs.Sizes.{given-short}
+use Rattle.cert_fields.proofs.writing.certificate_element.Goals as goal
+
+pub put-requires-clause-short : goal.put-requires-clause-short
+put-requires-clause-short c =
+    let short = given-short c.args.parts.now c.in_ok-fields.ensures.serial c.requires.short in
+    omega (arith, ap length c.as_slice.ensures, ap length c.in_ok-fields.ensures.exact, short.whole)

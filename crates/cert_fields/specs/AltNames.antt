@@ -1,0 +1,68 @@
+-- The names in a subjectAltName (RFC 5280, section 4.2.1.6).
+use Rattle.std.specs.Prelude.{ℕ, zero, suc, nat_lt, ◌==◌, ◌&&◌, ◌||◌, Bool, true, false, List, [], ◌∷◌, length, Result, Ok, Err, if◌then◌else◌}
+use Rattle.std.specs.List.{list_all}
+use Rattle.byte_forms.specs.Places.{At, at}
+use Rattle.byte_forms.specs.Readings.{◌>>=◌, some_at}
+use Rattle.byte_forms.specs.Lists.{up_to_end}
+use Rattle.der_core.specs.Items.{Item, inside}
+use Rattle.der_core.specs.Reading.{element_at, wanted_at}
+use Rattle.der_core.specs.Fields.{der, whole_at, all_of}
+use Rattle.der_core.specs.declared.fault.DerError.{DerError}
+use Rattle.der_core.specs.declared.fault.CertError.{CertError}
+use Rattle.der_core.specs.declared.fault.CertError.TheVariants.{BadExtension}
+
+-- The tag of a dNSName.
+abbrev pub dns_name : ℕ
+dns_name = 130
+
+-- A GeneralName that the contents allow: rfc822Name, dNSName, uniformResourceIdentifier, iPAddress, registeredID, otherName,
+-- x400Address, directoryName or ediPartyName.
+abbrev pub is_name_tag : ℕ → Bool
+is_name_tag tag =
+    tag == 129 || tag == 130 || tag == 134 || tag == 135 || tag == 136 || tag == 160 || tag == 163 || tag == 164 || tag == 165
+
+-- The bytes are ASCII.
+abbrev pub is_ascii : List ℕ → Bool
+is_ascii bytes = list_all (λ b. nat_lt b 128) bytes
+
+-- One of these tags; a dNSName is ASCII.
+abbrev pub is_general_name : ℕ → List ℕ → Bool
+is_general_name tag contents = is_name_tag tag && (if tag == dns_name then is_ascii contents else true)
+
+-- GeneralName.
+unfoldable pub general_name_at : At → Result (List ℕ × At) CertError
+general_name_at a = der (element_at a) >>= λ e. if is_general_name e.0.tag e.0.contents then Ok (e.0.whole, e.1) else Err BadExtension
+
+-- GeneralNames: a SEQUENCE of names, at least one.
+unfoldable pub general_names_at : At → Result (List ℕ × At) CertError
+general_names_at = whole_at 48 (some_at BadExtension (up_to_end general_name_at))
+
+abbrev pub is_read : {X E : Type 0} → Result X E → Bool
+is_read (Ok x) = true
+is_read (Err e) = false
+
+-- The octets are GeneralNames and nothing else.
+unfoldable pub are_general_names : List ℕ → Bool
+are_general_names octets = is_read (all_of general_names_at octets)
+
+-- An element, and the names behind it: the contents of a dNSName.
+abbrev pub name_then : Result (Item × At) DerError → (At → List (List ℕ)) → List (List ℕ)
+name_then (Ok e) behind = if e.0.tag == dns_name then e.0.contents ∷ behind e.1 else behind e.1
+name_then (Err fault) behind = []
+
+-- The dNSNames among elements one behind the other, up to the first that doesn't read. The number is at least that of the
+-- bytes that are left.
+unfoldable pub names_from : ℕ → At → List (List ℕ)
+names_from zero a = []
+names_from (suc n) a = name_then (element_at a) (λ b. names_from n b)
+
+abbrev pub names_left : At → List (List ℕ)
+names_left a = names_from (length a.rest) a
+
+abbrev pub names_inside : Result (Item × At) DerError → List (List ℕ)
+names_inside (Ok e) = names_left (inside e.0)
+names_inside (Err fault) = []
+
+-- The dNSNames in the octets of a subjectAltName; in octets that don't begin with a SEQUENCE, none.
+abbrev pub names_in : List ℕ → List (List ℕ)
+names_in octets = names_inside (wanted_at 48 (at octets 0))

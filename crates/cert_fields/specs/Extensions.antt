@@ -1,0 +1,118 @@
+-- Extensions (RFC 5280, sections 4.1 and 4.2).
+use Rattle.std.specs.Prelude.{ℕ, zero, suc, ◌&&◌, Bool, true, not, List, [], ◌∷◌, length, is_some, Result, Ok, Err, if◌then◌else◌}
+use Rattle.std.specs.List.{list_any}
+use Rattle.std.specs.Str.{bytes_eq}
+use Rattle.byte_forms.specs.Places.{At, at}
+use Rattle.byte_forms.specs.Readings.{◌>>=◌, both_at, mapped_at, tested_at, optional_at, or_nothing_at, some_at}
+use Rattle.byte_forms.specs.Lists.{each_at}
+use Rattle.der_core.specs.Items.{inside}
+use Rattle.der_core.specs.Reading.{wanted_at}
+use Rattle.der_core.specs.Contents.{boolean_of, oid_of}
+use Rattle.der_core.specs.Fields.{inside_at, whole_at, decoded_at, contents_at}
+use Rattle.der_core.specs.declared.fault.DerError.{DerError}
+use Rattle.der_core.specs.declared.fault.CertError.{CertError}
+use Rattle.der_core.specs.declared.fault.CertError.TheVariants.{BadExtension, RepeatedExtension}
+use Rattle.cert_fields.specs.Identifiers.{subject_alt_name, is_known_extension}
+use Rattle.cert_fields.specs.AltNames.{are_general_names, names_in}
+
+-- An extension: its identifier, whether it is critical, and its octets.
+pub record ExtensionFields : Type 0 where
+  pub identifier : List ℕ
+  pub critical : Bool
+  pub octets : List ℕ
+
+-- Whether these are the same bytes.
+abbrev pub is_among : List ℕ → List (List ℕ) → Bool
+is_among bytes seen = list_any (λ other. bytes_eq other bytes) seen
+
+-- The identifier, which isn't among those before it.
+unfoldable pub new_identifier_at : List (List ℕ) → At → Result (List ℕ × At) CertError
+new_identifier_at seen = tested_at (λ identifier. not (is_among identifier seen)) RepeatedExtension (decoded_at 6 oid_of)
+
+-- The mark of a critical extension: TRUE. FALSE is the default, and a default isn't written (X.690, section 11.5).
+unfoldable pub critical_at : At → Result (Bool × At) CertError
+critical_at = mapped_at is_some (optional_at 1 (tested_at (λ b. b) BadExtension (decoded_at 1 boolean_of)))
+
+abbrev pub to_extension : List ℕ × (Bool × List ℕ) → ExtensionFields
+to_extension x = record { identifier = x.0; critical = x.1.0; octets = x.1.1 }
+
+abbrev pub is_alt_name : ExtensionFields → Bool
+is_alt_name x = bytes_eq x.identifier subject_alt_name
+
+-- The octets of a subjectAltName are general names.
+abbrev pub has_its_form : ExtensionFields → Bool
+has_its_form x = if is_alt_name x then are_general_names x.octets else true
+
+-- Extension, behind extensions with these identifiers: an identifier, a mark, an OCTET STRING.
+unfoldable pub extension_at : List (List ℕ) → At → Result (ExtensionFields × At) CertError
+extension_at seen =
+    inside_at 48 (tested_at has_its_form BadExtension
+    (mapped_at to_extension (both_at (new_identifier_at seen) (both_at critical_at (contents_at 4)))))
+
+abbrev pub identifier_of : ExtensionFields → List ℕ
+identifier_of x = x.identifier
+
+-- Extensions up to the end.
+unfoldable pub extension_list_at : At → Result (List ExtensionFields × At) CertError
+extension_list_at a = each_at identifier_of extension_at (length a.rest) [] a
+
+-- Extensions: a SEQUENCE of extensions, at least one.
+unfoldable pub extension_sequence_at : At → Result (List ℕ × At) CertError
+extension_sequence_at = whole_at 48 (some_at BadExtension extension_list_at)
+
+-- The field: extensions behind its tag, or nothing.
+unfoldable pub extensions_at : At → Result (List ℕ × At) CertError
+extensions_at = or_nothing_at 163 (whole_at 163 extension_sequence_at)
+
+-- ---- what is found in the bytes of the field, whether or not they are in the grammar
+
+-- The identifier of the extension that stands here.
+unfoldable pub head_at : At → Result (List ℕ × At) DerError
+head_at a = wanted_at 48 a >>= λ e. wanted_at 6 (inside e.0) >>= λ identifier. Ok (identifier.0.contents, e.1)
+
+-- A value, and those behind it.
+abbrev pub value_then : {X E : Type 0} → Result (X × At) E → (At → List X) → List X
+value_then (Ok x) behind = x.0 ∷ behind x.1
+value_then (Err fault) behind = []
+
+-- The identifiers of the first n extensions.
+unfoldable pub identifiers : ℕ → At → List (List ℕ)
+identifiers zero a = []
+identifiers (suc n) a = value_then (head_at a) (λ b. identifiers n b)
+
+-- The first n extensions, up to the first that doesn't read.
+unfoldable pub extensions_from : ℕ → At → List ExtensionFields
+extensions_from zero a = []
+extensions_from (suc n) a = value_then (extension_at [] a) (λ b. extensions_from n b)
+
+abbrev pub extensions_left : At → List ExtensionFields
+extensions_left a = extensions_from (length a.rest) a
+
+-- The place of the first extension in the bytes of the field.
+unfoldable pub list_in : List ℕ → Result At DerError
+list_in bytes = wanted_at 163 (at bytes 0) >>= λ field. wanted_at 48 (inside field.0) >>= λ list. Ok (inside list.0)
+
+abbrev pub extensions_behind : Result At DerError → List ExtensionFields
+extensions_behind (Ok a) = extensions_left a
+extensions_behind (Err fault) = []
+
+-- The extensions in the bytes of the field: those that read, from the left.
+abbrev pub extensions_in : List ℕ → List ExtensionFields
+extensions_in bytes = extensions_behind (list_in bytes)
+
+-- A critical extension that isn't known.
+abbrev pub is_unknown_critical : ExtensionFields → Bool
+is_unknown_critical x = x.critical && not (is_known_extension x.identifier)
+
+-- One of the extensions in the bytes of the field is critical and isn't known.
+abbrev pub has_unknown_critical : List ℕ → Bool
+has_unknown_critical bytes = list_any is_unknown_critical (extensions_in bytes)
+
+-- The octets of the first subjectAltName, or no octets.
+abbrev pub alt_name_octets : List ExtensionFields → List ℕ
+alt_name_octets [] = []
+alt_name_octets (x ∷ xs) = if is_alt_name x then x.octets else alt_name_octets xs
+
+-- The dNSNames in the bytes of the field.
+abbrev pub dns_names_in : List ℕ → List (List ℕ)
+dns_names_in bytes = names_in (alt_name_octets (extensions_in bytes))

@@ -1,0 +1,26 @@
+-- What is written: the parts that are handed in, with the algorithm of Merkle tree proofs.
+use Rattle.std.specs.Prelude.{ℕ, ◌+◌, List, [], ◌∷◌, length}
+use Rattle.cert_time.specs.Times.{validity_element}
+use Rattle.cert_fields.specs.Certificate.{Parts}
+use Rattle.cert_fields.specs.declared.parts.CertParts.{CertParts}
+
+-- The AlgorithmIdentifier of Merkle tree proofs: the object identifier 1.3.6.1.4.1.44363.47.0, without parameters.
+abbrev pub mtc_proof : List ℕ
+mtc_proof = 48 ∷ 12 ∷ 6 ∷ 10 ∷ 43 ∷ 6 ∷ 1 ∷ 4 ∷ 1 ∷ 130 ∷ 218 ∷ 75 ∷ 47 ∷ 0 ∷ []
+
+abbrev pub given : CertParts → Parts
+given p = record {
+  serial = p.serial;
+  algorithm = mtc_proof;
+  issuer = p.issuer;
+  validity = p.validity;
+  validity_der = validity_element p.validity.not_before p.validity.not_after;
+  subject = p.subject;
+  spki = p.spki;
+  extensions = p.extensions;
+  proof = p.proof;
+}
+
+-- The bytes of all parts together.
+abbrev pub size_of : CertParts → ℕ
+size_of p = length p.issuer + length p.subject + length p.spki + length p.extensions + length p.proof

@@ -1,0 +1,13 @@
+pub mod Identifiers
+pub mod Keys
+pub mod Names
+pub mod Times
+pub mod AltNames
+pub mod Extensions
+pub mod Certificate
+pub mod Places
+pub mod Views
+pub mod Spelling
+pub mod Given
+pub mod Grammar
+pub mod Found

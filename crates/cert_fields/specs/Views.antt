@@ -1,0 +1,25 @@
+-- Parts of the code's values as contracts see them: slices as their bytes.
+use Rattle.cert_fields.specs.Certificate.{Parts, Body}
+use Rattle.cert_fields.specs.Extensions.{ExtensionFields}
+use Rattle.cert_fields.specs.declared.cert.Cert.{Cert}
+use Rattle.cert_fields.specs.declared.certificate.Fields.{Fields}
+use Rattle.cert_fields.specs.declared.extensions.Extension.{Extension}
+
+abbrev pub parts : Cert → Parts
+parts c = record {
+  serial = c.serial;
+  algorithm = c.algorithm.now;
+  issuer = c.issuer.now;
+  validity = c.validity;
+  validity_der = c.validity_der.now;
+  subject = c.subject.now;
+  spki = c.spki.now;
+  extensions = c.extensions.now;
+  proof = c.proof.now;
+}
+
+abbrev pub body : Fields → Body
+body f = (f.algorithm.now, (f.issuer.now, ((f.validity_der.now, f.validity), (f.subject.now, (f.spki.now, f.extensions.now)))))
+
+abbrev pub extension_fields : Extension → ExtensionFields
+extension_fields x = record { identifier = x.identifier.now; critical = x.critical; octets = x.octets.now }

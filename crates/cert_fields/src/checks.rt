@@ -1,0 +1,72 @@
+//! One field in a longer input. The places of refusals count in the whole input.
+
+ghost use Rattle.std.specs.Prelude.{◌≤◌, length};
+ghost use Rattle.byte_forms.specs.Places.{at};
+ghost use Rattle.byte_forms.specs.Readings.{Gives};
+ghost use Rattle.cert_fields.specs.Keys.{algorithm_at, spki_at};
+ghost use Rattle.cert_fields.specs.Names.{name_at};
+ghost use Rattle.cert_fields.specs.Times.{validity_at};
+ghost use Rattle.cert_fields.specs.Extensions.{extensions_at};
+ghost use Rattle.cert_fields.specs.Places.{place_behind, moments_behind};
+
+use crate::extensions::extensions;
+use crate::keys::{algorithm, spki};
+use crate::names::name;
+use crate::times::validity;
+use cert_time::Validity;
+use der_core::{CertError, Reader};
+
+/// Reads a Name (RFC 5280, section 4.1.2.4) at this offset and answers the offset behind it. Beside the faults of its
+/// elements, a set that is empty is `BadName`.
+pub fn check_name(input: &[u8], place: usize) -> Result<usize, CertError>
+    requires { place ≤ length input.now }
+    ensures { Gives (λ p. p) result (place_behind (name_at (at input.now place))) }
+{
+    let mut reader = Reader::at(input, place);
+    name(&mut reader)?;
+    Ok(reader.place())
+}
+
+/// Reads a Validity (RFC 5280, section 4.1.2.5) at this offset and answers its moments and the offset behind it. Beside the
+/// faults of its elements, a time out of its form is `BadTime`.
+pub fn check_validity(input: &[u8], place: usize) -> Result<(Validity, usize), CertError>
+    requires { place ≤ length input.now }
+    ensures { Gives (λ v. v) result (moments_behind (validity_at (at input.now place))) }
+{
+    let mut reader = Reader::at(input, place);
+    let (_, moments) = validity(&mut reader)?;
+    Ok((moments, reader.place()))
+}
+
+/// Reads a SubjectPublicKeyInfo (RFC 5280, section 4.1.2.7) at this offset and answers the offset behind it.
+pub fn check_spki(input: &[u8], place: usize) -> Result<usize, CertError>
+    requires { place ≤ length input.now }
+    ensures { Gives (λ p. p) result (place_behind (spki_at (at input.now place))) }
+{
+    let mut reader = Reader::at(input, place);
+    spki(&mut reader)?;
+    Ok(reader.place())
+}
+
+/// Reads an AlgorithmIdentifier (RFC 5280, section 4.1.1.2) at this offset and answers the offset behind it.
+pub fn check_algorithm(input: &[u8], place: usize) -> Result<usize, CertError>
+    requires { place ≤ length input.now }
+    ensures { Gives (λ p. p) result (place_behind (algorithm_at (at input.now place))) }
+{
+    let mut reader = Reader::at(input, place);
+    algorithm(&mut reader)?;
+    Ok(reader.place())
+}
+
+/// Reads the extensions with their outer tag A3 (RFC 5280, section 4.1.2.9) at this offset and answers the offset behind them.
+/// Where another tag or none stands there they are absent, and the answer is the offset itself. Beside the faults of elements,
+/// a second extension with the same identifier is `RepeatedExtension`, and an empty list, a BOOLEAN of FALSE or a
+/// subjectAltName out of its form is `BadExtension`.
+pub fn check_extensions(input: &[u8], place: usize) -> Result<usize, CertError>
+    requires { place ≤ length input.now }
+    ensures { Gives (λ p. p) result (place_behind (extensions_at (at input.now place))) }
+{
+    let mut reader = Reader::at(input, place);
+    extensions(&mut reader)?;
+    Ok(reader.place())
+}

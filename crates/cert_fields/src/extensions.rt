@@ -1,0 +1,242 @@
+//! Extensions (RFC 5280, sections 4.1.2.9 and 4.2).
+
+ghost use Rattle.std.specs.Prelude.{◌≡◌, ◌^◌, ◌<◌, List, [], length, Ok, Err, OnOk, IfErr};
+ghost use Rattle.std.specs.List.{list_any};
+ghost use Rattle.byte_forms.specs.Readings.{Moves, Gives, discarded};
+ghost use Rattle.cert_fields.specs.Extensions.{is_among, new_identifier_at, critical_at, has_its_form, extension_at, extension_list_at, extension_sequence_at, extensions_at, head_at, identifiers, extensions_left, list_in, is_unknown_critical, has_unknown_critical, alt_name_octets, extensions_in, dns_names_in};
+ghost use Rattle.cert_fields.specs.Views.{extension_fields};
+
+use crate::alt_names::{DnsNames, is_general_names};
+use crate::cert::Cert;
+use crate::identifiers::{is_known, is_subject_alt_name};
+use der_core::{CertError, DerError, Reader, boolean, oid};
+
+const SEQUENCE: u8 = 0x30;
+
+const FIELD: u8 = 0xA3;
+
+/// One extension.
+#[derive(Clone, Copy, Debug)]
+pub struct Extension<'a> {
+    pub identifier: &'a [u8],
+    pub critical: bool,
+    pub octets: &'a [u8],
+}
+
+/// The identifier of the next extension, whose other parts aren't looked into.
+#[tactic(auto, unfolding(crate::specs::Extensions::head_at))]
+fn head<'a>(reader: &mut Reader<'a>) -> Result<&'a [u8], DerError>
+    ensures exact { Moves (λ bytes. bytes.now) head_at reader.old result reader.new }
+    ensures forward { OnOk result (length reader.new.rest < length reader.old.rest) }
+{
+    let outer = reader.wanted(SEQUENCE)?;
+    let mut inner = Reader::inside(&outer);
+    let identifier = inner.wanted(0x06)?;
+    Ok(identifier.contents)
+}
+
+/// One of the first `count` extensions in the list has this identifier.
+fn is_repeated(identifier: &[u8], list: &Reader, count: usize) -> bool
+    ensures { result ≡ is_among identifier.now (identifiers count list.now) }
+{
+    let mut reader = list.fork();
+    let mut left = count;
+    while left > 0 {
+        match head(&mut reader) {
+            Ok(other) => {
+                if other == identifier {
+                    return true;
+                }
+                left -= 1;
+            }
+            Err(_) => return false,
+        }
+    }
+    false
+}
+
+/// An identifier that none of the first `count` extensions in the list has.
+#[tactic(auto, unfolding(crate::specs::Extensions::new_identifier_at))]
+fn new_identifier<'a>(
+    reader: &mut Reader<'a>,
+    list: &Reader,
+    count: usize,
+) -> Result<&'a [u8], CertError>
+    ensures { Moves (λ bytes. bytes.now) (new_identifier_at (identifiers count list.now)) reader.old result reader.new }
+{
+    let element = reader.wanted(0x06)?;
+    let identifier = oid(&element)?;
+    if is_repeated(identifier, list, count) {
+        Err(CertError::RepeatedExtension)
+    } else {
+        Ok(identifier)
+    }
+}
+
+/// Whether the extension is marked as critical. `BadExtension` where it is marked as not critical.
+#[tactic(auto, unfolding(crate::specs::Extensions::critical_at))]
+fn critical(reader: &mut Reader) -> Result<bool, CertError>
+    ensures { Moves (λ b. b) critical_at reader.old result reader.new }
+{
+    if !reader.begins_with(0x01) {
+        return Ok(false);
+    }
+    let element = reader.wanted(0x01)?;
+    if boolean(&element)? {
+        Ok(true)
+    } else {
+        Err(CertError::BadExtension)
+    }
+}
+
+/// The extension has another identifier, or its octets are names.
+fn has_form(extension: &Extension) -> bool
+    ensures { result ≡ has_its_form (extension_fields extension.now) }
+{
+    !is_subject_alt_name(extension.identifier) || is_general_names(extension.octets)
+}
+
+/// An extension behind the first `count` ones of the list.
+#[tactic(auto, unfolding(crate::specs::Extensions::extension_at))]
+fn one_extension<'a>(
+    reader: &mut Reader<'a>,
+    list: &Reader,
+    count: usize,
+) -> Result<Extension<'a>, CertError>
+    ensures exact { Moves extension_fields (extension_at (identifiers count list.now)) reader.old result reader.new }
+    ensures forward { OnOk result (length reader.new.rest < length reader.old.rest) }
+{
+    let outer = reader.wanted(SEQUENCE)?;
+    let mut inner = Reader::inside(&outer);
+    let identifier = new_identifier(&mut inner, list, count)?;
+    let critical = critical(&mut inner)?;
+    let octets = inner.wanted(0x04)?.contents;
+    let extension = Extension {
+        identifier,
+        critical,
+        octets,
+    };
+    if !has_form(&extension) {
+        return Err(CertError::BadExtension);
+    }
+    inner.end()?;
+    Ok(extension)
+}
+
+/// Extensions with different identifiers, up to the end.
+fn extension_list(reader: &mut Reader) -> Result<(), CertError>
+    requires { length reader.old.rest < 2 ^ 64 }
+    ensures ok { OnOk result (discarded (extension_list_at reader.old) ≡ Ok reader.new) }
+    ensures err { IfErr result (λ e. discarded (extension_list_at reader.old) ≡ Err e) }
+{
+    let list = reader.fork();
+    let mut count: usize = 0;
+    while !reader.is_at_end() {
+        one_extension(reader, &list, count)?;
+        count += 1;
+    }
+    Ok(())
+}
+
+/// The list in its SEQUENCE. `BadExtension` where it is empty.
+#[tactic(auto, unfolding(crate::specs::Extensions::extension_sequence_at))]
+fn extension_sequence<'a>(reader: &mut Reader<'a>) -> Result<&'a [u8], CertError>
+    ensures { Moves (λ bytes. bytes.now) extension_sequence_at reader.old result reader.new }
+{
+    let outer = reader.wanted(SEQUENCE)?;
+    let mut inner = Reader::inside(&outer);
+    if inner.is_at_end() {
+        return Err(CertError::BadExtension);
+    }
+    extension_list(&mut inner)?;
+    inner.end()?;
+    Ok(outer.whole)
+}
+
+/// The extensions with their outer tag, or no bytes where another tag stands.
+#[tactic(auto, unfolding(crate::specs::Extensions::extensions_at))]
+pub fn extensions<'a>(reader: &mut Reader<'a>) -> Result<&'a [u8], CertError>
+    ensures { Moves (λ bytes. bytes.now) extensions_at reader.old result reader.new }
+{
+    if !reader.begins_with(FIELD) {
+        return Ok(&[]);
+    }
+    let outer = reader.wanted(FIELD)?;
+    let mut inner = Reader::inside(&outer);
+    extension_sequence(&mut inner)?;
+    inner.end()?;
+    Ok(outer.whole)
+}
+
+/// The next extension, whatever came before it.
+#[tactic(auto, unfolding(crate::specs::Extensions::identifiers))]
+fn next_extension<'a>(reader: &mut Reader<'a>) -> Result<Extension<'a>, CertError>
+    ensures exact { Moves extension_fields (extension_at []) reader.old result reader.new }
+    ensures forward { OnOk result (length reader.new.rest < length reader.old.rest) }
+{
+    let before = reader.fork();
+    one_extension(reader, &before, 0)
+}
+
+/// The first extension in the bytes of the field.
+#[tactic(auto, unfolding(crate::specs::Extensions::list_in))]
+fn list_of(extensions: &[u8]) -> Result<Reader<'_>, DerError>
+    ensures { Gives (λ r. r) result (list_in extensions.now) }
+{
+    let field = Reader::at(extensions, 0).wanted(FIELD)?;
+    let list = Reader::inside(&field).wanted(SEQUENCE)?;
+    Ok(Reader::inside(&list))
+}
+
+/// Whether the bytes of the extensions field hold a critical extension other than subjectAltName, basicConstraints, keyUsage
+/// and extKeyUsage. Bytes that aren't in the field's grammar are looked at up to the first extension that doesn't read.
+pub fn unknown_critical(extensions: &[u8]) -> bool
+    ensures { result ≡ has_unknown_critical extensions.now }
+{
+    match list_of(extensions) {
+        Ok(list) => any_unknown_critical(list),
+        Err(_) => false,
+    }
+}
+
+/// The extension is critical and isn't one of the known ones.
+fn is_unknown_critical(extension: &Extension) -> bool
+    ensures { result ≡ is_unknown_critical (extension_fields extension.now) }
+{
+    extension.critical && !is_known(extension.identifier)
+}
+
+fn any_unknown_critical(list: Reader) -> bool
+    ensures { result ≡ list_any is_unknown_critical (extensions_left list.entry) }
+{
+    let mut reader = list;
+    while let Ok(extension) = next_extension(&mut reader) {
+        if is_unknown_critical(&extension) {
+            return true;
+        }
+    }
+    false
+}
+
+/// The dNSNames of a certificate in their order (RFC 5280, section 4.2.1.6); none where it has no subjectAltName.
+pub fn dns_names<'a>(cert: &Cert<'a>) -> DnsNames<'a>
+    ensures { result ≡ dns_names_in cert.now.extensions.now }
+{
+    match list_of(cert.extensions) {
+        Ok(list) => DnsNames::of(alt_name(list)),
+        Err(_) => DnsNames::of(&[]),
+    }
+}
+
+/// The octets of the first subjectAltName, or no octets.
+fn alt_name(list: Reader<'_>) -> &[u8]
+    ensures { result.now ≡ alt_name_octets (extensions_left list.entry) }
+{
+    let mut reader = list;
+    while let Ok(extension) = next_extension(&mut reader) {
+        if is_subject_alt_name(extension.identifier) {
+            return extension.octets;
+        }
+    }
+    &[]
+}

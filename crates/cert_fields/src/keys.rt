@@ -1,0 +1,56 @@
+//! Algorithms, public keys and the signature (RFC 5280, sections 4.1.1.2, 4.1.1.3 and 4.1.2.7).
+
+ghost use Rattle.byte_forms.specs.Readings.{Moves, Gives};
+ghost use Rattle.cert_fields.specs.Keys.{algorithm_at, spki_at, whole_bits_of, signature_at};
+
+use der_core::{CertError, DerError, Element, Reader, bits, oid};
+
+/// An AlgorithmIdentifier: an object identifier, and at most one element of parameters.
+#[tactic(auto, unfolding(crate::specs::Keys::algorithm_at))]
+pub fn algorithm<'a>(reader: &mut Reader<'a>) -> Result<&'a [u8], CertError>
+    ensures { Moves (λ bytes. bytes.now) algorithm_at reader.old result reader.new }
+{
+    let outer = reader.wanted(0x30)?;
+    let mut inner = Reader::inside(&outer);
+    let identifier = inner.wanted(0x06)?;
+    oid(&identifier)?;
+    if !inner.is_at_end() {
+        inner.element()?;
+    }
+    inner.end()?;
+    Ok(outer.whole)
+}
+
+/// A subjectPublicKeyInfo: an algorithm and a BIT STRING.
+#[tactic(auto, unfolding(crate::specs::Keys::spki_at))]
+pub fn spki<'a>(reader: &mut Reader<'a>) -> Result<&'a [u8], CertError>
+    ensures { Moves (λ bytes. bytes.now) spki_at reader.old result reader.new }
+{
+    let outer = reader.wanted(0x30)?;
+    let mut inner = Reader::inside(&outer);
+    algorithm(&mut inner)?;
+    let key = inner.wanted(0x03)?;
+    bits(&key)?;
+    inner.end()?;
+    Ok(outer.whole)
+}
+
+/// The bytes of a BIT STRING without unused bits; `BadBits` where there are some.
+#[tactic(auto, unfolding(crate::specs::Keys::whole_bits_of))]
+fn whole_bits<'a>(e: &Element<'a>) -> Result<&'a [u8], DerError>
+    ensures { Gives (λ bytes. bytes.now) result (whole_bits_of e.now.place e.now.contents.now) }
+{
+    match bits(e)? {
+        (0, bytes) => Ok(bytes),
+        _ => Err(DerError::BadBits(e.place)),
+    }
+}
+
+/// The bytes of the signature.
+#[tactic(auto, unfolding(crate::specs::Keys::signature_at))]
+pub fn signature<'a>(reader: &mut Reader<'a>) -> Result<&'a [u8], CertError>
+    ensures { Moves (λ bytes. bytes.now) signature_at reader.old result reader.new }
+{
+    let bit_string = reader.wanted(0x03)?;
+    Ok(whole_bits(&bit_string)?)
+}

@@ -1,0 +1,47 @@
+//! Validity (RFC 5280, section 4.1.2.5).
+
+ghost use Rattle.byte_forms.specs.Readings.{Moves};
+ghost use Rattle.cert_fields.specs.Times.{time_at, validity_at};
+
+use cert_time::{Validity, read_time};
+use der_core::{CertError, Reader};
+
+const UTC_TIME: u8 = 0x17;
+
+const GENERALIZED_TIME: u8 = 0x18;
+
+/// The moment of a UTCTime or a GeneralizedTime; `BadTime` where its contents aren't in their form.
+#[tactic(auto, unfolding(crate::specs::Times::time_at))]
+fn time(reader: &mut Reader) -> Result<i64, CertError>
+    ensures { Moves (λ z. z) time_at reader.old result reader.new }
+{
+    let tag = if reader.begins_with(GENERALIZED_TIME) {
+        GENERALIZED_TIME
+    } else {
+        UTC_TIME
+    };
+    let element = reader.wanted(tag)?;
+    match read_time(tag, element.contents) {
+        Some(moment) => Ok(moment),
+        None => Err(CertError::BadTime),
+    }
+}
+
+/// A validity as its bytes and its moments.
+#[tactic(auto, unfolding(crate::specs::Times::validity_at))]
+pub fn validity<'a>(reader: &mut Reader<'a>) -> Result<(&'a [u8], Validity), CertError>
+    ensures { Moves (λ v. (v.0.now, v.1)) validity_at reader.old result reader.new }
+{
+    let outer = reader.wanted(0x30)?;
+    let mut inner = Reader::inside(&outer);
+    let not_before = time(&mut inner)?;
+    let not_after = time(&mut inner)?;
+    inner.end()?;
+    Ok((
+        outer.whole,
+        Validity {
+            not_before,
+            not_after,
+        },
+    ))
+}

@@ -1,0 +1,96 @@
+//! Writing a certificate.
+
+ghost use Rattle.std.specs.Prelude.{◌≡◌, ◌^◌, ◌<◌, ◌≤◌, ◌++◌, ◌∷◌, length, Ok, IfOk};
+ghost use Rattle.cert_time.specs.Calendar.{IsMoment};
+ghost use Rattle.der_core.specs.Elements.{element};
+ghost use Rattle.cert_fields.specs.Certificate.{parts_of};
+ghost use Rattle.cert_fields.specs.Grammar.{IsCertificate};
+ghost use Rattle.cert_fields.specs.Spelling.{tbs_fields, certificate_fields, certificate};
+ghost use Rattle.cert_fields.specs.Given.{given, size_of};
+
+use crate::parts::CertParts;
+use cert_time::put_validity;
+use der_core::{put, put_unsigned};
+use mtc_io::{Bytes, Memory};
+use std::alloc::Global;
+
+const VERSION: [u8; 5] = [0xA0, 0x03, 0x02, 0x01, 0x02];
+
+/// The AlgorithmIdentifier of Merkle tree proofs, 1.3.6.1.4.1.44363.47.0, without parameters.
+const MTC_PROOF: [u8; 14] = [
+    0x30, 0x0C, 0x06, 0x0A, 0x2B, 0x06, 0x01, 0x04, 0x01, 0x82, 0xDA, 0x4B, 0x2F, 0x00,
+];
+
+/// Writes a certificate (RFC 5280, section 4.1) whose algorithm is that of Merkle tree proofs. Want of memory is the only
+/// refusal.
+///
+/// The parts are put together as they are. Where they are those of a certificate, which has a serial number from 1 on and
+/// elements in the grammar of their fields, [`parse`](crate::parse) reads them again from what is written.
+pub fn write(alloc: Global, parts: &CertParts) -> Result<Bytes, Memory>
+    requires not_before { IsMoment parts.now.validity.not_before }
+    requires not_after { IsMoment parts.now.validity.not_after }
+    requires short { size_of parts.now ≤ 16000000 }
+    ensures exact { IfOk result (λ bytes. bytes ≡ certificate (given parts.now)) }
+    ensures read { IsCertificate (given parts.now) → IfOk result (λ bytes. parts_of bytes ≡ Ok (given parts.now)) }
+{
+    certificate_element(alloc, parts)
+}
+
+/// The whole certificate.
+#[tactic(auto, unfolding(crate::specs::Spelling::certificate))]
+fn certificate_element(alloc: Global, parts: &CertParts) -> Result<Bytes, Memory>
+    requires not_before { IsMoment parts.now.validity.not_before }
+    requires not_after { IsMoment parts.now.validity.not_after }
+    requires short { size_of parts.now ≤ 16000000 }
+    ensures { IfOk result (λ bytes. bytes ≡ certificate (given parts.now)) }
+{
+    let fields = certificate_contents(alloc, parts)?;
+    let mut out = Bytes::new(alloc);
+    put(0x30, fields.as_slice(), &mut out)?;
+    Ok(out)
+}
+
+/// The contents of the whole certificate.
+fn certificate_contents(alloc: Global, parts: &CertParts) -> Result<Bytes, Memory>
+    requires not_before { IsMoment parts.now.validity.not_before }
+    requires not_after { IsMoment parts.now.validity.not_after }
+    requires short { size_of parts.now ≤ 16000000 }
+    ensures exact { IfOk result (λ bytes. bytes ≡ certificate_fields (given parts.now)) }
+    ensures serial { IfOk result (λ _. parts.now.serial < 2 ^ 64) }
+{
+    let signed = signed_contents(alloc, parts)?;
+    let bits = signature_contents(alloc, &parts.proof)?;
+    let mut out = Bytes::new(alloc);
+    put(0x30, signed.as_slice(), &mut out)?;
+    out.append(&MTC_PROOF)?;
+    put(0x03, bits.as_slice(), &mut out)?;
+    Ok(out)
+}
+
+/// The contents of what is signed.
+fn signed_contents(alloc: Global, parts: &CertParts) -> Result<Bytes, Memory>
+    requires not_before { IsMoment parts.now.validity.not_before }
+    requires not_after { IsMoment parts.now.validity.not_after }
+    ensures exact { IfOk result (λ bytes. bytes ≡ tbs_fields (given parts.now)) }
+    ensures serial { IfOk result (λ _. parts.now.serial < 2 ^ 64) }
+{
+    let mut out = Bytes::new(alloc);
+    out.append(&VERSION)?;
+    put_unsigned(parts.serial, &mut out)?;
+    out.append(&MTC_PROOF)?;
+    out.append(parts.issuer.as_slice())?;
+    put_validity(&parts.validity, &mut out)?;
+    out.append(parts.subject.as_slice())?;
+    out.append(parts.spki.as_slice())?;
+    out.append(parts.extensions.as_slice())?;
+    Ok(out)
+}
+
+/// The contents of the signature: no unused bits, and the proof.
+fn signature_contents(alloc: Global, proof: &Bytes) -> Result<Bytes, Memory>
+    ensures { IfOk result (λ bytes. bytes ≡ 0 ∷ proof.now) }
+{
+    let mut out = Bytes::copy_of(alloc, &[0])?;
+    out.append(proof.as_slice())?;
+    Ok(out)
+}
