@@ -5,3 +5,4 @@ pub mod ArcForm
 pub mod DecimalForm
 pub mod AnchorForm
 pub mod TextLoops
+pub mod AnchorTexts

@@ -1,5 +1,5 @@
 -- Reading anchor ids, with their faults in their order.
-use Rattle.std.specs.Prelude.{ℕ, ◌+◌, ◌-◌, ◌*◌, ◌%◌, ◌^◌, nat_lt, nat_le, ◌==◌, zero, suc, List, [], ◌∷◌, length, flat_map, Result, Ok, Err, if◌then◌else◌}
+use Rattle.std.specs.Prelude.{ℕ, ◌+◌, ◌-◌, ◌*◌, ◌%◌, ◌^◌, nat_lt, nat_le, ◌==◌, zero, suc, Bool, true, false, List, [], ◌∷◌, length, flat_map, Result, Ok, Err, if◌then◌else◌}
 use Rattle.std.specs.Char.{is_ascii_digit}
 use Rattle.byte_forms.specs.Places.{At, at, after, begins_with}
 use Rattle.byte_forms.specs.Readings.{◌>>=◌, discarded}
@@ -71,6 +71,14 @@ unfoldable pub anchor_text : List ℕ → Result (List ℕ) AnchorError
 anchor_text text =
     if length text == 0 then Err text_faults.Empty
     else (arcs_in text >>= λ bytes. if nat_lt 255 (length bytes) then Err text_faults.TooLong else Ok bytes)
+
+-- The text is that of an anchor id.
+abbrev pub is_read : {X E : Type 0} → Result X E → Bool
+is_read (Ok x) = true
+is_read (Err e) = false
+
+abbrev pub is_anchor_text : List ℕ → Bool
+is_anchor_text text = is_read (anchor_text text)
 
 -- The text of the anchor id with these bytes: its arcs in dotted decimal.
 abbrev pub text_in : Result (List ℕ × At) AnchorBytesError → List ℕ

@@ -1,12 +1,12 @@
 //! Names of trust anchors.
 
-ghost use Rattle.std.specs.Prelude.{◌≡◌, IfOk};
+ghost use Rattle.std.specs.Prelude.{◌≡◌, ◌≤◌, length, IfOk};
 ghost use Rattle.byte_forms.specs.Readings.{Answers};
 ghost use Rattle.tls_wire.specs.Arcs.{IsAnchorId};
-ghost use Rattle.tls_wire.specs.Anchors.{anchor_of, anchor_text, text_of};
+ghost use Rattle.tls_wire.specs.Anchors.{anchor_of, anchor_text, is_anchor_text, text_of};
 
 use crate::arcs::read_arcs;
-use crate::dotted::{arcs_of_text, text_of_arcs};
+use crate::dotted::{arcs_of_text, is_dotted, text_of_arcs};
 use crate::fault::{AnchorBytesError, AnchorError};
 use mtc_io::{Bytes, Memory};
 use std::alloc::Global;
@@ -49,6 +49,13 @@ impl AnchorId {
         Ok(AnchorId { bytes, alloc })
     }
 
+    /// The text is one from which [`from_text`](AnchorId::from_text) makes an anchor id. It takes no memory.
+    pub fn is_text(text: &[u8]) -> bool
+        ensures { result ≡ is_anchor_text text.now }
+    {
+        is_dotted(text)
+    }
+
     /// The anchor id with these bytes. The first fault from the left is answered.
     #[tactic(auto, unfolding(crate::specs::Anchors::anchor_of))]
     pub fn from_bytes(alloc: Global, bytes: &[u8]) -> Result<AnchorId, AnchorBytesError>
@@ -75,7 +82,8 @@ impl AnchorId {
 
     /// The arcs in dotted decimal.
     pub fn to_text(&self) -> Result<Bytes, Memory>
-        ensures { IfOk result (λ text. text ≡ text_of self.now) }
+        ensures exact { IfOk result (λ text. text ≡ text_of self.now) }
+        ensures short { IfOk result (λ text. length text ≤ 5355) }
     {
         text_of_arcs(self.alloc, self.as_bytes())
     }

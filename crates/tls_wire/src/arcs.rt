@@ -1,7 +1,7 @@
 //! Arcs of an anchor id: numbers below 2 ^ 64 in base 128, in the fewest bytes, with the highest bit set in all but the
 //! last.
 
-ghost use Rattle.std.specs.Prelude.{◌≡◌, ◌<◌, ◌≤◌, ◌++◌, length, drop, IfOk, OnOk};
+ghost use Rattle.std.specs.Prelude.{◌≡◌, ◌^◌, ◌<◌, ◌≤◌, ◌++◌, length, drop, IfOk, OnOk};
 ghost use Rattle.byte_forms.specs.Places.{at};
 ghost use Rattle.byte_forms.specs.Readings.{Gives};
 ghost use Rattle.tls_wire.specs.Arcs.{high_digits, arc};
@@ -53,6 +53,20 @@ pub(crate) fn read_arcs(bytes: &[u8]) -> Result<(), AnchorBytesError>
         place = read_arc(bytes, place)?.1;
     }
     Ok(())
+}
+
+/// The number of bytes of an arc.
+pub(crate) fn arc_length(value: u64) -> usize
+    ensures exact { result ≡ length (arc value) }
+    ensures small { result ≤ 2 ^ 58 }
+{
+    let mut count = 1;
+    let mut high = value / 128;
+    while high > 0 {
+        count += 1;
+        high /= 128;
+    }
+    count
 }
 
 /// Puts an arc behind the bytes. Where memory is refused, a part of it may stand there.

@@ -3,10 +3,10 @@
 ghost use Rattle.std.specs.Prelude.{◌≡◌, ◌<◌, ◌≤◌, ◌-◌, ◌+◌, ◌++◌, length, drop, decimal, string_bytes, if◌then◌else◌, IfOk, OnOk};
 ghost use Rattle.byte_forms.specs.Places.{at};
 ghost use Rattle.byte_forms.specs.Readings.{Gives, Answers};
-ghost use Rattle.tls_wire.specs.Anchors.{decimal_from, decimal_at, arcs_in, text_of};
+ghost use Rattle.tls_wire.specs.Anchors.{decimal_from, decimal_at, arcs_in, is_anchor_text, text_of};
 ghost use Rattle.tls_wire.specs.Arcs.{dot_decimal, IsAnchorId};
 
-use crate::arcs::{put_arc, read_arc};
+use crate::arcs::{arc_length, put_arc, read_arc};
 use crate::fault::AnchorError;
 use mtc_io::{Bytes, Memory};
 use std::alloc::Global;
@@ -25,6 +25,29 @@ pub(crate) fn arcs_of_text(alloc: Global, text: &[u8]) -> Result<Bytes, AnchorEr
             return Ok(bytes);
         }
         place = behind + 1;
+    }
+}
+
+/// The text is numbers whose arcs have 1 to 255 bytes together.
+pub(crate) fn is_dotted(text: &[u8]) -> bool
+    ensures { result ≡ is_anchor_text text.now }
+{
+    let mut count: usize = 0;
+    let mut place = 0;
+    loop {
+        match read_decimal(text, place) {
+            Err(_) => return false,
+            Ok((n, behind)) => {
+                count += arc_length(n);
+                if count > 255 {
+                    return false;
+                }
+                if behind == text.len() {
+                    return true;
+                }
+                place = behind + 1;
+            }
+        }
     }
 }
 

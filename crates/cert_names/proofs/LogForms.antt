@@ -1,0 +1,156 @@
+-- The name of a log is read exactly from its spelling.
+use Rattle.std.proofs.Common.{◌≡◌, ℕ, ◌+◌, ◌%◌, ◌^◌, ◌<◌, ◌≤◌, Bool, true, false, List, [], ◌++◌, length, Result, Ok, Err, Option, Some, None, IfSome, MatchOption, refl, sym, ap, subst, ◌∙◌, append-nil, arith, lit<, eqb-true}
+use Rattle.std.specs.Prelude.{if◌then◌else◌, ◌==◌}
+use Rattle.std.specs.Borrow.{Bor}
+use Rattle.std.proofs.lemmas.List.{length-append, nil_from_length}
+use Rattle.std.proofs.lemmas.Slice.Eq.{bytes_eq-Decides}
+use Rattle.byte_forms.specs.Places.{At, at, IsBytes}
+use Rattle.byte_forms.specs.Readings.{◌>>=◌, both_at, tested_at}
+use Rattle.byte_forms.specs.Forms.{IsForm, Anything, both, FitsBoth}
+use Rattle.byte_forms.proofs.Steps.{bind_ok, pass_ok, ok_is}
+use Rattle.byte_forms.proofs.Forms.{said_form, ended_form, both_form, mapped_form, tested_form}
+use Rattle.der_core.specs.Elements.{element}
+use Rattle.der_core.specs.Reading.{end_at}
+use Rattle.der_core.specs.Fields.{der, inside_at, contents_at, all_of}
+use Rattle.der_core.specs.declared.fault.DerError.TheVariants.{Trailing}
+use Rattle.der_core.specs.declared.fault.CertError.{CertError}
+use Rattle.der_core.specs.declared.fault.CertError.TheVariants.{BadName}
+use Rattle.der_core.proofs.Elements.{element-longer, element-short}
+use Rattle.der_core.proofs.Fields.{tag_of, der_ok, contents_form, inside_form}
+use Rattle.tls_wire.specs.Arcs.{IsAnchorId}
+use Rattle.tls_wire.specs.Anchors.{is_read, is_anchor_text, text_of}
+use Rattle.tls_wire.proofs.AnchorForm.{text_again}
+use Rattle.tls_wire.proofs.AnchorTexts.{text-short}
+use Rattle.cert_names.specs.LogNames.{log_id, attribute_parts, set_parts, name_parts, name_with, IsLogName, is_log_id, second, parts_at, attribute_at, set_at, name_at, id_only, log_in}
+
+abbrev Short : List ℕ → Type 0
+Short contents = length contents < 2 ^ 24
+
+abbrev Pair : Type 0
+Pair = List ℕ × List ℕ
+
+abbrev with_id : List ℕ → Pair
+with_id text = (log_id, text)
+
+abbrev pair_text : Pair → List ℕ
+pair_text = both (element 6) (element 12)
+
+abbrev IsPair : Pair → Type 0
+IsPair x = FitsBoth Short Short x × (is_log_id x ≡ true)
+
+-- What the four elements around the text need.
+abbrev IsText : List ℕ → Type 0
+IsText text = IsPair (with_id text)
+
+id_back : (x : Pair) → IsPair x → with_id (second x) ≡ x
+id_back x f = ap (λ (id : List ℕ). (id, x.1)) (sym ((bytes_eq-Decides x.0 log_id).0 f.1))
+
+parts_form : IsForm attribute_parts IsText Anything parts_at
+unfolding parts_at
+parts_form =
+    let fields : At → Result (Pair × At) CertError = both_at (contents_at 6) (contents_at 12) in
+    mapped_form pair_text IsPair Anything (tested_at is_log_id BadName fields) second with_id id_back (λ y f. refl)
+    (tested_form pair_text (FitsBoth Short Short) Anything fields is_log_id BadName
+    (both_form (element 6) Short Anything (contents_at 6) (element 12) Short Anything (contents_at 12)
+    (contents_form 6 (tag_of 6 (lit< tt) refl)) (contents_form 12 (tag_of 12 (lit< tt) refl)) (λ y rest f q. tt)))
+
+-- An element around a text.
+around : (tag : ℕ) (spell : List ℕ → List ℕ) (Fits : List ℕ → Type 0) (read : At → Result (List ℕ × At) CertError) → tag < 256 → (tag % 32 == 31) ≡ false
+    → IsForm spell Fits Anything read → IsForm (λ text. element tag (spell text)) (λ text. Fits text × Short (spell text)) Anything (inside_at tag read)
+around tag spell Fits read byte low form = inside_form tag spell Fits read (tag_of tag byte low) (ended_form spell Fits Anything read tt form)
+
+name_form : IsForm name_with (λ text. Short (name_parts text)) Anything name_at
+unfolding name_at set_at attribute_at name_with
+name_form =
+    let Known : List ℕ → Type 0 = λ text. ((IsText text × Short (attribute_parts text)) × Short (set_parts text)) × Short (name_parts text) in
+    said_form name_with Known (λ text. Short (name_parts text)) Anything Anything (inside_at 48 (inside_at 49 (inside_at 48 parts_at)))
+    (λ text f. f.1)
+    (λ text short.
+    let set : Short (set_parts text) = omega (arith, short, element-longer 49 (set_parts text)) in
+    let attribute : Short (attribute_parts text) = omega (arith, set, element-longer 48 (attribute_parts text)) in
+    let own : Short text = omega (arith, attribute, length-append (element 6 log_id) (element 12 text), element-longer 12 text) in
+    (((((lit< tt, own), refl), attribute), set), short))
+    (λ rest q. q)
+    (around 48 name_parts (λ text. (IsText text × Short (attribute_parts text)) × Short (set_parts text)) (inside_at 49 (inside_at 48 parts_at)) (lit< tt) refl
+    (around 49 set_parts (λ text. IsText text × Short (attribute_parts text)) (inside_at 48 parts_at) (lit< tt) refl
+    (around 48 attribute_parts IsText parts_at (lit< tt) refl parts_form)))
+
+end_ok : (a : At) (done : Unit {0}) → end_at a ≡ Ok done → a.rest ≡ []
+end_ok a done e =
+    let p = pass_ok (length a.rest == 0) (Ok tt) (Trailing a.place) done e in
+    nil_from_length a.rest (eqb-true (length a.rest) 0 p.0)
+
+whole_takes : (name text : List ℕ) → IsBytes name → all_of name_at name ≡ Ok text → (name ≡ name_with text) × Short (name_parts text)
+whole_takes name text h e =
+    let s = bind_ok (name_at (at name 0)) (λ (v : List ℕ × At). der (end_at v.1) >>= λ (done : Unit {0}). Ok v.0) text e in
+    let t = bind_ok (der (end_at s.0.1)) (λ (done : Unit {0}). Ok s.0.0) text s.2 in
+    let known = name_form.takes (at name 0) s.0.0 s.0.1 h s.1 in
+    let nothing = end_ok s.0.1 t.0 (der_ok (end_at s.0.1) t.0 t.1) in
+    let P : List ℕ → Type 0 = λ v. (name ≡ name_with v) × Short (name_parts v) in
+    subst P (ok_is CertError s.0.0 text t.2)
+    (known.0.parts ∙ (ap (λ (c : List ℕ). name_with s.0.0 ++ c) nothing ∙ append-nil (name_with s.0.0)), known.1)
+
+whole_again : (text : List ℕ) → Short (name_parts text) → all_of name_at (name_with text) ≡ Ok text
+whole_again text short =
+    let step : name_at (at (name_with text) 0) ≡ Ok (text, record { place = 0 + length (name_with text); rest = [] }) =
+    ap (λ (c : List ℕ). name_at (record { place = 0; rest = c })) (sym (append-nil (name_with text))) ∙ name_form.again text 0 [] short tt in
+    rw step refl
+
+pub log_only : (name text : List ℕ) → IsBytes name → log_in name ≡ Some text → IsLogName name text
+unfolding log_in
+log_only name text h e = go (all_of name_at name) refl e
+  where
+    go : (r : Result (List ℕ) CertError) → all_of name_at name ≡ r → id_only r ≡ Some text → IsLogName name text
+    go (Ok t) read found = chosen_text t (is_anchor_text t) refl read found
+      where
+        chosen_text : (t : List ℕ) (b : Bool) → is_anchor_text t ≡ b → all_of name_at name ≡ Ok t → (if b then Some t else None) ≡ Some text → IsLogName name text
+        chosen_text t true id read found =
+            let known = whole_takes name t h read in
+            let P : List ℕ → Type 0 = IsLogName name in
+            subst P (some_is t text found) (record { id = id; short = known.1; spelled = known.0 })
+          where
+            some_is : (x y : List ℕ) → Some x ≡ Some y → x ≡ y
+            some_is x y e = cc
+        chosen_text t false id read found = absurd cc
+    go (Err fault) read found = absurd cc
+
+pub log_again : (name text : List ℕ) → IsLogName name text → log_in name ≡ Some text
+unfolding log_in
+log_again name text f = ap (λ (n : List ℕ). id_only (all_of name_at n)) f.spelled ∙ rw (whole_again text f.short, f.id) refl
+
+-- ---- an answer that is exactly the text
+
+abbrev pub Exactly : List ℕ → Option (Bor (List ℕ)) → Type 0
+Exactly name r = MatchOption r (log_in name ≡ None) (λ text. log_in name ≡ Some text.now)
+
+pub found : (name : List ℕ) (r : Option (Bor (List ℕ))) → IsBytes name → Exactly name r → IfSome r (λ text. IsLogName name text.now)
+found name (Some text) h e = log_only name text.now h e
+found name None h e = tt
+
+pub only : (name : List ℕ) (r : Option (Bor (List ℕ))) → Exactly name r → (text : List ℕ) → IsLogName name text → MatchOption r ⊥ (λ id. id.now ≡ text)
+only name (Some id) e text f = some_is id.now text (sym e ∙ log_again name text f)
+  where
+    some_is : (x y : List ℕ) → Some x ≡ Some y → x ≡ y
+    some_is x y e = cc
+only name None e text f = absurd (none (sym e ∙ log_again name text f))
+  where
+    none : None ≡ Some text → ⊥
+    none e = cc
+
+-- ---- lengths
+
+pub attribute-short : (text : List ℕ) → length text ≤ 5355 → length (attribute_parts text) ≤ 5400
+attribute-short text le = omega (arith, le, length-append (element 6 log_id) (element 12 text), element-short 6 log_id, element-short 12 text)
+
+pub set-short : (text : List ℕ) → length text ≤ 5355 → length (set_parts text) ≤ 5405
+set-short text le = omega (arith, attribute-short text le, element-short 48 (attribute_parts text))
+
+pub name-short : (text : List ℕ) → length text ≤ 5355 → length (name_parts text) ≤ 5410
+name-short text le = omega (arith, set-short text le, element-short 49 (set_parts text))
+
+pub id_named : (id : List ℕ) → IsAnchorId id → IsLogName (name_with (text_of id)) (text_of id)
+id_named id f = record {
+  id = ap is_read (text_again id f);
+  short = omega (arith, name-short (text_of id) (text-short id f));
+  spelled = refl;
+}
