@@ -1,5 +1,5 @@
 -- Runs of calls of a disk, and what a crash leaves at their moments.
-use Rattle.std.proofs.Common.{◌⊎◌, inl, inr, ℕ, ◌≤◌, List, ◌∙◌, arith}
+use Rattle.std.proofs.Common.{◌⊎◌, inl, inr, ℕ, ◌≤◌, List, refl, ◌∙◌, arith}
 use Rattle.disk_core.specs.Disk.{Elapses}
 use Rattle.disk_core.specs.Moments.{LeavesOnly, Looks}
 use Rattle.disk_core.specs.declared.disk.Disk.{Ghosts}
@@ -56,4 +56,14 @@ module _ {D : Type 0} (g : Ghosts D) where
     moments = joined old mid new (g.may_leave old) first.moments (weaker mid new (g.may_leave mid) (g.may_leave old) first.crash second.moments);
     known = let a = first.known in let b = second.known in omega arith;
     faults = let a = first.faults in let b = second.faults in omega arith;
+  }
+
+  -- no look
+  pub no_look : (now : D) → ((c : List ℕ) → g.left_since now (g.moment now) c → g.may_leave now c) → Looks g now now
+  no_look now only_now = record {
+    told = refl;
+    crash = λ c left. left;
+    moments = started now (g.may_leave now) only_now (λ c left. left);
+    known = omega arith;
+    faults = omega arith;
   }

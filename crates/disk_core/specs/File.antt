@@ -1,6 +1,11 @@
 -- What a `FileDisk` shows.
 use Rattle.std.specs.Prelude.{ℕ}
+use Rattle.std.specs.declared.fs.File.{File}
 use Rattle.disk_core.specs.declared.file.FileDisk.{FileDisk}
+
+-- the open file
+abbrev pub file_of : FileDisk → File
+file_of d = d.file
 
 -- its known length
 abbrev pub file_known : FileDisk → ℕ

@@ -1,7 +1,7 @@
 // An open file as a disk.
 ghost use Rattle.std.specs.Prelude.{◌≡◌, ◌≤◌, None, IfOk, OnOk};
 ghost use Rattle.mtc_io.specs.Counts.{Rose, HasCause};
-ghost use Rattle.disk_core.specs.File.{file_faults, file_known};
+ghost use Rattle.disk_core.specs.File.{file_of, file_faults, file_known};
 
 use crate::disk::Disk;
 use mtc_io::Failed;
@@ -21,6 +21,7 @@ pub struct FileDisk {
 
 impl FileDisk {
     pub fn new(file: File) -> FileDisk
+        ensures file { file_of result ≡ file }
         ensures known { file_known result ≡ 0 }
         ensures faults { file_faults result ≡ 0 }
     {
@@ -40,7 +41,9 @@ impl FileDisk {
     }
 
     /// The file, for another use.
-    pub fn into_inner(self) -> File {
+    pub fn into_inner(self) -> File
+        ensures { result ≡ file_of self }
+    {
         self.file
     }
 }

@@ -1,16 +1,25 @@
 -- The steps of an opening, over its disk.
-use Rattle.std.proofs.Common.{◌≡◌, ℕ, ◌+◌, List, [], ◌∷◌, ◌++◌, length, Option, Some, None, IfSome, option_map, refl, ap, sym, ◌∙◌, subst}
+use Rattle.std.proofs.Common.{◌≡◌, ℕ, ◌+◌, ◌≤◌, List, [], ◌∷◌, ◌++◌, length, take, Option, Some, None, IfSome, option_map, refl, ap, sym, ◌∙◌, subst, arith}
 use Rattle.disk_core.specs.Moments.{Looks}
 use Rattle.disk_core.specs.declared.disk.Disk.{Ghosts}
-use Rattle.journal_core.specs.Format.{IsRecordAt, behind, IsClosedAt, StandsFor, records_of, records_before, IsBadLengthAt, IsCutShortAt}
-use Rattle.journal_core.specs.Opens.{HasReason, IsOfRecord}
+use Rattle.journal_core.specs.Format.{header, IsRecordAt, behind, IsClosedAt, StandsFor, records_of, records_before, IsBadLengthAt, IsCutShortAt}
+use Rattle.journal_core.specs.Opens.{HasReason, IsOfRecord, IsWalkTo}
+use Rattle.journal_core.specs.Walk.{walk_of, at_gate, at_bad_length, at_cut}
 use Rattle.journal_core.specs.Settled.{IsReading, IsSettled}
 use Rattle.journal_core.specs.Words.{AllStandFor}
 use Rattle.journal_core.specs.declared.error.OpenError.{OpenError}
 use Rattle.journal_core.specs.declared.error.OpenError.TheVariants.{NotJournal, BadLength, CutShort, Failed, Memory}
 use Rattle.journal_core.proofs.Told.{if_told, at_told, of_records}
+use Rattle.std.proofs.lemmas.List.{length-take}
 use Rattle.journal_core.proofs.Records.{records_of-stands}
+use Rattle.journal_core.proofs.Walk.{walk_closed, walk_bad, walk_cut}
 use Rattle.journal_core.proofs.ReadOn.{more_list, more_read, read_same, read_all, settled, not_bad, not_cut}
+
+header_length : (bytes : List ℕ) → take 16 bytes ≡ header → 16 ≤ length bytes
+header_length bytes is =
+    let whole : length (take 16 bytes) ≡ 16 = ap length is in
+    let there : length (take 16 bytes) ≤ length bytes = simp length-take (omega arith) in
+    omega arith
 
 module _ {D : Type 0} (g : Ghosts D) (old new : D) (looks : Looks g old new) (place : ℕ)
     (reading : (b : List ℕ) → g.told old ≡ Some b → IsReading b (g.may_leave old) place) where
@@ -60,6 +69,28 @@ module _ {D : Type 0} (g : Ghosts D) (old new : D) (looks : Looks g old new) (pl
       fault b told list stands Failed reason kind = refl
       fault b told list stands Memory reason kind = absurd kind
 
+  -- the walk of the bytes ends as the refusal says
+  pub refused_walk : (why : OpenError) → HasReason g old new place why
+      → IfSome (g.told old) (λ b. IfSome (option_map (λ b. records_before b place) (g.told old)) (IsWalkTo why b))
+  refused_walk why reason = go (g.told old) refl why reason
+    where
+      go : (told : Option (List ℕ)) → g.told old ≡ told → (why : OpenError) → HasReason g old new place why
+          → IfSome told (λ b. IfSome (option_map (λ b. records_before b place) told) (IsWalkTo why b))
+      go None is why reason = tt
+      go (Some b) is NotJournal reason = tt
+      go (Some b) is (BadLength at) reason =
+          let was = reading b is in
+          subst (λ (n : ℕ). walk_of b ≡ record { records = records_before b place; end = at_bad_length n }) (sym reason.0)
+          (walk_bad b (records_before b place) place was.holds was.place_is (header_length b was.begins)
+          (at_told (λ (bytes : List ℕ). IsBadLengthAt bytes place) (g.told old) b is reason.1))
+      go (Some b) is (CutShort at) reason =
+          let was = reading b is in
+          subst (λ (n : ℕ). walk_of b ≡ record { records = records_before b place; end = at_cut n }) (sym reason.0)
+          (walk_cut b (records_before b place) place was.holds was.place_is (header_length b was.begins)
+          (at_told (λ (bytes : List ℕ). IsCutShortAt bytes place) (g.told old) b is reason.1))
+      go (Some b) is Failed reason = tt
+      go (Some b) is Memory reason = tt
+
 -- an opening that has ended
 module _ {D : Type 0} (g : Ghosts D) (disk : D) (place : ℕ)
     (reading : (b : List ℕ) → g.told disk ≡ Some b → IsReading b (g.may_leave disk) place)
@@ -70,6 +101,16 @@ module _ {D : Type 0} (g : Ghosts D) (disk : D) (place : ℕ)
       go : (told : Option (List ℕ)) → g.told disk ≡ told → IfSome told (λ b. IfSome (option_map (λ b. records_before b place) told) (StandsFor b))
       go None is = tt
       go (Some b) is = read_all b (g.may_leave disk) place (reading b is) (closed b is)
+
+  pub ended_walk : IfSome (g.told disk) (λ b. IfSome (option_map (λ b. records_before b place) (g.told disk)) (λ list. walk_of b ≡ record { records = list; end = at_gate }))
+  ended_walk = go (g.told disk) refl
+    where
+      go : (told : Option (List ℕ)) → g.told disk ≡ told
+          → IfSome told (λ b. IfSome (option_map (λ b. records_before b place) told) (λ list. walk_of b ≡ record { records = list; end = at_gate }))
+      go None is = tt
+      go (Some b) is =
+          let was = reading b is in
+          walk_closed b (records_before b place) place was.holds was.place_is (header_length b was.begins) (closed b is)
 
   pub ended_settled : (b : List ℕ) → g.told disk ≡ Some b → IsSettled b (g.may_leave disk) (place + 1)
   ended_settled b told = settled b (g.may_leave disk) place (reading b told) (closed b told)

@@ -139,3 +139,9 @@ record_read bytes place count buffer opened size body some few there =
       size = size ∙ ap (to_be_bytes w32) (sym whole);
       body_is = ap (λ (n : ℕ). part (place + 5) n bytes) whole ∙ sym body;
     }
+
+-- the body behind some of the records
+pub body_there : (bytes : List ℕ) (place : ℕ) (front : List (List ℕ)) (body : List ℕ) (back : List (List ℕ))
+    → AreRecordsAt bytes place (front ++ body ∷ back) → part (behind place front + 5) (length body) bytes ≡ body
+body_there bytes place [] body back are = are.0.body_is
+body_there bytes place (first ∷ front) body back are = body_there bytes (place + 5 + length first) front body back are.1

@@ -1,13 +1,13 @@
 -- The two writes of an append as steps of a disk: what its images stand for, at each moment and afterwards.
 use Rattle.std.proofs.Common.{◌≡◌, inl, ℕ, ◌+◌, ◌-◌, ◌≤◌, List, [], ◌∷◌, ◌++◌, length, Option, Some, None, IfSome, option_map, refl, ap, sym, ◌∙◌, subst, arith}
-use Rattle.disk_core.specs.Disk.{overwritten, Torn, Only}
+use Rattle.disk_core.specs.Disk.{overwritten, part, Torn, Only}
 use Rattle.disk_core.specs.Moments.{LeavesOnly}
 use Rattle.disk_core.specs.declared.disk.Disk.{Ghosts}
 use Rattle.disk_core.proofs.Moments.{started, joined, weaker}
-use Rattle.journal_core.specs.Format.{behind, StandsFor, StandsForEither, tail_of, records_of}
+use Rattle.journal_core.specs.Format.{AreRecordsAt, behind, StandsFor, StandsForEither, tail_of, records_of}
 use Rattle.journal_core.specs.Settled.{IsSettled}
-use Rattle.journal_core.specs.Words.{AllStandFor}
-use Rattle.journal_core.proofs.Records.{records_of-stands, behind-append}
+use Rattle.journal_core.specs.Words.{AllStandFor, HoldsBody}
+use Rattle.journal_core.proofs.Records.{records_of-stands, behind-append, body_there}
 use Rattle.journal_core.proofs.Told.{if_told, at_told, told_before, of_records}
 use Rattle.journal_core.proofs.Append.{IsStaged, staged, torn_behind, torn_gate, opened}
 
@@ -115,3 +115,15 @@ module _ {D : Type 0} (g : Ghosts D) (old mid new : D) (body piece : List ℕ) (
       = staged end (records_of b) body b now was.end_is was.stands (ap (λ (p : List ℕ). overwritten end p b) piece_is) in
       joined g old mid new _ (first_step g old mid new b body end (records_of b) was.only was.stands was.end_is count run)
       (second_step g old mid new b body end (records_of b) now only is_staged some few was.end_is run_on))
+
+-- what is read over the range of a body
+module _ {D : Type 0} (g : Ghosts D) (old : D) (end place : ℕ) (read : List ℕ)
+    (settled : (b : List ℕ) → g.told old ≡ Some b → IsSettled b (g.may_leave old) end)
+    (is : IfSome (g.told old) (λ b. read ≡ part place (length read) b)) where
+  pub read_body : IfSome (option_map records_of (g.told old)) (HoldsBody place read)
+  read_body = of_records (HoldsBody place read) (g.told old) (λ b told front body back list_is place_is length_is.
+      let found : read ≡ part place (length read) b = at_told (λ (bytes : List ℕ). read ≡ part place (length read) bytes) (g.told old) b told is in
+      let are : AreRecordsAt b 16 (front ++ body ∷ back)
+      = subst (λ (list : List (List ℕ)). AreRecordsAt b 16 list) list_is (settled b told).stands.holds in
+      found ∙ ap (λ (n : ℕ). part place n b) length_is ∙ ap (λ (n : ℕ). part n (length body) b) place_is
+      ∙ body_there b 16 front body back are)

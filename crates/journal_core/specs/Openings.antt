@@ -4,7 +4,8 @@ use Rattle.std.specs.Borrow.{Bor}
 use Rattle.disk_core.specs.Moments.{Looks}
 use Rattle.disk_core.specs.declared.disk.Disk.{Ghosts}
 use Rattle.journal_core.specs.Format.{header, StandsFor, records_before}
-use Rattle.journal_core.specs.Opens.{HasReason, IsOfRecord}
+use Rattle.journal_core.specs.Opens.{HasReason, IsOfRecord, IsWalkTo}
+use Rattle.journal_core.specs.Walk.{walk_of, at_gate}
 use Rattle.journal_core.specs.declared.error.OpenError.{OpenError}
 use Rattle.journal_core.specs.declared.error.OpenError.TheVariants.{Failed}
 use Rattle.journal_core.specs.declared.opening.Opening.{Opening}
@@ -60,6 +61,7 @@ module _ {D : Type 0} {g : Ghosts D} where
     pub ended : is_ended new ≡ true
     pub goes_on : refusal new ≡ None
     pub stands : IfSome (g.told (opening_disk new)) (λ bytes. IfSome (read_list new) (StandsFor bytes))
+    pub walk : IfSome (g.told (opening_disk new)) (λ bytes. IfSome (read_list new) (λ list. walk_of bytes ≡ record { records = list; end = at_gate }))
 
   -- the file is not read on, and this refusal is given again
   pub record HasRefused (old new : Opening D g) (why : OpenError) : Type 0 where
@@ -76,6 +78,8 @@ module _ {D : Type 0} {g : Ghosts D} where
     pub kind : refusal old ≡ None → IfSome why IsOfRecord
     pub whole : refusal old ≡ None
         → IfSome why (λ e. IfSome (g.told (opening_disk old)) (λ bytes. (list : List (List ℕ)) → StandsFor bytes list → e ≡ Failed))
+    pub walk : refusal old ≡ None
+        → IfSome why (λ e. IfSome (g.told (opening_disk old)) (λ bytes. IfSome (read_list old) (IsWalkTo e bytes)))
     pub looks : Looks g (opening_disk old) (opening_disk new)
 
   -- a step, by its answer: a record, the end, or a refusal

@@ -1,8 +1,9 @@
 -- Why a file is not read on.
-use Rattle.std.specs.Prelude.{◌≡◌, ◌≢◌, ℕ, take, IfSome}
+use Rattle.std.specs.Prelude.{◌≡◌, ◌≢◌, ℕ, List, take, IfSome}
 use Rattle.mtc_io.specs.Counts.{Rose}
 use Rattle.disk_core.specs.declared.disk.Disk.{Ghosts}
 use Rattle.journal_core.specs.Format.{header, IsBadLengthAt, IsCutShortAt}
+use Rattle.journal_core.specs.Walk.{walk_of, at_bad_length, at_cut}
 use Rattle.journal_core.specs.declared.error.OpenError.{OpenError}
 use Rattle.journal_core.specs.declared.error.OpenError.TheVariants.{NotJournal, BadLength, CutShort, Failed, Memory}
 
@@ -29,3 +30,11 @@ IsOfHeader (BadLength at) = ⊥
 IsOfHeader (CutShort at) = ⊥
 IsOfHeader Failed = Unit {0}
 IsOfHeader Memory = Unit {0}
+
+-- the walk of the bytes finds these records and ends as the refusal says
+abbrev pub IsWalkTo : OpenError → List ℕ → List (List ℕ) → Type 0
+IsWalkTo NotJournal bytes list = Unit {0}
+IsWalkTo (BadLength at) bytes list = walk_of bytes ≡ record { records = list; end = at_bad_length at }
+IsWalkTo (CutShort at) bytes list = walk_of bytes ≡ record { records = list; end = at_cut at }
+IsWalkTo Failed bytes list = Unit {0}
+IsWalkTo Memory bytes list = Unit {0}

@@ -2,7 +2,7 @@
 use Rattle.std.specs.Prelude.{◌≡◌, ℕ, ◌+◌, Bool, true, false, List, [], ◌∷◌, ◌++◌, length, Option, option_map, IfSome, Result, Ok, Err}
 use Rattle.mtc_io.specs.Counts.{Rose}
 use Rattle.disk_core.specs.declared.disk.Disk.{Ghosts}
-use Rattle.journal_core.specs.Format.{StandsFor, records_of}
+use Rattle.journal_core.specs.Format.{behind, StandsFor, records_of}
 use Rattle.journal_core.specs.declared.error.AppendError.{AppendError}
 use Rattle.journal_core.specs.declared.error.AppendError.TheVariants.{Failed, Broken, Full}
 use Rattle.journal_core.specs.declared.journal.Journal.{Journal}
@@ -10,6 +10,12 @@ use Rattle.journal_core.specs.declared.journal.Journal.{Journal}
 -- each image that a crash now may leave stands for these records
 abbrev pub AllStandFor : {D : Type 0} → Ghosts D → D → List (List ℕ) → Type 0
 AllStandFor g disk list = (c : List ℕ) → g.may_leave disk c → StandsFor c list
+
+-- Where the range that was read is that of a body of these records, this is the body: behind other records it lies 5
+-- bytes behind their end.
+abbrev pub HoldsBody : ℕ → List ℕ → List (List ℕ) → Type 0
+HoldsBody place read list = (front : List (List ℕ)) (body : List ℕ) (back : List (List ℕ)) → list ≡ front ++ body ∷ back
+    → place ≡ behind 16 front + 5 → length read ≡ length body → read ≡ body
 
 module _ {D : Type 0} {g : Ghosts D} where
   abbrev pub disk_of : Journal D g → D

@@ -29,7 +29,7 @@ pub struct Journal<D: Disk> {
 }
 
 impl<D: Disk> Journal<D> {
-    ghost use Rattle.journal_core.specs.Words.{disk_of, end_of, is_broken, records, Leaves};
+    ghost use Rattle.journal_core.specs.Words.{disk_of, end_of, is_broken, records, Leaves, HoldsBody};
 
     /// Adds a record of 1 to 131,072 bytes. At Ok a crash leaves the records with it; at any moment of the call it leaves
     /// the old records, or these and the new one.
@@ -51,17 +51,20 @@ impl<D: Disk> Journal<D> {
         self.put(body)
     }
 
-    /// Fills `out` with the bytes from a place on. Its range ends at or below the end.
+    /// Fills `out` with the bytes from a place on. Its range ends at or below the end. Over the range of a body it gives
+    /// that body. The first body lies at place 21, each later one 5 bytes behind the end of the one before.
     pub fn read(&mut self, place: u64, out: &mut [u8]) -> Result<(), Failed>
         requires { place + length out.old ≤ end_of self.old }
         ensures read { OnOk result (IfSome (D.told (disk_of self.old)) (λ bytes. out.new ≡ part place (length out.old) bytes)) }
+        ensures body { OnOk result (is_broken self.old ≡ false → IfSome (records self.old) (HoldsBody place out.new)) }
         ensures records { records self.new ≡ records self.old }
         ensures end { end_of self.new ≡ end_of self.old }
         ensures broken { is_broken self.new ≡ is_broken self.old }
         ensures looks { Looks D.Disk (disk_of self.old) (disk_of self.new) }
         ensures cause { HasCause (D.faults (disk_of self.old)) (D.faults (disk_of self.new)) result }
     {
-        look_at(&mut self.disk, place, out)
+        look_at(&mut self.disk, place, out)?;
+        Ok(())
     }
 
     /// The place behind the closed gate. The next body would begin four bytes further on.

@@ -1,8 +1,10 @@
-use Rattle.std.proofs.Common.{◌≡◌, ◌+◌, ◌≤◌, ℕ, List, length, take, [], ◌∷◌, ◌++◌, option_map, true, false, sym, ap, subst, ◌∙◌, refl, arith, rules}
+use Rattle.std.proofs.Common.{◌≡◌, ◌+◌, ◌≤◌, IfSome, Some, ℕ, List, length, take, [], ◌∷◌, ◌++◌, option_map, true, false, sym, ap, subst, ◌∙◌, refl, arith, rules}
 use Rattle.std.proofs.lemmas.List.{length-take, with_items_is}
 use Rattle.std.specs.Vec.{with_items}
-use Rattle.journal_core.specs.Format.{records_before}
-use Rattle.journal_core.proofs.OpeningSteps.{step_reading, step_list, same_list, only_fails}
+use Rattle.journal_core.specs.Format.{IsClosedAt, records_before}
+use Rattle.journal_core.proofs.OpeningSteps.{step_reading, step_list, same_reading, same_list, only_fails, refused_walk, ended_stands, ended_walk}
+use Rattle.disk_core.proofs.Moments.{no_look}
+use Rattle.journal_core.proofs.Told.{at_told}
 use Rattle.journal_core.proofs.opening.Opening.step.Goals as goal
 
 length_is : (n : ℕ) (buffer : List ℕ) → length buffer ≡ 131094 → n ≤ 131072 → length (take n buffer) ≡ n
@@ -54,6 +56,7 @@ returns-in-Ok-Some g c =
         reason = λ none. tt;
         kind = λ none. tt;
         whole = λ none. tt;
+        walk = λ none. tt;
         looks = c.read_record.ensures.looks;
       },
     )
@@ -72,6 +75,55 @@ returns-in-Err g c = (
     kind = λ none. c.in-Err.ensures.kind;
     whole = λ none. only_fails g.D.Disk c.args.self.now.disk c.read_record.new.disk c.read_record.ensures.looks c.args.self.now.place c.args.self.now.reading
         _ c.in-Err.ensures.reason c.in-Err.ensures.kind;
+    walk = λ none. refused_walk g.D.Disk c.args.self.now.disk c.read_record.new.disk c.read_record.ensures.looks c.args.self.now.place c.args.self.now.reading
+        _ c.in-Err.ensures.reason;
     looks = c.read_record.ensures.looks;
   },
 )
+
+pub returns-then-self : goal.returns-then-self
+returns-then-self g c =
+    let closed = c.args.self.now.closed c.if-self.true in (
+      record {
+        list = refl;
+        ended = c.if-self.true;
+        goes_on = c.in-None.is;
+        stands = ended_stands g.D.Disk c.args.self.now.disk c.args.self.now.place c.args.self.now.reading closed;
+        walk = ended_walk g.D.Disk c.args.self.now.disk c.args.self.now.place c.args.self.now.reading closed;
+      },
+      record {
+        again = rw c.in-None.is tt;
+        rests = λ ended none. (refl, refl, refl);
+        reason = λ none. tt;
+        kind = λ none. tt;
+        whole = λ none. tt;
+        walk = λ none. tt;
+        looks = no_look g.D.Disk c.args.self.now.disk (g.met.D.Disk.only_now _);
+      },
+    )
+
+pub returns-in-Ok-None : goal.returns-in-Ok-None
+returns-in-Ok-None g c =
+    let place = c.args.self.now.place in
+    let looks = c.read_record.ensures.looks in
+    let reading = same_reading g.D.Disk c.args.self.now.disk c.read_record.new.disk looks place c.args.self.now.reading in
+    let found : IfSome (g.D.Disk.told c.args.self.now.disk) (λ b. IsClosedAt b place) = rw c.in-Ok-None.field-0-is at c.in-Ok-None.ensures.found in
+    let closed : (b : List ℕ) → g.D.Disk.told c.read_record.new.disk ≡ Some b → IsClosedAt b place
+    = λ b told. at_told (λ (bytes : List ℕ). IsClosedAt bytes place) (g.D.Disk.told c.args.self.now.disk) b (sym looks.told ∙ told) found in (
+      record {
+        list = same_list g.D.Disk c.args.self.now.disk c.read_record.new.disk looks place c.args.self.now.reading;
+        ended = refl;
+        goes_on = c.in-None.is;
+        stands = ended_stands g.D.Disk c.read_record.new.disk place reading closed;
+        walk = ended_walk g.D.Disk c.read_record.new.disk place reading closed;
+      },
+      record {
+        again = rw c.in-None.is tt;
+        rests = λ ended none. let wrong : true ≡ false = sym ended ∙ c.if-self.false in cc;
+        reason = λ none. tt;
+        kind = λ none. tt;
+        whole = λ none. tt;
+        walk = λ none. tt;
+        looks = looks;
+      },
+    )

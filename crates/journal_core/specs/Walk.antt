@@ -1,0 +1,35 @@
+-- The reading of a file as a function of its bytes: its whole records from the first one on, and how it ends.
+use Rattle.std.specs.Prelude.{ℕ, zero, suc, ◌+◌, ◌==◌, ◌||◌, nat_lt, if◌then◌else◌, List, [], ◌∷◌, length, slice_index}
+use Rattle.journal_core.specs.Format.{size_at, body_at}
+
+-- at a closed gate; at a place where an open record has a bad length; where the file ends too early
+pub data Ending : Type 0 where
+  at_gate : Ending
+  at_bad_length : ℕ → Ending
+  at_cut : ℕ → Ending
+
+pub record Walk : Type 0 where
+  pub records : List (List ℕ)
+  pub end : Ending
+
+abbrev pub ends_here : Ending → Walk
+ends_here end = record { records = []; end = end }
+
+abbrev pub with_record : List ℕ → Walk → Walk
+with_record body walk = record { records = body ∷ walk.records; end = walk.end }
+
+-- from a place on, at most so many steps
+abbrev pub walk_from : ℕ → List ℕ → ℕ → Walk
+walk_from zero bytes place = ends_here (at_cut place)
+walk_from (suc most) bytes place =
+    if nat_lt place (length bytes)
+    then (if slice_index bytes place == 0 then ends_here at_gate
+    else (if nat_lt (length bytes) (place + 5) then ends_here (at_cut place)
+    else (if (size_at bytes place == 0) || nat_lt 131072 (size_at bytes place) then ends_here (at_bad_length place)
+    else (if nat_lt (length bytes) (place + 5 + size_at bytes place) then ends_here (at_cut place)
+    else with_record (body_at bytes place) (walk_from most bytes (place + 5 + size_at bytes place))))))
+    else ends_here (at_cut place)
+
+-- behind the header
+unfoldable pub walk_of : List ℕ → Walk
+walk_of bytes = walk_from (length bytes) bytes 16
