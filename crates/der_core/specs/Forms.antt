@@ -1,12 +1,13 @@
 -- What is read is spelled so, and what is spelled so is read again: elements and contents.
-use Rattle.std.specs.Prelude.{◌≡◌, ℕ, ◌<◌, ◌≤◌, Bool, true, false, List, [], ◌∷◌, length, Result, Ok}
+use Rattle.std.specs.Prelude.{slice_index, flat_map, ◌≡◌, ◌≢◌, ℕ, ◌<◌, ◌≤◌, Bool, true, false, List, [], ◌∷◌, length, Result, Ok}
+use Rattle.std.specs.List.{AllByRecursion}
 use Rattle.std.specs.Ordering.{nat_cmp, is_gt}
 use Rattle.std.specs.Cmp.Lexicographic.{slice_cmp}
 use Rattle.byte_forms.specs.Places.{At, IsBytes}
-use Rattle.byte_forms.specs.Forms.{Stands}
+use Rattle.byte_forms.specs.Forms.{Stands, itself}
 use Rattle.der_core.specs.Elements.{element, FitsElement}
 use Rattle.der_core.specs.Items.{Item}
-use Rattle.der_core.specs.Contents.{are_arcs, are_unused}
+use Rattle.der_core.specs.Contents.{are_unused}
 use Rattle.der_core.specs.Sets.{last_of}
 use Rattle.der_core.specs.declared.fault.DerError.{DerError}
 
@@ -43,10 +44,23 @@ boolean true = 255 ∷ []
 abbrev pub FitsBoolean : Bool → Type 0
 FitsBoolean b = Unit {0}
 
--- The contents of an OBJECT IDENTIFIER: arcs, at least one.
+-- Bytes of which the last alone has a highest bit of 0.
+abbrev pub EndsOnce : List ℕ → Type 0
+EndsOnce [] = ⊥
+EndsOnce (b ∷ []) = b < 128
+EndsOnce (b ∷ c ∷ bytes) = (128 ≤ b) × EndsOnce (c ∷ bytes)
+
+-- The bytes of one arc, in the fewest: the first digit in base 128 isn't 0 (X.690, 8.19.2).
+pub record IsArc (bytes : List ℕ) : Type 0 where
+  pub ends : EndsOnce bytes
+  pub fewest : slice_index bytes 0 ≢ 128
+
+-- The contents of an OBJECT IDENTIFIER: arcs one behind the other, at least one.
 pub record IsOid (contents : List ℕ) : Type 0 where
+  pub arcs : List (List ℕ)
+  pub are_arcs : AllByRecursion IsArc arcs
+  pub spelled : contents ≡ flat_map itself arcs
   pub some : 0 < length contents
-  pub arcs : are_arcs true contents ≡ true
 
 -- The contents of a BIT STRING: the number of unused bits and the bytes.
 abbrev pub bit_string : ℕ × List ℕ → List ℕ

@@ -2,8 +2,14 @@
 //! `verify`; and keys and signatures made here, as their SHA-256, to be compared with those of another
 //! implementation.
 //!
-//! A line of the input is `hss LABEL KEY MESSAGE SIGNATURE`, the same with `lms` for one tree alone, or
-//! `sign HEIGHT WIDTH SECRET NEXT MESSAGE ..`; bytes are hexadecimal, and `-` is no bytes.
+//! A line of the input is one of these; bytes are hexadecimal, and `-` is no bytes.
+//!
+//! - `hss LABEL KEY MESSAGE SIGNATURE`, and `lms` with the same words for one tree alone. A label tells
+//!   the height and the width of each level, as `h5w4/h10w1`, and behind a colon what was changed:
+//!   `s7` or `k7` byte 7 of the signature or of the key, `cut4` all behind 4 bytes, `long` a byte more.
+//! - `tree HEIGHT WIDTH SECRET`: the public key of the tree.
+//! - `sign HEIGHT WIDTH SECRET NEXT MESSAGE ..`: the public key, and for each message the number used,
+//!   the signature's length and SHA-256, and what `verify` says of it.
 #![tactic(auto)]
 
 mod signing;
@@ -18,7 +24,8 @@ fn answer(alloc: Global, line: &str) -> Result<String> {
     match line.split_once(' ') {
         Some(("hss", rest)) => verifying::answer(alloc, rest, false),
         Some(("lms", rest)) => verifying::answer(alloc, rest, true),
-        Some(("sign", rest)) => signing::answer(alloc, rest),
+        Some(("tree", rest)) => signing::tree_answer(alloc, rest),
+        Some(("sign", rest)) => signing::key_answer(alloc, rest),
         _ => bail!("a line that is not known"),
     }
 }

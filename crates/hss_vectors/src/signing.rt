@@ -4,6 +4,7 @@ ghost use Rattle.lms_core.specs.Heights.{height};
 use crate::verifying::{bytes_of, name_of};
 use anyhow::{Context, Result, bail, ensure};
 use hss_core::{Key, LmsType, OtsType, SigBuf, verify};
+use lms_core::Tree;
 use sha2::{Digest, Sha256};
 use std::alloc::Global;
 
@@ -28,18 +29,39 @@ fn width_of(word: &str) -> Option<OtsType> {
     }
 }
 
+// The bytes of a secret.
+fn secret_of(alloc: Global, word: &str) -> Result<[u8; 48]> {
+    let bytes = bytes_of(alloc, word)?;
+    ensure!(bytes.len() == 48, "no secret of 48 bytes");
+    let mut secret = [0; 48];
+    secret.copy_from_slice(&bytes);
+    Ok(secret)
+}
+
 // The key that the words describe.
 fn key_of(alloc: Global, height: &str, width: &str, secret: &str, next: &str) -> Result<Key> {
     let lms = height_of(height).context("no height of keys")?;
     let ots = width_of(width).context("no width")?;
-    let bytes = bytes_of(alloc, secret)?;
-    ensure!(bytes.len() == 48, "no secret of 48 bytes");
-    let mut secret = [0; 48];
-    secret.copy_from_slice(&bytes);
+    let secret = secret_of(alloc, secret)?;
     let next = next.parse::<u32>().context("no number")?;
     ensure!(next <= lms.leaves(), "no number of the tree");
     match Key::make(alloc, lms, ots, &secret, next) {
         Ok(key) => Ok(key),
+        Err(_) => bail!("no memory"),
+    }
+}
+
+// The public key of the tree, for `HEIGHT WIDTH SECRET`.
+pub fn tree_answer(alloc: Global, rest: &str) -> Result<String> {
+    let mut words = rest.split(' ');
+    let lms = height_of(words.next().context("no height")?).context("no height of trees")?;
+    let ots = width_of(words.next().context("no width")?).context("no width")?;
+    let secret = secret_of(alloc, words.next().context("no secret")?)?;
+    match Tree::make(alloc, lms, ots, &secret) {
+        Ok(tree) => {
+            let public = hex::encode(alloc, tree.public())?;
+            Ok(format!(in alloc; "{public}\n")?)
+        }
         Err(_) => bail!("no memory"),
     }
 }
@@ -59,7 +81,7 @@ fn signed(alloc: Global, key: &mut Key, message: &[u8]) -> Result<String> {
 }
 
 // The public key and each signature in turn, for `HEIGHT WIDTH SECRET NEXT MESSAGE ..`.
-pub fn answer(alloc: Global, rest: &str) -> Result<String> {
+pub fn key_answer(alloc: Global, rest: &str) -> Result<String> {
     let mut words = rest.split(' ');
     let height = words.next().context("no height")?;
     let width = words.next().context("no width")?;
