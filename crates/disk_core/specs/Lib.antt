@@ -8,4 +8,5 @@ pub mod Plan
 pub mod Replay
 pub mod ReplayLaws
 pub mod Same
+pub mod Torn
 pub mod Writes

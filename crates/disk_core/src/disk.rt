@@ -35,10 +35,12 @@ pub trait Disk {
     /// The number of bytes.
     fn len(&mut self) -> Result<u64, Failed>
         ensures length { IfOk result (λ n. IfSome (told self.old) (λ b. n ≡ length b)) }
-        ensures known { MatchResult result (λ n. known self.new ≡ max n (known self.old)) (λ _. known self.new ≡ known self.old) }
+        ensures known { MatchResult result (λ n. known self.new ≡ max n (known self.old))
+            (λ _. known self.new ≡ known self.old) }
         ensures told { told self.new ≡ told self.old }
         ensures crash { NoNew (may_leave self.old) (may_leave self.new) }
-        ensures time { Elapses (moment self.old) (moment self.new) (left_since self.old) (left_since self.new) (may_leave self.new) }
+        ensures time { Elapses (moment self.old) (moment self.new) (left_since self.old)
+            (left_since self.new) (may_leave self.new) }
         ensures clock { OnOk result (Rose (moment self.old) (moment self.new)) }
         ensures cause { HasCause (faults self.old) (faults self.new) result }
         ensures turn { turn self.old false (is_ok result) self.new };
@@ -46,11 +48,13 @@ pub trait Disk {
     /// Fills `out` with the bytes from a place on. Its range ends at or below the known length.
     fn read_at(&mut self, place: u64, out: &mut [u8]) -> Result<(), Failed>
         requires { place + length out.old ≤ known self.old }
-        ensures read { OnOk result (IfSome (told self.old) (λ b. out.new ≡ part place (length out.old) b)) }
+        ensures read { OnOk result (IfSome (told self.old)
+            (λ b. out.new ≡ part place (length out.old) b)) }
         ensures known { known self.new ≡ known self.old }
         ensures told { told self.new ≡ told self.old }
         ensures crash { NoNew (may_leave self.old) (may_leave self.new) }
-        ensures time { Elapses (moment self.old) (moment self.new) (left_since self.old) (left_since self.new) (may_leave self.new) }
+        ensures time { Elapses (moment self.old) (moment self.new) (left_since self.old)
+            (left_since self.new) (may_leave self.new) }
         ensures clock { OnOk result (Rose (moment self.old) (moment self.new)) }
         ensures cause { HasCause (faults self.old) (faults self.new) result }
         ensures turn { turn self.old false (is_ok result) self.new };
@@ -59,12 +63,15 @@ pub trait Disk {
     fn write_at(&mut self, place: u64, bytes: &[u8]) -> Result<(), Failed>
         requires place { place ≤ known self.old }
         requires end { place + length bytes.now < 2 ^ 63 }
-        ensures written { OnOk result (told self.new ≡ option_map (overwritten place bytes.now) (told self.old)) }
+        ensures written { OnOk result (told self.new ≡ option_map (overwritten place bytes.now)
+            (told self.old)) }
         ensures known { OnOk result (known self.new ≡ max (place + length bytes.now) (known self.old)) }
         ensures known_err { OnErr result (known self.new ≡ known self.old) }
         ensures told_err { OnErr result (is_some (told self.new) ≡ is_some (told self.old)) }
-        ensures crash { Follows (Torn place (length bytes.now)) (may_leave self.old) (may_leave self.new) }
-        ensures time { Elapses (moment self.old) (moment self.new) (left_since self.old) (left_since self.new) (may_leave self.new) }
+        ensures crash { Follows (Torn place (length bytes.now)) (may_leave self.old)
+            (may_leave self.new) }
+        ensures time { Elapses (moment self.old) (moment self.new) (left_since self.old)
+            (left_since self.new) (may_leave self.new) }
         ensures clock { OnOk result (Rose (moment self.old) (moment self.new)) }
         ensures cause { HasCause (faults self.old) (faults self.new) result }
         ensures turn { turn self.old true (is_ok result) self.new };
@@ -75,7 +82,8 @@ pub trait Disk {
         ensures known { known self.new ≡ known self.old }
         ensures told { told self.new ≡ told self.old }
         ensures crash { NoNew (may_leave self.old) (may_leave self.new) }
-        ensures time { Elapses (moment self.old) (moment self.new) (left_since self.old) (left_since self.new) (may_leave self.new) }
+        ensures time { Elapses (moment self.old) (moment self.new) (left_since self.old)
+            (left_since self.new) (may_leave self.new) }
         ensures clock { OnOk result (Rose (moment self.old) (moment self.new)) }
         ensures cause { HasCause (faults self.old) (faults self.new) result }
         ensures turn { turn self.old true (is_ok result) self.new };
@@ -87,7 +95,8 @@ pub trait Disk {
     ghost known_there: { (d : Self) (b : List ℕ) → told d ≡ Some b → known d ≤ length b };
 
     /// This moment is one of those since an earlier one.
-    ghost counts_now: { (d : Self) (t : ℕ) (c : List ℕ) → t ≤ moment d → may_leave d c → left_since d t c };
+    ghost counts_now: { (d : Self) (t : ℕ) (c : List ℕ) → t ≤ moment d → may_leave d c
+        → left_since d t c };
 
     /// Since this moment there is no other.
     ghost only_now: { (d : Self) (c : List ℕ) → left_since d (moment d) c → may_leave d c };

@@ -12,6 +12,7 @@
 mod disk;
 mod file;
 mod fuse;
+mod laws;
 mod memory;
 mod steps;
 #[cfg(test)]
@@ -20,5 +21,6 @@ mod tests;
 pub use disk::Disk;
 pub use file::FileDisk;
 pub use fuse::Fuse;
+pub use laws::{a_torn_write_keeps_others, torn_writes_keep_others};
 pub use memory::{Call, Made, MemDisk};
 pub use steps::{look_at, look_len, look_settled, write_synced};

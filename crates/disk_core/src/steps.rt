@@ -12,12 +12,14 @@ use mtc_io::Failed;
 pub fn write_synced<D: Disk>(disk: &mut D, place: u64, bytes: &[u8]) -> Result<(), Failed>
     requires place { place ≤ D.known disk.old }
     requires end { place + length bytes.now < 2 ^ 63 }
-    ensures written { OnOk result (D.told disk.new ≡ option_map (overwritten place bytes.now) (D.told disk.old)) }
+    ensures written { OnOk result (D.told disk.new ≡ option_map (overwritten place bytes.now)
+        (D.told disk.old)) }
     ensures durable { OnOk result (IfSome (D.told disk.new) (λ b. Only b (D.may_leave disk.new))) }
     ensures known { OnOk result (D.known disk.new ≡ max (place + length bytes.now) (D.known disk.old)) }
     ensures known_kept { D.known disk.old ≤ D.known disk.new }
     ensures told { is_some (D.told disk.new) ≡ is_some (D.told disk.old) }
-    ensures any_moment { LeavesOnly D.Disk disk.old disk.new (λ c. (d : List ℕ) × D.may_leave disk.old d × Torn place (length bytes.now) d c) }
+    ensures any_moment { LeavesOnly D.Disk disk.old disk.new
+        (λ c. (d : List ℕ) × D.may_leave disk.old d × Torn place (length bytes.now) d c) }
     ensures clock { OnOk result (Rose (D.moment disk.old) (D.moment disk.new)) }
     ensures cause { HasCause (D.faults disk.old) (D.faults disk.new) result }
 {
@@ -28,7 +30,8 @@ pub fn write_synced<D: Disk>(disk: &mut D, place: u64, bytes: &[u8]) -> Result<(
 /// The number of bytes, as [`Disk::len`].
 pub fn look_len<D: Disk>(disk: &mut D) -> Result<u64, Failed>
     ensures length { IfOk result (λ n. IfSome (D.told disk.old) (λ b. n ≡ length b)) }
-    ensures known { MatchResult result (λ n. D.known disk.new ≡ max n (D.known disk.old)) (λ _. D.known disk.new ≡ D.known disk.old) }
+    ensures known { MatchResult result (λ n. D.known disk.new ≡ max n (D.known disk.old))
+        (λ _. D.known disk.new ≡ D.known disk.old) }
     ensures looks { Looks D.Disk disk.old disk.new }
     ensures clock { OnOk result (Rose (D.moment disk.old) (D.moment disk.new)) }
     ensures cause { HasCause (D.faults disk.old) (D.faults disk.new) result }

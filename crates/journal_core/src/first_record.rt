@@ -15,7 +15,8 @@ use std::alloc::Global;
 fn write_first<D: Disk>(disk: &mut D, bytes: &[u8]) -> Result<(), Failed>
     requires some { 22 ≤ length bytes.now }
     requires few { length bytes.now ≤ 131094 }
-    ensures written { OnOk result (D.told disk.new ≡ option_map (λ b. overwritten 16 (1 ∷ []) (overwritten 0 bytes.now b)) (D.told disk.old)) }
+    ensures written { OnOk result (D.told disk.new ≡ option_map
+        (λ b. overwritten 16 (1 ∷ []) (overwritten 0 bytes.now b)) (D.told disk.old)) }
     ensures durable { OnOk result (IfSome (D.told disk.new) (λ b. Only b (D.may_leave disk.new))) }
     ensures known { OnOk result (length bytes.now ≤ D.known disk.new) }
     ensures told { is_some (D.told disk.new) ≡ is_some (D.told disk.old) }

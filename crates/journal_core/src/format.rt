@@ -25,7 +25,8 @@ pub(crate) fn buffer(alloc: Global) -> Result<Vec<u8>, Memory>
 fn put(buffer: &mut Vec<u8>, at: usize, piece: &[u8])
     requires { at + length piece.now ≤ length buffer.old.items }
     ensures length { length buffer.new.items ≡ length buffer.old.items }
-    ensures front { take (at + length piece.now) buffer.new.items ≡ take at buffer.old.items ++ piece.now }
+    ensures front { take (at + length piece.now)
+        buffer.new.items ≡ take at buffer.old.items ++ piece.now }
 {
     buffer[at..at + piece.len()].copy_from_slice(piece);
 }

@@ -25,7 +25,8 @@ pub struct Journal<D: Disk> {
     ghost room: { length buffer.items ≡ 131094 },
     ghost there: { end ≤ D.Disk.known disk },
     ghost begun: { 17 ≤ end },
-    ghost settled: { broken ≡ false → (b : List ℕ) → D.Disk.told disk ≡ Some b → IsSettled b (D.Disk.may_leave disk) end } by { Prim.hlevel (props, IsSettled-prop) },
+    ghost settled: { broken ≡ false → (b : List ℕ) → D.Disk.told disk ≡ Some b
+        → IsSettled b (D.Disk.may_leave disk) end } by { Prim.hlevel (props, IsSettled-prop) },
 }
 
 impl<D: Disk> Journal<D> {
@@ -41,12 +42,19 @@ impl<D: Disk> Journal<D> {
         requires few { length body.now ≤ 131072 }
         ensures leaves { Leaves body.now self.old self.new result }
         ensures broken { IsErrOf result AppendError.Broken ↔ IsTrue (is_broken self.old) }
-        ensures full { IsErrOf result AppendError.Full ↔ (is_broken self.old ≡ false) × (2 ^ 31 < end_of self.old + 5 + length body.now) }
+        ensures full { IsErrOf result AppendError.Full ↔ (is_broken self.old ≡ false)
+            × (2 ^ 31 < end_of self.old + 5 + length body.now) }
         ensures told { is_some (records self.new) ≡ is_some (records self.old) }
         ensures count { D.faults (disk_of self.old) ≤ D.faults (disk_of self.new) }
-        ensures as_read { is_broken self.old ≡ false → IfSome (records self.old) (λ list. IfSome (D.told (disk_of self.new)) (StandsForEither list body.now)) }
-        ensures afterwards { is_broken self.old ≡ false → IfSome (records self.old) (λ list. (c : List ℕ) → D.may_leave (disk_of self.new) c → StandsForEither list body.now c) }
-        ensures any_moment { is_broken self.old ≡ false → IfSome (records self.old) (λ list. LeavesOnly D.Disk (disk_of self.old) (disk_of self.new) (StandsForEither list body.now)) }
+        ensures as_read { is_broken self.old ≡ false
+            → IfSome (records self.old) (λ list. IfSome (D.told (disk_of self.new))
+            (StandsForEither list body.now)) }
+        ensures afterwards { is_broken self.old ≡ false
+            → IfSome (records self.old) (λ list. (c : List ℕ) → D.may_leave (disk_of self.new) c
+            → StandsForEither list body.now c) }
+        ensures any_moment { is_broken self.old ≡ false
+            → IfSome (records self.old) (λ list. LeavesOnly D.Disk (disk_of self.old) (disk_of self.new)
+            (StandsForEither list body.now)) }
     {
         self.put(body)
     }
@@ -55,8 +63,10 @@ impl<D: Disk> Journal<D> {
     /// that body. The first body lies at place 21, each later one 5 bytes behind the end of the one before.
     pub fn read(&mut self, place: u64, out: &mut [u8]) -> Result<(), Failed>
         requires { place + length out.old ≤ end_of self.old }
-        ensures read { OnOk result (IfSome (D.told (disk_of self.old)) (λ bytes. out.new ≡ part place (length out.old) bytes)) }
-        ensures body { OnOk result (is_broken self.old ≡ false → IfSome (records self.old) (HoldsBody place out.new)) }
+        ensures read { OnOk result (IfSome (D.told (disk_of self.old))
+            (λ bytes. out.new ≡ part place (length out.old) bytes)) }
+        ensures body { OnOk result (is_broken self.old ≡ false
+            → IfSome (records self.old) (HoldsBody place out.new)) }
         ensures records { records self.new ≡ records self.old }
         ensures end { end_of self.new ≡ end_of self.old }
         ensures broken { is_broken self.new ≡ is_broken self.old }
@@ -85,9 +95,12 @@ impl<D: Disk> Journal<D> {
         requires few { length body.now ≤ 131072 }
         ensures leaves { Leaves body.now self.old self.new result }
         ensures broken { IsErrOf result AppendError.Broken ↔ IsTrue (is_broken self.old) }
-        ensures full { IsErrOf result AppendError.Full ↔ (is_broken self.old ≡ false) × (2 ^ 31 < end_of self.old + 5 + length body.now) }
+        ensures full { IsErrOf result AppendError.Full ↔ (is_broken self.old ≡ false)
+            × (2 ^ 31 < end_of self.old + 5 + length body.now) }
         ensures told { is_some (records self.new) ≡ is_some (records self.old) }
-        ensures any_moment { is_broken self.old ≡ false → IfSome (records self.old) (λ list. LeavesOnly D.Disk (disk_of self.old) (disk_of self.new) (StandsForEither list body.now)) }
+        ensures any_moment { is_broken self.old ≡ false
+            → IfSome (records self.old) (λ list. LeavesOnly D.Disk (disk_of self.old) (disk_of self.new)
+            (StandsForEither list body.now)) }
         ensures count { D.faults (disk_of self.old) ≤ D.faults (disk_of self.new) }
     {
         if self.broken {

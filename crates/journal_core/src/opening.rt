@@ -32,14 +32,17 @@ pub struct Opening<D: Disk> {
     ghost begun: { 16 ≤ place },
     ghost within: { ended ≡ true → place < size },
     ghost exact: { (b : List ℕ) → D.Disk.told disk ≡ Some b → size ≡ length b },
-    ghost reading: { (b : List ℕ) → D.Disk.told disk ≡ Some b → IsReading b (D.Disk.may_leave disk) place } by { Prim.hlevel (props, IsReading-prop) },
-    ghost closed: { ended ≡ true → (b : List ℕ) → D.Disk.told disk ≡ Some b → IsClosedAt b place } by { Prim.hlevel (props, IsClosedAt-prop) },
+    ghost reading: { (b : List ℕ) → D.Disk.told disk ≡ Some b
+        → IsReading b (D.Disk.may_leave disk) place } by { Prim.hlevel (props, IsReading-prop) },
+    ghost closed: { ended ≡ true → (b : List ℕ) → D.Disk.told disk ≡ Some b
+        → IsClosedAt b place } by { Prim.hlevel (props, IsClosedAt-prop) },
 }
 
 // The header stands where it is to stand.
 fn read_header<D: Disk>(disk: &mut D) -> Result<bool, Failed>
     requires { 16 ≤ D.known disk.old }
-    ensures header { IfOk result (λ is. IfSome (D.told disk.old) (λ b. MatchBool is (take 16 b ≡ header) (take 16 b ≢ header))) }
+    ensures header { IfOk result (λ is. IfSome (D.told disk.old)
+        (λ b. MatchBool is (take 16 b ≡ header) (take 16 b ≢ header))) }
     ensures known { D.known disk.new ≡ D.known disk.old }
     ensures looks { Looks D.Disk disk.old disk.new }
     ensures cause { HasCause (D.faults disk.old) (D.faults disk.new) result }
@@ -51,7 +54,8 @@ fn read_header<D: Disk>(disk: &mut D) -> Result<bool, Failed>
 
 // The length of a file that begins with the header. All of it is on the disk then.
 fn measure<D: Disk>(disk: &mut D) -> Result<Option<u64>, Failed>
-    ensures header { IfOk result (λ r. IfSome (D.told disk.old) (λ b. MatchOption r (take 16 b ≢ header) (λ n. (take 16 b ≡ header) × (n ≡ length b)))) }
+    ensures header { IfOk result (λ r. IfSome (D.told disk.old)
+        (λ b. MatchOption r (take 16 b ≢ header) (λ n. (take 16 b ≡ header) × (n ≡ length b)))) }
     ensures known { IfOk result (λ r. IfSome r (λ n. (16 ≤ n) × (n ≤ D.known disk.new))) }
     ensures durable { OnOk result (IfSome (D.told disk.new) (λ b. Only b (D.may_leave disk.new))) }
     ensures looks { Looks D.Disk disk.old disk.new }
@@ -81,7 +85,8 @@ impl<D: Disk> Opening<D> {
         ensures ok { IfOk result (HasBegun disk) }
         ensures reason { IfErr result (λ e. HasReason D.Disk disk e.disk 0 e.why) }
         ensures kind { IfErr result (λ e. IsOfHeader e.why) }
-        ensures whole { IfErr result (λ e. IfSome (D.told disk) (λ bytes. (list : List (List ℕ)) → StandsFor bytes list → e.why ≢ OpenError.NotJournal)) }
+        ensures whole { IfErr result (λ e. IfSome (D.told disk)
+            (λ bytes. (list : List (List ℕ)) → StandsFor bytes list → e.why ≢ OpenError.NotJournal)) }
         ensures looks { IfErr result (λ e. Looks D.Disk disk e.disk) }
     {
         let size = match measure(&mut disk) {
@@ -110,7 +115,8 @@ impl<D: Disk> Opening<D> {
     /// record; `BadLength` where an open record's length is 0 or above 131,072; `Failed`. A file that is a journal is
     /// refused for a fault alone. It takes no memory.
     pub fn next(&mut self) -> Result<Option<&[u8]>, OpenError>
-        ensures* after_borrow { sem 𝓛 (Rests (the_row D.row D.Disk) self.entry (λ new. Nexts self.old new result)) }
+        ensures* after_borrow { sem 𝓛 (Rests (the_row D.row D.Disk) self.entry
+            (λ new. Nexts self.old new result)) }
     {
         match self.step() {
             Ok(true) => Ok(Some(self.last())),

@@ -34,7 +34,8 @@ fn number(bytes: &[u8; 4]) -> u32
 fn read_size<D: Disk>(disk: &mut D, place: u64) -> Result<u32, Failed>
     requires there { place + 5 ≤ D.known disk.old }
     requires fits { place + 5 < 2 ^ 64 }
-    ensures size { IfOk result (λ n. IfSome (D.told disk.old) (λ b. part (place + 1) 4 b ≡ to_be_bytes w32 n)) }
+    ensures size { IfOk result (λ n. IfSome (D.told disk.old)
+        (λ b. part (place + 1) 4 b ≡ to_be_bytes w32 n)) }
     ensures known { D.known disk.new ≡ D.known disk.old }
     ensures looks { Looks D.Disk disk.old disk.new }
     ensures cause { HasCause (D.faults disk.old) (D.faults disk.new) result }
@@ -53,7 +54,8 @@ fn read_front<D: Disk>(
 ) -> Result<(), Failed>
     requires there { place + count ≤ D.known disk.old }
     requires room { count ≤ length buffer.old }
-    ensures read { OnOk result (IfSome (D.told disk.old) (λ b. take count buffer.new ≡ part place count b)) }
+    ensures read { OnOk result (IfSome (D.told disk.old)
+        (λ b. take count buffer.new ≡ part place count b)) }
     ensures known { D.known disk.new ≡ D.known disk.old }
     ensures looks { Looks D.Disk disk.old disk.new }
     ensures cause { HasCause (D.faults disk.old) (D.faults disk.new) result }
@@ -74,7 +76,8 @@ fn read_body<D: Disk>(
     requires open_gate { IfSome (D.told disk.old) (λ b. slice_index b place ≢ 0) }
     requires within { place < size }
     requires room { length buffer.old ≡ 131094 }
-    ensures body { IfOk result (λ n. IfSome (D.told disk.old) (λ b. IsRecordAt b place (take n buffer.new))) }
+    ensures body { IfOk result (λ n. IfSome (D.told disk.old)
+        (λ b. IsRecordAt b place (take n buffer.new))) }
     ensures some { IfOk result (λ n. 1 ≤ n) }
     ensures few { IfOk result (λ n. n ≤ 131072) }
     ensures end { IfOk result (λ n. place + 5 + n ≤ size) }
@@ -108,8 +111,10 @@ pub(crate) fn read_record<D: Disk>(
     requires there { size ≤ D.known disk.old }
     requires exact { IfSome (D.told disk.old) (λ b. size ≡ length b) }
     requires room { length buffer.old ≡ 131094 }
-    ensures found { IfOk result (λ r. MatchOption r (IfSome (D.told disk.old) (λ b. IsClosedAt b place)) (λ n. IfSome (D.told disk.old) (λ b. IsRecordAt b place (take n buffer.new)))) }
-    ensures within { IfOk result (λ r. MatchOption r (place < size) (λ n. (1 ≤ n) × (n ≤ 131072) × (place + 5 + n ≤ size))) }
+    ensures found { IfOk result (λ r. MatchOption r (IfSome (D.told disk.old) (λ b. IsClosedAt b place))
+        (λ n. IfSome (D.told disk.old) (λ b. IsRecordAt b place (take n buffer.new)))) }
+    ensures within { IfOk result (λ r. MatchOption r (place < size)
+        (λ n. (1 ≤ n) × (n ≤ 131072) × (place + 5 + n ≤ size))) }
     ensures reason { IfErr result (HasReason D.Disk disk.old disk.new place) }
     ensures kind { IfErr result IsOfRecord }
     ensures known { D.known disk.new ≡ D.known disk.old }

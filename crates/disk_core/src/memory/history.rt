@@ -34,7 +34,8 @@ pub(crate) fn overwrite(bytes: &mut Vec<u8>, place: u64, piece: &[u8]) -> Result
 // What a read gives, in a vector of its own for writes.
 fn wake(first: &Bytes, live: &mut Vec<u8>, is_live: &mut bool) -> Result<(), Memory>
     ensures live { OnOk result (is_live.new ≡ true) }
-    ensures same { (if is_live.new then live.new.items else first.now) ≡ (if is_live.old then live.old.items else first.now) }
+    ensures same { (if is_live.new then live.new.items else first.now) ≡
+        (if is_live.old then live.old.items else first.now) }
 {
     if !*is_live {
         *live = Vec::from_slice(*live.allocator(), first.as_slice())?;
@@ -52,9 +53,13 @@ fn write_noted(
 ) -> Result<(), Memory>
     ensures ok { OnOk result (live.new.items ≡ overwritten place piece.now live.old.items) }
     ensures err { OnErr result (live.new.items ≡ live.old.items) }
-    ensures seen { (first : List ℕ) → live.old.items ≡ (state_now first calls.old.items).seen → live.new.items ≡ (state_now first calls.new.items).seen }
-    ensures crash { (first : List ℕ) → Follows (Torn place (length piece.now)) (IsImage (state_now first calls.old.items)) (IsImage (state_now first calls.new.items)) }
-    ensures time { (first : List ℕ) → Elapses (length calls.old.items) (length calls.new.items) (LeftSince first calls.old.items) (LeftSince first calls.new.items) (IsImage (state_now first calls.new.items)) }
+    ensures seen { (first : List ℕ) → live.old.items ≡ (state_now first calls.old.items).seen
+        → live.new.items ≡ (state_now first calls.new.items).seen }
+    ensures crash { (first : List ℕ) → Follows (Torn place (length piece.now))
+        (IsImage (state_now first calls.old.items)) (IsImage (state_now first calls.new.items)) }
+    ensures time { (first : List ℕ) → Elapses (length calls.old.items) (length calls.new.items)
+        (LeftSince first calls.old.items) (LeftSince first calls.new.items)
+        (IsImage (state_now first calls.new.items)) }
     ensures clock { OnOk result (length calls.old.items < length calls.new.items) }
 {
     let piece_kept = Bytes::copy_of(*calls.allocator(), piece)?;
@@ -125,7 +130,8 @@ impl History {
         requires { (s : State) → after_call s call ok ≡ s }
         ensures seen { seen_of self.new ≡ seen_of self.old }
         ensures crash { NoNew (left_of self.old) (left_of self.new) }
-        ensures time { Elapses (moment_of self.old) (moment_of self.new) (since_of self.old) (since_of self.new) (left_of self.new) }
+        ensures time { Elapses (moment_of self.old) (moment_of self.new) (since_of self.old)
+            (since_of self.new) (left_of self.new) }
         ensures clock { OnOk result (moment_of self.old < moment_of self.new) }
     {
         self.calls.push(Made { call, ok })?;
@@ -137,7 +143,8 @@ impl History {
         ensures durable { OnOk result (Only (seen_of self.old) (left_of self.new)) }
         ensures seen { seen_of self.new ≡ seen_of self.old }
         ensures crash { NoNew (left_of self.old) (left_of self.new) }
-        ensures time { Elapses (moment_of self.old) (moment_of self.new) (since_of self.old) (since_of self.new) (left_of self.new) }
+        ensures time { Elapses (moment_of self.old) (moment_of self.new) (since_of self.old)
+            (since_of self.new) (left_of self.new) }
         ensures clock { OnOk result (moment_of self.old < moment_of self.new) }
     {
         self.calls.push(Made {
@@ -151,7 +158,8 @@ impl History {
     pub(crate) fn fail_write(&mut self, place: u64, piece: &[u8]) -> Result<(), Memory>
         ensures seen { seen_of self.new ≡ seen_of self.old }
         ensures crash { Follows (Torn place (length piece.now)) (left_of self.old) (left_of self.new) }
-        ensures time { Elapses (moment_of self.old) (moment_of self.new) (since_of self.old) (since_of self.new) (left_of self.new) }
+        ensures time { Elapses (moment_of self.old) (moment_of self.new) (since_of self.old)
+            (since_of self.new) (left_of self.new) }
     {
         let piece = Bytes::copy_of(*self.calls.allocator(), piece)?;
         self.calls.push(Made {
@@ -165,7 +173,8 @@ impl History {
         ensures ok { OnOk result (seen_of self.new ≡ overwritten place piece.now (seen_of self.old)) }
         ensures err { OnErr result (seen_of self.new ≡ seen_of self.old) }
         ensures crash { Follows (Torn place (length piece.now)) (left_of self.old) (left_of self.new) }
-        ensures time { Elapses (moment_of self.old) (moment_of self.new) (since_of self.old) (since_of self.new) (left_of self.new) }
+        ensures time { Elapses (moment_of self.old) (moment_of self.new) (since_of self.old)
+            (since_of self.new) (left_of self.new) }
         ensures clock { OnOk result (moment_of self.old < moment_of self.new) }
     {
         wake(&self.first, &mut self.live, &mut self.is_live)?;

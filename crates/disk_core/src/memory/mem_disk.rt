@@ -29,7 +29,8 @@ fn look(plan: &mut Plan, past: &mut History, call: Call) -> Result<(), Failed>
     requires { (s : State) (ok : _) → after_call s call ok ≡ s }
     ensures seen { seen_of past.new ≡ seen_of past.old }
     ensures crash { NoNew (left_of past.old) (left_of past.new) }
-    ensures time { Elapses (moment_of past.old) (moment_of past.new) (since_of past.old) (since_of past.new) (left_of past.new) }
+    ensures time { Elapses (moment_of past.old) (moment_of past.new) (since_of past.old)
+        (since_of past.new) (left_of past.new) }
     ensures clock { OnOk result (moment_of past.old < moment_of past.new) }
     ensures cause { HasCause plan.old.faults plan.new.faults result }
     ensures turn { PlanTurn plan.old (is_ok result) plan.new }
@@ -49,7 +50,8 @@ fn settle(plan: &mut Plan, past: &mut History) -> Result<(), Failed>
     ensures durable { OnOk result (Only (seen_of past.old) (left_of past.new)) }
     ensures seen { seen_of past.new ≡ seen_of past.old }
     ensures crash { NoNew (left_of past.old) (left_of past.new) }
-    ensures time { Elapses (moment_of past.old) (moment_of past.new) (since_of past.old) (since_of past.new) (left_of past.new) }
+    ensures time { Elapses (moment_of past.old) (moment_of past.new) (since_of past.old)
+        (since_of past.new) (left_of past.new) }
     ensures clock { OnOk result (moment_of past.old < moment_of past.new) }
     ensures cause { HasCause plan.old.faults plan.new.faults result }
     ensures turn { PlanTurn plan.old (is_ok result) plan.new }
@@ -69,7 +71,8 @@ fn write(plan: &mut Plan, past: &mut History, place: u64, piece: &[u8]) -> Resul
     ensures ok { OnOk result (seen_of past.new ≡ overwritten place piece.now (seen_of past.old)) }
     ensures err { OnErr result (seen_of past.new ≡ seen_of past.old) }
     ensures crash { Follows (Torn place (length piece.now)) (left_of past.old) (left_of past.new) }
-    ensures time { Elapses (moment_of past.old) (moment_of past.new) (since_of past.old) (since_of past.new) (left_of past.new) }
+    ensures time { Elapses (moment_of past.old) (moment_of past.new) (since_of past.old)
+        (since_of past.new) (left_of past.new) }
     ensures clock { OnOk result (moment_of past.old < moment_of past.new) }
     ensures cause { HasCause plan.old.faults plan.new.faults result }
     ensures turn { PlanTurn plan.old (is_ok result) plan.new }

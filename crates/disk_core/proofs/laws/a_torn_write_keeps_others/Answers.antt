@@ -1,0 +1,5 @@
+use Rattle.disk_core.proofs.Torn.{torn_keeps, keeps_torn}
+use Rattle.disk_core.proofs.laws.a_torn_write_keeps_others.Goals as goal
+
+pub returns : goal.returns
+returns c = λ place count old new. (torn_keeps place count old new, keeps_torn place count old new)
