@@ -1,4 +1,5 @@
 pub mod Answers
+pub mod CertFaults
 pub mod KeygenOutcome
 pub mod Lines
 pub mod Member
@@ -6,5 +7,6 @@ pub mod MemberNames
 pub mod MemberOutcome
 pub mod Outcome
 pub mod Settled
+pub mod ShowOutcome
 pub mod Steps
 pub mod WordsOutcome

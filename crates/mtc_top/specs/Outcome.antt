@@ -2,8 +2,9 @@
 -- command; each command's own outcome stands in a file of its own.
 use Rattle.std.specs.Prelude.{ℕ, List, [], ◌∷◌, Result, Ok, Err}
 use Rattle.mtc_words.specs.declared.error.WordError.{WordError}
-use Rattle.mtc_words.specs.Commands.{CommandValue, member, keygen}
+use Rattle.mtc_words.specs.Commands.{CommandValue, member, show, keygen}
 use Rattle.mtc_words.specs.Words.{command_of}
+use Rattle.mtc_top.specs.ShowOutcome.{show_outcome}
 use Rattle.mtc_top.specs.Steps.{Outcome, Files}
 use Rattle.mtc_top.specs.KeygenOutcome.{keygen_outcome}
 use Rattle.mtc_top.specs.MemberOutcome.{member_outcome}
@@ -12,6 +13,7 @@ use Rattle.mtc_top.specs.WordsOutcome.{words_say, first_word}
 -- what a command answers over these files
 abbrev pub command_outcome : (List ℕ → List ℕ) → CommandValue → Files → Outcome
 command_outcome h (member file) files = member_outcome h file files
+command_outcome h (show file) files = show_outcome file files
 command_outcome h (keygen height width file) files = keygen_outcome height width file files
 
 -- what is answered where the words say this

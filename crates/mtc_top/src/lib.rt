@@ -6,12 +6,14 @@
 #![tactic(auto)]
 
 mod answer;
+mod cert_fault;
 mod finish;
 mod input;
 mod keygen;
 mod line;
 mod member;
 mod refused_words;
+mod show;
 #[cfg(test)]
 mod tests;
 mod top;

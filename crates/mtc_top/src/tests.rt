@@ -1,4 +1,6 @@
 // The program over a room in memory: what it answers to words and files, and what it writes where.
+mod show;
+
 use crate::{MemRoom, run};
 use mtc_io::{Bytes, MemSink};
 use std::alloc::Global;
@@ -7,6 +9,7 @@ use tree_core::Sha;
 
 /// One run: the words, the file `f` in hexadecimal, the calls of its source, of `out` and of `err` that fail, and
 /// how many bytes `out` takes a call; then the status and what `out` and `err` took.
+#[derive(Drop)]
 struct Case {
     words: &'static [&'static str],
     file: &'static [&'static str],
@@ -343,26 +346,25 @@ const CASES: [Case; 34] = [
     },
 ];
 
-fn outcome(alloc: Global, case: &Case) -> Result<(u8, MemSink, MemSink), Fail> {
+// Bytes from their parts in hexadecimal.
+fn bytes_of(alloc: Global, parts: &[&str]) -> Result<Vec<u8>, Fail> {
+    let mut bytes = Vec::new(alloc);
+    for part in parts {
+        bytes.extend_from_slice(&hex::decode(alloc, *part)?)?;
+    }
+    Ok(bytes)
+}
+
+fn outcome(alloc: Global, case: &Case, file: Vec<u8>) -> Result<(u8, MemSink, MemSink), Fail> {
     let mut words = Vec::new(alloc);
     for word in case.words {
         words.push(String::from_str(alloc, word)?)?;
     }
-    let mut file = Vec::new(alloc);
-    for part in case.file {
-        file.extend_from_slice(&hex::decode(alloc, *part)?)?;
-    }
     let mut room = MemRoom::new(alloc);
-    room.place(
-        "f",
-        Bytes::from_vec(file),
-        Vec::from_slice(alloc, case.source_fails)?,
-    )?;
-    let mut out = MemSink::new(
-        alloc,
-        case.out_takes.max(1),
-        Vec::from_slice(alloc, case.out_fails)?,
-    );
+    let failing = Vec::from_slice(alloc, case.source_fails)?;
+    room.place("f", Bytes::from_vec(file), failing)?;
+    let failing = Vec::from_slice(alloc, case.out_fails)?;
+    let mut out = MemSink::new(alloc, case.out_takes.max(1), failing);
     let mut err = MemSink::new(alloc, 100, Vec::from_slice(alloc, case.err_fails)?);
     let status = run::<Sha, _, _, _>(alloc, &words, &mut room, &mut out, &mut err);
     Ok((status, out, err))
@@ -371,7 +373,8 @@ fn outcome(alloc: Global, case: &Case) -> Result<(u8, MemSink, MemSink), Fail> {
 #[test]
 fn answers_words_and_files(rt: HostRuntime) -> Result<(), Fail> {
     for (i, case) in CASES.iter().enumerate() {
-        let (status, out, err) = outcome(rt.alloc(), case)?;
+        let file = bytes_of(rt.alloc(), case.file)?;
+        let (status, out, err) = outcome(rt.alloc(), case, file)?;
         assert_eq!(rt; status, case.status, "status of case {i}");
         assert_eq!(rt; out.taken(), case.out, "standard output of case {i}");
         assert_eq!(rt; err.taken(), case.err, "standard error of case {i}");

@@ -16,6 +16,7 @@ use crate::finish::{conclude, fail};
 use crate::keygen::keygen;
 use crate::member::member;
 use crate::refused_words::refuse_words;
+use crate::show::show;
 use mtc_io::Sink;
 use mtc_room::Room;
 use mtc_words::{Command, command_word, read_words};
@@ -50,6 +51,7 @@ fn perform<'a, H: TreeHash, R: Room>(
 {
     match command {
         Command::Member(file) => member::<H, R>(alloc, room, file),
+        Command::Show(file) => show(alloc, room, file),
         Command::Keygen(height, width, secret) => keygen(alloc, room, height, width, secret),
     }
 }

@@ -1,9 +1,9 @@
 -- Lemmas on number words.
-use Rattle.std.proofs.Common.{◌≡◌, ℕ, ◌<◌, ◌≤◌, ◌^◌, ◌&&◌, Bool, true, false, List, Option, Some, None, Err, length, refl, if◌then◌else◌, arith}
+use Rattle.std.proofs.Common.{◌≡◌, ℕ, ◌<◌, ◌^◌, Bool, true, false, List, Some, None, Err, length, refl, if◌then◌else◌, arith}
 use Rattle.std.specs.Str.{all_ascii_digits}
 use Rattle.std.specs.Str.Parse.{digits_value, ParsesUnsigned}
 use Rattle.std.proofs.lemmas.Str.Parse.{parse_digits, numerals_by_value, tells_all_ascii_digits}
-use Rattle.mtc_words.specs.Numbers.{is_decimal, number_of}
+use Rattle.mtc_words.specs.Numbers.{number_of}
 
 -- what isn't true is the other choice
 none_chosen : (test : Bool) (n : ℕ) → (test ≡ true → ⊥) → None ≡ (if test then Some n else None)

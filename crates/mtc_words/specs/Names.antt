@@ -1,16 +1,18 @@
 -- The table of the commands: the name of each, and how many words it wants.
 use Rattle.std.specs.Prelude.{ℕ, List, Option, Some, None, codes, bytes_eq, if◌then◌else◌}
 use Rattle.mtc_words.specs.declared.name.Name.{Name}
-use Rattle.mtc_words.specs.declared.name.Name.TheVariants.{Member, Keygen}
+use Rattle.mtc_words.specs.declared.name.Name.TheVariants.{Member, Show, Keygen}
 
 -- the command that a word names
 unfoldable pub name_of : List ℕ → Option Name
 name_of word =
     if bytes_eq word (codes "member") then Some Member
+    else (if bytes_eq word (codes "show") then Some Show
     else (if bytes_eq word (codes "keygen") then Some Keygen
-    else None)
+    else None))
 
 -- how many words stand behind a command
 abbrev pub count_of : Name → ℕ
 count_of Member = 1
+count_of Show = 1
 count_of Keygen = 3

@@ -4,8 +4,8 @@ use Rattle.byte_forms.specs.Readings.{◌>>=◌}
 use Rattle.mtc_words.specs.declared.error.WordError.{WordError}
 use Rattle.mtc_words.specs.declared.error.WordError.TheVariants.{NoCommand, UnknownCommand, BadWord, WrongCount, BadNumber}
 use Rattle.mtc_words.specs.declared.name.Name.{Name}
-use Rattle.mtc_words.specs.declared.name.Name.TheVariants.{Member, Keygen}
-use Rattle.mtc_words.specs.Commands.{CommandValue, member, keygen, is_height, is_width}
+use Rattle.mtc_words.specs.declared.name.Name.TheVariants.{Member, Show, Keygen}
+use Rattle.mtc_words.specs.Commands.{CommandValue, member, show, keygen, is_height, is_width}
 use Rattle.mtc_words.specs.Names.{name_of, count_of}
 use Rattle.mtc_words.specs.Numbers.{number_of}
 
@@ -43,6 +43,7 @@ number_at place test w = ranged place test (number_of w)
 -- the command of this name with its words, of which there are as many as it wants
 abbrev pub command_from : Name → List (List ℕ) → Result CommandValue WordError
 command_from Member ws = Ok (member (word ws 0))
+command_from Show ws = Ok (show (word ws 0))
 command_from Keygen ws = do
   height ← number_at 1 is_height (word ws 0)
   width ← number_at 2 is_width (word ws 1)

@@ -5,6 +5,7 @@ ghost use Rattle.mtc_words.specs.Names.{name_of, count_of};
 #[derive(Clone, Copy, Debug, PartialEq, Eq)]
 pub enum Name {
     Member,
+    Show,
     Keygen,
 }
 
@@ -15,6 +16,7 @@ pub fn read_name(word: &str) -> Option<Name>
 {
     match word {
         "member" => Some(Name::Member),
+        "show" => Some(Name::Show),
         "keygen" => Some(Name::Keygen),
         _ => None,
     }
@@ -25,7 +27,7 @@ pub fn wanted_count(name: Name) -> usize
     ensures { result ≡ count_of name }
 {
     match name {
-        Name::Member => 1,
+        Name::Member | Name::Show => 1,
         Name::Keygen => 3,
     }
 }

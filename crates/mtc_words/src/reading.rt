@@ -72,6 +72,7 @@ fn build<'a>(name: Name, words: &'a [String]) -> Result<Command<'a>, WordError>
 {
     match name {
         Name::Member => Ok(Command::Member(words[0].as_str())),
+        Name::Show => Ok(Command::Show(words[0].as_str())),
         Name::Keygen => {
             let height = height(1, words[0].as_str())?;
             let width = width(2, words[1].as_str())?;

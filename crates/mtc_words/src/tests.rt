@@ -3,7 +3,7 @@ use std::test::Fail;
 
 #[test]
 fn words_are_refused_by_their_first_fault(rt: HostRuntime) -> Result<(), Fail> {
-    let cases: [(&[&str], WordError); 14] = [
+    let cases: [(&[&str], WordError); 18] = [
         (&[], WordError::NoCommand),
         (&["frob"], WordError::UnknownCommand),
         (&["--help"], WordError::UnknownCommand),
@@ -17,6 +17,13 @@ fn words_are_refused_by_their_first_fault(rt: HostRuntime) -> Result<(), Fail> {
         (&["member", "-x"], WordError::BadWord(1)),
         (&["member", "f", "-x"], WordError::BadWord(2)),
         (&["member", "", "-x"], WordError::BadWord(1)),
+        (&["show"], WordError::WrongCount { have: 0, want: 1 }),
+        (
+            &["show", "a", "b"],
+            WordError::WrongCount { have: 2, want: 1 },
+        ),
+        (&["show", ""], WordError::BadWord(1)),
+        (&["show", "-h"], WordError::BadWord(1)),
         (&["keygen", "", "4", "-x"], WordError::BadWord(1)),
         (&["keygen", "05", "3", "f"], WordError::BadNumber(1)),
         (&["keygen", "10", "+4", "f"], WordError::BadNumber(2)),

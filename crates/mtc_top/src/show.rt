@@ -1,0 +1,164 @@
+// The command `show`: what a certificate says.
+ghost use Rattle.std.specs.Prelude.{◌≡◌, ◌≢◌, ◌<◌, ◌^◌, ◌++◌, IfOk, IfErr, OnOk, codes, string_bytes};
+ghost use Rattle.std.specs.List.{list_all, flat_map};
+ghost use Rattle.cert_names.specs.LogNames.{log_in};
+ghost use Rattle.cert_time.specs.Calendar.{IsMoment};
+ghost use Rattle.cert_fields.specs.Certificate.{parts_of};
+ghost use Rattle.cert_fields.specs.Views.{parts};
+ghost use Rattle.mtc_io.specs.Counts.{Rose};
+ghost use Rattle.mtc_io.specs.Streams.{joined};
+ghost use Rattle.mtc_top.specs.Answers.{status_of};
+ghost use Rattle.mtc_top.specs.CertFaults.{cert_fault_text};
+ghost use Rattle.mtc_top.specs.Lines.{file_line};
+ghost use Rattle.mtc_top.specs.Settled.{Settled, FailedOnly};
+ghost use Rattle.mtc_top.specs.ShowOutcome.{issuer_text, subject_text, is_graphic, name_line, fields_text, show_text, shown, show_outcome};
+
+use crate::answer::{Answer, Said, Stop, Stopped};
+use crate::cert_fault::cert_fault;
+use crate::input::{INPUT_LIMIT, read_input};
+use crate::line::{line_of_file, no_input};
+use cert_fields::{Cert, DnsNames, dns_names, parse};
+use cert_names::log_of;
+use cert_time::seconds_to_text;
+use der_core::CertError;
+use mtc_io::{Bytes, Memory};
+use mtc_room::Room;
+use std::alloc::{AllocError, Global};
+
+// Puts pieces behind the bytes, one behind the other.
+fn append_all(out: &mut Bytes, pieces: &[&[u8]]) -> Result<(), Memory>
+    ensures { OnOk result (out.new ≡ out.old ++ joined pieces.now) }
+{
+    for piece in pieces {
+        out.append(piece)?;
+    }
+    Ok(())
+}
+
+fn issuer(name: &[u8]) -> &[u8]
+    ensures { result.now ≡ issuer_text (log_in name.now) }
+{
+    match log_of(name) {
+        Some(id) => id,
+        None => b"other",
+    }
+}
+
+fn subject_name(alloc: Global, subject: &[u8]) -> Result<String, AllocError>
+    ensures { IfOk result (λ text. string_bytes text ≡ subject_text subject.now) }
+{
+    if subject == [0x30, 0x00].as_slice() {
+        String::from_str(alloc, "empty")
+    } else {
+        hex::encode(alloc, subject)
+    }
+}
+
+fn put_fields(alloc: Global, out: &mut Bytes, cert: &Cert) -> Result<(), Memory>
+    requires begins { IsMoment cert.now.validity.not_before }
+    requires ends { IsMoment cert.now.validity.not_after }
+    ensures { OnOk result (out.new ≡ out.old ++ fields_text (parts cert.now)) }
+{
+    let serial = format!(in alloc; "{}", cert.serial)?;
+    let subject = subject_name(alloc, cert.subject)?;
+    let key = hex::encode(alloc, cert.spki)?;
+    let not_before = seconds_to_text(cert.validity.not_before);
+    let not_after = seconds_to_text(cert.validity.not_after);
+    append_all(
+        out,
+        &[
+            b"serial ",
+            serial.as_bytes(),
+            b"\nissuer ",
+            issuer(cert.issuer),
+            b"\nnot_before ",
+            &not_before,
+            b"\nnot_after ",
+            &not_after,
+            b"\nsubject ",
+            subject.as_bytes(),
+            b"\nkey ",
+            key.as_bytes(),
+            b"\n",
+        ],
+    )
+}
+
+fn are_graphic(bytes: &[u8]) -> bool
+    ensures { result ≡ list_all is_graphic bytes.now }
+{
+    bytes.iter().all(|byte| 33 <= *byte && *byte <= 126)
+}
+
+fn put_name(alloc: Global, out: &mut Bytes, name: &[u8]) -> Result<(), Memory>
+    ensures { OnOk result (out.new ≡ out.old ++ name_line name.now) }
+{
+    if are_graphic(name) {
+        return append_all(out, &[b"name ", name, b"\n"]);
+    }
+    let text = hex::encode(alloc, name)?;
+    append_all(out, &[b"name-hex ", text.as_bytes(), b"\n"])
+}
+
+#[tactic(auto, using(std::proofs::lemmas::List::append_assoc))]
+fn put_names(alloc: Global, out: &mut Bytes, names: DnsNames) -> Result<(), Memory>
+    ensures { OnOk result (out.new ≡ out.old ++ flat_map name_line names.entry) }
+{
+    for name in names {
+        put_name(alloc, out, name)?;
+    }
+    Ok(())
+}
+
+// The lines of a certificate.
+fn lines(alloc: Global, cert: &Cert) -> Result<Bytes, Memory>
+    requires begins { IsMoment cert.now.validity.not_before }
+    requires ends { IsMoment cert.now.validity.not_after }
+    ensures { IfOk result (λ text. text ≡ show_text (parts cert.now)) }
+{
+    let mut out = Bytes::new(alloc);
+    put_fields(alloc, &mut out, cert)?;
+    put_names(alloc, &mut out, dns_names(cert))?;
+    out.append(b"proof none\n")?;
+    Ok(out)
+}
+
+fn fault_answer(alloc: Global, file: &str, why: CertError) -> Result<Answer, Memory>
+    ensures { IfOk result (λ answer. answer
+        ≡ Answer.Stops Stopped.BadForm (file_line (codes "show") file.now (cert_fault_text why))) }
+{
+    let refusal = cert_fault(alloc, why)?;
+    Ok(Answer::Stops {
+        why: Stopped::BadForm,
+        line: line_of_file(alloc, "show", file, refusal.as_str())?,
+    })
+}
+
+fn answer_of(alloc: Global, file: &str, bytes: &[u8]) -> Result<Answer, Memory>
+    ensures { IfOk result (λ answer. answer ≡ (shown file.now (parts_of bytes.now)).answer) }
+{
+    match parse(bytes) {
+        Ok(cert) => Ok(Answer::Says {
+            status: Said::Done,
+            text: lines(alloc, &cert)?,
+        }),
+        Err(why) => fault_answer(alloc, file, why),
+    }
+}
+
+/// The command `show CERT`.
+pub fn show<'a, R: Room>(alloc: Global, room: &mut R, file: &'a str) -> Result<Answer, Stop<'a>>
+    requires { R.lent room.old < 2 ^ 32 }
+    ensures settled { Settled (R.lent room.old) (R.lent room.new) (R.faults room.old) (R.faults room.new)
+        (R.file room.old) (R.file room.new) }
+    ensures tells { R.tells room.old → R.tells room.new }
+    ensures answer { IfOk result (λ answer. R.tells room.old
+        → answer ≡ (show_outcome file.now (R.file room.old)).answer) }
+    ensures not_words { IfOk result (λ answer. status_of answer ≢ 1) }
+    ensures fault { IfErr result (FailedOnly (Rose (R.faults room.old) (R.faults room.new))) }
+{
+    match read_input(alloc, room, file, INPUT_LIMIT)? {
+        Ok(bytes) => Ok(answer_of(alloc, file, bytes.as_slice())?),
+        Err(why) => Ok(no_input(alloc, "show", file, why)?),
+    }
+}
