@@ -1,8 +1,7 @@
 -- The command `member`: what its file holds, and what it is judged.
-use Rattle.std.specs.Prelude.{ℕ, List, ◌++◌, codes, Result, Ok, Err, bytes_eq, if◌then◌else◌}
-use Rattle.std.specs.Fmt.{decimal}
+use Rattle.std.specs.Prelude.{ℕ, List, Result, Ok, Err, bytes_eq, if◌then◌else◌}
 use Rattle.std.specs.Int.{w64}
-use Rattle.byte_forms.specs.Places.{At, at}
+use Rattle.byte_forms.specs.Places.{at}
 use Rattle.byte_forms.specs.Readings.{◌>>=◌, lifted}
 use Rattle.tls_wire.specs.declared.cursor.Short.{Short}
 use Rattle.tls_wire.specs.Reading.{number_at, bytes_at, hashes_at}

@@ -1,6 +1,6 @@
 -- The outcome: what the program has to answer, as a function of the words and the room's files. One line for each
 -- command; each command's own outcome stands in a file of its own.
-use Rattle.std.specs.Prelude.{ℕ, List, [], ◌∷◌, Result, Ok, Err}
+use Rattle.std.specs.Prelude.{ℕ, List, Result, Ok, Err}
 use Rattle.mtc_words.specs.declared.error.WordError.{WordError}
 use Rattle.mtc_words.specs.Commands.{CommandValue, member, show, keygen}
 use Rattle.mtc_words.specs.Words.{command_of}
