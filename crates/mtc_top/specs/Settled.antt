@@ -7,10 +7,10 @@ use Rattle.mtc_top.specs.declared.answer.Stop.{Stop}
 use Rattle.mtc_top.specs.declared.answer.Stop.TheVariants.{Room, Memory}
 
 -- all that was lent is given back, the count of faults hasn't fallen, and each file is as it was
-pub record Settled (lent lent' faults faults' : ℕ) (file file' : List ℕ → Option (List ℕ)) : Type 0 where
+pub record Settled {D : Type 0} (lent lent' faults faults' : ℕ) (file file' : List ℕ → Option (List ℕ)) (device device' : List ℕ → Option D) : Type 0 where
   pub out : lent' ≡ lent
   pub later : faults ≤ faults'
-  pub stay : AllStay file file'
+  pub stay : AllStay file file' device device'
 
 -- the room is named as the cause only where it failed; want of memory is free
 abbrev pub FailedOnly : Type 0 → Stop → Type 0

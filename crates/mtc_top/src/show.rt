@@ -150,7 +150,7 @@ fn answer_of(alloc: Global, file: &str, bytes: &[u8]) -> Result<Answer, Memory>
 pub fn show<'a, R: Room>(alloc: Global, room: &mut R, file: &'a str) -> Result<Answer, Stop<'a>>
     requires { R.lent room.old < 2 ^ 32 }
     ensures settled { Settled (R.lent room.old) (R.lent room.new) (R.faults room.old) (R.faults room.new)
-        (R.file room.old) (R.file room.new) }
+        (R.file room.old) (R.file room.new) (R.device room.old) (R.device room.new) }
     ensures tells { R.tells room.old → R.tells room.new }
     ensures answer { IfOk result (λ answer. R.tells room.old
         → answer ≡ (show_outcome file.now (R.file room.old)).answer) }

@@ -42,7 +42,7 @@ fn perform<'a, H: TreeHash, R: Room>(
     requires lent { R.lent room.old < 2 ^ 32 }
     requires range { IsInRange (command_value command) }
     ensures settled { Settled (R.lent room.old) (R.lent room.new) (R.faults room.old) (R.faults room.new)
-        (R.file room.old) (R.file room.new) }
+        (R.file room.old) (R.file room.new) (R.device room.old) (R.device room.new) }
     ensures tells { R.tells room.old → R.tells room.new }
     ensures answer { IfOk result (λ answer. R.tells room.old
         → answer ≡ (command_outcome H.hash (command_value command.entry) (R.file room.old)).answer) }
@@ -64,7 +64,7 @@ fn answer<'a, H: TreeHash, R: Room>(
 ) -> Result<Answer, Stop<'a>>
     requires { R.lent room.old < 2 ^ 32 }
     ensures settled { Settled (R.lent room.old) (R.lent room.new) (R.faults room.old) (R.faults room.new)
-        (R.file room.old) (R.file room.new) }
+        (R.file room.old) (R.file room.new) (R.device room.old) (R.device room.new) }
     ensures answer { IfOk result (λ answer. R.tells room.old
         → answer ≡ (outcome H.hash (map string_bytes words.now) (R.file room.old)).answer) }
     ensures bad_words { IfOk result (λ answer. status_of answer ≡ 1
@@ -131,7 +131,7 @@ pub fn run<H: TreeHash, R: Room, O: Sink, E: Sink>(
 
     // What was lent is given back, and each file is as it was.
     ensures given_back { R.lent room.new ≡ 0 }
-    ensures stay { AllStay (R.file room.old) (R.file room.new) }
+    ensures stay { AllStay (R.file room.old) (R.file room.new) (R.device room.old) (R.device room.new) }
     ensures count { R.faults room.old ≤ R.faults room.new }
 {
     let command = command_word(words);
