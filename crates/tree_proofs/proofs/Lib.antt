@@ -1,0 +1,6 @@
+pub mod Aligned
+pub mod Parts
+pub mod Made
+pub mod Opens
+pub mod Pairs
+pub mod Laws
