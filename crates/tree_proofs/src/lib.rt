@@ -5,6 +5,8 @@
 //! without `end`.
 #![tactic(auto)]
 
+#[cfg(test)]
+mod tests;
 mod tree;
 
 pub use tree::root;

@@ -9,7 +9,8 @@ use tree_core::{TreeHash, leaf, pair};
 // 9162, section 2.1.1).
 fn split_place(count: usize) -> usize
     requires { 1 < count }
-    ensures { result ≡ split_of count }
+    ensures value { result ≡ split_of count }
+    ensures inside { (0 < result) × (result < count) }
 {
     1 << (count - 1).ilog2()
 }
@@ -17,7 +18,8 @@ fn split_place(count: usize) -> usize
 // Where the interval of more than one entry is split.
 pub(crate) fn split_between(low: u64, high: u64) -> u64
     requires { low + 1 < high }
-    ensures { result ≡ low + split_of (high - low) }
+    ensures value { result ≡ low + split_of (high - low) }
+    ensures inside { (low < result) × (result < high) }
 {
     low + (1 << (high - low - 1).ilog2())
 }
