@@ -4,6 +4,7 @@
 #![tactic(auto)]
 
 mod fault;
+mod found;
 mod laws;
 mod list;
 mod proof;
@@ -12,7 +13,8 @@ mod reading;
 mod tests;
 
 pub use fault::ProofError;
+pub use found::Signatures;
 pub use laws::{proofs_are_read_as_spelled, signatures_are_found, signatures_are_read_as_spelled};
-pub use list::{Signatures, check_signatures, signatures};
+pub use list::{check_signatures, signatures};
 pub use proof::{Proof, SigRef};
 pub use reading::read_proof;

@@ -1,7 +1,6 @@
 //! Lists of signatures.
 
-ghost use Rattle.std.specs.Prelude.{◌≡◌, ◌<◌, ◌≤◌, [], ◌∷◌, length, Ok, Err, OnOk, IfErr, MatchOption};
-ghost use Rattle.std.specs.Iterator.{YieldsFirstBy, item_count};
+ghost use Rattle.std.specs.Prelude.{◌≡◌, ◌<◌, ◌≤◌, length, Ok, Err, OnOk, IfErr};
 ghost use Rattle.byte_forms.specs.Places.{at};
 ghost use Rattle.byte_forms.specs.Readings.{Moves, Gives, discarded};
 ghost use Rattle.byte_forms.specs.Lists.{up_to_end};
@@ -9,8 +8,8 @@ ghost use Rattle.mtc_proof.specs.Reading.{signature_at, checked, signatures_left
 ghost use Rattle.mtc_proof.specs.Views.{sig_parts};
 
 use crate::fault::ProofError;
+use crate::found::Signatures;
 use crate::proof::{Proof, SigRef};
-use std::marker::Model;
 use tls_wire::Cursor;
 
 /// This offset of an input, up to its end.
@@ -28,8 +27,9 @@ fn cursor_at(input: &[u8], place: usize) -> Cursor<'_>
 /// One signature: the cosigner's id behind a length of one byte, and the signature behind a length of two bytes. `EmptyId`
 /// where the id has no bytes.
 #[tactic(auto, unfolding(crate::specs::Reading::signature_at))]
-fn signature<'a>(cursor: &mut Cursor<'a>) -> Result<SigRef<'a>, ProofError>
+pub fn signature<'a>(cursor: &mut Cursor<'a>) -> Result<SigRef<'a>, ProofError>
     ensures exact { Moves sig_parts signature_at cursor.old result cursor.new }
+    ensures forward { OnOk result (length cursor.new.rest < length cursor.old.rest) }
 {
     let place = cursor.place();
     let cosigner = cursor.vec8()?;
@@ -72,52 +72,9 @@ pub fn check_signatures(bytes: &[u8]) -> Result<(), ProofError>
     check_from(bytes, 0)
 }
 
-/// The signatures of a proof, one after another.
-#[derive(Drop)]
-pub struct Signatures<'a> {
-    left: Cursor<'a>,
-}
-
-impl<'a> Model for Signatures<'a> {
-    ghost use Rattle.std.specs.Prelude.{List};
-    ghost use Rattle.mtc_proof.specs.Proofs.{SigParts};
-    ghost use Rattle.mtc_proof.specs.Reading.{signatures_left};
-
-    ghost Value = { List SigParts };
-
-    ghost view = { λ s. signatures_left s.left };
-}
-
-impl<'a> Iterator for Signatures<'a> {
-    type Item = SigRef<'a>;
-
-    ghost use Rattle.mtc_proof.specs.Views.{sig_parts};
-
-    ghost next_gives = { YieldsFirstBy sig_parts (λ left. left) };
-
-    ghost remaining = { item_count (λ left. left) };
-
-    fn next(&mut self) -> Option<SigRef<'a>> {
-        next_signature(&mut self.left)
-    }
-}
-
-/// The next signature; none where what is left doesn't read as one.
-fn next_signature<'a>(cursor: &mut Cursor<'a>) -> Option<SigRef<'a>>
-    ensures { MatchOption result ((signatures_left cursor.old ≡ []) × (signatures_left cursor.new ≡ []))
-        (λ s. signatures_left cursor.old ≡ sig_parts s ∷ signatures_left cursor.new) }
-{
-    match signature(cursor) {
-        Ok(next) => Some(next),
-        Err(_) => None,
-    }
-}
-
 /// The signatures of a proof in their order. Of a proof that wasn't read they are those up to the first that doesn't read.
 pub fn signatures<'a>(p: &Proof<'a>) -> Signatures<'a>
     ensures { result ≡ signatures_left (at p.now.signatures.now 0) }
 {
-    Signatures {
-        left: Cursor::new(p.signatures),
-    }
+    Signatures::of(p.signatures)
 }
