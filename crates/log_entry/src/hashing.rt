@@ -1,10 +1,10 @@
 //! Hashes of entries and of keys, without taking memory.
 
-ghost use Rattle.std.specs.Prelude.{◌≡◌, ◌∷◌, ◌++◌, ℕ, List};
+ghost use Rattle.std.specs.Prelude.{◌≡◌};
 ghost use Rattle.tree_core.specs.Tree.{leaf_hash};
 ghost use Rattle.cert_fields.specs.Views.{parts};
 ghost use Rattle.log_entry.specs.Entries.{tbs_text};
-ghost use Rattle.log_entry.specs.EntryOf.{tbs_with, entry_of};
+ghost use Rattle.log_entry.specs.EntryOf.{entry_of};
 ghost use Rattle.log_entry.specs.Views.{tbs_parts};
 
 use crate::entry::TbsEntry;
@@ -27,20 +27,6 @@ pub fn key_hash<H: TreeHash>(spki: &[u8]) -> [u8; 32]
     let mut running = H::begin();
     running.add(spki);
     running.end()
-}
-
-/// The fields of the entry of a certificate whose key has this hash.
-pub fn tbs_of<'a>(cert: &Cert<'a>, key_hash: &'a [u8]) -> TbsEntry<'a>
-    ensures { tbs_parts result ≡ tbs_with (parts cert.now) key_hash.now }
-{
-    TbsEntry {
-        issuer: cert.issuer,
-        validity: cert.validity,
-        validity_der: cert.validity_der,
-        subject: cert.subject,
-        key_hash,
-        extensions: cert.extensions,
-    }
 }
 
 /// The leaf hash of the entry with these fields, one field after another.
@@ -67,5 +53,12 @@ pub fn entry_hash<H: TreeHash>(cert: &Cert) -> [u8; 32]
     ensures { result ≡ leaf_hash H.hash (entry_of H.hash (parts cert.now)) }
 {
     let key = key_hash::<H>(cert.spki);
-    tbs_hash::<H>(&tbs_of(cert, &key))
+    tbs_hash::<H>(&TbsEntry {
+        issuer: cert.issuer,
+        validity: cert.validity,
+        validity_der: cert.validity_der,
+        subject: cert.subject,
+        key_hash: key.as_slice(),
+        extensions: cert.extensions,
+    })
 }

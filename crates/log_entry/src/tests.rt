@@ -74,12 +74,28 @@ fn entries_and_changes(rt: HostRuntime) -> Result<(), Fail> {
         (1, 0x00, EntryError::NullHasBody),
         (2, 0x30, EntryError::Body(CertError::BadVersion)),
         (6, 0x01, EntryError::Body(CertError::BadVersion)),
-        (7, 0x31, EntryError::Body(CertError::Der(DerError::WrongTag(7)))),
+        (
+            7,
+            0x31,
+            EntryError::Body(CertError::Der(DerError::WrongTag(7))),
+        ),
         (36, 0x18, EntryError::Body(CertError::BadTime)),
-        (66, 0x31, EntryError::Body(CertError::Der(DerError::WrongTag(66)))),
-        (68, 0x05, EntryError::Body(CertError::Der(DerError::WrongTag(68)))),
+        (
+            66,
+            0x31,
+            EntryError::Body(CertError::Der(DerError::WrongTag(66))),
+        ),
+        (
+            68,
+            0x05,
+            EntryError::Body(CertError::Der(DerError::WrongTag(68))),
+        ),
         (69, 0x1F, EntryError::BadHashLength),
-        (102, 0xA2, EntryError::Body(CertError::Der(DerError::Trailing(102)))),
+        (
+            102,
+            0xA2,
+            EntryError::Body(CertError::Der(DerError::Trailing(102))),
+        ),
         (115, 0x00, EntryError::Body(CertError::BadExtension)),
     ];
     for (place, byte, fault) in faults {
@@ -88,7 +104,10 @@ fn entries_and_changes(rt: HostRuntime) -> Result<(), Fail> {
     assert_eq!(rt; fault_of(b""), Some(EntryError::Short));
     assert_eq!(rt; fault_of(&[0]), Some(EntryError::Short));
     assert_eq!(rt; fault_of(&[0, 0, 0]), Some(EntryError::NullHasBody));
-    assert_eq!(rt; fault_of(&[0, 1]), Some(EntryError::Body(CertError::BadVersion)));
+    assert_eq!(rt;
+        fault_of(&[0, 1]),
+        Some(EntryError::Body(CertError::BadVersion))
+    );
     assert_eq!(rt; fault_of(&ENTRY[..102]), None);
     Ok(())
 }
@@ -106,7 +125,10 @@ fn entries_of_certificates_and_of_parts(rt: HostRuntime) -> Result<(), Fail> {
         algorithm: &[],
         proof: &[],
     };
-    assert_eq!(rt; entry_of::<Sha>(rt.alloc(), &cert)?.as_slice(), ENTRY.as_slice());
+    assert_eq!(rt;
+        entry_of::<Sha>(rt.alloc(), &cert)?.as_slice(),
+        ENTRY.as_slice()
+    );
     assert_eq!(rt; entry_hash::<Sha>(&cert), LEAF_HASH);
     let key = key_hash::<Sha>(&KEY);
     let parts = EntryParts {
@@ -116,7 +138,10 @@ fn entries_of_certificates_and_of_parts(rt: HostRuntime) -> Result<(), Fail> {
         key_hash: &key,
         extensions: cert.extensions,
     };
-    assert_eq!(rt; write_entry(rt.alloc(), &parts)?.as_slice(), ENTRY.as_slice());
+    assert_eq!(rt;
+        write_entry(rt.alloc(), &parts)?.as_slice(),
+        ENTRY.as_slice()
+    );
     assert_eq!(rt; key_matches::<Sha>(&ENTRY, &KEY), true);
     assert_eq!(rt; key_matches::<Sha>(&changed(70, 0x73), &KEY), false);
     assert_eq!(rt; key_matches::<Sha>(&changed(69, 0x1F), &KEY), false);

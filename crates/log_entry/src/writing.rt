@@ -1,6 +1,6 @@
 //! Writing entries.
 
-ghost use Rattle.std.specs.Prelude.{◌≡◌, ◌++◌, IfOk, Ok, Some};
+ghost use Rattle.std.specs.Prelude.{◌≡◌, IfOk, Ok, Some};
 ghost use Rattle.cert_time.specs.Calendar.{IsMoment};
 ghost use Rattle.cert_fields.specs.Views.{parts};
 ghost use Rattle.log_entry.specs.Entries.{tbs_text, IsTbs};
@@ -9,7 +9,7 @@ ghost use Rattle.log_entry.specs.Reading.{entry_in};
 ghost use Rattle.log_entry.specs.Views.{tbs_parts, given};
 
 use crate::entry::{EntryParts, TbsEntry};
-use crate::hashing::{HASH_HEAD, HEAD, key_hash, tbs_of};
+use crate::hashing::{HASH_HEAD, HEAD, key_hash};
 use cert_fields::Cert;
 use cert_time::put_validity;
 use mtc_io::{Bytes, Memory};
@@ -38,7 +38,17 @@ pub fn entry_of<H: TreeHash>(alloc: Global, cert: &Cert) -> Result<Bytes, Memory
     ensures { IfOk result (λ bytes. bytes ≡ entry_of H.hash (parts cert.now)) }
 {
     let key = key_hash::<H>(cert.spki);
-    written(alloc, &tbs_of(cert, &key))
+    written(
+        alloc,
+        &TbsEntry {
+            issuer: cert.issuer,
+            validity: cert.validity,
+            validity_der: cert.validity_der,
+            subject: cert.subject,
+            key_hash: key.as_slice(),
+            extensions: cert.extensions,
+        },
+    )
 }
 
 /// Writes an entry of type 1. Want of memory is the only refusal.
