@@ -6,4 +6,6 @@
 
 mod requests;
 
-pub use requests::{Field, Names, Request, RequestError, public_keys_are_their_grammar, read_request};
+pub use requests::{
+    Field, Names, Request, RequestError, public_keys_are_their_grammar, read_request,
+};

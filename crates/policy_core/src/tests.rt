@@ -8,6 +8,7 @@ use tree_core::Span;
 
 /// 64 hexadecimal digits, and the same one short.
 const HASH: &str = "hash = \"6e340b9cffb37a989ca544e6bb780a2c78901d3fb33738768511a30617afa01d\"\n";
+
 const SHORT: &str = "hash = \"6e340b9cffb37a989ca544e6bb780a2c78901d3fb33738768511a30617afa01\"\n";
 
 const LOG: &str = "[log]\nid = \"32473.1\"\n";
@@ -72,14 +73,8 @@ fn items_are_refused(rt: HostRuntime) -> Result<(), Fail> {
         &rt,
         rt.alloc(),
         &[
-            refused(
-                &["subtree = 1\n", LOG],
-                StoreError::BadValue(Key::Table),
-            ),
-            refused(
-                &["revoked = [1]\n", LOG],
-                StoreError::BadValue(Key::Table),
-            ),
+            refused(&["subtree = 1\n", LOG], StoreError::BadValue(Key::Table)),
+            refused(&["revoked = [1]\n", LOG], StoreError::BadValue(Key::Table)),
             refused(
                 &["revoked = [{start = 1}, 1]\n", LOG],
                 StoreError::Missing(Key::End),
@@ -187,7 +182,10 @@ fn a_whole_store(rt: HostRuntime) -> Result<(), Fail> {
     let store = read?;
     assert_eq!(rt; store.log.as_bytes(), [0x81, 0xFD, 0x59, 0x01].as_slice());
     assert_eq!(rt; store.name.len(), 27);
-    assert_eq!(rt; store.name.as_slice().get(20..), Some(b"32473.1".as_slice()));
+    assert_eq!(rt;
+        store.name.as_slice().get(20..),
+        Some(b"32473.1".as_slice())
+    );
     let hash = [
         0x6E, 0x34, 0x0B, 0x9C, 0xFF, 0xB3, 0x7A, 0x98, 0x9C, 0xA5, 0x44, 0xE6, 0xBB, 0x78, 0x0A,
         0x2C, 0x78, 0x90, 0x1D, 0x3F, 0xB3, 0x37, 0x38, 0x76, 0x85, 0x11, 0xA3, 0x06, 0x17, 0xAF,

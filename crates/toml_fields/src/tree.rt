@@ -24,7 +24,12 @@ pub fn read_tree(alloc: Global, text: &[u8]) -> Result<Table, TreeError>
 {
     match toml::table_from_slice(alloc, text) {
         Ok(tree) => Ok(tree),
-        Err(why) if why.is_memory() => Err(TreeError::Memory),
-        Err(_) => Err(TreeError::NotToml),
+        Err(why) => {
+            if why.is_memory() {
+                Err(TreeError::Memory)
+            } else {
+                Err(TreeError::NotToml)
+            }
+        }
     }
 }

@@ -9,9 +9,12 @@ use std::process::Abort;
 use std::test::Fail;
 
 const DATES: &str = "not_before = \"2026-01-01T00:00:00Z\"\nnot_after = \"2026-01-08T00:00:00Z\"\n";
+
 const REVERSED: &str =
     "not_before = \"2026-01-08T00:00:00Z\"\nnot_after = \"2026-01-01T00:00:00Z\"\n";
+
 const DNS: &str = "dns = [\"a.example\"]\n";
+
 const KEY: &str = "key = \"MCowBQYDK2VwAyEAAAAAAAAAAAAAAAAAAAAAAAAAAAAAAAAAAAAAAAAAAAA=\"\n";
 
 // Reads these pieces, one behind the other.
@@ -74,7 +77,10 @@ fn fields_are_refused_in_their_order(rt: HostRuntime) -> Result<(), Fail> {
                 &[DATES, "dns = [\"a.example\", \"-a.example\"]\n", KEY],
                 RequestError::BadValue(Field::Dns),
             ),
-            refused(&[DATES, "dns = [1]\n", KEY], RequestError::BadValue(Field::Dns)),
+            refused(
+                &[DATES, "dns = [1]\n", KEY],
+                RequestError::BadValue(Field::Dns),
+            ),
             refused(
                 &[DATES, DNS, "common_name = \"\"\n", KEY],
                 RequestError::BadValue(Field::CommonName),
@@ -109,10 +115,7 @@ fn the_whole_is_refused(rt: HostRuntime) -> Result<(), Fail> {
         &[
             refused(&[DATES, "dns = []\n", KEY], RequestError::NoNames),
             refused(&[REVERSED, DNS, KEY], RequestError::DatesReversed),
-            refused(
-                &[REVERSED, "dns = []\n", KEY],
-                RequestError::DatesReversed,
-            ),
+            refused(&[REVERSED, "dns = []\n", KEY], RequestError::DatesReversed),
             refused(&[DATES, DNS, KEY, "other = 1\n"], RequestError::UnknownKey),
             refused(&["other = 1\n"], RequestError::UnknownKey),
         ],
