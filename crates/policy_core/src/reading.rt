@@ -18,7 +18,8 @@ use toml_fields::{TreeError, keys_are_among, read_tree};
 // The store that the root says.
 #[tactic(auto, unfolding(crate::specs::Files::store_in))]
 fn store_from(alloc: Global, root: &Table) -> Result<Store, StoreError>
-    ensures { Answers StoreError.Memory (store_in (table_view root.now)) result }
+    ensures exact { Answers StoreError.Memory (store_in (table_view root.now)) result }
+    ensures valid { IfOk result IsValid }
 {
     let log = log_of(alloc, root)?;
     let name = log_name(alloc, &log)?;
@@ -32,10 +33,11 @@ fn store_from(alloc: Global, root: &Table) -> Result<Store, StoreError>
     })
 }
 
-// The same, as one equation.
+// The store that a text says.
 #[tactic(auto, unfolding(crate::specs::Files::store_of))]
 fn read_store(alloc: Global, text: &[u8]) -> Result<Store, StoreError>
-    ensures { Answers StoreError.Memory (store_of text.now) result }
+    ensures exact { Answers StoreError.Memory (store_of text.now) result }
+    ensures valid { IfOk result IsValid }
 {
     let root = match read_tree(alloc, text) {
         Ok(root) => root,

@@ -3,7 +3,9 @@
 ghost use Rattle.std.specs.Prelude.{◌≡◌, IfOk};
 ghost use Rattle.std.specs.List.{list_any};
 ghost use Rattle.policy_core.specs.Files.{are_ranges, are_subtrees, checked, has_repeat};
-ghost use Rattle.policy_core.specs.Stores.{has_same_interval};
+ghost use Rattle.policy_core.specs.Stores.{IsValid, has_same_interval};
+ghost use Rattle.cert_names.specs.LogNames.{name_with};
+ghost use Rattle.tls_wire.specs.Anchors.{text_of};
 
 use crate::error::StoreError;
 use crate::lists::Trusted;
@@ -25,6 +27,7 @@ fn is_among(one: &Trusted, others: &[Trusted]) -> bool
 }
 
 // Two of these have one interval.
+#[tactic(auto, unfolding(crate::specs::Files::has_repeat))]
 fn repeats(subtrees: &[Trusted]) -> bool
     ensures { result ≡ has_repeat subtrees.now }
 {
@@ -51,7 +54,8 @@ fn have_numbers(ranges: &[Span]) -> bool
 /// The store, where it is one as a whole: no interval is trusted twice, each is a subtree, and each range has numbers.
 #[tactic(auto, unfolding(crate::specs::Files::checked))]
 pub fn check(store: Store) -> Result<Store, StoreError>
-    ensures { result ≡ checked store }
+    ensures value { result ≡ checked store }
+    ensures valid { store.name ≡ name_with (text_of store.log) → IfOk result IsValid }
 {
     if repeats(store.subtrees.as_slice()) {
         return Err(StoreError::RepeatedSubtree);
