@@ -10,3 +10,5 @@ pub mod Settled
 pub mod ShowOutcome
 pub mod Steps
 pub mod WordsOutcome
+pub mod Made
+pub mod Nodes
