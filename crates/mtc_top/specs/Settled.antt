@@ -1,7 +1,8 @@
 -- What a command leaves of a room, and why it ends without an answer.
 use Rattle.std.specs.Prelude.{◌≡◌, ℕ, ◌≤◌, List, Option, Result, Ok, Err}
-use Rattle.mtc_room.specs.Room.{AllStay}
+use Rattle.mtc_room.specs.Room.{AllStay, Stays}
 use Rattle.mtc_top.specs.Answers.{status_of}
+use Rattle.mtc_top.specs.Made.{Journaled, Kept, MayHaveMade}
 use Rattle.mtc_top.specs.declared.answer.Answer.{Answer}
 use Rattle.mtc_top.specs.declared.answer.Stop.{Stop}
 use Rattle.mtc_top.specs.declared.answer.Stop.TheVariants.{Room, Memory}
@@ -11,6 +12,17 @@ pub record Settled {D : Type 0} (lent lent' faults faults' : ℕ) (file file' : 
   pub out : lent' ≡ lent
   pub later : faults ≤ faults'
   pub stay : AllStay file file' device device'
+
+-- the same, but for the files of some names
+pub record SettledBut {D : Type 0} (lent lent' faults faults' : ℕ) (file file' : List ℕ → Option (List ℕ)) (device device' : List ℕ → Option D) (May : List ℕ → Type 0) : Type 0 where
+  pub out : lent' ≡ lent
+  pub later : faults ≤ faults'
+  pub stay : (name : List ℕ) → (May name → ⊥) → Stays file file' device device' name
+
+-- what such an end leaves of a journal
+abbrev pub LeftBy : Stop → Journaled → (List ℕ → Type 0) → (List ℕ → Type 0) → (List ℕ → Type 0) → Type 0
+LeftBy (Room file) did before now since = MayHaveMade did before now since
+LeftBy Memory did before now since = Kept before now since
 
 -- the room is named as the cause only where it failed; want of memory is free
 abbrev pub FailedOnly : Type 0 → Stop → Type 0
