@@ -120,7 +120,10 @@ fn moments_and_changes(rt: HostRuntime) -> Result<(), Fail> {
         assert_eq!(rt; judge::<Sha>(&CERTIFICATE, &store, now), wanted);
     }
     let changes: [(&[(usize, u8)], Refusal); 11] = [
-        (&[(196, 0x1F)], Refusal::ProofGrammar(ProofError::HashLength)),
+        (
+            &[(196, 0x1F)],
+            Refusal::ProofGrammar(ProofError::HashLength),
+        ),
         (&[(196, 0x40)], Refusal::ProofGrammar(ProofError::Short(16))),
         (&[(230, 0x01)], Refusal::ProofGrammar(ProofError::Short(50))),
         (&[(194, 0x00)], Refusal::ProofShape(EvalError::BadSubtree)),
@@ -138,7 +141,10 @@ fn moments_and_changes(rt: HostRuntime) -> Result<(), Fail> {
         assert_eq!(rt; judge::<Sha>(&changed(bytes), &store, FIRST), Err(refusal));
     }
     let parameters = with_parameters(rt.alloc())?;
-    assert_eq!(rt; judge::<Sha>(parameters.as_slice(), &store, FIRST), Err(Refusal::Algorithm));
+    assert_eq!(rt;
+        judge::<Sha>(parameters.as_slice(), &store, FIRST),
+        Err(Refusal::Algorithm)
+    );
     Ok(())
 }
 

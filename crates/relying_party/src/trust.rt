@@ -10,9 +10,12 @@ use policy_core::{Accepted, By, Refusal, Trusted};
 fn trusted(start: u64, end: u64, subtrees: &[Trusted]) -> Option<&Trusted>
     ensures { MatchOption result (find (is_of start end) subtrees.now ≡ None) (λ t. find (is_of start end) subtrees.now ≡ Some t.now) }
 {
-    subtrees
-        .iter()
-        .find(|t| t.start == start && t.end == end)
+    for subtree in subtrees {
+        if subtree.start == start && subtree.end == end {
+            return Some(subtree);
+        }
+    }
+    None
 }
 
 /// The answer where the proof of the entry at this index gives the interval this hash. A trusted interval decides alone.
@@ -24,7 +27,7 @@ pub fn decide(
     end: u64,
     hash: [u8; 32],
 ) -> Result<Accepted, Refusal>
-    ensures { result ≡ decided subtrees.now index start end hash.entry }
+    ensures { result ≡ decided subtrees.now index start end hash }
 {
     match trusted(start, end, subtrees) {
         Some(subtree) if subtree.hash == hash => Ok(Accepted {
