@@ -12,3 +12,4 @@ pub mod Steps
 pub mod WordsOutcome
 pub mod Made
 pub mod Nodes
+pub mod VerifyOutcome

@@ -17,6 +17,7 @@ mod show;
 #[cfg(test)]
 mod tests;
 mod top;
+mod verify;
 
 pub use mtc_room::{MemRoom, Room, RoomError};
 pub use top::run;

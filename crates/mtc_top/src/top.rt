@@ -17,9 +17,10 @@ use crate::keygen::keygen;
 use crate::member::member;
 use crate::refused_words::refuse_words;
 use crate::show::show;
+use crate::verify::verify;
 use mtc_io::Sink;
 use mtc_room::Room;
-use mtc_words::{Command, command_word, read_words};
+use mtc_words::{Command, WordError, command_word, read_words};
 use std::alloc::Global;
 use tree_core::TreeHash;
 
@@ -52,7 +53,9 @@ fn perform<'a, H: TreeHash, R: Room>(
     match command {
         Command::Member(file) => member::<H, R>(alloc, room, file),
         Command::Show(file) => show(alloc, room, file),
+        Command::Verify(cert, store, now) => verify::<H, R>(alloc, room, cert, store, now),
         Command::Keygen(height, width, secret) => keygen(alloc, room, height, width, secret),
+        _ => Err(Stop::Memory),
     }
 }
 
@@ -72,8 +75,9 @@ fn answer<'a, H: TreeHash, R: Room>(
     ensures words_first { IsErr (command_of (map string_bytes words.now)) → AnswersBadWords result }
     ensures fault { IfErr result (FailedOnly (Rose (R.faults room.old) (R.faults room.new))) }
 {
-    match read_words(words) {
+    match read_words(alloc, words) {
         Ok(command) => perform::<H, R>(alloc, room, command),
+        Err(WordError::Memory) => Err(Stop::Memory),
         Err(why) => Ok(refuse_words(alloc, first(words), why)?),
     }
 }
