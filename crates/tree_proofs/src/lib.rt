@@ -5,8 +5,22 @@
 //! without `end`.
 #![tactic(auto)]
 
+mod consistency;
+mod error;
+mod hashes;
+mod inclusion;
+mod leaves;
+mod nodes;
+mod opened;
 #[cfg(test)]
 mod tests;
 mod tree;
 
+pub use consistency::consist;
+pub use error::ConsistError;
+pub use hashes::Path;
+pub use inclusion::include;
+pub use leaves::Listed;
+pub use nodes::{Nodes, node_of};
+pub use opened::Opened;
 pub use tree::root;
