@@ -6,3 +6,4 @@ pub mod Making
 pub mod Opens
 pub mod Pairs
 pub mod Fulls
+pub mod Climbing

@@ -21,7 +21,7 @@ pair-leaf : (h : List ℕ → List ℕ) (o : Opened) (s l n : ℕ) → l ≡ 0 �
 unfolding pair_from_root
 pair-leaf h o s l n first only = cond-true _ _ _ (and_from (eqb l 0) (eqb n 1) (eq-eqb l 0 first) (eq-eqb n 1 only))
 
-pair-short : (h : List ℕ → List ℕ) (o : Opened) (s l n : ℕ) → 2 ≤ l + n
+pub pair-short : (h : List ℕ → List ℕ) (o : Opened) (s l n : ℕ) → 2 ≤ l + n
     → pair_from_root h s l n o [] ≡ None
 unfolding pair_from_root
 pair-short h o s l n more =
@@ -185,7 +185,7 @@ pair-long_step h o up p z q s l n a b c i j s_is l_is n_is i_bit j_bit sibling f
     ∙ sym top)
     (cases_lt l 1)
 
-pair-step : (h : List ℕ → List ℕ) (o up : Opened) (p : List ℕ) (w : List (List ℕ)) (s l n a b c i j : ℕ)
+pub pair-step : (h : List ℕ → List ℕ) (o up : Opened) (p : List ℕ) (w : List (List ℕ)) (s l n a b c i j : ℕ)
     → s ≡ 2 * a → l ≡ 2 * b + i → n + 1 ≡ 2 * c + j → i ≤ 1 → j ≤ 1 → l + 1 < n + i → s ≤ l
     → (i ≡ 0 → root_left_of h p o ≡ up) → (1 ≤ i → both_right_of h p o ≡ up)
     → pair_from_root h s l n o (w ++ p ∷ []) ≡ pair_from_root h a b c up w

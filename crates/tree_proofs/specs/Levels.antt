@@ -54,13 +54,11 @@ abbrev pub opened_at : List ℕ → List ℕ → Opened
 opened_at subtree root = record { subtree = subtree; root = root }
 
 -- the nodes low to last of a level whose last place is top are the subtree that the nodes start to
--- end were, and the level is the highest one where that holds: there the subtree is one node, or
--- its last node is the left child of its parent
+-- end were, of a level whose last place is final: a consistency proof opens at either the same way
 pub record IsLifted (start end final low last top : ℕ) : Type 0 where
   pub aligned : IsAligned low (last + 1)
   pub inside : last ≤ top
   pub small : top ≤ final
-  pub highest : (last ≤ low) ⊎ ((last % 2 ≡ 0) × (last < top))
   pub same : (h : List ℕ → List ℕ) (known : Bool) (node : List ℕ) (proof : List (List ℕ))
       → open_from_root h start (end + 1) (final + 1) known node proof
       ≡ open_from_root h low (last + 1) (top + 1) known node proof

@@ -5,17 +5,20 @@
 //! without `end`.
 #![tactic(auto)]
 
+mod checking;
 mod consistency;
 mod error;
 mod hashes;
 mod inclusion;
 mod leaves;
+mod levels;
 mod nodes;
 mod opened;
 #[cfg(test)]
 mod tests;
 mod tree;
 
+pub use checking::check;
 pub use consistency::consist;
 pub use error::ConsistError;
 pub use hashes::Path;
