@@ -1,5 +1,5 @@
 -- The largest full subtree that a subtree begins with.
-use Rattle.std.proofs.Common.{◌≡◌, ℕ, ◌+◌, ◌*◌, ◌-◌, ◌/◌, ◌%◌, ◌^◌, ◌<◌, ◌≤◌, ⊎_elim, true, List, length, Some, None, sym, ◌∙◌, add-one, ap, subst, arith}
+use Rattle.std.proofs.Common.{◌≡◌, ℕ, ◌+◌, ◌*◌, ◌-◌, ◌/◌, ◌^◌, ◌<◌, ◌≤◌, ⊎_elim, true, List, length, Some, None, sym, ◌∙◌, add-one, ap, subst, arith}
 use Rattle.std.specs.Prelude.{IfSome, Option}
 use Rattle.std.proofs.Math.Nat.{div-eq_of_lt-le, mul_assoc, pow-succ'}
 use Rattle.std.proofs.Math.Pow.{pow_mono}

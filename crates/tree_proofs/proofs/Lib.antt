@@ -7,3 +7,4 @@ pub mod Opens
 pub mod Pairs
 pub mod Fulls
 pub mod Climbing
+pub mod Checked

@@ -1,11 +1,9 @@
 -- What the makers of paths and proofs keep, from the root down: what is made of the rest of the
 -- list, and the hashes so far, are the whole.
-use Rattle.std.proofs.Common.{◌≡◌, ℕ, ◌+◌, ◌*◌, ◌-◌, ◌^◌, ◌<◌, ◌≤◌, ◌⊎◌, ⊎_elim, inl, inr, Bool, true, false, cond, List, [], ◌∷◌, ◌++◌, length, take, drop, Some, None, sym, ◌∙◌, ap, refl, subst, arith}
+use Rattle.std.proofs.Common.{◌≡◌, ℕ, ◌+◌, ◌-◌, ◌^◌, ◌<◌, ◌≤◌, ◌⊎◌, ⊎_elim, Bool, true, false, cond, List, [], ◌∷◌, ◌++◌, length, take, Some, None, sym, ◌∙◌, ap, subst, arith}
 use Rattle.std.specs.Prelude.{IfSome, Option, reverse}
-use Rattle.std.proofs.Math.Nat.{pow-succ'}
 use Rattle.std.proofs.Math.Pow.{pow_mono}
 use Rattle.std.proofs.lemmas.List.{append_assoc, append-nil, length_push, reverse-append}
-use Rattle.std.proofs.lemmas.Nat.{pow_pos}
 use Rattle.tree_core.proofs.Powers.{split_bounds, split_power}
 use Rattle.tree_core.specs.Path.{part_of, path_of}
 use Rattle.tree_core.specs.Split.{split_of}

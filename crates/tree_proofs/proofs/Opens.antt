@@ -1,14 +1,13 @@
 -- What a consistency proof gives from the root down, and the same one level of the tree higher.
-use Rattle.std.proofs.Common.{◌≡◌, ℕ, ◌+◌, ◌*◌, ◌-◌, ◌<◌, ◌≤◌, ◌⊎◌, ⊎_elim, inl, inr, Bool, true, false, ◌&&◌, eqb, List, [], ◌∷◌, ◌++◌, Some, None, sym, ◌∙◌, ap, refl, arith}
+use Rattle.std.proofs.Common.{◌≡◌, ℕ, ◌+◌, ◌*◌, ◌-◌, ◌<◌, ◌≤◌, ◌⊎◌, ⊎_elim, inl, inr, Bool, true, false, eqb, List, [], ◌∷◌, Some, None, sym, ◌∙◌, ap, refl, arith}
 use Rattle.std.specs.Prelude.{Option, option_map}
-use Rattle.std.proofs.lemmas.Bool.{and_from, cond-true, cond-false, eq-eqb, ne_eqb, le-leb, lt-leb, cases_eq, cases_lt}
+use Rattle.std.proofs.lemmas.Bool.{and_from, cond-true, cond-false, eq-eqb, ne_eqb, le-leb, lt-leb, cases_lt}
 use Rattle.tree_core.proofs.Evaluates.{eval-leaf, eval-left, eval-long, eval-right, eval-short}
-use Rattle.tree_core.proofs.Powers.{split_bounds, split_half, split_unique}
+use Rattle.tree_core.proofs.Powers.{split_bounds, split_half}
 use Rattle.tree_core.specs.Evaluation.{eval_from_root}
 use Rattle.tree_core.specs.Split.{split_of}
 use Rattle.tree_core.specs.Tree.{pair_hash}
 use Rattle.tree_proofs.proofs.Made.{cases_place, other-whole}
-use Rattle.tree_proofs.specs.declared.opened.Opened.{Opened}
 use Rattle.tree_proofs.specs.Levels.{opened_at}
 use Rattle.tree_proofs.specs.Open.{both_right_of, open_from_root, open_whole, root_left_of, root_right_of}
 

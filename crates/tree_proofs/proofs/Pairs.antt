@@ -1,18 +1,16 @@
 -- Both hashes from the leaves up are what the definitions give from the root down.
-use Rattle.std.proofs.Common.{◌≡◌, ℕ, ◌+◌, ◌*◌, ◌-◌, ◌/◌, ◌%◌, ◌<◌, ◌≤◌, ◌⊎◌, ⊎_elim, inl, inr, Bool, true, false, ◌&&◌, eqb, List, [], ◌∷◌, ◌++◌, length, drop, get_or, Some, None, sym, ◌∙◌, ap, refl, arith}
-use Rattle.std.specs.Prelude.{Option, option_map, reverse}
+use Rattle.std.proofs.Common.{◌≡◌, ℕ, ◌+◌, ◌*◌, ◌-◌, ◌/◌, ◌%◌, ◌<◌, ◌≤◌, ◌⊎◌, ⊎_elim, inl, inr, Bool, false, eqb, List, [], ◌∷◌, ◌++◌, Some, None, sym, ◌∙◌, ap, refl, arith}
+use Rattle.std.specs.Prelude.{Option, option_map}
 use Rattle.std.proofs.lemmas.Bool.{and_from, and_left, and_right, cond-true, cond-false, eq-eqb, ne_eqb, le-leb, lt-leb, le-ltb, lt-ltb, cases_eq, cases_lt}
-use Rattle.std.proofs.lemmas.List.{drop_all, drop_more, reverse-append}
 use Rattle.tree_core.proofs.Evaluates.{eval-leaf, eval-left, eval-long, eval-right, eval-short}
 use Rattle.tree_core.proofs.Powers.{split_bounds, split_half, split_unique}
 use Rattle.tree_core.specs.Evaluation.{eval_from_root}
 use Rattle.tree_core.specs.Split.{split_of}
 use Rattle.tree_core.specs.Tree.{pair_hash}
-use Rattle.tree_proofs.proofs.Made.{cases_place}
 use Rattle.tree_proofs.proofs.Opens.{open-left, open-none, open-over, open-right, open-short, open-whole}
 use Rattle.tree_proofs.specs.declared.opened.Opened.{Opened}
-use Rattle.tree_proofs.specs.Levels.{joined_of, opened_at, pair_from_root, pair_of}
-use Rattle.tree_proofs.specs.Open.{both_right_of, open_from_root, open_whole, root_left_of, root_right_of}
+use Rattle.tree_proofs.specs.Levels.{opened_at, pair_from_root}
+use Rattle.tree_proofs.specs.Open.{both_right_of, open_from_root, root_left_of, root_right_of}
 
 -- The cases of the definition, with the numbers of the recursion as variables.
 
@@ -247,7 +245,7 @@ pair-promoted h o (z ∷ q) s l n a b c s_is l_is n_is c_is some from =
     let positive = bounds.positive in
     let below = bounds.below in
     let next : (s l n a b c : ℕ) → s ≡ 2 * a → l ≡ 2 * b → n ≡ l + 1 → c ≡ b + 1 → s ≤ l
-        → pair_from_root h s l n o q ≡ pair_from_root h a b c o q =
+    → pair_from_root h s l n o q ≡ pair_from_root h a b c o q =
     λ s l n a b c s_is l_is n_is c_is from.
     ⊎_elim
     (λ (more : 0 < b). pair-promoted h o q s l n a b c s_is l_is n_is c_is (omega arith) from)

@@ -1,13 +1,12 @@
 -- Parts of a list of leaves, and their roots, paths and proofs by the split of the part.
-use Rattle.std.proofs.Common.{◌≡◌, ℕ, zero, suc, ◌+◌, ◌-◌, ◌<◌, ◌≤◌, ⊎_elim, Bool, true, false, ◌&&◌, cond, eqb, ltb, leb, List, [], ◌∷◌, ◌++◌, length, take, drop, sym, ◌∙◌, ap, refl, arith}
-use Rattle.std.proofs.lemmas.Bool.{and_from, and_left, and_right, cond-false, cond-true, eq-eqb, ne_eqb, le-leb, le-ltb, lt-leb, lt-ltb, cases_lt}
+use Rattle.std.proofs.Common.{◌≡◌, ℕ, zero, suc, ◌+◌, ◌-◌, ◌<◌, ◌≤◌, ⊎_elim, cond, ltb, leb, List, [], ◌∷◌, ◌++◌, length, take, drop, sym, ◌∙◌, ap, refl, arith}
+use Rattle.std.proofs.lemmas.Bool.{cond-false, cond-true, le-leb, le-ltb, lt-leb, lt-ltb, cases_lt}
 use Rattle.std.proofs.lemmas.List.{drop-drop, drop-take, length-drop, length-take, take-take, take_all}
 use Rattle.tree_core.proofs.Powers.{split_bounds}
 use Rattle.tree_core.proofs.Roots.{root_of-split}
 use Rattle.tree_core.specs.Path.{part_of, path_of, path_within}
 use Rattle.tree_core.specs.Split.{split_of}
 use Rattle.tree_core.specs.Tree.{pair_hash, root_of}
-use Rattle.tree_proofs.specs.Proof.{proof_of, proof_within}
 
 pub part-length : (xs : List (List ℕ)) (low high : ℕ) → high ≤ length xs
     → length (part_of xs low high) ≡ high - low

@@ -1,5 +1,5 @@
 -- The work on a consistency proof from the leaves up, one level of the tree after another.
-use Rattle.std.specs.Prelude.{◌≡◌, ℕ, ◌+◌, ◌-◌, ◌*◌, ◌/◌, ◌%◌, ◌^◌, ◌<◌, ◌≤◌, ◌⊎◌, ◌&&◌, ◌==◌, Bool, true, nat_le, nat_lt, if◌then◌else◌, List, [], ◌∷◌, reverse, Option, Some, None, option_map}
+use Rattle.std.specs.Prelude.{◌≡◌, ℕ, ◌+◌, ◌-◌, ◌*◌, ◌/◌, ◌%◌, ◌^◌, ◌<◌, ◌≤◌, ◌&&◌, ◌==◌, Bool, true, nat_le, nat_lt, if◌then◌else◌, List, [], ◌∷◌, reverse, Option, Some, None, option_map}
 use Rattle.tree_core.specs.Split.{split_of}
 use Rattle.tree_core.specs.Subtree.{is_subtree}
 use Rattle.tree_proofs.specs.declared.opened.Opened.{Opened}

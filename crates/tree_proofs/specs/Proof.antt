@@ -1,6 +1,6 @@
 -- The consistency proof of a subtree (the draft on Merkle Tree Certificates, where it makes subtree
 -- consistency proofs).
-use Rattle.std.specs.Prelude.{ℕ, zero, suc, ◌-◌, ◌&&◌, ◌==◌, Bool, true, false, nat_le, if◌then◌else◌, List, [], ◌∷◌, ◌++◌, length, take, drop}
+use Rattle.std.specs.Prelude.{ℕ, zero, suc, ◌-◌, ◌&&◌, ◌==◌, Bool, false, nat_le, if◌then◌else◌, List, [], ◌∷◌, ◌++◌, length, take, drop}
 use Rattle.tree_core.specs.Split.{split_of}
 use Rattle.tree_core.specs.Tree.{root_of}
 

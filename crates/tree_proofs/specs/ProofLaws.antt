@@ -1,5 +1,5 @@
 -- What holds of consistency proofs, for a hash function h.
-use Rattle.std.specs.Prelude.{◌≡◌, ◌≢◌, ℕ, ◌≤◌, ◌↔◌, true, List, length, map, Some, Ok, Err}
+use Rattle.std.specs.Prelude.{◌≡◌, ◌≢◌, ℕ, ◌≤◌, ◌↔◌, true, List, length, map, Ok, Err}
 use Rattle.tree_core.specs.Laws.{IsSubtree}
 use Rattle.tree_core.specs.Path.{part_of}
 use Rattle.tree_core.specs.Tree.{leaf_hash, tree_hash}

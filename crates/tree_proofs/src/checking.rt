@@ -28,7 +28,12 @@ fn joined<H: TreeHash>(place: u64, opened: &Opened, sibling: &[u8; 32]) -> Opene
 }
 
 // The root over the nodes up to the one at `top`, by the one at `place` and its inclusion path.
-fn root_from<H: TreeHash>(node: &[u8; 32], place: u64, top: u64, path: &[[u8; 32]]) -> Option<[u8; 32]>
+fn root_from<H: TreeHash>(
+    node: &[u8; 32],
+    place: u64,
+    top: u64,
+    path: &[[u8; 32]],
+) -> Option<[u8; 32]>
     requires inside { place ≤ top }
     requires small { top + 1 < 18446744073709551616 }
     ensures { result ≡ eval_of H.hash place (top + 1) node.now path.now }
@@ -68,7 +73,13 @@ fn climb<H: TreeHash>(lowest: &[u8; 32], from: Level, proof: &[[u8; 32]]) -> Opt
 }
 
 // What a consistency proof gives.
-fn open<H: TreeHash>(start: u64, end: u64, size: u64, node: &[u8; 32], proof: &[[u8; 32]]) -> Option<Opened>
+fn open<H: TreeHash>(
+    start: u64,
+    end: u64,
+    size: u64,
+    node: &[u8; 32],
+    proof: &[[u8; 32]],
+) -> Option<Opened>
     requires valid { is_subtree start end ≡ true }
     requires within { end ≤ size }
     ensures { result ≡ open_of H.hash start end size true node.now proof.now }

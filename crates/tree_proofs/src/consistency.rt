@@ -11,7 +11,13 @@ use mtc_io::Failed;
 /// in the first `size` leaves (the draft on Merkle Tree Certificates, where it makes subtree
 /// consistency proofs), the lowest hash first. Where the nodes failed, `out` has hashes that mean
 /// nothing.
-pub fn consist<N: Nodes>(nodes: &mut N, start: u64, end: u64, size: u64, out: &mut Path) -> Result<(), Failed>
+pub fn consist<N: Nodes>(
+    nodes: &mut N,
+    start: u64,
+    end: u64,
+    size: u64,
+    out: &mut Path,
+) -> Result<(), Failed>
     requires valid { is_subtree start end ≡ true }
     requires inside { end ≤ size }
     requires within { size ≤ N.count nodes.old }

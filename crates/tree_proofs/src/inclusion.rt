@@ -10,7 +10,13 @@ use mtc_io::Failed;
 /// Puts into `out`, in place of what it held, the inclusion path of the entry at `index` in the
 /// subtree `[start, end)` (RFC 9162, section 2.1.3.1), the sibling of the leaf first. Where the
 /// nodes failed, `out` has hashes that mean nothing.
-pub fn include<N: Nodes>(nodes: &mut N, index: u64, start: u64, end: u64, out: &mut Path) -> Result<(), Failed>
+pub fn include<N: Nodes>(
+    nodes: &mut N,
+    index: u64,
+    start: u64,
+    end: u64,
+    out: &mut Path,
+) -> Result<(), Failed>
     requires valid { is_subtree start end ≡ true }
     requires from { start ≤ index }
     requires below { index < end }

@@ -1,4 +1,4 @@
-use Rattle.std.proofs.Common.{◌≡◌, ◌+◌, ◌<◌, ◌≤◌, ◌⊎◌, inl, inr, ◌∙◌, sym, ap, refl, arith}
+use Rattle.std.proofs.Common.{◌<◌, ◌⊎◌, inl, inr, ◌∙◌, ap, refl, arith}
 use Rattle.std.specs.Prelude.{reverse}
 use Rattle.tree_proofs.proofs.Aligned.{IsAligned-is}
 use Rattle.tree_proofs.proofs.Fulls.{some_in, told_within}

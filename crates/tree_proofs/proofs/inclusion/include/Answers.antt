@@ -1,4 +1,4 @@
-use Rattle.std.proofs.Common.{◌≡◌, ◌+◌, ◌<◌, ◌≤◌, ◌∙◌, refl, arith}
+use Rattle.std.proofs.Common.{◌+◌, ◌<◌, ◌≤◌, ◌∙◌, refl, arith}
 use Rattle.tree_proofs.proofs.Aligned.{IsAligned-from}
 use Rattle.tree_proofs.proofs.Fulls.{told_within}
 use Rattle.tree_proofs.proofs.Making.{Includes-first, Includes-last, Includes-left, Includes-right, left_valid, right_valid}

@@ -1,4 +1,4 @@
-use Rattle.std.proofs.Common.{◌≤◌, ◌<◌, ◌∙◌, arith}
+use Rattle.std.proofs.Common.{◌<◌, ◌∙◌, arith}
 use Rattle.tree_proofs.proofs.Fulls.{joined, root_at, told_within}
 use Rattle.tree_proofs.proofs.nodes.+node_of.Goals as goal
 
