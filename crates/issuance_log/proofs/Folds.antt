@@ -1,0 +1,55 @@
+-- Records that make a log, and more of them.
+use Rattle.std.proofs.Common.{◌≡◌, ℕ, ◌+◌, List, [], ◌∷◌, ◌++◌, length, Option, Some, None, Result, Ok, Err, refl, ap, ◌∙◌, arith}
+use Rattle.byte_forms.specs.Readings.{◌>>=◌, some_or}
+use Rattle.byte_forms.proofs.Steps.{bind_ok, ok_is}
+use Rattle.issuance_log.specs.Folds.{LogState, begun, next_log, folded, log_of}
+
+folded_more : (h : List ℕ → List ℕ) (k : ℕ) (s : LogState) (list rest : List (List ℕ)) (t : LogState) → folded h k s list ≡ Ok t
+    → folded h k s (list ++ rest) ≡ folded h (k + length list) t rest
+unfolding folded
+folded_more h k s [] rest t is =
+    let same : s ≡ t = ok_is ℕ s t is in
+    let here : k ≡ k + 0 = omega arith in
+    ap (λ (u : LogState). folded h k u rest) same ∙ ap (λ (n : ℕ). folded h n t rest) here
+folded_more h k s (body ∷ list) rest t is =
+    let step = bind_ok (some_or k (next_log h s body)) (λ (u : LogState). folded h (k + 1) u list) t is in
+    let first : folded h k s (body ∷ (list ++ rest)) ≡ folded h (k + 1) step.0 (list ++ rest)
+    = ap (λ (r : Result LogState ℕ). r >>= λ (u : LogState). folded h (k + 1) u (list ++ rest)) step.1 in
+    let far : k + 1 + length list ≡ k + length (body ∷ list) = omega arith in
+    first ∙ folded_more h (k + 1) step.0 list rest t step.2 ∙ ap (λ (n : ℕ). folded h n t rest) far
+
+pub log_more : (h : List ℕ → List ℕ) (list rest : List (List ℕ)) (s : LogState) → log_of h list ≡ Ok s
+    → log_of h (list ++ rest) ≡ folded h (length list) s rest
+unfolding log_of
+log_more h [] rest s is = cc
+log_more h (first ∷ list) rest s is =
+    let step = bind_ok (some_or 0 (begun first)) (λ (u : LogState). folded h 1 u list) s is in
+    let begins : log_of h (first ∷ (list ++ rest)) ≡ folded h 1 step.0 (list ++ rest)
+    = ap (λ (r : Result LogState ℕ). r >>= λ (u : LogState). folded h 1 u (list ++ rest)) step.1 in
+    let far : 1 + length list ≡ length (first ∷ list) = omega arith in
+    begins ∙ folded_more h 1 step.0 list rest s step.2 ∙ ap (λ (n : ℕ). folded h n s rest) far
+
+-- the next record is taken
+pub log_next : (h : List ℕ → List ℕ) (list : List (List ℕ)) (s : LogState) (body : List ℕ) (t : LogState) → log_of h list ≡ Ok s
+    → next_log h s body ≡ Some t → log_of h (list ++ body ∷ []) ≡ Ok t
+unfolding folded
+log_next h list s body t is next =
+    log_more h list (body ∷ []) s is
+    ∙ ap (λ (o : Option LogState). some_or (length list) o >>= λ (u : LogState). folded h (length list + 1) u []) next
+
+-- the next record breaks the rules
+pub log_stops : (h : List ℕ → List ℕ) (list : List (List ℕ)) (s : LogState) (body : List ℕ) (rest : List (List ℕ)) → log_of h list ≡ Ok s
+    → next_log h s body ≡ None → log_of h (list ++ body ∷ rest) ≡ Err (length list)
+unfolding folded
+log_stops h list s body rest is next =
+    log_more h list (body ∷ rest) s is
+    ∙ ap (λ (o : Option LogState). some_or (length list) o >>= λ (u : LogState). folded h (length list + 1) u rest) next
+
+-- the first record is taken, or breaks the rules
+pub log_begins : (h : List ℕ → List ℕ) (body : List ℕ) (s : LogState) → begun body ≡ Some s → log_of h (body ∷ []) ≡ Ok s
+unfolding log_of folded
+log_begins h body s is = ap (λ (o : Option LogState). some_or 0 o >>= λ (u : LogState). folded h 1 u []) is
+
+pub log_begins_not : (h : List ℕ → List ℕ) (body : List ℕ) (rest : List (List ℕ)) → begun body ≡ None → log_of h (body ∷ rest) ≡ Err 0
+unfolding log_of
+log_begins_not h body rest is = ap (λ (o : Option LogState). some_or 0 o >>= λ (u : LogState). folded h 1 u rest) is

@@ -1,0 +1,5 @@
+mod Folds
+mod Found
+mod Spelled
+mod Steps
+mod Walks
