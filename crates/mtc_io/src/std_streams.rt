@@ -6,7 +6,8 @@ use crate::sink::Sink;
 use crate::source::Source;
 use std::io::{Read, Write};
 
-/// A reader as a source. It tells nothing of its bytes, and counts its errors as faults, an interruption too.
+/// A reader as a source. It tells the bytes left where the reader does, and counts its errors as faults, an
+/// interruption too.
 #[derive(Drop)]
 pub struct StdSource<R> {
     reader: R,
@@ -16,7 +17,8 @@ pub struct StdSource<R> {
 impl<R: Read> StdSource<R> {
     /// A source over this reader, without a fault so far.
     pub fn new(reader: R) -> StdSource<R>
-        ensures { ⟦<StdSource<R> as Source>⟧.faults result ≡ 0 }
+        ensures faults { ⟦<StdSource<R> as Source>⟧.faults result ≡ 0 }
+        ensures left { ⟦<StdSource<R> as Source>⟧.left result ≡ R.remaining reader }
     {
         StdSource { reader, faults: 0 }
     }
@@ -30,7 +32,7 @@ impl<R: Read> StdSource<R> {
 }
 
 impl<R: Read> Source for StdSource<R> {
-    ghost left = { λ _. None };
+    ghost left = { λ s. R.remaining s.reader };
 
     ghost faults = { λ s. s.faults };
 
@@ -45,8 +47,8 @@ impl<R: Read> Source for StdSource<R> {
     }
 }
 
-/// A writer as a sink. It tells nothing of its bytes, and counts its errors as faults. A writer that takes none of
-/// a piece that isn't empty has failed.
+/// A writer as a sink. It tells the bytes taken where the writer does, and counts its errors as faults. A writer that
+/// takes none of a piece that isn't empty has failed.
 #[derive(Drop)]
 pub struct StdSink<W> {
     writer: W,
@@ -56,14 +58,15 @@ pub struct StdSink<W> {
 impl<W: Write> StdSink<W> {
     /// A sink over this writer, without a fault so far.
     pub fn new(writer: W) -> StdSink<W>
-        ensures { ⟦<StdSink<W> as Sink>⟧.faults result ≡ 0 }
+        ensures faults { ⟦<StdSink<W> as Sink>⟧.faults result ≡ 0 }
+        ensures taken { ⟦<StdSink<W> as Sink>⟧.taken result ≡ W.contents writer }
     {
         StdSink { writer, faults: 0 }
     }
 }
 
 impl<W: Write> Sink for StdSink<W> {
-    ghost taken = { λ _. None };
+    ghost taken = { λ w. W.contents w.writer };
 
     ghost faults = { λ s. s.faults };
 

@@ -6,3 +6,4 @@ pub mod DecimalForm
 pub mod AnchorForm
 pub mod TextLoops
 pub mod AnchorTexts
+pub mod Hashes

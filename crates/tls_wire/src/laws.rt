@@ -6,8 +6,8 @@ ghost use Rattle.std.specs.Int.{w8, w16, w32, w64};
 ghost use Rattle.byte_forms.specs.Places.{IsBytes};
 ghost use Rattle.byte_forms.specs.Lists.{up_to_end};
 ghost use Rattle.byte_forms.specs.Forms.{IsForm, Anything, Nothing, itself};
-ghost use Rattle.tls_wire.specs.Reading.{bytes_at, number_at, vector_at};
-ghost use Rattle.tls_wire.specs.Spelling.{number, vector};
+ghost use Rattle.tls_wire.specs.Reading.{bytes_at, number_at, vector_at, hashes_at};
+ghost use Rattle.tls_wire.specs.Spelling.{number, vector, hashes, AreHashes};
 ghost use Rattle.tls_wire.specs.Arcs.{arc, IsArc, IsAnchorId};
 ghost use Rattle.tls_wire.specs.Anchors.{arc_at, anchor_of, anchor_text, text_of};
 
@@ -24,6 +24,11 @@ pub fn vectors_are_read_as_spelled()
     ensures bytes { (count : ℕ) → IsForm itself (λ bytes. length bytes ≡ count) Anything (bytes_at count) }
     ensures short_vectors { IsForm (vector w8) (λ bytes. length bytes < 2 ^ 8) Anything (vector_at w8) }
     ensures long_vectors { IsForm (vector w16) (λ bytes. length bytes < 2 ^ 16) Anything (vector_at w16) }
+{}
+
+/// Hashes of 32 bytes each, in a vector with a length of two bytes, are read as spelled.
+pub fn hashes_are_read_as_spelled()
+    ensures { IsForm hashes AreHashes Anything hashes_at }
 {}
 
 /// The bytes of anchor ids are read exactly where they are arcs one behind the other, 1 to 255 bytes.

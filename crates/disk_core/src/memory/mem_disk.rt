@@ -160,6 +160,13 @@ impl MemDisk {
         self.past.calls.as_slice()
     }
 
+    /// The numbers of the calls that fail.
+    pub fn failing(&self) -> &[u64]
+        ensures { result.now ≡ failing_of self.now }
+    {
+        self.plan.failing.as_slice()
+    }
+
     /// How many calls have failed, up to the last value of the count.
     pub fn faults(&self) -> u64
         ensures { result ≡ faults_of self.now }
