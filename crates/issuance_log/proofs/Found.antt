@@ -1,6 +1,7 @@
 -- What is read of a file whose walk is known.
-use Rattle.std.proofs.Common.{◌≡◌, ℕ, true, List, [], ◌∷◌, ◌++◌, take, Result, Ok, Err, refl, ap, ◌∙◌}
+use Rattle.std.proofs.Common.{◌≡◌, ◌≢◌, ℕ, Bool, true, false, List, [], ◌∷◌, ◌++◌, take, Result, Ok, Err, refl, ap, ◌∙◌}
 use Rattle.std.specs.Str.{bytes_eq}
+use Rattle.std.proofs.lemmas.Slice.Eq.{bytes_eq-Decides}
 use Rattle.byte_forms.specs.Readings.{◌>>=◌, lifted}
 use Rattle.journal_core.specs.Format.{header}
 use Rattle.journal_core.specs.Walk.{Ending, Walk, walk_of, at_gate}
@@ -14,7 +15,7 @@ use Rattle.issuance_log.specs.declared.error.LogOpenError.TheVariants.{BadRecord
 read_walked : (h : List ℕ → List ℕ) (bytes : List ℕ) → take 16 bytes ≡ header → log_read h bytes ≡ log_walked h (walk_of bytes)
 unfolding log_read
 read_walked h bytes begins =
-    let test : bytes_eq (take 16 bytes) header ≡ true = ap (λ (front : List ℕ). bytes_eq front header) begins in
+    let test : bytes_eq (take 16 bytes) header ≡ true = (bytes_eq-Decides (take 16 bytes) header).1 begins in
     rw test refl
 
 -- records that make a log, and how they end
@@ -48,3 +49,13 @@ read_bad h bytes front body rest k begins walk is =
     read_walked h bytes begins
     ∙ ap (λ (list : List (List ℕ)). kept list (log_behind h list walked.end)) walk
     ∙ ap (kept (front ++ body ∷ rest)) (behind_bad h front body rest walked.end k is)
+
+fails : (b : Bool) (P : Type 0) → (b ≡ true → P) → (P → ⊥) → b ≡ false
+fails true P is never = absurd (never (is refl))
+fails false P is never = refl
+
+pub read_other : (h : List ℕ → List ℕ) (bytes : List ℕ) → take 16 bytes ≢ header → log_read h bytes ≡ Err (Open open_error.NotJournal)
+unfolding log_read
+read_other h bytes other =
+    let test : bytes_eq (take 16 bytes) header ≡ false = fails (bytes_eq (take 16 bytes) header) (take 16 bytes ≡ header) (bytes_eq-Decides (take 16 bytes) header).0 other in
+    rw test refl

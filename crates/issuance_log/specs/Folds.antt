@@ -27,6 +27,10 @@ new_log settings = record { settings = settings; entries = null_entry ∷ []; ke
 abbrev pub with_item : List ℕ → List ℕ → LogState → LogState
 with_item entry key s = record { settings = s.settings; entries = s.entries ++ entry ∷ []; keys = s.keys ++ key ∷ [] }
 
+-- how many records made the log: the first one the null entry, and each later one an entry more
+abbrev pub records_in : LogState → ℕ
+records_in s = length s.entries
+
 -- the first of the items alone
 abbrev pub first_items : ℕ → LogState → LogState
 first_items count s = record { settings = s.settings; entries = take count s.entries; keys = take count s.keys }

@@ -6,4 +6,5 @@ pub mod Readings
 pub mod Records
 pub mod Refusals
 pub mod Results
+pub mod Sound
 pub mod Words

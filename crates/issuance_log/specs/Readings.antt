@@ -1,20 +1,19 @@
 -- A file that is read as a log, record by record.
-use Rattle.std.specs.Prelude.{◌≡◌, ℕ, ◌≤◌, true, false, List, length, None, IfSome, Ok}
+use Rattle.std.specs.Prelude.{◌≡◌, ℕ, true, false, List, length, None, IfSome, Ok}
 use Rattle.disk_core.specs.declared.disk.Disk.{Ghosts}
 use Rattle.journal_core.specs.Format.{StandsFor}
-use Rattle.journal_core.specs.Openings.{opening_disk, read_list, next_place, is_ended, refusal}
+use Rattle.journal_core.specs.Openings.{opening_disk, read_list, is_ended, refusal}
 use Rattle.journal_core.specs.declared.opening.Opening.{Opening}
-use Rattle.issuance_log.specs.Folds.{LogState, log_of}
+use Rattle.issuance_log.specs.Folds.{LogState, records_in, log_of}
 use Rattle.issuance_log.specs.Openings.{log_read}
 
 module _ {D : Type 0} {g : Ghosts D} where
-  -- so many records were read, and they make this log
-  pub record HasFolded (h : List ℕ → List ℕ) (count : ℕ) (state : LogState) (opening : Opening D g) : Type 0 where
+  -- the records that were read make this log
+  pub record HasFolded (h : List ℕ → List ℕ) (state : LogState) (opening : Opening D g) : Type 0 where
     pub open_ : is_ended opening ≡ false
     pub unrefused : refusal opening ≡ None
     pub log : IfSome (read_list opening) (λ list. log_of h list ≡ Ok state)
-    pub count_is : IfSome (read_list opening) (λ list. length list ≡ count)
-    pub place : count ≤ next_place opening
+    pub count : IfSome (read_list opening) (λ list. length list ≡ records_in state)
 
   -- all records were read up to the closed gate, and they make this log
   pub record HasFound (h : List ℕ → List ℕ) (state : LogState) (opening : Opening D g) : Type 0 where

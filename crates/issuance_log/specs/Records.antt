@@ -1,12 +1,13 @@
 -- The records of a log's journal: a tag of one byte, and what it says. Numbers have their highest byte first.
-use Rattle.std.specs.Prelude.{ℕ, Bool, true, false, List, [], ◌∷◌, ◌++◌, length, ◌==◌, ◌&&◌, nat_le, Option, Some, None, option_and_then, Result, Ok, Err, if◌then◌else◌}
+use Rattle.std.specs.Prelude.{◌≡◌, ℕ, ◌≤◌, Bool, true, false, List, [], ◌∷◌, ◌++◌, length, ◌==◌, ◌&&◌, nat_le, Option, Some, None, option_and_then, Result, Ok, Err, if◌then◌else◌}
 use Rattle.std.specs.Int.{w8, w16, w32}
 use Rattle.byte_forms.specs.Places.{At, at}
 use Rattle.byte_forms.specs.Readings.{◌>>=◌}
-use Rattle.tls_wire.specs.Anchors.{anchor_of, is_read}
+use Rattle.tls_wire.specs.Anchors.{anchor_of}
 use Rattle.tls_wire.specs.Reading.{number_at, vector_at}
 use Rattle.tls_wire.specs.Spelling.{number, vector}
 use Rattle.tls_wire.specs.declared.cursor.Short.{Short}
+use Rattle.tls_wire.specs.declared.fault.AnchorBytesError.{AnchorBytesError}
 use Rattle.issuance_log.specs.declared.settings.LogSettings.{LogSettings}
 
 -- ---- spelled
@@ -38,10 +39,18 @@ all_of (Err short) = None
 abbrev pub are_allowed : ℕ → ℕ → Bool
 are_allowed active limit = (nat_le 1 active && nat_le active 10000) && (nat_le 2 limit && nat_le limit 1048576)
 
--- settings, where the numbers may be those of a log and the id is one
+pub record IsAllowed (s : LogSettings) : Type 0 where
+  pub numbers : are_allowed s.max_active s.limit ≡ true
+  pub least : 2 ≤ s.limit
+
+-- settings with this id, where it is one
+abbrev pub with_id : ℕ → ℕ → Result (List ℕ) AnchorBytesError → Option LogSettings
+with_id active limit (Ok id) = Some (record { id = id; max_active = active; limit = limit })
+with_id active limit (Err fault) = None
+
+-- settings, where the numbers may be those of a log
 abbrev pub settings_with : List ℕ × ℕ × ℕ → Option LogSettings
-settings_with x =
-    if are_allowed x.1 x.2 then (if is_read (anchor_of x.0) then Some (record { id = x.0; max_active = x.1; limit = x.2 }) else None) else None
+settings_with x = if are_allowed x.1 x.2 then with_id x.1 x.2 (anchor_of x.0) else None
 
 -- the settings in a Log, which is the first record and nowhere else
 abbrev pub settings_by_tag : Result (ℕ × At) Short → Option LogSettings

@@ -1,8 +1,9 @@
 // What the records of a journal make of a log.
 ghost use Rattle.std.specs.Prelude.{◌≡◌, ◌<◌, ◌≤◌, length, nat_lt, not, option_and_then, OnOk, OnErr};
-ghost use Rattle.issuance_log.specs.Folds.{begun, next_log, with_entry, with_item, first_items};
-ghost use Rattle.issuance_log.specs.Records.{all_of, entry_at};
+ghost use Rattle.issuance_log.specs.Folds.{begun, records_in, next_log, with_entry, with_item, first_items};
+ghost use Rattle.issuance_log.specs.Records.{IsAllowed, all_of, entry_at};
 ghost use Rattle.issuance_log.specs.Results.{Finds, Takes};
+ghost use Rattle.issuance_log.specs.Sound.{IsSound};
 
 use crate::error::RecordError;
 use crate::items::Items;
@@ -24,7 +25,7 @@ pub(crate) struct Contents {
 
 impl Model for Contents {
     ghost use Rattle.issuance_log.specs.Folds.{LogState};
-    ghost use Rattle.std.specs.Prelude.{◌≤◌, length};
+    ghost use Rattle.issuance_log.specs.Sound.{IsSound};
 
     ghost Value = { LogState };
 
@@ -34,7 +35,11 @@ impl Model for Contents {
       keys = c.items.keys.items;
     } };
 
-    ghost invariant = { λ c. length c.items.entries.items ≤ c.settings.limit };
+    ghost invariant = { λ c. IsSound (record {
+      settings = c.settings;
+      entries = c.items.entries.items;
+      keys = c.items.keys.items;
+    }) };
 }
 
 impl Contents {
@@ -62,7 +67,7 @@ impl Contents {
     }
 
     fn take_entry<H: TreeHash>(&mut self, alloc: Global, cursor: Cursor<'_>) -> Result<(), RecordError>
-        ensures { Takes (option_and_then (with_entry H.hash self.old) (all_of (entry_at cursor))) self.old result self.new }
+        ensures { Takes (option_and_then (with_entry H.hash self.old) (all_of (entry_at cursor.entry))) self.old result self.new }
     {
         let (entry, key) = read_entry(cursor)?;
         if self.is_full() || !key_matches::<H>(entry, key) {
@@ -74,20 +79,29 @@ impl Contents {
 
     /// The log has as many entries as its limit allows.
     pub(crate) fn is_full(&self) -> bool
-        ensures { result ≡ not (nat_lt (length self.now.entries) self.now.settings.limit) }
-        ensures within { length self.now.entries ≤ self.now.settings.limit }
+        ensures full { result ≡ not (nat_lt (length self.now.entries) self.now.settings.limit) }
+        ensures sound { IsSound self.now }
     {
         self.items.len() as u64 >= self.settings.limit as u64
     }
 
     pub(crate) fn len(&self) -> usize
-        ensures { result ≡ length self.now.entries }
+        ensures value { result ≡ length self.now.entries }
+        ensures sound { IsSound self.now }
     {
         self.items.len()
     }
 
+    /// How many records made the log, so the number of the next one.
+    pub(crate) fn records(&self) -> u64
+        ensures { result ≡ records_in self.now }
+    {
+        self.items.len() as u64
+    }
+
     pub(crate) fn settings(&self) -> &LogSettings
-        ensures { result.now ≡ self.now.settings }
+        ensures value { result.now ≡ self.now.settings }
+        ensures allowed { IsAllowed result.now }
     {
         &self.settings
     }
@@ -116,6 +130,7 @@ impl Contents {
 
     /// Takes off all but the first `count` items.
     pub(crate) fn truncate(&mut self, count: usize)
+        requires { 1 ≤ count }
         ensures { self.new ≡ first_items count self.old }
     {
         self.items.truncate(count);

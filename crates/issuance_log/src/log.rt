@@ -8,7 +8,7 @@ ghost use Rattle.journal_core.specs.Words.{is_broken, records, AllStandFor};
 ghost use Rattle.issuance_log.specs.Folds.{log_of, with_item};
 ghost use Rattle.issuance_log.specs.Matching.{matches};
 ghost use Rattle.issuance_log.specs.Openings.{HasCauseOf, log_read};
-ghost use Rattle.issuance_log.specs.Records.{entry_record};
+ghost use Rattle.issuance_log.specs.Records.{IsAllowed, entry_record};
 ghost use Rattle.issuance_log.specs.Refusals.{add_refusal, KeepsTo, item_at, GivesItem};
 
 use crate::contents::Contents;
@@ -87,6 +87,7 @@ impl<H: TreeHash, D: Disk> Log<H, D> {
     /// the entry and its key have more than 65,535 bytes together; `Memory`; and what [`Journal::append`] refuses. A
     /// refusal leaves the log as it was. After `Append(Failed)` it shows what it showed before, and each further call
     /// that passes the first tests answers `Append(Broken)`.
+    #[tactic(auto, unfolding(crate::specs::Refusals::add_refusal))]
     pub fn add(&mut self, alloc: Global, entry: &[u8], spki: &[u8]) -> Result<u64, LogError>
         requires { matches H.hash entry.now spki.now ≡ true }
         ensures leaves { Leaves entry.now spki.now self.old self.new result }
@@ -119,13 +120,16 @@ impl<H: TreeHash, D: Disk> Log<H, D> {
 
     /// How many entries the log has, the null entry among them.
     pub fn size(&self) -> u64
-        ensures { result ≡ length (state_of self.now).entries }
+        ensures value { result ≡ length (state_of self.now).entries }
+        ensures some { 1 ≤ result }
+        ensures few { result ≤ (state_of self.now).settings.limit }
     {
         self.contents.len() as u64
     }
 
     pub fn settings(&self) -> &LogSettings
-        ensures { result.now ≡ (state_of self.now).settings }
+        ensures value { result.now ≡ (state_of self.now).settings }
+        ensures allowed { IsAllowed result.now }
     {
         self.contents.settings()
     }
@@ -149,6 +153,7 @@ impl<H: TreeHash, D: Disk> Log<H, D> {
     ///
     /// Errors, in the order of the tests: `NoSuchEntry` where the index isn't below the size; `Memory`. After a refusal
     /// both byte strings are empty.
+    #[tactic(auto, unfolding(crate::specs::Refusals::item_at))]
     pub fn entry(&mut self, index: u64, entry: &mut Bytes, spki: &mut Bytes) -> Result<(), LogError>
         ensures item { GivesItem (item_at (state_of self.old) index) result entry.new spki.new }
         ensures same { self.new ≡ self.old }

@@ -1,7 +1,7 @@
 // The records of a file that is opened as a log.
-ghost use Rattle.std.specs.Prelude.{◌≡◌, ◌+◌, ◌<◌, [], false, None, option_map, MatchBool, IfOk, IfErr, OnOk};
+ghost use Rattle.std.specs.Prelude.{◌≡◌, ◌<◌, [], false, None, option_map, MatchBool, IfOk, IfErr, OnOk};
 ghost use Rattle.disk_core.specs.Moments.{Looks};
-ghost use Rattle.journal_core.specs.Openings.{opening_disk, read_list, next_place, is_ended, refusal, left_of};
+ghost use Rattle.journal_core.specs.Openings.{opening_disk, read_list, is_ended, refusal, left_of};
 ghost use Rattle.issuance_log.specs.Faults.{refused};
 ghost use Rattle.issuance_log.specs.Openings.{HasCauseOf};
 ghost use Rattle.issuance_log.specs.Readings.{HasFolded, HasFound};
@@ -30,7 +30,7 @@ fn read_first<H: TreeHash, D: Disk>(
 ) -> Result<Contents, LogOpenError>
     requires list { read_list opening.old ≡ option_map (λ _. []) (D.told (opening_disk opening.old)) }
     requires goes_on { (is_ended opening.old ≡ false) × (refusal opening.old ≡ None) }
-    ensures folded { IfOk result (λ c. HasFolded H.hash 1 c opening.new) }
+    ensures folded { IfOk result (λ c. HasFolded H.hash c opening.new) }
     ensures err { IfErr result (HasCauseOf D.Disk H.hash (opening_disk opening.old) (opening_disk opening.new)) }
     ensures looks { Looks D.Disk (opening_disk opening.old) (opening_disk opening.new) }
 {
@@ -44,20 +44,20 @@ fn read_first<H: TreeHash, D: Disk>(
     }
 }
 
-// Reads and tests the record of this number: whether there was one.
+// Reads and tests the next record: whether there was one.
 fn read_next<H: TreeHash, D: Disk>(
     alloc: Global,
     opening: &mut Opening<D>,
     contents: &mut Contents,
-    number: u64,
 ) -> Result<bool, LogOpenError>
-    requires { HasFolded H.hash number contents.old opening.old }
-    ensures more { IfOk result (λ more. MatchBool more (HasFolded H.hash (number + 1) contents.new opening.new)
+    requires { HasFolded H.hash contents.old opening.old }
+    ensures more { IfOk result (λ more. MatchBool more (HasFolded H.hash contents.new opening.new)
         (HasFound H.hash contents.new opening.new)) }
     ensures shorter { IfOk result (λ more. MatchBool more (left_of opening.new < left_of opening.old) (Unit {0})) }
     ensures err { IfErr result (HasCauseOf D.Disk H.hash (opening_disk opening.old) (opening_disk opening.new)) }
     ensures looks { Looks D.Disk (opening_disk opening.old) (opening_disk opening.new) }
 {
+    let number = contents.records();
     match opening.next() {
         Ok(Some(body)) => match contents.take::<H>(alloc, body) {
             Ok(()) => Ok(true),
@@ -74,17 +74,15 @@ fn read_rest<H: TreeHash, D: Disk>(
     opening: &mut Opening<D>,
     contents: &mut Contents,
 ) -> Result<(), LogOpenError>
-    requires { HasFolded H.hash 1 contents.old opening.old }
+    requires { HasFolded H.hash contents.old opening.old }
     ensures found { OnOk result (HasFound H.hash contents.new opening.new) }
     ensures err { IfErr result (HasCauseOf D.Disk H.hash (opening_disk opening.old) (opening_disk opening.new)) }
     ensures looks { Looks D.Disk (opening_disk opening.old) (opening_disk opening.new) }
 {
-    let mut number = 1;
     'records: loop {
-        if !read_next::<H, D>(alloc, opening, contents, number)? {
+        if !read_next::<H, D>(alloc, opening, contents)? {
             return Ok(());
         }
-        number += 1;
     }
 }
 

@@ -1,7 +1,7 @@
 // The bodies of a log's records.
-ghost use Rattle.std.specs.Prelude.{◌≡◌, ◌+◌, ◌≤◌, length, IfOk};
+ghost use Rattle.std.specs.Prelude.{◌≡◌, ◌+◌, ◌≤◌, length, true, IfOk};
 ghost use Rattle.byte_forms.specs.Readings.{Moves};
-ghost use Rattle.issuance_log.specs.Records.{settings_at, entry_at, all_of, are_allowed, settings_with, settings_in, settings_record, entry_record};
+ghost use Rattle.issuance_log.specs.Records.{settings_at, entry_at, all_of, are_allowed, IsAllowed, settings_with, settings_in, settings_record, entry_record};
 ghost use Rattle.issuance_log.specs.Results.{Finds};
 ghost use Rattle.tls_wire.specs.Arcs.{IsAnchorId};
 
@@ -39,7 +39,8 @@ fn entry_fields<'a>(cursor: &mut Cursor<'a>) -> Result<(&'a [u8], &'a [u8]), Sho
 
 // The numbers may be those of a log.
 fn are_allowed(max_active: u32, limit: u32) -> bool
-    ensures { result ≡ are_allowed max_active limit }
+    ensures exact { result ≡ are_allowed max_active limit }
+    ensures least { result ≡ true → 2 ≤ limit }
 {
     (1 <= max_active && max_active <= 10_000) && (2 <= limit && limit <= 1_048_576)
 }
@@ -50,7 +51,8 @@ fn settings_with(
     max_active: u32,
     limit: u32,
 ) -> Result<LogSettings, RecordError>
-    ensures { Finds (λ s. s) (settings_with (id.now, max_active, limit)) result }
+    ensures found { Finds (λ s. s) (settings_with (id.now, max_active, limit)) result }
+    ensures allowed { IfOk result IsAllowed }
 {
     if !are_allowed(max_active, limit) {
         return Err(RecordError::Unfit);
@@ -66,7 +68,8 @@ fn settings_with(
 /// The settings in the body of a Log, the first record of a journal.
 #[tactic(auto, unfolding(crate::specs::Records::settings_in))]
 pub(crate) fn read_settings(alloc: Global, body: &[u8]) -> Result<LogSettings, RecordError>
-    ensures { Finds (λ s. s) (settings_in body.now) result }
+    ensures found { Finds (λ s. s) (settings_in body.now) result }
+    ensures allowed { IfOk result IsAllowed }
 {
     let mut cursor = Cursor::new(body);
     if cursor.u8()? != LOG {
@@ -81,7 +84,7 @@ pub(crate) fn read_settings(alloc: Global, body: &[u8]) -> Result<LogSettings, R
 
 /// The entry and the key in the body of an Entry, behind its tag. They are all that is left.
 pub(crate) fn read_entry<'a>(mut cursor: Cursor<'a>) -> Result<(&'a [u8], &'a [u8]), RecordError>
-    ensures { Finds (λ x. (x.0.now, x.1.now)) (all_of (entry_at cursor)) result }
+    ensures { Finds (λ x. (x.0.now, x.1.now)) (all_of (entry_at cursor.entry)) result }
 {
     let item = entry_fields(&mut cursor)?;
     if cursor.left() != 0 {
