@@ -3,9 +3,11 @@ use Rattle.std.proofs.Common.{◌≡◌, ◌≢◌, ℕ, Bool, true, false, List
 use Rattle.std.specs.Str.{bytes_eq}
 use Rattle.std.proofs.lemmas.Slice.Eq.{bytes_eq-Decides}
 use Rattle.byte_forms.specs.Readings.{◌>>=◌, lifted}
-use Rattle.journal_core.specs.Format.{header}
+use Rattle.journal_core.specs.Format.{header, behind, StandsFor}
 use Rattle.journal_core.specs.Walk.{Ending, Walk, walk_of, at_gate}
 use Rattle.journal_core.specs.declared.error.OpenError.TheVariants as open_error
+use Rattle.journal_core.proofs.Walk.{walk_closed}
+use Rattle.issuance_log.proofs.Walks.{header_length}
 use Rattle.issuance_log.specs.Folds.{LogState, log_of}
 use Rattle.issuance_log.specs.Openings.{FoundLog, closing, log_behind, log_walked, log_read}
 use Rattle.issuance_log.specs.declared.error.LogOpenError.{LogOpenError}
@@ -59,3 +61,10 @@ unfolding log_read
 read_other h bytes other =
     let test : bytes_eq (take 16 bytes) header ≡ false = fails (bytes_eq (take 16 bytes) header) (take 16 bytes ≡ header) (bytes_eq-Decides (take 16 bytes) header).0 other in
     rw test refl
+
+-- a file that stands for records of which a log is made
+pub read_standing : (h : List ℕ → List ℕ) (bytes : List ℕ) (list : List (List ℕ)) (s : LogState) → StandsFor bytes list → log_of h list ≡ Ok s
+    → log_read h bytes ≡ Ok (record { records = list; state = s })
+read_standing h bytes list s stands is =
+    read_ends h bytes list at_gate s stands.begins
+    (walk_closed bytes list (behind 16 list) stands.holds refl (header_length bytes stands.begins) stands.ends) is

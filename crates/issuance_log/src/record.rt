@@ -96,11 +96,13 @@ pub(crate) fn read_entry<'a>(mut cursor: Cursor<'a>) -> Result<(&'a [u8], &'a [u
 /// The body of a Log.
 #[tactic(auto, unfolding(crate::specs::Records::settings_record))]
 pub(crate) fn settings_record(alloc: Global, settings: &LogSettings) -> Result<Bytes, Memory>
-    ensures { IfOk result (λ body. body ≡ settings_record settings.now) }
+    ensures value { IfOk result (λ body. body ≡ settings_record settings.now) }
+    ensures id { IsAnchorId settings.now.id }
 {
+    let id = settings.id.as_bytes();
     let mut body = Bytes::new(alloc);
     put_u8(&mut body, LOG)?;
-    put_vec8(&mut body, settings.id.as_bytes())?;
+    put_vec8(&mut body, id)?;
     put_u32(&mut body, settings.max_active)?;
     put_u32(&mut body, settings.limit)?;
     Ok(body)
