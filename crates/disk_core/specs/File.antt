@@ -14,3 +14,7 @@ file_known d = d.known
 -- how many of its calls have failed
 abbrev pub file_faults : FileDisk → ℕ
 file_faults d = d.faults
+
+-- its clock
+abbrev pub file_moment : FileDisk → ℕ
+file_moment d = d.clock

@@ -1,7 +1,7 @@
 // An open file as a disk.
 ghost use Rattle.std.specs.Prelude.{◌≡◌, ◌≤◌, None, IfOk, OnOk};
 ghost use Rattle.mtc_io.specs.Counts.{Rose, HasCause};
-ghost use Rattle.disk_core.specs.File.{file_of, file_faults, file_known};
+ghost use Rattle.disk_core.specs.File.{file_of, file_faults, file_known, file_moment};
 
 use crate::disk::Disk;
 use mtc_io::Failed;
@@ -20,9 +20,11 @@ pub struct FileDisk {
 }
 
 impl FileDisk {
+    /// The file as it stands, with a known length of 0, no fault so far, and the clock at its start.
     pub fn new(file: File) -> FileDisk
         ensures file { file_of result ≡ file }
         ensures known { file_known result ≡ 0 }
+        ensures moment { file_moment result ≡ 0 }
         ensures faults { file_faults result ≡ 0 }
     {
         FileDisk {

@@ -1,0 +1,24 @@
+-- Requests that can be issued.
+use Rattle.std.specs.Prelude.{ℕ, ◌≤◌, ◌≤ℤ◌, List, length}
+use Rattle.std.specs.List.{AllByRecursion}
+use Rattle.std.specs.Option.{IfSome}
+use Rattle.cert_fields.specs.Grammar.{IsPublicKey}
+use Rattle.cert_time.specs.Calendar.{IsMoment}
+use Rattle.authority_core.specs.Hosts.{IsHostName}
+use Rattle.authority_core.specs.declared.requests.parts.Request.{Request}
+
+-- the length of a common name
+abbrev pub IsCommonName : List ℕ → Type 0
+IsCommonName name = (1 ≤ length name) × (length name ≤ 64)
+
+-- the dates are moments in their order, the names are 1 to 100 host names, the common name has 1 to 64 bytes, and the
+-- key is one subjectPublicKeyInfo
+pub record CanBeIssued (r : Request) : Type 0 where
+  pub not_before : IsMoment r.validity.not_before
+  pub not_after : IsMoment r.validity.not_after
+  pub dates : r.validity.not_before ≤ℤ r.validity.not_after
+  pub some : 1 ≤ length r.names
+  pub few : length r.names ≤ 100
+  pub names : AllByRecursion IsHostName r.names
+  pub common_name : IfSome r.common_name IsCommonName
+  pub key : IsPublicKey r.key

@@ -1,0 +1,11 @@
+//! The authority: what it is asked to issue.
+//!
+//! A request file is TOML with the dates between which the certificate is to be valid, the host names that it is for,
+//! a public key, and maybe a common name. [`read_request`] reads it and answers only what can be issued.
+#![tactic(auto)]
+
+mod requests;
+
+pub use requests::{
+    Field, Names, Request, RequestError, public_keys_are_their_grammar, read_request,
+};

@@ -1,0 +1,76 @@
+//! Reading a request file.
+
+ghost use Rattle.std.specs.Prelude.{◌≡◌, ◌≤◌, length, IfOk, IfSome};
+ghost use Rattle.std.specs.List.{AllByRecursion};
+ghost use Rattle.byte_forms.specs.Readings.{Answers};
+ghost use Rattle.toml.specs.View.{table_view};
+ghost use Rattle.authority_core.specs.Files.{checked, request_in, request_of};
+ghost use Rattle.authority_core.specs.Requests.{CanBeIssued};
+
+use crate::requests::error::{Field, RequestError};
+use crate::requests::parts::Request;
+use crate::requests::values::{common_name_at, key_at, names_at, time_at};
+use cert_time::Validity;
+use std::alloc::Global;
+use toml::Table;
+use toml_fields::{TreeError, keys_are_among, read_tree};
+
+// The request, where it is one as a whole.
+#[tactic(auto, unfolding(crate::specs::Files::checked))]
+fn check(request: Request) -> Result<Request, RequestError>
+    ensures { result ≡ checked request }
+{
+    if request.validity.not_after < request.validity.not_before {
+        return Err(RequestError::DatesReversed);
+    }
+    if request.names.is_empty() {
+        return Err(RequestError::NoNames);
+    }
+    Ok(request)
+}
+
+// The request that the root says.
+#[tactic(auto, unfolding(crate::specs::Files::request_in))]
+fn request_from(alloc: Global, root: &Table) -> Result<Request, RequestError>
+    ensures exact { Answers RequestError.Memory (request_in (table_view root.now)) result }
+    ensures valid { IfOk result CanBeIssued }
+{
+    let not_before = time_at(root, "not_before", Field::NotBefore)?;
+    let not_after = time_at(root, "not_after", Field::NotAfter)?;
+    let names = names_at(alloc, root)?;
+    let common_name = common_name_at(alloc, root)?;
+    let key = key_at(alloc, root)?;
+    check(Request {
+        validity: Validity {
+            not_before,
+            not_after,
+        },
+        names,
+        common_name,
+        key,
+    })
+}
+
+/// Reads a request file. It has the texts `not_before` and `not_after` (`YYYY-MM-DDTHH:MM:SSZ`, from 1950 to 9999), the
+/// array `dns` of at most 100 host names, and the text `key`, a subjectPublicKeyInfo element in base64; it may have the
+/// text `common_name` of 1 to 64 bytes. The first fault is answered, in the order of [`RequestError`]; what is answered
+/// can be issued.
+#[tactic(auto, unfolding(crate::specs::Files::request_of))]
+pub fn read_request(alloc: Global, text: &[u8]) -> Result<Request, RequestError>
+    ensures exact { Answers RequestError.Memory (request_of text.now) result }
+    ensures valid { IfOk result CanBeIssued }
+{
+    let root = match read_tree(alloc, text) {
+        Ok(root) => root,
+        Err(TreeError::NotToml) => return Err(RequestError::NotToml),
+        Err(TreeError::Memory) => return Err(RequestError::Memory),
+    };
+    if keys_are_among(
+        &root,
+        &["not_before", "not_after", "dns", "common_name", "key"],
+    ) {
+        request_from(alloc, &root)
+    } else {
+        Err(RequestError::UnknownKey)
+    }
+}

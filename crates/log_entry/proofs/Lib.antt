@@ -1,0 +1,4 @@
+pub mod Offsets
+pub mod FieldForms
+pub mod EntryForm
+pub mod Matches

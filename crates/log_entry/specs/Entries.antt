@@ -1,0 +1,44 @@
+-- Entries: how their parts are spelled, one behind the other, and what the parts are, apart from any reader.
+use Rattle.std.specs.Prelude.{◌≡◌, ℕ, ◌⊎◌, List, [], ◌∷◌, ◌++◌, length, Option, Some, None}
+use Rattle.cert_time.specs.declared.validity.Validity.{Validity}
+use Rattle.cert_fields.specs.Spelling.{version}
+use Rattle.cert_fields.specs.Grammar.{IsName, IsValidity, IsExtensionsField}
+
+-- The parts of an entry of type 1. Issuer, validity, subject and extensions are whole elements; the extensions are absent
+-- where their list is empty.
+pub record TbsParts : Type 0 where
+  pub issuer : List ℕ
+  pub validity : Validity
+  pub validity_der : List ℕ
+  pub subject : List ℕ
+  pub key_hash : List ℕ
+  pub extensions : List ℕ
+
+-- The hash of the public key: an OCTET STRING of 32 bytes.
+abbrev pub hash_text : List ℕ → List ℕ
+hash_text hash = 4 ∷ 32 ∷ hash
+
+-- The body: the fields as they stand in a certificate, with the hash in the place of the key.
+abbrev pub body_text : TbsParts → List ℕ
+body_text p = version ++ (p.issuer ++ (p.validity_der ++ (p.subject ++ (hash_text p.key_hash ++ p.extensions))))
+
+-- An entry of type 1: its type in two bytes, and its body.
+unfoldable pub tbs_text : TbsParts → List ℕ
+tbs_text p = 0 ∷ 1 ∷ body_text p
+
+-- An entry of type 0, the null entry, or one of type 1.
+abbrev pub entry_text : Option TbsParts → List ℕ
+entry_text None = 0 ∷ 0 ∷ []
+entry_text (Some p) = tbs_text p
+
+-- Each part is in its grammar (RFC 5280, section 4.1).
+pub record IsTbs (p : TbsParts) : Type 0 where
+  pub issuer : IsName p.issuer
+  pub validity : IsValidity (p.validity_der, p.validity)
+  pub subject : IsName p.subject
+  pub key_hash : length p.key_hash ≡ 32
+  pub extensions : (p.extensions ≡ []) ⊎ IsExtensionsField p.extensions
+
+abbrev pub IsEntry : Option TbsParts → Type 0
+IsEntry None = Unit {0}
+IsEntry (Some p) = IsTbs p

@@ -1,0 +1,20 @@
+-- The entry from which a certificate was made.
+use Rattle.std.specs.Prelude.{ℕ, List}
+use Rattle.cert_fields.specs.Certificate.{Parts}
+use Rattle.log_entry.specs.Entries.{TbsParts, tbs_text}
+
+-- The fields of a certificate's entry, with this hash in the place of its key.
+abbrev pub tbs_with : Parts → List ℕ → TbsParts
+tbs_with p key_hash = record {
+  issuer = p.issuer;
+  validity = p.validity;
+  validity_der = p.validity_der;
+  subject = p.subject;
+  key_hash = key_hash;
+  extensions = p.extensions;
+}
+
+-- The entry of a certificate under the hash function h: 00 01, then version, issuer, validity and subject as in the
+-- certificate, then 04 20 and the hash of the subjectPublicKeyInfo, then the extensions where there are some.
+unfoldable pub entry_of : (List ℕ → List ℕ) → Parts → List ℕ
+entry_of h p = tbs_text (tbs_with p (h p.spki))

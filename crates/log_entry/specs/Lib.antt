@@ -1,0 +1,5 @@
+pub mod Entries
+pub mod Reading
+pub mod EntryOf
+pub mod Matching
+pub mod Views

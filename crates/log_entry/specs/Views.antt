@@ -1,0 +1,34 @@
+-- Parts of the code's values as contracts see them: slices as their bytes.
+use Rattle.std.specs.Prelude.{Option, Some, None}
+use Rattle.cert_time.specs.Times.{validity_element}
+use Rattle.log_entry.specs.Entries.{TbsParts}
+use Rattle.log_entry.specs.declared.entry.Entry.{Entry}
+use Rattle.log_entry.specs.declared.entry.Entry.TheVariants.{Null, Tbs}
+use Rattle.log_entry.specs.declared.entry.TbsEntry.{TbsEntry}
+use Rattle.log_entry.specs.declared.entry.EntryParts.{EntryParts}
+
+abbrev pub tbs_parts : TbsEntry → TbsParts
+tbs_parts t = record {
+  issuer = t.issuer.now;
+  validity = t.validity;
+  validity_der = t.validity_der.now;
+  subject = t.subject.now;
+  key_hash = t.key_hash.now;
+  extensions = t.extensions.now;
+}
+
+-- The null entry is none.
+abbrev pub entry_parts : Entry → Option TbsParts
+entry_parts Null = None
+entry_parts (Tbs t) = Some (tbs_parts t)
+
+-- What is written: the parts that are handed in, with the validity as its element.
+abbrev pub given : EntryParts → TbsParts
+given p = record {
+  issuer = p.issuer.now;
+  validity = p.validity;
+  validity_der = validity_element p.validity.not_before p.validity.not_after;
+  subject = p.subject.now;
+  key_hash = p.key_hash.now;
+  extensions = p.extensions.now;
+}

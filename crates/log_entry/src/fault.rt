@@ -1,0 +1,42 @@
+//! What can be wrong with an entry.
+
+use der_core::{CertError, DerError};
+
+/// Why bytes aren't an entry. First there are too few bytes for a type, then the type is looked at, then the body is read
+/// from the left.
+#[derive(Clone, Copy, Debug, PartialEq, Eq)]
+pub enum EntryError {
+    /// There are fewer than two bytes.
+    Short,
+    /// The type is neither 0 nor 1.
+    UnknownType(u16),
+    /// A fault of a field, or of what stands behind the last one. Offsets count in the bytes of the entry.
+    Body(CertError),
+    /// The hash of the public key hasn't 32 bytes.
+    BadHashLength,
+    /// The null entry goes on behind its type.
+    NullHasBody,
+}
+
+impl From<CertError> for EntryError {
+    ghost use Rattle.std.specs.Prelude.{◌≡◌};
+    ghost use Rattle.log_entry.specs.declared.fault.EntryError.TheVariants.{Body};
+
+    ghost from_gives = { λ c e. e ≡ Body c };
+
+    fn from(fault: CertError) -> EntryError {
+        EntryError::Body(fault)
+    }
+}
+
+impl From<DerError> for EntryError {
+    ghost use Rattle.std.specs.Prelude.{◌≡◌};
+    ghost use Rattle.der_core.specs.declared.fault.CertError.TheVariants.{Der};
+    ghost use Rattle.log_entry.specs.declared.fault.EntryError.TheVariants.{Body};
+
+    ghost from_gives = { λ d e. e ≡ Body (Der d) };
+
+    fn from(fault: DerError) -> EntryError {
+        EntryError::Body(CertError::Der(fault))
+    }
+}

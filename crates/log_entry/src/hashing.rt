@@ -1,0 +1,64 @@
+//! Hashes of entries and of keys, without taking memory.
+
+ghost use Rattle.std.specs.Prelude.{◌≡◌};
+ghost use Rattle.tree_core.specs.Tree.{leaf_hash};
+ghost use Rattle.cert_fields.specs.Views.{parts};
+ghost use Rattle.log_entry.specs.Entries.{tbs_text};
+ghost use Rattle.log_entry.specs.EntryOf.{entry_of};
+ghost use Rattle.log_entry.specs.Views.{tbs_parts};
+
+use crate::entry::TbsEntry;
+use cert_fields::Cert;
+use tree_core::TreeHash;
+
+/// The bytes before the issuer: type 1, and version 3 as an INTEGER of 2 in its tag.
+pub const HEAD: [u8; 7] = [0x00, 0x01, 0xA0, 0x03, 0x02, 0x01, 0x02];
+
+/// The bytes before the hash of the public key: an OCTET STRING of 32 bytes.
+pub const HASH_HEAD: [u8; 2] = [0x04, 0x20];
+
+/// The byte before an entry, where it is hashed as a leaf of a tree (RFC 9162, section 2.1.1).
+const LEAF: u8 = 0;
+
+/// The hash of a key, as entries hold it: of the whole subjectPublicKeyInfo element.
+pub fn key_hash<H: TreeHash>(spki: &[u8]) -> [u8; 32]
+    ensures { result ≡ H.hash spki.now }
+{
+    let mut running = H::begin();
+    running.add(spki);
+    running.end()
+}
+
+/// The leaf hash of the entry with these fields, one field after another.
+#[tactic(auto, unfolding(crate::specs::Entries::tbs_text))]
+fn tbs_hash<H: TreeHash>(tbs: &TbsEntry) -> [u8; 32]
+    ensures { result ≡ leaf_hash H.hash (tbs_text (tbs_parts tbs.now)) }
+{
+    let mut running = H::begin();
+    running.add(&[LEAF]);
+    running.add(&HEAD);
+    running.add(tbs.issuer);
+    running.add(tbs.validity_der);
+    running.add(tbs.subject);
+    running.add(&HASH_HEAD);
+    running.add(tbs.key_hash);
+    running.add(tbs.extensions);
+    running.end()
+}
+
+/// The hash, as a leaf of a tree, of the entry from which a certificate was made. It is that of
+/// [`entry_of`](crate::entry_of), and takes no memory.
+#[tactic(auto, unfolding(crate::specs::EntryOf::entry_of))]
+pub fn entry_hash<H: TreeHash>(cert: &Cert) -> [u8; 32]
+    ensures { result ≡ leaf_hash H.hash (entry_of H.hash (parts cert.now)) }
+{
+    let key = key_hash::<H>(cert.spki);
+    tbs_hash::<H>(&TbsEntry {
+        issuer: cert.issuer,
+        validity: cert.validity,
+        validity_der: cert.validity_der,
+        subject: cert.subject,
+        key_hash: key.as_slice(),
+        extensions: cert.extensions,
+    })
+}

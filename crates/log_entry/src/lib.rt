@@ -1,0 +1,30 @@
+//! Entries of a log of certificates: what the log commits to of a certificate, with the hash of its public key in the
+//! place of the key. They are read as a struct of borrowed fields, with the first fault from the left; they are made from
+//! a certificate, or from their parts; and a key is compared with the entry that was made for it.
+//!
+//! An entry is two bytes of type and a body. Type 0 is the null entry, which has no body. Type 1 is followed by version,
+//! issuer, validity and subject as in the certificate (RFC 5280, section 4.1), an OCTET STRING of 32 bytes with the hash of
+//! the subjectPublicKeyInfo, and the extensions where there are some, without an outer tag and length.
+#![tactic(auto)]
+
+mod entry;
+mod fault;
+mod fields;
+mod hashing;
+mod laws;
+mod matching;
+mod reading;
+#[cfg(test)]
+mod tests;
+mod writing;
+
+pub use entry::{Entry, EntryParts, TbsEntry};
+pub use fault::EntryError;
+pub use hashing::{entry_hash, key_hash};
+pub use laws::{
+    entries_are_read_as_spelled, entries_have_one_spelling, entries_of_certificates,
+    written_entries_match_their_keys,
+};
+pub use matching::key_matches;
+pub use reading::read_entry;
+pub use writing::{entry_of, write_entry};

@@ -1,0 +1,42 @@
+//! Whether a key is the one of an entry.
+
+ghost use Rattle.std.specs.Prelude.{◌≡◌, ◌↔◌, IsTrue};
+ghost use Rattle.log_entry.specs.Matching.{is_public_key, matches, Matches};
+
+use crate::entry::Entry;
+use crate::hashing::key_hash;
+use crate::reading::read_entry;
+use cert_fields::check_spki;
+use tree_core::TreeHash;
+
+/// The bytes are one subjectPublicKeyInfo, and nothing stands behind it.
+fn is_public_key(bytes: &[u8]) -> bool
+    ensures { result ≡ is_public_key bytes.now }
+{
+    match check_spki(bytes, 0) {
+        Ok(behind) => behind == bytes.len(),
+        Err(_) => false,
+    }
+}
+
+/// The same answer as an equation with the definition.
+#[tactic(auto, unfolding(crate::specs::Matching::matches))]
+fn compared<H: TreeHash>(entry: &[u8], spki: &[u8]) -> bool
+    ensures { result ≡ matches H.hash entry.now spki.now }
+{
+    match read_entry(entry) {
+        Ok(Entry::Tbs(tbs)) => {
+            tbs.key_hash == key_hash::<H>(spki).as_slice() && is_public_key(spki)
+        }
+        _ => false,
+    }
+}
+
+/// Whether this is the key for which the entry was made: the entry reads as type 1, the bytes of the key are one
+/// subjectPublicKeyInfo element (RFC 5280, section 4.1.2.7), and its hash stands in the entry. It takes no memory.
+pub fn key_matches<H: TreeHash>(entry: &[u8], spki: &[u8]) -> bool
+    ensures exact { result ≡ matches H.hash entry.now spki.now }
+    ensures meaning { IsTrue result ↔ Matches H.hash entry.now spki.now }
+{
+    compared::<H>(entry, spki)
+}

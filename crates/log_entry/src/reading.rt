@@ -1,0 +1,67 @@
+//! Reading an entry.
+
+ghost use Rattle.std.specs.Prelude.{◌≡◌, ◌≤◌, length, IfOk, Ok, Option};
+ghost use Rattle.byte_forms.specs.Places.{at};
+ghost use Rattle.byte_forms.specs.Readings.{Gives};
+ghost use Rattle.log_entry.specs.Entries.{TbsParts, entry_text, IsEntry};
+ghost use Rattle.log_entry.specs.Reading.{body_of, entry_in};
+ghost use Rattle.log_entry.specs.Views.{tbs_parts, entry_parts};
+
+use crate::entry::{Entry, TbsEntry};
+use crate::fault::EntryError;
+use crate::fields::{extensions, key_hash, name, validity, version};
+use der_core::Reader;
+
+/// The fields behind the type, up to the end.
+#[tactic(auto, unfolding(crate::specs::Reading::body_of))]
+fn body(entry: &[u8]) -> Result<TbsEntry<'_>, EntryError>
+    requires { 2 ≤ length entry.now }
+    ensures { Gives tbs_parts result (body_of (at entry.now 2)) }
+{
+    let place = version(entry, 2)?;
+    let (issuer, place) = name(entry, place)?;
+    let (validity_der, validity, place) = validity(entry, place)?;
+    let (subject, place) = name(entry, place)?;
+    let (key_hash, place) = key_hash(entry, place)?;
+    let (extensions, place) = extensions(entry, place)?;
+    Reader::at(entry, place).end()?;
+    Ok(TbsEntry {
+        issuer,
+        validity,
+        validity_der,
+        subject,
+        key_hash,
+        extensions,
+    })
+}
+
+/// The type, and the fields behind it.
+#[tactic(auto, unfolding(crate::specs::Reading::entry_in))]
+fn whole(bytes: &[u8]) -> Result<Entry<'_>, EntryError>
+    ensures { Gives entry_parts result (entry_in bytes.now) }
+{
+    let [high, low, rest @ ..] = bytes else {
+        return Err(EntryError::Short);
+    };
+    match *high as u16 * 256 + *low as u16 {
+        0 if rest.is_empty() => Ok(Entry::Null),
+        0 => Err(EntryError::NullHasBody),
+        1 => Ok(Entry::Tbs(body(bytes)?)),
+        other => Err(EntryError::UnknownType(other)),
+    }
+}
+
+/// Reads an entry, without taking memory.
+///
+/// Refuses with `Short` where there are fewer than two bytes, `NullHasBody` where the null entry goes on behind its type,
+/// and `UnknownType` where the type is neither 0 nor 1. In an entry of type 1 the first fault from the left is answered:
+/// `Body` with the fault of a field as [`parse`](cert_fields::parse) has it in a certificate, or with `Trailing` for what
+/// stands behind the last field, its offset counted in these bytes; `BadHashLength` where the hash of the public key is
+/// an OCTET STRING of another length than 32.
+pub fn read_entry(bytes: &[u8]) -> Result<Entry<'_>, EntryError>
+    ensures found { IfOk result (λ e. (bytes.now ≡ entry_text (entry_parts e)) × IsEntry (entry_parts e)) }
+    ensures only { (e : Option TbsParts) → IsEntry e → bytes.now ≡ entry_text e → Gives entry_parts result (Ok e) }
+    ensures exact { Gives entry_parts result (entry_in bytes.now) }
+{
+    whole(bytes)
+}

@@ -1,0 +1,151 @@
+//! The entry of the certificate of one name that a log with id 32473.1 issues, and what is told of changes to it.
+
+use crate::{
+    Entry, EntryError, EntryParts, entry_hash, entry_of, key_hash, key_matches, read_entry,
+    write_entry,
+};
+use cert_fields::Cert;
+use cert_time::Validity;
+use der_core::{CertError, DerError};
+use std::test::Fail;
+use tree_core::{Sha, TreeHash};
+
+/// Issuer of log 32473.1, 2026-01-01 to 2026-01-08, no subject, the SHA-256 of an Ed25519 key of zeros, one critical
+/// subjectAltName with `a.example`.
+const ENTRY: [u8; 131] = [
+    0x00, 0x01, 0xA0, 0x03, 0x02, 0x01, 0x02, 0x30, 0x19, 0x31, 0x17, 0x30, 0x15, 0x06, 0x0A, 0x2B,
+    0x06, 0x01, 0x04, 0x01, 0x82, 0xDA, 0x4B, 0x2F, 0x01, 0x0C, 0x07, 0x33, 0x32, 0x34, 0x37, 0x33,
+    0x2E, 0x31, 0x30, 0x1E, 0x17, 0x0D, 0x32, 0x36, 0x30, 0x31, 0x30, 0x31, 0x30, 0x30, 0x30, 0x30,
+    0x30, 0x30, 0x5A, 0x17, 0x0D, 0x32, 0x36, 0x30, 0x31, 0x30, 0x38, 0x30, 0x30, 0x30, 0x30, 0x30,
+    0x30, 0x5A, 0x30, 0x00, 0x04, 0x20, 0x72, 0x2A, 0xBD, 0x12, 0xE9, 0x9A, 0x53, 0x67, 0xF3, 0x75,
+    0xAE, 0xB9, 0x67, 0x2A, 0x8E, 0x07, 0x71, 0x2E, 0x03, 0xC2, 0xAD, 0xD1, 0x6F, 0xA8, 0xD6, 0x91,
+    0x4D, 0x1C, 0xFA, 0x2E, 0xFE, 0x0C, 0xA3, 0x1B, 0x30, 0x19, 0x30, 0x17, 0x06, 0x03, 0x55, 0x1D,
+    0x11, 0x01, 0x01, 0xFF, 0x04, 0x0D, 0x30, 0x0B, 0x82, 0x09, 0x61, 0x2E, 0x65, 0x78, 0x61, 0x6D,
+    0x70, 0x6C, 0x65,
+];
+
+/// Its hash as a leaf.
+const LEAF_HASH: [u8; 32] = [
+    0x7E, 0xDF, 0xD5, 0xE2, 0x31, 0x8A, 0x6D, 0xE0, 0x81, 0xFE, 0x8E, 0xE5, 0xE0, 0xA6, 0x29, 0x33,
+    0x5E, 0x6F, 0x6F, 0xD8, 0x25, 0xFB, 0xE9, 0xF7, 0x11, 0x1B, 0xE6, 0xA8, 0xD2, 0x43, 0xD1, 0x61,
+];
+
+/// The Ed25519 key of zeros, as a subjectPublicKeyInfo.
+const KEY: [u8; 44] = [
+    0x30, 0x2A, 0x30, 0x05, 0x06, 0x03, 0x2B, 0x65, 0x70, 0x03, 0x21, 0x00, 0x00, 0x00, 0x00, 0x00,
+    0x00, 0x00, 0x00, 0x00, 0x00, 0x00, 0x00, 0x00, 0x00, 0x00, 0x00, 0x00, 0x00, 0x00, 0x00, 0x00,
+    0x00, 0x00, 0x00, 0x00, 0x00, 0x00, 0x00, 0x00, 0x00, 0x00, 0x00, 0x00,
+];
+
+const WEEK: Validity = Validity {
+    not_before: 1_767_225_600,
+    not_after: 1_767_830_400,
+};
+
+/// The entry with another byte at one place.
+fn changed(place: usize, byte: u8) -> [u8; 131] {
+    let mut bytes = ENTRY;
+    if let Some(old) = bytes.get_mut(place) {
+        *old = byte;
+    }
+    bytes
+}
+
+/// The fault that is told of these bytes.
+fn fault_of(bytes: &[u8]) -> Option<EntryError> {
+    read_entry(bytes).err()
+}
+
+#[test]
+fn entries_and_changes(rt: HostRuntime) -> Result<(), Fail> {
+    assert_eq!(rt; matches!(read_entry(&[0, 0]), Ok(Entry::Null)), true);
+    let Ok(Entry::Tbs(tbs)) = read_entry(&ENTRY) else {
+        return Err("the entry".into());
+    };
+    assert_eq!(rt; tbs.issuer, &ENTRY[7..34]);
+    assert_eq!(rt; tbs.validity, WEEK);
+    assert_eq!(rt; tbs.validity_der, &ENTRY[34..66]);
+    assert_eq!(rt; tbs.subject, &ENTRY[66..68]);
+    assert_eq!(rt; tbs.key_hash, &ENTRY[70..102]);
+    assert_eq!(rt; tbs.extensions, &ENTRY[102..]);
+    let faults: [(usize, u8, EntryError); 12] = [
+        (0, 0x01, EntryError::UnknownType(257)),
+        (1, 0x02, EntryError::UnknownType(2)),
+        (1, 0x00, EntryError::NullHasBody),
+        (2, 0x30, EntryError::Body(CertError::BadVersion)),
+        (6, 0x01, EntryError::Body(CertError::BadVersion)),
+        (
+            7,
+            0x31,
+            EntryError::Body(CertError::Der(DerError::WrongTag(7))),
+        ),
+        (36, 0x18, EntryError::Body(CertError::BadTime)),
+        (
+            66,
+            0x31,
+            EntryError::Body(CertError::Der(DerError::WrongTag(66))),
+        ),
+        (
+            68,
+            0x05,
+            EntryError::Body(CertError::Der(DerError::WrongTag(68))),
+        ),
+        (69, 0x1F, EntryError::BadHashLength),
+        (
+            102,
+            0xA2,
+            EntryError::Body(CertError::Der(DerError::Trailing(102))),
+        ),
+        (115, 0x00, EntryError::Body(CertError::BadExtension)),
+    ];
+    for (place, byte, fault) in faults {
+        assert_eq!(rt; fault_of(&changed(place, byte)), Some(fault));
+    }
+    assert_eq!(rt; fault_of(b""), Some(EntryError::Short));
+    assert_eq!(rt; fault_of(&[0]), Some(EntryError::Short));
+    assert_eq!(rt; fault_of(&[0, 0, 0]), Some(EntryError::NullHasBody));
+    assert_eq!(rt;
+        fault_of(&[0, 1]),
+        Some(EntryError::Body(CertError::BadVersion))
+    );
+    assert_eq!(rt; fault_of(&ENTRY[..102]), None);
+    Ok(())
+}
+
+#[test]
+fn entries_of_certificates_and_of_parts(rt: HostRuntime) -> Result<(), Fail> {
+    let cert = Cert {
+        serial: 1,
+        issuer: &ENTRY[7..34],
+        validity: WEEK,
+        validity_der: &ENTRY[34..66],
+        subject: &ENTRY[66..68],
+        spki: &KEY,
+        extensions: &ENTRY[102..],
+        algorithm: &[],
+        proof: &[],
+    };
+    assert_eq!(rt;
+        entry_of::<Sha>(rt.alloc(), &cert)?.as_slice(),
+        ENTRY.as_slice()
+    );
+    assert_eq!(rt; entry_hash::<Sha>(&cert), LEAF_HASH);
+    let key = key_hash::<Sha>(&KEY);
+    let parts = EntryParts {
+        issuer: cert.issuer,
+        validity: WEEK,
+        subject: cert.subject,
+        key_hash: &key,
+        extensions: cert.extensions,
+    };
+    assert_eq!(rt;
+        write_entry(rt.alloc(), &parts)?.as_slice(),
+        ENTRY.as_slice()
+    );
+    assert_eq!(rt; key_matches::<Sha>(&ENTRY, &KEY), true);
+    assert_eq!(rt; key_matches::<Sha>(&changed(70, 0x73), &KEY), false);
+    assert_eq!(rt; key_matches::<Sha>(&changed(69, 0x1F), &KEY), false);
+    assert_eq!(rt; key_matches::<Sha>(&ENTRY, &KEY[..43]), false);
+    assert_eq!(rt; key_matches::<Sha>(&[0, 0], &[]), false);
+    Ok(())
+}

@@ -1,0 +1,87 @@
+//! Writing entries.
+
+ghost use Rattle.std.specs.Prelude.{◌≡◌, IfOk, Ok, Some};
+ghost use Rattle.cert_time.specs.Calendar.{IsMoment};
+ghost use Rattle.cert_fields.specs.Views.{parts};
+ghost use Rattle.log_entry.specs.Entries.{tbs_text, IsTbs};
+ghost use Rattle.log_entry.specs.EntryOf.{entry_of};
+ghost use Rattle.log_entry.specs.Reading.{entry_in};
+ghost use Rattle.log_entry.specs.Views.{tbs_parts, given};
+
+use crate::entry::{EntryParts, TbsEntry};
+use crate::hashing::{HASH_HEAD, HEAD, key_hash};
+use cert_fields::Cert;
+use cert_time::put_validity;
+use mtc_io::{Bytes, Memory};
+use std::alloc::Global;
+use tree_core::TreeHash;
+
+/// The entry with these fields.
+#[tactic(auto, unfolding(crate::specs::Entries::tbs_text))]
+fn written(alloc: Global, tbs: &TbsEntry) -> Result<Bytes, Memory>
+    ensures { IfOk result (λ bytes. bytes ≡ tbs_text (tbs_parts tbs.now)) }
+{
+    let mut out = Bytes::copy_of(alloc, &HEAD)?;
+    out.append(tbs.issuer)?;
+    out.append(tbs.validity_der)?;
+    out.append(tbs.subject)?;
+    out.append(&HASH_HEAD)?;
+    out.append(tbs.key_hash)?;
+    out.append(tbs.extensions)?;
+    Ok(out)
+}
+
+/// The entry from which a certificate was made: its version, issuer, validity and subject, the hash of its public key, and
+/// its extensions. Want of memory is the only refusal.
+#[tactic(auto, unfolding(crate::specs::EntryOf::entry_of))]
+pub fn entry_of<H: TreeHash>(alloc: Global, cert: &Cert) -> Result<Bytes, Memory>
+    ensures { IfOk result (λ bytes. bytes ≡ entry_of H.hash (parts cert.now)) }
+{
+    let key = key_hash::<H>(cert.spki);
+    written(
+        alloc,
+        &TbsEntry {
+            issuer: cert.issuer,
+            validity: cert.validity,
+            validity_der: cert.validity_der,
+            subject: cert.subject,
+            key_hash: key.as_slice(),
+            extensions: cert.extensions,
+        },
+    )
+}
+
+/// Writes an entry of type 1. Want of memory is the only refusal.
+///
+/// The parts are put together as they are. Where issuer, subject and extensions are elements in the grammar of their
+/// fields, [`read_entry`](crate::read_entry) reads them again from what is written, and it matches the key whose hash was
+/// given.
+pub fn write_entry(alloc: Global, parts: &EntryParts) -> Result<Bytes, Memory>
+    requires not_before { IsMoment parts.now.validity.not_before }
+    requires not_after { IsMoment parts.now.validity.not_after }
+    ensures exact { IfOk result (λ bytes. bytes ≡ tbs_text (given parts.now)) }
+    ensures read { IsTbs (given parts.now) → IfOk result (λ bytes. entry_in bytes ≡ Ok (Some (given parts.now))) }
+{
+    with_validity(alloc, parts)
+}
+
+/// The entry, with its validity written out.
+fn with_validity(alloc: Global, parts: &EntryParts) -> Result<Bytes, Memory>
+    requires not_before { IsMoment parts.now.validity.not_before }
+    requires not_after { IsMoment parts.now.validity.not_after }
+    ensures { IfOk result (λ bytes. bytes ≡ tbs_text (given parts.now)) }
+{
+    let mut validity = Bytes::new(alloc);
+    put_validity(&parts.validity, &mut validity)?;
+    written(
+        alloc,
+        &TbsEntry {
+            issuer: parts.issuer,
+            validity: parts.validity,
+            validity_der: validity.as_slice(),
+            subject: parts.subject,
+            key_hash: parts.key_hash.as_slice(),
+            extensions: parts.extensions,
+        },
+    )
+}

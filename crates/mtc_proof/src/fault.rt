@@ -1,0 +1,42 @@
+//! What can be wrong with a proof.
+
+use tls_wire::{HashesError, Short};
+
+/// Why bytes aren't a proof, or a list of signatures. They are read from the left, the signatures before what stands behind
+/// them, and the first fault is answered.
+#[derive(Clone, Copy, Debug, PartialEq, Eq)]
+pub enum ProofError {
+    /// The number, the vector of hashes, the id or the signature that begins at this offset doesn't fit.
+    Short(usize),
+    /// The length of the path is no multiple of 32.
+    HashLength,
+    /// Something stands behind the signatures.
+    Trailing,
+    /// The signature that begins at this offset has a cosigner's id of no bytes.
+    EmptyId(usize),
+}
+
+impl From<Short> for ProofError {
+    ghost use Rattle.std.specs.Prelude.{◌≡◌};
+    ghost use Rattle.mtc_proof.specs.declared.fault.ProofError.TheVariants.{Short as TooShort};
+
+    ghost from_gives = { λ short e. e ≡ TooShort short.place };
+
+    fn from(short: Short) -> ProofError {
+        ProofError::Short(short.place)
+    }
+}
+
+impl From<HashesError> for ProofError {
+    ghost use Rattle.std.specs.Prelude.{◌≡◌};
+    ghost use Rattle.mtc_proof.specs.Reading.{of_hashes};
+
+    ghost from_gives = { λ fault e. e ≡ of_hashes fault };
+
+    fn from(fault: HashesError) -> ProofError {
+        match fault {
+            HashesError::Short(short) => ProofError::Short(short.place),
+            HashesError::HashLength => ProofError::HashLength,
+        }
+    }
+}

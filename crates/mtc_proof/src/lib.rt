@@ -1,0 +1,20 @@
+//! The proof in a certificate of a Merkle tree (the draft on Merkle Tree Certificates, where it defines `MTCProof`): an
+//! interval of the log, the inclusion path of the certificate's entry in it, and signatures of cosigners over the
+//! interval's hash. It is read without taking memory, and what is read lies in the bytes of the proof.
+#![tactic(auto)]
+
+mod fault;
+mod found;
+mod laws;
+mod list;
+mod proof;
+mod reading;
+#[cfg(test)]
+mod tests;
+
+pub use fault::ProofError;
+pub use found::Signatures;
+pub use laws::{proofs_are_read_as_spelled, signatures_are_found, signatures_are_read_as_spelled};
+pub use list::{check_signatures, signatures};
+pub use proof::{Proof, SigRef};
+pub use reading::read_proof;

@@ -1,0 +1,61 @@
+//! Why a text is no store file.
+
+use mtc_io::Memory;
+use std::alloc::AllocFailed;
+
+/// The fields of a store file, and its tables.
+#[derive(Clone, Copy, Debug, PartialEq, Eq)]
+pub enum Key {
+    /// The log's `id`.
+    LogId,
+    /// A range's or a subtree's `start`.
+    Start,
+    /// A range's or a subtree's `end`.
+    End,
+    /// A subtree's `hash`.
+    Hash,
+    /// A table that is none, or a list of tables that is none.
+    Table,
+}
+
+/// Why a text is no store file. The tests are made in this order: the text, the keys of the root, the log, the
+/// subtrees and the revoked ranges one by one, each of them for its keys and then field by field, and the whole.
+#[derive(Clone, Copy, Debug, PartialEq, Eq)]
+pub enum StoreError {
+    /// The text isn't UTF-8, or isn't TOML.
+    NotToml,
+    /// A table has a key that it may not have.
+    UnknownKey,
+    /// The field is absent.
+    Missing(Key),
+    /// The field isn't in its form.
+    BadValue(Key),
+    /// Two subtrees have one interval.
+    RepeatedSubtree,
+    /// A subtree isn't valid, or a revoked range ends where it starts or before.
+    BadRange,
+    /// Memory was refused.
+    Memory,
+}
+
+impl From<Memory> for StoreError {
+    ghost use Rattle.std.specs.Prelude.{◌≡◌};
+    ghost use Rattle.policy_core.specs.declared.error.StoreError.TheVariants.{Memory};
+
+    ghost from_gives = { λ _ e. e ≡ Memory };
+
+    fn from(_refused: Memory) -> StoreError {
+        StoreError::Memory
+    }
+}
+
+impl<T: Drop> From<AllocFailed<T>> for StoreError {
+    ghost use Rattle.std.specs.Prelude.{◌≡◌};
+    ghost use Rattle.policy_core.specs.declared.error.StoreError.TheVariants.{Memory};
+
+    ghost from_gives = { λ _ e. e ≡ Memory };
+
+    fn from(_refused: AllocFailed<T>) -> StoreError {
+        StoreError::Memory
+    }
+}

@@ -1,0 +1,158 @@
+//! The tables of a store file, and their fields.
+
+ghost use Rattle.std.specs.Prelude.{◌≡◌, map, codes, IfOk};
+ghost use Rattle.byte_forms.specs.Readings.{Answers, Gives};
+ghost use Rattle.toml.specs.Data.{get_member};
+ghost use Rattle.toml.specs.View.{items_view, table_view, view};
+ghost use Rattle.toml_fields.specs.Codes.{hash_data, number_data};
+ghost use Rattle.policy_core.specs.Files.{each_of, field, id_data, items_at, list_at, log_at, range_data, subtree_data, table_with};
+
+use crate::error::{Key, StoreError};
+use crate::lists::{Revoked, Subtrees, Trusted};
+use mtc_io::Memory;
+use std::alloc::Global;
+use tls_wire::{AnchorError, AnchorId};
+use toml::{Table, Value};
+use toml_fields::{hash_of, keys_are_among, number_of, value_at};
+use tree_core::Span;
+
+// A table that has no other keys than these.
+fn table_with<'a>(value: &'a Value, names: &[&str]) -> Result<&'a Table, StoreError>
+    ensures { Gives (λ t. table_view t.now) result (table_with (map (λ n. n.now) names.now) (view value.now)) }
+{
+    let Some(table) = value.as_table() else {
+        return Err(StoreError::BadValue(Key::Table));
+    };
+    if keys_are_among(table, names) {
+        Ok(table)
+    } else {
+        Err(StoreError::UnknownKey)
+    }
+}
+
+// The number at a key.
+fn number_at(table: &Table, name: &str, key: Key) -> Result<u64, StoreError>
+    ensures { result ≡ field key number_data (get_member name.now (table_view table.now)) }
+{
+    let Some(value) = value_at(table, name) else {
+        return Err(StoreError::Missing(key));
+    };
+    number_of(value).ok_or(StoreError::BadValue(key))
+}
+
+// The hash of a subtree.
+fn hash_at(table: &Table) -> Result<[u8; 32], StoreError>
+    ensures { result ≡ field Key.Hash hash_data (get_member (codes "hash") (table_view table.now)) }
+{
+    let Some(value) = value_at(table, "hash") else {
+        return Err(StoreError::Missing(Key::Hash));
+    };
+    hash_of(value).ok_or(StoreError::BadValue(Key::Hash))
+}
+
+// An anchor id, where the value is the text of one.
+#[tactic(auto, unfolding(crate::specs::Files::id_data))]
+fn id_of(alloc: Global, value: &Value) -> Result<Option<AnchorId>, Memory>
+    ensures { IfOk result (λ o. o ≡ id_data (view value.now)) }
+{
+    let Some(text) = value.as_str() else {
+        return Ok(None);
+    };
+    match AnchorId::from_text(alloc, text) {
+        Ok(id) => Ok(Some(id)),
+        Err(AnchorError::Memory) => Err(Memory),
+        Err(_) => Ok(None),
+    }
+}
+
+// The id in the log's table.
+fn id_at(alloc: Global, table: &Table) -> Result<AnchorId, StoreError>
+    ensures { Answers StoreError.Memory (field Key.LogId id_data (get_member (codes "id") (table_view table.now))) result }
+{
+    let Some(value) = value_at(table, "id") else {
+        return Err(StoreError::Missing(Key::LogId));
+    };
+    id_of(alloc, value)?.ok_or(StoreError::BadValue(Key::LogId))
+}
+
+/// The id of the log.
+pub fn log_of(alloc: Global, root: &Table) -> Result<AnchorId, StoreError>
+    ensures { Answers StoreError.Memory (log_at (get_member (codes "log") (table_view root.now))) result }
+{
+    let Some(value) = value_at(root, "log") else {
+        return Err(StoreError::Missing(Key::LogId));
+    };
+    id_at(alloc, table_with(value, &["id"])?)
+}
+
+// One subtree.
+#[tactic(auto, unfolding(crate::specs::Files::subtree_data))]
+fn subtree_of(value: &Value) -> Result<Trusted, StoreError>
+    ensures { result ≡ subtree_data (view value.now) }
+{
+    let table = table_with(value, &["start", "end", "hash"])?;
+    let start = number_at(table, "start", Key::Start)?;
+    let end = number_at(table, "end", Key::End)?;
+    let hash = hash_at(table)?;
+    Ok(Trusted { start, end, hash })
+}
+
+// One range of serial numbers.
+#[tactic(auto, unfolding(crate::specs::Files::range_data))]
+fn range_of(value: &Value) -> Result<Span, StoreError>
+    ensures { result ≡ range_data (view value.now) }
+{
+    let table = table_with(value, &["start", "end"])?;
+    let start = number_at(table, "start", Key::Start)?;
+    let end = number_at(table, "end", Key::End)?;
+    Ok(Span { start, end })
+}
+
+// The items of a list of tables; none where the list is absent.
+fn items_at<'a>(root: &'a Table, name: &str) -> Result<&'a [Value], StoreError>
+    ensures { Gives (λ vs. items_view vs.now) result (items_at (get_member name.now (table_view root.now))) }
+{
+    let Some(value) = value_at(root, name) else {
+        return Ok(&[]);
+    };
+    match value.as_array() {
+        Some(items) => Ok(items.as_slice()),
+        None => Err(StoreError::BadValue(Key::Table)),
+    }
+}
+
+// The subtrees that some items are.
+fn subtrees_in(alloc: Global, values: &[Value]) -> Result<Subtrees, StoreError>
+    ensures { Answers StoreError.Memory (each_of subtree_data (items_view values.now)) result }
+{
+    let mut items = Vec::new(alloc);
+    for value in values {
+        items.push(subtree_of(value)?)?;
+    }
+    Ok(Subtrees::from_vec(items))
+}
+
+// The ranges that some items are.
+fn ranges_in(alloc: Global, values: &[Value]) -> Result<Revoked, StoreError>
+    ensures { Answers StoreError.Memory (each_of range_data (items_view values.now)) result }
+{
+    let mut items = Vec::new(alloc);
+    for value in values {
+        items.push(range_of(value)?)?;
+    }
+    Ok(Revoked::from_vec(items))
+}
+
+/// The subtrees of a store.
+pub fn subtrees_of(alloc: Global, root: &Table) -> Result<Subtrees, StoreError>
+    ensures { Answers StoreError.Memory (list_at subtree_data (get_member (codes "subtree") (table_view root.now))) result }
+{
+    subtrees_in(alloc, items_at(root, "subtree")?)
+}
+
+/// The revoked ranges of a store.
+pub fn revoked_of(alloc: Global, root: &Table) -> Result<Revoked, StoreError>
+    ensures { Answers StoreError.Memory (list_at range_data (get_member (codes "revoked") (table_view root.now))) result }
+{
+    ranges_in(alloc, items_at(root, "revoked")?)
+}

@@ -1,0 +1,20 @@
+//! What a relying party holds of a log: its store, and what it may answer about a certificate.
+//!
+//! A [`Store`] has the log's id, the issuer name of its certificates, the subtrees whose hashes are trusted, and the
+//! ranges of serial numbers that are revoked. [`Store::read`] reads it from a TOML file and answers valid stores only.
+#![tactic(auto)]
+
+mod answer;
+mod error;
+mod fields;
+mod lists;
+mod reading;
+mod store;
+#[cfg(test)]
+mod tests;
+mod whole;
+
+pub use answer::{Accepted, By};
+pub use error::{Key, StoreError};
+pub use lists::{Revoked, Subtrees, Trusted};
+pub use store::Store;

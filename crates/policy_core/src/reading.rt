@@ -1,0 +1,65 @@
+//! Reading a store file.
+
+ghost use Rattle.std.specs.Prelude.{◌≡◌, IfOk};
+ghost use Rattle.byte_forms.specs.Readings.{Answers};
+ghost use Rattle.toml.specs.View.{table_view};
+ghost use Rattle.policy_core.specs.Files.{store_in, store_of};
+ghost use Rattle.policy_core.specs.Stores.{IsValid};
+
+use crate::error::StoreError;
+use crate::fields::{log_of, revoked_of, subtrees_of};
+use crate::store::Store;
+use crate::whole::check;
+use cert_names::log_name;
+use std::alloc::Global;
+use toml::Table;
+use toml_fields::{TreeError, keys_are_among, read_tree};
+
+// The store that the root says.
+#[tactic(auto, unfolding(crate::specs::Files::store_in))]
+fn store_from(alloc: Global, root: &Table) -> Result<Store, StoreError>
+    ensures exact { Answers StoreError.Memory (store_in (table_view root.now)) result }
+    ensures valid { IfOk result IsValid }
+{
+    let log = log_of(alloc, root)?;
+    let name = log_name(alloc, &log)?;
+    let subtrees = subtrees_of(alloc, root)?;
+    let revoked = revoked_of(alloc, root)?;
+    check(Store {
+        log,
+        name,
+        subtrees,
+        revoked,
+    })
+}
+
+// The store that a text says.
+#[tactic(auto, unfolding(crate::specs::Files::store_of))]
+fn read_store(alloc: Global, text: &[u8]) -> Result<Store, StoreError>
+    ensures exact { Answers StoreError.Memory (store_of text.now) result }
+    ensures valid { IfOk result IsValid }
+{
+    let root = match read_tree(alloc, text) {
+        Ok(root) => root,
+        Err(TreeError::NotToml) => return Err(StoreError::NotToml),
+        Err(TreeError::Memory) => return Err(StoreError::Memory),
+    };
+    if keys_are_among(&root, &["log", "subtree", "revoked"]) {
+        store_from(alloc, &root)
+    } else {
+        Err(StoreError::UnknownKey)
+    }
+}
+
+impl Store {
+    /// Reads a store file. It has a table `log` with the text `id`, an anchor id in dotted decimal; and may have lists of
+    /// tables, `subtree` with the numbers `start` and `end` and the text `hash` of 64 hexadecimal digits, and `revoked`
+    /// with the numbers `start` and `end`. The first fault is answered, in the order of [`StoreError`]; what is answered
+    /// is a valid store.
+    pub fn read(alloc: Global, text: &[u8]) -> Result<Store, StoreError>
+        ensures exact { Answers StoreError.Memory (store_of text.now) result }
+        ensures valid { IfOk result IsValid }
+    {
+        read_store(alloc, text)
+    }
+}

@@ -1,0 +1,19 @@
+-- The tree of a TOML file, and the keys of its tables.
+use Rattle.std.specs.Prelude.{ℕ, ◌&&◌, Bool, true, List, Option, None, bytes_eq, if◌then◌else◌}
+use Rattle.std.specs.List.{list_any}
+use Rattle.std.specs.Str.{is_utf8}
+use Rattle.toml.specs.Data.{Members, no_members, member}
+use Rattle.toml.specs.Parse.{parse_document}
+
+-- the tree of a text that is UTF-8 and TOML
+unfoldable pub tree_of : List ℕ → Option Members
+tree_of text = if is_utf8 text then parse_document text else None
+
+-- the key is one of the names
+abbrev pub has_name : List (List ℕ) → List ℕ → Bool
+has_name names key = list_any (λ name. bytes_eq name key) names
+
+-- each key is one of the names
+abbrev pub has_only : List (List ℕ) → Members → Bool
+has_only names no_members = true
+has_only names (member key d ms) = has_name names key && has_only names ms
