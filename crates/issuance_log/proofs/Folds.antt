@@ -6,7 +6,7 @@ use Rattle.byte_forms.specs.Places.{At, at}
 use Rattle.byte_forms.specs.Readings.{◌>>=◌, some_or}
 use Rattle.tls_wire.specs.Reading.{number_at}
 use Rattle.tls_wire.specs.declared.cursor.Short.{Short}
-use Rattle.issuance_log.specs.Matching.{matches}
+use Rattle.log_entry.specs.Matching.{matches}
 use Rattle.issuance_log.specs.Records.{settings_in, entry_at, all_of}
 use Rattle.issuance_log.specs.declared.settings.LogSettings.{LogSettings}
 use Rattle.byte_forms.proofs.Steps.{bind_ok, ok_is}

@@ -14,7 +14,7 @@ use Rattle.tls_wire.proofs.Numbers.{wide8, wide16, wide32, number_form}
 use Rattle.tls_wire.proofs.Vectors.{vector_form}
 use Rattle.tls_wire.proofs.AnchorForm.{anchor_again}
 use Rattle.issuance_log.specs.Folds.{LogState, new_log, with_item, with_entry, by_tag, begun, next_log, log_of}
-use Rattle.issuance_log.specs.Matching.{matches}
+use Rattle.log_entry.specs.Matching.{matches}
 use Rattle.issuance_log.specs.Records.{settings_at, entry_at, all_of, are_allowed, with_id, settings_with, settings_by_tag, item_by_tag, settings_in, item_in, settings_record, entry_record}
 use Rattle.issuance_log.specs.declared.settings.LogSettings.{LogSettings}
 use Rattle.issuance_log.proofs.Folds.{log_begins, log_next}

@@ -1,6 +1,5 @@
 pub mod Faults
 pub mod Folds
-pub mod Matching
 pub mod Openings
 pub mod Readings
 pub mod Records

@@ -7,7 +7,7 @@ ghost use Rattle.issuance_log.specs.Sound.{IsSound};
 
 use crate::error::RecordError;
 use crate::items::Items;
-use crate::matching::key_matches;
+use log_entry::key_matches;
 use crate::record::{ENTRY, read_entry, read_settings};
 use crate::settings::LogSettings;
 use mtc_io::{Bytes, Memory};

@@ -14,7 +14,6 @@ mod error;
 mod items;
 mod laws;
 mod log;
-mod matching;
 mod reading;
 mod record;
 mod settings;

@@ -6,7 +6,7 @@ ghost use Rattle.mtc_io.specs.Counts.{Rose};
 ghost use Rattle.journal_core.specs.Format.{StandsFor, StandsForEither, behind};
 ghost use Rattle.journal_core.specs.Words.{is_broken, records, AllStandFor};
 ghost use Rattle.issuance_log.specs.Folds.{log_of, with_item};
-ghost use Rattle.issuance_log.specs.Matching.{matches};
+ghost use Rattle.log_entry.specs.Matching.{matches};
 ghost use Rattle.issuance_log.specs.Openings.{HasCauseOf, log_read};
 ghost use Rattle.issuance_log.specs.Records.{IsAllowed, entry_record};
 ghost use Rattle.issuance_log.specs.Refusals.{add_refusal, KeepsTo, item_at, GivesItem};
