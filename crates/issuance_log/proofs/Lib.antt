@@ -1,3 +1,4 @@
+mod Adds
 mod Folds
 mod Found
 mod Spelled
