@@ -1,7 +1,7 @@
 -- The records of a log are read as they are spelled.
 use Rattle.std.proofs.Common.{◌≡◌, ℕ, ◌+◌, ◌^◌, ◌<◌, ◌≤◌, ◌&&◌, nat_lt, nat_le, if◌then◌else◌, Bool, true, false, List, [], ◌∷◌, ◌++◌, length, Option, Some, None, option_map, option_and_then, Result, Ok, refl, ap, sym, ◌∙◌, arith}
 use Rattle.std.specs.Int.{w8, w16, w32}
-use Rattle.std.proofs.lemmas.Bool.{leb-true, lt-ltb}
+use Rattle.std.proofs.lemmas.Bool.{le-leb, lt-ltb}
 use Rattle.std.proofs.lemmas.List.{length-append, append-nil}
 use Rattle.byte_forms.specs.Places.{At, at}
 use Rattle.byte_forms.specs.Readings.{◌>>=◌}
@@ -15,7 +15,7 @@ use Rattle.tls_wire.proofs.Vectors.{vector_form}
 use Rattle.tls_wire.proofs.AnchorForm.{anchor_again}
 use Rattle.issuance_log.specs.Folds.{LogState, new_log, with_item, with_entry, by_tag, begun, next_log, log_of}
 use Rattle.log_entry.specs.Matching.{matches}
-use Rattle.issuance_log.specs.Records.{settings_at, entry_at, all_of, are_allowed, with_id, settings_with, settings_by_tag, item_by_tag, settings_in, item_in, settings_record, entry_record}
+use Rattle.issuance_log.specs.Records.{settings_at, entry_at, all_of, are_allowed, AreAllowed, with_id, settings_with, settings_by_tag, item_by_tag, settings_in, item_in, settings_record, entry_record}
 use Rattle.issuance_log.specs.declared.settings.LogSettings.{LogSettings}
 use Rattle.issuance_log.proofs.Folds.{log_begins, log_next}
 
@@ -31,9 +31,9 @@ length-entry entry key = simp length-append (omega arith)
 tagged : (tag : ℕ) (rest : List ℕ) → tag < 256 → number_at w8 (at (number w8 tag ++ rest) 0) ≡ Ok (tag, record { place = 1; rest = rest })
 tagged tag rest small = (number_form w8 (2 ^ 8) wide8).again tag 0 rest small tt
 
-both_true : (a b : Bool) → (a && b) ≡ true → (a ≡ true) × (b ≡ true)
-both_true true b is = (refl, is)
-both_true false b is = let wrong : false ≡ true = is in cc
+tests_allowed : (active limit : ℕ) → AreAllowed active limit → are_allowed active limit ≡ true
+tests_allowed active limit is =
+    rw (le-leb 1 active is.some_active, le-leb active 10000 is.few_active, le-leb 2 limit is.some, le-leb limit 1048576 is.few) refl
 
 -- ---- an Entry
 
@@ -68,23 +68,22 @@ settings_read id active limit short few_active few_limit =
     ∙ ap (λ (r : Result (ℕ × At) Short). all_of (r >>= λ (y : ℕ × At). number_at w32 y.1 >>= λ (z : ℕ × At). Ok ((id, y.0, z.0), z.1))) two
     ∙ ap (λ (r : Result (ℕ × At) Short). all_of (r >>= λ (z : ℕ × At). Ok ((id, active, z.0), z.1))) last
 
-pub settings_again : (s : LogSettings) → IsAnchorId s.id → are_allowed s.max_active s.limit ≡ true → settings_in (settings_record s) ≡ Some s
+pub settings_again : (s : LogSettings) → IsAnchorId s.id → AreAllowed s.max_active s.limit → settings_in (settings_record s) ≡ Some s
 unfolding settings_in settings_record
 settings_again s id allowed =
-    let sides = both_true (nat_le 1 s.max_active && nat_le s.max_active 10000) (nat_le 2 s.limit && nat_le s.limit 1048576) allowed in
-    let active : s.max_active ≤ 10000 = leb-true _ _ (both_true (nat_le 1 s.max_active) (nat_le s.max_active 10000) sides.0).1 in
-    let limit : s.limit ≤ 1048576 = leb-true _ _ (both_true (nat_le 2 s.limit) (nat_le s.limit 1048576) sides.1).1 in
+    let active = allowed.few_active in
+    let limit = allowed.few in
     let short = id.short in
     let rest = vector w8 s.id ++ (number w32 s.max_active ++ number w32 s.limit) in
     ap settings_by_tag (tagged 1 rest (omega arith))
     ∙ ap (option_and_then settings_with) (settings_read s.id s.max_active s.limit (omega arith) (omega arith) (omega arith))
-    ∙ ap (λ (b : Bool). if b then with_id s.max_active s.limit (anchor_of s.id) else None) allowed
+    ∙ ap (λ (b : Bool). if b then with_id s.max_active s.limit (anchor_of s.id) else None) (tests_allowed s.max_active s.limit allowed)
     ∙ ap (with_id s.max_active s.limit) (anchor_again s.id id)
 
 -- ---- a journal of records as they are spelled
 
 -- of a Log
-pub log_created : (h : List ℕ → List ℕ) (s : LogSettings) → IsAnchorId s.id → are_allowed s.max_active s.limit ≡ true → log_of h (settings_record s ∷ []) ≡ Ok (new_log s)
+pub log_created : (h : List ℕ → List ℕ) (s : LogSettings) → IsAnchorId s.id → AreAllowed s.max_active s.limit → log_of h (settings_record s ∷ []) ≡ Ok (new_log s)
 unfolding begun
 log_created h s id allowed = log_begins h (settings_record s) (new_log s) (ap (option_map new_log) (settings_again s id allowed))
 

@@ -1,5 +1,5 @@
 -- The records of a log's journal: a tag of one byte, and what it says. Numbers have their highest byte first.
-use Rattle.std.specs.Prelude.{◌≡◌, ℕ, ◌≤◌, Bool, true, false, List, [], ◌∷◌, ◌++◌, length, ◌==◌, ◌&&◌, nat_le, Option, Some, None, option_and_then, Result, Ok, Err, if◌then◌else◌}
+use Rattle.std.specs.Prelude.{ℕ, ◌≤◌, Bool, List, [], ◌∷◌, ◌++◌, length, ◌==◌, ◌&&◌, nat_le, Option, Some, None, option_and_then, Result, Ok, Err, if◌then◌else◌}
 use Rattle.std.specs.Int.{w8, w16, w32}
 use Rattle.byte_forms.specs.Places.{At, at}
 use Rattle.byte_forms.specs.Readings.{◌>>=◌}
@@ -39,9 +39,12 @@ all_of (Err short) = None
 abbrev pub are_allowed : ℕ → ℕ → Bool
 are_allowed active limit = (nat_le 1 active && nat_le active 10000) && (nat_le 2 limit && nat_le limit 1048576)
 
-pub record IsAllowed (s : LogSettings) : Type 0 where
-  pub numbers : are_allowed s.max_active s.limit ≡ true
-  pub least : 2 ≤ s.limit
+-- the same as facts
+pub record AreAllowed (active limit : ℕ) : Type 0 where
+  pub some_active : 1 ≤ active
+  pub few_active : active ≤ 10000
+  pub some : 2 ≤ limit
+  pub few : limit ≤ 1048576
 
 -- settings with this id, where it is one
 abbrev pub with_id : ℕ → ℕ → Result (List ℕ) AnchorBytesError → Option LogSettings

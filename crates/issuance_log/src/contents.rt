@@ -1,7 +1,7 @@
 // What the records of a journal make of a log.
 ghost use Rattle.std.specs.Prelude.{◌≡◌, ◌<◌, ◌≤◌, length, nat_lt, not, option_and_then, OnOk, OnErr};
 ghost use Rattle.issuance_log.specs.Folds.{begun, records_in, next_log, with_entry, with_item, first_items};
-ghost use Rattle.issuance_log.specs.Records.{IsAllowed, all_of, entry_at};
+ghost use Rattle.issuance_log.specs.Records.{AreAllowed, all_of, entry_at};
 ghost use Rattle.issuance_log.specs.Results.{Finds, Takes};
 ghost use Rattle.issuance_log.specs.Sound.{IsSound};
 
@@ -101,7 +101,7 @@ impl Contents {
 
     pub(crate) fn settings(&self) -> &LogSettings
         ensures value { result.now ≡ self.now.settings }
-        ensures allowed { IsAllowed result.now }
+        ensures allowed { AreAllowed result.now.max_active result.now.limit }
     {
         &self.settings
     }

@@ -1,8 +1,8 @@
 // The journal of a new log.
-ghost use Rattle.std.specs.Prelude.{◌≡◌, ℕ, List, [], ◌∷◌, true, Ok, IfOk, IfErr};
+ghost use Rattle.std.specs.Prelude.{◌≡◌, ◌≤◌, ℕ, List, [], ◌∷◌, Ok, IfOk, IfErr};
 ghost use Rattle.journal_core.specs.Starts.{HasStarted, IsNotStarted};
 ghost use Rattle.issuance_log.specs.Folds.{log_of, new_log};
-ghost use Rattle.issuance_log.specs.Records.{are_allowed, settings_record};
+ghost use Rattle.issuance_log.specs.Records.{settings_record};
 
 use crate::record::settings_record;
 use crate::settings::LogSettings;
@@ -11,7 +11,8 @@ use journal_core::{Journal, Refused, StartError, start};
 use mtc_io::Memory;
 use std::alloc::Global;
 
-/// Begins the journal of a new log on an empty disk. At Ok a crash leaves the journal, and its one record makes the log
+/// Begins the journal of a new log on an empty disk. From 1 to 10,000 landmarks are active at most, and the limit is from
+/// 2 to 1,048,576. At Ok a crash leaves the journal, and its one record makes the log
 /// that has the null entry alone.
 ///
 /// Errors, in the order of the tests: `Memory` for the record, `Failed`, `NotEmpty` where the disk holds bytes, `Memory`
@@ -21,7 +22,10 @@ pub fn create<D: Disk>(
     disk: D,
     settings: &LogSettings,
 ) -> Result<Journal<D>, Refused<D, StartError>>
-    requires { are_allowed settings.now.max_active settings.now.limit ≡ true }
+    requires some_active { 1 ≤ settings.now.max_active }
+    requires few_active { settings.now.max_active ≤ 10000 }
+    requires some { 2 ≤ settings.now.limit }
+    requires few { settings.now.limit ≤ 1048576 }
     ensures ok { IfOk result (HasStarted (settings_record settings.now) disk) }
     ensures err { IfErr result (λ e. IsNotStarted D.Disk disk e.disk e.why) }
     ensures valid { (h : List ℕ → List ℕ) → log_of h (settings_record settings.now ∷ []) ≡ Ok (new_log settings.now) }

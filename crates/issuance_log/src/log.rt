@@ -8,7 +8,7 @@ ghost use Rattle.journal_core.specs.Words.{is_broken, records, AllStandFor};
 ghost use Rattle.issuance_log.specs.Folds.{log_of, with_item};
 ghost use Rattle.log_entry.specs.Matching.{matches};
 ghost use Rattle.issuance_log.specs.Openings.{HasCauseOf, log_read};
-ghost use Rattle.issuance_log.specs.Records.{IsAllowed, entry_record};
+ghost use Rattle.issuance_log.specs.Records.{AreAllowed, entry_record};
 ghost use Rattle.issuance_log.specs.Refusals.{add_refusal, KeepsTo, item_at, GivesItem};
 
 use crate::contents::Contents;
@@ -129,7 +129,7 @@ impl<H: TreeHash, D: Disk> Log<H, D> {
 
     pub fn settings(&self) -> &LogSettings
         ensures value { result.now ≡ (state_of self.now).settings }
-        ensures allowed { IsAllowed result.now }
+        ensures allowed { AreAllowed result.now.max_active result.now.limit }
     {
         self.contents.settings()
     }

@@ -1,7 +1,7 @@
 // The bodies of a log's records.
 ghost use Rattle.std.specs.Prelude.{◌≡◌, ◌+◌, ◌≤◌, length, true, IfOk};
 ghost use Rattle.byte_forms.specs.Readings.{Moves};
-ghost use Rattle.issuance_log.specs.Records.{settings_at, entry_at, all_of, are_allowed, IsAllowed, settings_with, settings_in, settings_record, entry_record};
+ghost use Rattle.issuance_log.specs.Records.{settings_at, entry_at, all_of, are_allowed, AreAllowed, settings_with, settings_in, settings_record, entry_record};
 ghost use Rattle.issuance_log.specs.Results.{Finds};
 ghost use Rattle.tls_wire.specs.Arcs.{IsAnchorId};
 
@@ -40,7 +40,7 @@ fn entry_fields<'a>(cursor: &mut Cursor<'a>) -> Result<(&'a [u8], &'a [u8]), Sho
 // The numbers may be those of a log.
 fn are_allowed(max_active: u32, limit: u32) -> bool
     ensures exact { result ≡ are_allowed max_active limit }
-    ensures least { result ≡ true → 2 ≤ limit }
+    ensures allowed { result ≡ true → AreAllowed max_active limit }
 {
     (1 <= max_active && max_active <= 10_000) && (2 <= limit && limit <= 1_048_576)
 }
@@ -52,7 +52,7 @@ fn settings_with(
     limit: u32,
 ) -> Result<LogSettings, RecordError>
     ensures found { Finds (λ s. s) (settings_with (id.now, max_active, limit)) result }
-    ensures allowed { IfOk result IsAllowed }
+    ensures allowed { IfOk result (λ s. AreAllowed s.max_active s.limit) }
 {
     if !are_allowed(max_active, limit) {
         return Err(RecordError::Unfit);
@@ -69,7 +69,7 @@ fn settings_with(
 #[tactic(auto, unfolding(crate::specs::Records::settings_in))]
 pub(crate) fn read_settings(alloc: Global, body: &[u8]) -> Result<LogSettings, RecordError>
     ensures found { Finds (λ s. s) (settings_in body.now) result }
-    ensures allowed { IfOk result IsAllowed }
+    ensures allowed { IfOk result (λ s. AreAllowed s.max_active s.limit) }
 {
     let mut cursor = Cursor::new(body);
     if cursor.u8()? != LOG {

@@ -1,6 +1,5 @@
 // Logs over disks in memory.
-ghost use Rattle.std.specs.Prelude.{◌≡◌, true};
-ghost use Rattle.issuance_log.specs.Records.{are_allowed};
+ghost use Rattle.std.specs.Prelude.{◌≤◌};
 
 use crate::{Log, LogError, LogOpenError, LogRefused, LogSettings, create};
 use disk_core::MemDisk;
@@ -73,7 +72,8 @@ fn begin(
     disk: MemDisk,
     limit: u32,
 ) -> Result<(MemDisk, Option<StartError>), Memory>
-    requires { are_allowed 2 limit ≡ true }
+    requires some { 2 ≤ limit }
+    requires few { limit ≤ 1048576 }
 {
     let Ok(id) = AnchorId::from_text(alloc, "32473.1") else {
         return Err(Memory);

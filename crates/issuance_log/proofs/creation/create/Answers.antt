@@ -20,7 +20,7 @@ start-requires-clause-few g c =
     omega arith
 
 pub returns-in-Ok-clause-valid : goal.returns-in-Ok-clause-valid
-returns-in-Ok-clause-valid g c = λ h. log_created h c.args.settings.now c.in-Ok.ensures.id c.requires
+returns-in-Ok-clause-valid g c = λ h. log_created h c.args.settings.now c.in-Ok.ensures.id (record { some_active = c.requires.some_active; few_active = c.requires.few_active; some = c.requires.some; few = c.requires.few })
 
 pub returns-in-Err-clause-valid : goal.returns-in-Err-clause-valid
-returns-in-Err-clause-valid g c = λ h. log_created h c.args.settings.now c.in-Err.ensures.id c.requires
+returns-in-Err-clause-valid g c = λ h. log_created h c.args.settings.now c.in-Err.ensures.id (record { some_active = c.requires.some_active; few_active = c.requires.few_active; some = c.requires.some; few = c.requires.few })
