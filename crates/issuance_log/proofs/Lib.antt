@@ -1,0 +1,6 @@
+mod Adds
+mod Folds
+mod Found
+mod Spelled
+mod Steps
+mod Walks
