@@ -13,3 +13,5 @@ pub mod WordsOutcome
 pub mod Made
 pub mod Nodes
 pub mod VerifyOutcome
+pub mod LogSteps
+pub mod Works

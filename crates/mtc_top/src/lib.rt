@@ -11,6 +11,7 @@ mod finish;
 mod input;
 mod keygen;
 mod line;
+mod log_command;
 mod member;
 mod refused_words;
 mod show;
