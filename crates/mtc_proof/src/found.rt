@@ -65,4 +65,3 @@ fn next_signature<'a>(cursor: &mut Cursor<'a>) -> Option<SigRef<'a>>
         }
     }
 }
-

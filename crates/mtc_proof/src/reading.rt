@@ -1,9 +1,9 @@
 //! Reading a proof.
 
-ghost use Rattle.std.specs.Prelude.{◌≡◌, Ok, IfOk};
+ghost use Rattle.std.specs.Prelude.{◌≡◌, ◌-◌, ◌≤◌, length, take, drop, Ok, IfOk};
 ghost use Rattle.byte_forms.specs.Readings.{Moves, Gives};
 ghost use Rattle.mtc_proof.specs.Proofs.{ProofParts, proof_text, IsProof};
-ghost use Rattle.mtc_proof.specs.Reading.{parts_at, proof_in};
+ghost use Rattle.mtc_proof.specs.Reading.{checked, parts_at, proof_in};
 ghost use Rattle.mtc_proof.specs.Views.{proof_parts};
 
 use crate::fault::ProofError;
@@ -28,6 +28,16 @@ fn parts<'a>(cursor: &mut Cursor<'a>) -> Result<Proof<'a>, ProofError>
     })
 }
 
+/// The bytes of the proof that end at this offset are signatures.
+fn check_list(bytes: &[u8], behind: usize, signatures: &[u8]) -> Result<(), ProofError>
+    requires within { behind ≤ length bytes.now }
+    requires fits { length signatures.now ≤ behind }
+    requires ends { drop (behind - length signatures.now) (take behind bytes.now) ≡ signatures.now }
+    ensures { Gives (λ x. x) result (checked (record { place = behind - length signatures.now; rest = signatures.now })) }
+{
+    check_from(&bytes[..behind], behind - signatures.len())
+}
+
 /// All of the bytes.
 #[tactic(auto, unfolding(crate::specs::Reading::proof_in))]
 fn whole(bytes: &[u8]) -> Result<Proof<'_>, ProofError>
@@ -35,8 +45,7 @@ fn whole(bytes: &[u8]) -> Result<Proof<'_>, ProofError>
 {
     let mut cursor = Cursor::new(bytes);
     let proof = parts(&mut cursor)?;
-    let behind = cursor.place();
-    check_from(&bytes[..behind], behind - proof.signatures.len())?;
+    check_list(bytes, cursor.place(), proof.signatures)?;
     if cursor.left() > 0 {
         return Err(ProofError::Trailing);
     }

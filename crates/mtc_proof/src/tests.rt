@@ -55,7 +55,10 @@ fn proofs_and_changes(rt: HostRuntime) -> Result<(), Fail> {
     }
     let cuts: [(usize, usize); 6] = [(0, 0), (7, 0), (15, 8), (17, 16), (49, 16), (51, 50)];
     for (length, place) in cuts {
-        assert_eq!(rt; read_proof(&PROOF[..length]).err(), Some(ProofError::Short(place)));
+        assert_eq!(rt;
+            read_proof(&PROOF[..length]).err(),
+            Some(ProofError::Short(place))
+        );
     }
     let mut longer = [0; 66];
     longer[..65].copy_from_slice(&PROOF);
@@ -67,8 +70,14 @@ fn proofs_and_changes(rt: HostRuntime) -> Result<(), Fail> {
 fn lists_of_signatures(rt: HostRuntime) -> Result<(), Fail> {
     assert_eq!(rt; check_signatures(&PROOF[52..]), Ok(()));
     assert_eq!(rt; check_signatures(&[]), Ok(()));
-    assert_eq!(rt; check_signatures(&changed(52, 0)[52..]), Err(ProofError::EmptyId(0)));
-    assert_eq!(rt; check_signatures(&changed(58, 1)[52..]), Err(ProofError::Short(8)));
+    assert_eq!(rt;
+        check_signatures(&changed(52, 0)[52..]),
+        Err(ProofError::EmptyId(0))
+    );
+    assert_eq!(rt;
+        check_signatures(&changed(58, 1)[52..]),
+        Err(ProofError::Short(8))
+    );
     assert_eq!(rt; check_signatures(&PROOF[52..53]), Err(ProofError::Short(0)));
     Ok(())
 }

@@ -9,6 +9,7 @@ mod error;
 mod fields;
 mod lists;
 mod reading;
+mod refusal;
 mod store;
 #[cfg(test)]
 mod tests;
@@ -17,4 +18,5 @@ mod whole;
 pub use answer::{Accepted, By};
 pub use error::{Key, StoreError};
 pub use lists::{Revoked, Subtrees, Trusted};
+pub use refusal::Refusal;
 pub use store::Store;

@@ -4,7 +4,7 @@ ghost use Rattle.std.specs.Prelude.{◌≡◌, ◌≤◌, length, IfOk, IfSome};
 ghost use Rattle.std.specs.List.{AllByRecursion};
 ghost use Rattle.byte_forms.specs.Readings.{Answers};
 ghost use Rattle.toml.specs.View.{table_view};
-ghost use Rattle.authority_core.specs.Files.{checked, request_in, request_of};
+ghost use Rattle.authority_core.specs.Files.{request_in, request_of};
 ghost use Rattle.authority_core.specs.Requests.{CanBeIssued};
 
 use crate::requests::error::{Field, RequestError};
@@ -15,22 +15,8 @@ use std::alloc::Global;
 use toml::Table;
 use toml_fields::{TreeError, keys_are_among, read_tree};
 
-// The request, where it is one as a whole.
-#[tactic(auto, unfolding(crate::specs::Files::checked))]
-fn check(request: Request) -> Result<Request, RequestError>
-    ensures { result ≡ checked request }
-{
-    if request.validity.not_after < request.validity.not_before {
-        return Err(RequestError::DatesReversed);
-    }
-    if request.names.is_empty() {
-        return Err(RequestError::NoNames);
-    }
-    Ok(request)
-}
-
 // The request that the root says.
-#[tactic(auto, unfolding(crate::specs::Files::request_in))]
+#[tactic(auto, unfolding(crate::specs::Files::request_in, crate::specs::Files::checked))]
 fn request_from(alloc: Global, root: &Table) -> Result<Request, RequestError>
     ensures exact { Answers RequestError.Memory (request_in (table_view root.now)) result }
     ensures valid { IfOk result CanBeIssued }
@@ -40,11 +26,18 @@ fn request_from(alloc: Global, root: &Table) -> Result<Request, RequestError>
     let names = names_at(alloc, root)?;
     let common_name = common_name_at(alloc, root)?;
     let key = key_at(alloc, root)?;
-    check(Request {
-        validity: Validity {
-            not_before,
-            not_after,
-        },
+    if not_after < not_before {
+        return Err(RequestError::DatesReversed);
+    }
+    if names.is_empty() {
+        return Err(RequestError::NoNames);
+    }
+    let validity = Validity {
+        not_before,
+        not_after,
+    };
+    Ok(Request {
+        validity,
         names,
         common_name,
         key,

@@ -23,7 +23,7 @@ use std::alloc::Global;
 use toml::{Table, Value};
 use toml_fields::{bytes_of, value_at};
 
-/// A host name has at most this many bytes, and a request at most so many names.
+/// A request has at most so many names.
 const MOST_NAMES: usize = 100;
 
 // A moment, as a text.
@@ -79,15 +79,18 @@ fn hosts_of(alloc: Global, values: &[Value]) -> Result<Option<Names>, Memory>
 }
 
 // An array of at most 100 host names.
-#[tactic(auto, unfolding(crate::specs::Files::names_data))]
+#[tactic(auto, using(crate::proofs::Items::count_of_view), unfolding(crate::specs::Files::names_data))]
 fn names_of(alloc: Global, value: &Value) -> Result<Option<Names>, Memory>
     ensures value { IfOk result (λ o. o ≡ names_data (view value.now)) }
     ensures hosts { IfOk result (λ o. IfSome o (λ names. AllByRecursion IsHostName names × (length names ≤ 100))) }
 {
-    match value.as_array() {
-        Some(values) if values.len() <= MOST_NAMES => hosts_of(alloc, values.as_slice()),
-        _ => Ok(None),
+    let Some(values) = value.as_array() else {
+        return Ok(None);
+    };
+    if values.len() > MOST_NAMES {
+        return Ok(None);
     }
+    hosts_of(alloc, values.as_slice())
 }
 
 /// The names of a request.

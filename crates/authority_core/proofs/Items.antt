@@ -1,0 +1,14 @@
+-- Items of an array beside the list that they stand for.
+use Rattle.std.proofs.Common.{◌≡◌, ℕ, ◌+◌, List, [], ◌∷◌, ◌++◌, length, refl, ap, arith}
+use Rattle.std.specs.List.{AllByRecursion}
+use Rattle.toml.specs.View.{items_view}
+use Rattle.toml.specs.declared.value.Value.{Value}
+use Rattle.authority_core.specs.Files.{count_of}
+
+pub count_of_view : (vs : List Value) → count_of (items_view vs) ≡ length vs
+count_of_view [] = refl
+count_of_view (v ∷ vs) = grind (arith, count_of_view vs)
+
+pub AllByRecursion-push : {X : Type 0} (P : X → Type 0) (xs : List X) (x : X) → AllByRecursion P xs → P x → AllByRecursion P (xs ++ x ∷ [])
+AllByRecursion-push P [] x all this = (this, tt)
+AllByRecursion-push P (y ∷ ys) x all this = (all.0, AllByRecursion-push P ys x all.1 this)

@@ -1,0 +1,236 @@
+-- Signatures and proofs: what is read is spelled so, and what is spelled so is read again.
+use Rattle.std.proofs.Common.{◌≡◌, ℕ, ◌+◌, ◌-◌, ◌^◌, ◌<◌, ◌≤◌, true, false, List, [], ◌∷◌, ◌++◌, length, take, drop, Result, Ok, Err, IfOk, refl, sym, ap, subst, ◌∙◌, append_assoc, append-nil, arith, eqb-true, ne_eqb}
+use Rattle.std.specs.Prelude.{if◌then◌else◌, ◌==◌, not}
+use Rattle.std.specs.List.{flat_map, AllByRecursion}
+use Rattle.std.specs.Int.{w8, w16, w64}
+use Rattle.std.proofs.lemmas.List.{length-append, nil_from_length, take_at, drop_at}
+use Rattle.byte_forms.specs.Places.{At, IsBytes, at}
+use Rattle.byte_forms.specs.Readings.{◌>>=◌, lifted, discarded, both_at, mapped_at, tested_at, Gives}
+use Rattle.byte_forms.specs.Lists.{up_to_end}
+use Rattle.byte_forms.specs.Forms.{IsForm, Anything, Nothing, both, FitsBoth}
+use Rattle.byte_forms.proofs.Steps.{bind_ok, pass_ok, ok_is, IsBytes-back}
+use Rattle.byte_forms.proofs.Forms.{said_form, both_form, mapped_form, tested_form}
+use Rattle.byte_forms.proofs.Lists.{many_form, up_to_end_drains}
+use Rattle.tls_wire.specs.Reading.{number_at, vector_at, hashes_at}
+use Rattle.tls_wire.specs.Spelling.{number, vector, hashes, AreHashes}
+use Rattle.tls_wire.proofs.Numbers.{wide8, wide16, wide64, number_form}
+use Rattle.tls_wire.proofs.Vectors.{vector_form}
+use Rattle.tls_wire.proofs.Hashes.{hashes_form}
+use Rattle.mtc_proof.specs.Proofs.{SigParts, signature_text, IsSignature, AreSignatures, ProofParts, proof_text, IsProof}
+use Rattle.mtc_proof.specs.Reading.{of_short, of_hashes, form_at, path_at, is_some, id_at, to_signature, signature_at, checked, to_proof, parts_at, inside_list, proof_in}
+use Rattle.mtc_proof.specs.Views.{proof_parts}
+use Rattle.mtc_proof.specs.declared.proof.Proof.{Proof}
+use Rattle.mtc_proof.specs.declared.fault.ProofError.{ProofError}
+use Rattle.mtc_proof.specs.declared.fault.ProofError.TheVariants.{EmptyId, Trailing}
+
+lifted_ok : {A E F : Type 0} (fault : E → F) (r : Result A E) (y : A) → lifted fault r ≡ Ok y → r ≡ Ok y
+lifted_ok fault (Ok x) y e = cc
+lifted_ok fault (Err d) y e = absurd cc
+
+lifted_form : {X E F : Type 0} (spell : X → List ℕ) (Fits : X → Type 0) (Follows : List ℕ → Type 0) (read : At → Result (X × At) E) (fault : E → F)
+    → IsForm spell Fits Follows read → IsForm spell Fits Follows (λ a. lifted fault (read a))
+lifted_form spell Fits Follows read fault form = record {
+  takes = λ a x b h e. form.takes a x b h (lifted_ok fault (read a) (x, b) e);
+  again = λ x p rest f q. rw (form.again x p rest f q) refl;
+}
+
+-- ---- one signature
+
+abbrev IsShort : List ℕ → Type 0
+IsShort bytes = length bytes < 2 ^ 16
+
+abbrev IsId : List ℕ → Type 0
+IsId id = (length id < 2 ^ 8) × (is_some id ≡ true)
+
+short_id : IsForm (vector w8) (λ id. length id < 2 ^ 8) Anything (form_at (vector_at w8))
+short_id = lifted_form (vector w8) (λ id. length id < 2 ^ 8) Anything (vector_at w8) of_short (vector_form w8 (2 ^ 8) wide8)
+
+id_tested : (fault : ProofError) → IsForm (vector w8) IsId Anything (tested_at is_some fault (form_at (vector_at w8)))
+id_tested fault = tested_form (vector w8) (λ id. length id < 2 ^ 8) Anything (form_at (vector_at w8)) is_some fault short_id
+
+id_form : IsForm (vector w8) IsId Anything id_at
+id_form = record {
+  takes = λ a x b h e. (id_tested (EmptyId a.place)).takes a x b h e;
+  again = λ x p rest f q. (id_tested (EmptyId p)).again x p rest f q;
+}
+
+long_form : IsForm (vector w16) IsShort Anything (form_at (vector_at w16))
+long_form = lifted_form (vector w16) IsShort Anything (vector_at w16) of_short (vector_form w16 (2 ^ 16) wide16)
+
+abbrev from_signature : SigParts → List ℕ × List ℕ
+from_signature s = (s.cosigner, s.signature)
+
+some_bytes : (id : List ℕ) → is_some id ≡ true → 0 < length id
+some_bytes [] e = absurd cc
+some_bytes (b ∷ id) e = omega arith
+
+bytes_some : (id : List ℕ) → 0 < length id → is_some id ≡ true
+bytes_some id lt = let some : (length id == 0) ≡ false = ne_eqb (length id) 0 (λ none. omega arith) in ap not some
+
+signature_to : (s : SigParts) → FitsBoth IsId IsShort (from_signature s) → IsSignature s
+signature_to s f = record { some = some_bytes s.cosigner f.0.1; cosigner = f.0.0; signature = f.1 }
+
+signature_from : (s : SigParts) → IsSignature s → FitsBoth IsId IsShort (from_signature s)
+signature_from s f = ((f.cosigner, bytes_some s.cosigner f.some), f.signature)
+
+pub signature_form : IsForm signature_text IsSignature Anything signature_at
+unfolding signature_at
+signature_form =
+    let read : At → Result ((List ℕ × List ℕ) × At) ProofError = both_at id_at (form_at (vector_at w16)) in
+    said_form (λ s. both (vector w8) (vector w16) (from_signature s)) (λ s. FitsBoth IsId IsShort (from_signature s)) IsSignature Anything Anything
+    (mapped_at to_signature read) signature_to signature_from (λ rest q. q)
+    (mapped_form (both (vector w8) (vector w16)) (FitsBoth IsId IsShort) Anything read to_signature from_signature (λ x f. refl) (λ s f. refl)
+    (both_form (vector w8) IsId Anything id_at (vector w16) IsShort Anything (form_at (vector_at w16)) id_form long_form (λ y rest f q. tt)))
+
+-- ---- signatures up to the end
+
+pub signature_some : (s : SigParts) → IsSignature s → 0 < length (signature_text s)
+signature_some s f =
+    omega (arith, length-append (vector w8 s.cosigner) (vector w16 s.signature), length-append (number w8 (length s.cosigner)) s.cosigner, f.some)
+
+pub list_form : IsForm (flat_map signature_text) (AllByRecursion IsSignature) Nothing (up_to_end signature_at)
+list_form = many_form signature_text IsSignature signature_at signature_some signature_form
+
+discarded_ok : {X : Type 0} (r : Result (X × At) ProofError) (b : At) → discarded r ≡ Ok b → (x : X) × (r ≡ Ok (x, b))
+discarded_ok (Ok x) b e = (x.0, ap (λ (c : At). Ok (x.0, c)) (ok_is ProofError x.1 b e))
+discarded_ok (Err d) b e = absurd cc
+
+pub checked_only : (a : At) (done : Unit {0}) → IsBytes a.rest → checked a ≡ Ok done → AreSignatures a.rest
+checked_only a done h e =
+    let s = bind_ok (discarded (up_to_end signature_at a)) (λ (end : At). Ok tt) done e in
+    let t = discarded_ok (up_to_end signature_at a) s.0 s.1 in
+    let known = list_form.takes a t.0 s.0 h t.1 in
+    let none = up_to_end_drains signature_text IsSignature Anything signature_at signature_some signature_form a t.0 s.0 h t.1 in
+    record {
+      list = t.0;
+      each = known.1;
+      spelled = known.0.parts ∙ (ap (λ (c : List ℕ). flat_map signature_text t.0 ++ c) none ∙ append-nil (flat_map signature_text t.0));
+    }
+
+pub checked_again : (place : ℕ) (bytes : List ℕ) → AreSignatures bytes → checked (record { place = place; rest = bytes }) ≡ Ok tt
+checked_again place bytes f =
+    let text : List ℕ = flat_map signature_text f.list in
+    let same : bytes ≡ text ++ [] = f.spelled ∙ sym (append-nil text) in
+    let step = list_form.again f.list place [] f.each refl in
+    ap (λ (c : List ℕ). checked (record { place = place; rest = c })) same ∙ rw step refl
+
+-- ---- proofs
+
+abbrev Four : Type 0
+Four = ℕ × (ℕ × (List (List ℕ) × List ℕ))
+
+abbrev IsWord : ℕ → Type 0
+IsWord n = n < 2 ^ 64
+
+abbrev four_text : Four → List ℕ
+four_text = both (number w64) (both (number w64) (both hashes (vector w16)))
+
+abbrev AreFour : Four → Type 0
+AreFour = FitsBoth IsWord (FitsBoth IsWord (FitsBoth AreHashes IsShort))
+
+word_form : IsForm (number w64) IsWord Anything (form_at (number_at w64))
+word_form = lifted_form (number w64) IsWord Anything (number_at w64) of_short (number_form w64 (2 ^ 64) wide64)
+
+path_form : IsForm hashes AreHashes Anything path_at
+path_form = lifted_form hashes AreHashes Anything hashes_at of_hashes hashes_form
+
+four_form : IsForm four_text AreFour Anything (both_at (form_at (number_at w64)) (both_at (form_at (number_at w64)) (both_at path_at (form_at (vector_at w16)))))
+four_form =
+    both_form (number w64) IsWord Anything (form_at (number_at w64)) (both (number w64) (both hashes (vector w16))) (FitsBoth IsWord (FitsBoth AreHashes IsShort)) Anything
+    (both_at (form_at (number_at w64)) (both_at path_at (form_at (vector_at w16)))) word_form
+    (both_form (number w64) IsWord Anything (form_at (number_at w64)) (both hashes (vector w16)) (FitsBoth AreHashes IsShort) Anything
+    (both_at path_at (form_at (vector_at w16))) word_form
+    (both_form hashes AreHashes Anything path_at (vector w16) IsShort Anything (form_at (vector_at w16)) path_form long_form (λ y rest f q. tt))
+    (λ y rest f q. tt))
+    (λ y rest f q. tt)
+
+abbrev from_proof : ProofParts → Four
+from_proof p = (p.start, (p.end, (p.path, p.signatures)))
+
+-- The parts, whose signatures aren't looked into.
+pub parts_form : IsForm proof_text (λ p. AreFour (from_proof p)) Anything parts_at
+unfolding parts_at
+parts_form =
+    mapped_form four_text AreFour Anything (both_at (form_at (number_at w64)) (both_at (form_at (number_at w64)) (both_at path_at (form_at (vector_at w16)))))
+    to_proof from_proof (λ x f. refl) (λ p f. refl) four_form
+
+-- All before the signatures.
+abbrev front : ProofParts → List ℕ
+front p = number w64 p.start ++ (number w64 p.end ++ (hashes p.path ++ number w16 (length p.signatures)))
+
+regrouped : (p : ProofParts) → proof_text p ≡ front p ++ p.signatures
+regrouped p = simp append_assoc
+
+-- The signatures end at this offset of the proof.
+pub record EndsAt (bytes signatures : List ℕ) (behind : ℕ) : Type 0 where
+  pub within : behind ≤ length bytes
+  pub fits : length signatures ≤ behind
+  pub ends : drop (behind - length signatures) (take behind bytes) ≡ signatures
+
+parts_end : (bytes : List ℕ) (p : ProofParts) (b : At) → IsBytes bytes → parts_at (at bytes 0) ≡ Ok (p, b) → EndsAt bytes p.signatures b.place
+parts_end bytes p b h e =
+    let known = parts_form.takes (at bytes 0) p b h e in
+    let whole : bytes ≡ (front p ++ p.signatures) ++ b.rest = known.0.parts ∙ ap (λ (t : List ℕ). t ++ b.rest) (regrouped p) in
+    let far : b.place ≡ length (front p ++ p.signatures) = omega (arith, known.0.place, ap length (regrouped p)) in
+    let size = length-append (front p) p.signatures in
+    let all = length-append (front p ++ p.signatures) b.rest in
+    let start : b.place - length p.signatures ≡ length (front p) = omega arith in
+    let cut : take b.place bytes ≡ front p ++ p.signatures =
+    ap (take b.place) whole ∙ take_at (front p ++ p.signatures) b.rest b.place (sym far) in
+    let rest : drop (b.place - length p.signatures) (take b.place bytes) ≡ p.signatures =
+    ap (drop (b.place - length p.signatures)) cut ∙ drop_at (front p) p.signatures (b.place - length p.signatures) (sym start) in
+    record {
+      within = omega (arith, far, all, ap length whole);
+      fits = omega (arith, far, size);
+      ends = rest;
+    }
+
+pub list_end : (bytes : List ℕ) (p : ProofParts) (behind : ℕ) → IsBytes bytes → (a b : At) → a ≡ at bytes 0 → parts_at a ≡ Ok (p, b) → behind ≡ b.place
+    → EndsAt bytes p.signatures behind
+list_end bytes p behind h a b start e far =
+    let P : ℕ → Type 0 = λ n. EndsAt bytes p.signatures n in
+    subst P (sym far) (parts_end bytes p b h (ap parts_at (sym start) ∙ e))
+
+proof_to : (p : ProofParts) → AreFour (from_proof p) → AreSignatures p.signatures → IsProof p
+proof_to p f list = record { start = f.0; end = f.1.0; path = f.1.1.0; short = f.1.1.1; signatures = list }
+
+pub proofs_only : (bytes : List ℕ) (p : ProofParts) → IsBytes bytes → proof_in bytes ≡ Ok p → (bytes ≡ proof_text p) × IsProof p
+unfolding proof_in
+proofs_only bytes p h e =
+    let s = bind_ok (parts_at (at bytes 0)) (λ (x : ProofParts × At). checked (inside_list x) >>= λ (done : Unit {0}). if length x.1.rest == 0 then Ok x.0 else Err Trailing) p e in
+    let q : ProofParts = s.0.0 in
+    let t = bind_ok (checked (inside_list s.0)) (λ (done : Unit {0}). if length s.0.1.rest == 0 then Ok q else Err Trailing) p s.2 in
+    let g = pass_ok (length s.0.1.rest == 0) (Ok q) Trailing p t.2 in
+    let known = parts_form.takes (at bytes 0) q s.0.1 h s.1 in
+    let none : s.0.1.rest ≡ [] = nil_from_length s.0.1.rest (eqb-true (length s.0.1.rest) 0 g.0) in
+    let spelled : bytes ≡ proof_text q = known.0.parts ∙ (ap (λ (c : List ℕ). proof_text q ++ c) none ∙ append-nil (proof_text q)) in
+    let inner : IsBytes q.signatures = IsBytes-back (front q) q.signatures (subst IsBytes (spelled ∙ regrouped q) h) in
+    let list = checked_only (inside_list s.0) t.0 inner t.1 in
+    let P : ProofParts → Type 0 = λ v. (bytes ≡ proof_text v) × IsProof v in
+    subst P (ok_is ProofError q p g.1) (spelled, proof_to q known.1 list)
+
+pub proofs_again : (p : ProofParts) → IsProof p → proof_in (proof_text p) ≡ Ok p
+unfolding proof_in
+proofs_again p f =
+    let end : At = record { place = 0 + length (proof_text p); rest = [] } in
+    let step : parts_at (at (proof_text p) 0) ≡ Ok (p, end) =
+    ap (λ (c : List ℕ). parts_at (record { place = 0; rest = c })) (sym (append-nil (proof_text p)))
+    ∙ parts_form.again p 0 [] (f.start, (f.end, (f.path, f.short))) tt in
+    let list : checked (inside_list (p, end)) ≡ Ok tt = checked_again (end.place - length p.signatures) p.signatures f.signatures in
+    rw step (rw list refl)
+
+pub one_proof : (p q : ProofParts) → IsProof p → IsProof q → proof_text p ≡ proof_text q → p ≡ q
+one_proof p q x y same = ok_is ProofError p q (sym (proofs_again p x) ∙ (ap proof_in same ∙ proofs_again q y))
+
+-- ---- an answer that is exactly what is wanted
+
+pub gives_found : (bytes : List ℕ) (r : Result Proof ProofError) → IsBytes bytes → Gives proof_parts r (proof_in bytes)
+    → IfOk r (λ p. (bytes ≡ proof_text (proof_parts p)) × IsProof (proof_parts p))
+gives_found bytes (Ok p) h e = proofs_only bytes (proof_parts p) h e
+gives_found bytes (Err fault) h e = tt
+
+pub gives_only : (bytes : List ℕ) (r : Result Proof ProofError) → Gives proof_parts r (proof_in bytes)
+    → (p : ProofParts) → IsProof p → bytes ≡ proof_text p → Gives proof_parts r (Ok p)
+gives_only bytes r given p f same =
+    let P : Result ProofParts ProofError → Type 0 = λ wanted. Gives proof_parts r wanted in
+    subst P (ap proof_in same ∙ proofs_again p f) given
