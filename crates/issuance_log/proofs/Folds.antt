@@ -1,5 +1,5 @@
 -- Records that make a log, and more of them.
-use Rattle.std.proofs.Common.{◌≡◌, ℕ, ◌+◌, ◌==◌, ◌&&◌, nat_lt, if◌then◌else◌, Bool, true, false, List, [], ◌∷◌, ◌++◌, length, Option, Some, None, option_map, option_and_then, Result, Ok, Err, refl, sym, ap, ◌∙◌, arith}
+use Rattle.std.proofs.Common.{◌≡◌, ℕ, ◌+◌, ◌==◌, ◌&&◌, nat_lt, if◌then◌else◌, Bool, true, false, List, [], ◌∷◌, ◌++◌, length, Option, Some, None, option_map, option_and_then, Result, Ok, Err, sym, ap, ◌∙◌, arith}
 use Rattle.std.specs.Int.{w8}
 use Rattle.std.proofs.lemmas.List.{length-append}
 use Rattle.byte_forms.specs.Places.{At, at}

@@ -4,7 +4,7 @@ use Rattle.std.specs.Str.{bytes_eq}
 use Rattle.std.proofs.lemmas.Slice.Eq.{bytes_eq-Decides}
 use Rattle.byte_forms.specs.Readings.{◌>>=◌, lifted}
 use Rattle.journal_core.specs.Format.{header, behind, StandsFor}
-use Rattle.journal_core.specs.Walk.{Ending, Walk, walk_of, at_gate}
+use Rattle.journal_core.specs.Walk.{Ending, walk_of, at_gate}
 use Rattle.journal_core.specs.declared.error.OpenError.TheVariants as open_error
 use Rattle.journal_core.proofs.Walk.{walk_closed}
 use Rattle.issuance_log.proofs.Walks.{header_length}

@@ -5,5 +5,6 @@ pub mod Readings
 pub mod Records
 pub mod Refusals
 pub mod Results
+pub mod Rules
 pub mod Sound
 pub mod Words

@@ -1,8 +1,8 @@
 -- The records of a log's journal: a tag of one byte, and what it says. Numbers have their highest byte first.
-use Rattle.std.specs.Prelude.{ℕ, ◌≤◌, Bool, List, [], ◌∷◌, ◌++◌, length, ◌==◌, ◌&&◌, nat_le, Option, Some, None, option_and_then, Result, Ok, Err, if◌then◌else◌}
+use Rattle.std.specs.Prelude.{ℕ, ◌≤◌, Bool, List, ◌++◌, length, ◌==◌, ◌&&◌, nat_le, Option, Some, None, option_and_then, Result, Ok, Err, if◌then◌else◌}
 use Rattle.std.specs.Int.{w8, w16, w32}
 use Rattle.byte_forms.specs.Places.{At, at}
-use Rattle.byte_forms.specs.Readings.{◌>>=◌}
+use Rattle.byte_forms.specs.Readings.{both_at}
 use Rattle.tls_wire.specs.Anchors.{anchor_of}
 use Rattle.tls_wire.specs.Reading.{number_at, vector_at}
 use Rattle.tls_wire.specs.Spelling.{number, vector}
@@ -23,17 +23,22 @@ entry_record entry key = number w8 2 ++ (vector w16 entry ++ vector w16 key)
 -- ---- read
 
 -- what stands behind the tag of a Log
-unfoldable pub settings_at : At → Result ((List ℕ × ℕ × ℕ) × At) Short
-settings_at a = vector_at w8 a >>= λ id. number_at w32 id.1 >>= λ active. number_at w32 active.1 >>= λ limit. Ok ((id.0, active.0, limit.0), limit.1)
+unfoldable pub settings_at : At → Result ((List ℕ × (ℕ × ℕ)) × At) Short
+settings_at a = both_at (vector_at w8) (both_at (number_at w32) (number_at w32)) a
 
 -- what stands behind the tag of an Entry
 unfoldable pub entry_at : At → Result ((List ℕ × List ℕ) × At) Short
-entry_at a = vector_at w16 a >>= λ entry. vector_at w16 entry.1 >>= λ key. Ok ((entry.0, key.0), key.1)
+entry_at a = both_at (vector_at w16) (vector_at w16) a
 
 -- what was read, where it is all there was
 abbrev pub all_of : {X : Type 0} → Result (X × At) Short → Option X
 all_of (Ok x) = if length x.1.rest == 0 then Some x.0 else None
 all_of (Err short) = None
+
+-- what stands behind this tag
+abbrev pub tagged : {X : Type 0} → ℕ → (At → Result (X × At) Short) → Result (ℕ × At) Short → Option X
+tagged wanted read (Ok tag) = if tag.0 == wanted then all_of (read tag.1) else None
+tagged wanted read (Err short) = None
 
 -- the numbers that a log may have
 abbrev pub are_allowed : ℕ → ℕ → Bool
@@ -52,21 +57,13 @@ with_id active limit (Ok id) = Some (record { id = id; max_active = active; limi
 with_id active limit (Err fault) = None
 
 -- settings, where the numbers may be those of a log
-abbrev pub settings_with : List ℕ × ℕ × ℕ → Option LogSettings
-settings_with x = if are_allowed x.1 x.2 then with_id x.1 x.2 (anchor_of x.0) else None
+abbrev pub settings_with : List ℕ × (ℕ × ℕ) → Option LogSettings
+settings_with x = if are_allowed x.1.0 x.1.1 then with_id x.1.0 x.1.1 (anchor_of x.0) else None
 
 -- the settings in a Log, which is the first record and nowhere else
-abbrev pub settings_by_tag : Result (ℕ × At) Short → Option LogSettings
-settings_by_tag (Ok tag) = if tag.0 == 1 then option_and_then settings_with (all_of (settings_at tag.1)) else None
-settings_by_tag (Err short) = None
-
 unfoldable pub settings_in : List ℕ → Option LogSettings
-settings_in body = settings_by_tag (number_at w8 (at body 0))
+settings_in body = option_and_then settings_with (tagged 1 settings_at (number_at w8 (at body 0)))
 
 -- the entry and the key in an Entry
-abbrev pub item_by_tag : Result (ℕ × At) Short → Option (List ℕ × List ℕ)
-item_by_tag (Ok tag) = if tag.0 == 2 then all_of (entry_at tag.1) else None
-item_by_tag (Err short) = None
-
 unfoldable pub item_in : List ℕ → Option (List ℕ × List ℕ)
-item_in body = item_by_tag (number_at w8 (at body 0))
+item_in body = tagged 2 entry_at (number_at w8 (at body 0))

@@ -1,5 +1,5 @@
 -- What a log shows, and what `add` makes of it.
-use Rattle.std.specs.Prelude.{◌≡◌, ◌≢◌, ℕ, ◌+◌, ◌^◌, ◌==◌, nat_lt, Bool, true, false, List, [], ◌∷◌, ◌++◌, length, Option, Some, None, option_map, IfSome, Result, Ok, Err, if◌then◌else◌}
+use Rattle.std.specs.Prelude.{◌≡◌, ℕ, ◌+◌, Bool, true, false, List, [], ◌∷◌, ◌++◌, length, Option, option_map, IfSome, Result, Ok, Err}
 use Rattle.mtc_io.specs.Counts.{Rose}
 use Rattle.disk_core.specs.declared.disk.Disk.{Ghosts}
 use Rattle.tree_core.specs.declared.hashing.TreeHash.{Ghosts as Hashes}

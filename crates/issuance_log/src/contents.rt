@@ -7,9 +7,9 @@ ghost use Rattle.issuance_log.specs.Sound.{IsSound};
 
 use crate::error::RecordError;
 use crate::items::Items;
-use log_entry::key_matches;
 use crate::record::{ENTRY, read_entry, read_settings};
 use crate::settings::LogSettings;
+use log_entry::key_matches;
 use mtc_io::{Bytes, Memory};
 use std::alloc::Global;
 use std::marker::Model;
@@ -55,7 +55,11 @@ impl Contents {
 
     /// Takes one record more. `Unfit` comes exactly where it breaks the rules, and a refusal leaves the log as it was.
     #[tactic(auto, unfolding(crate::specs::Folds::next_log))]
-    pub(crate) fn take<H: TreeHash>(&mut self, alloc: Global, body: &[u8]) -> Result<(), RecordError>
+    pub(crate) fn take<H: TreeHash>(
+        &mut self,
+        alloc: Global,
+        body: &[u8],
+    ) -> Result<(), RecordError>
         ensures { Takes (next_log H.hash self.old body.now) self.old result self.new }
     {
         let mut cursor = Cursor::new(body);
@@ -66,7 +70,11 @@ impl Contents {
         }
     }
 
-    fn take_entry<H: TreeHash>(&mut self, alloc: Global, cursor: Cursor<'_>) -> Result<(), RecordError>
+    fn take_entry<H: TreeHash>(
+        &mut self,
+        alloc: Global,
+        cursor: Cursor<'_>,
+    ) -> Result<(), RecordError>
         ensures { Takes (option_and_then (with_entry H.hash self.old) (all_of (entry_at cursor.entry))) self.old result self.new }
     {
         let (entry, key) = read_entry(cursor)?;

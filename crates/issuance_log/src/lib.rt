@@ -22,6 +22,8 @@ mod tests;
 
 pub use creation::create;
 pub use error::{LogError, LogOpenError, LogRefused};
-pub use laws::{logs_are_read_from_their_journals, records_are_read_as_spelled};
+pub use laws::{
+    items_are_read_as_spelled, logs_are_read_from_their_journals, records_keep_to_the_rules,
+};
 pub use log::Log;
 pub use settings::LogSettings;

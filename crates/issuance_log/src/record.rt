@@ -19,7 +19,7 @@ pub(crate) const ENTRY: u8 = 2;
 // The settings behind the tag, in their order.
 #[tactic(auto, unfolding(crate::specs::Records::settings_at))]
 fn settings_fields<'a>(cursor: &mut Cursor<'a>) -> Result<(&'a [u8], u32, u32), Short>
-    ensures { Moves (λ x. (x.0.now, x.1, x.2)) settings_at cursor.old result cursor.new }
+    ensures { Moves (λ x. (x.0.now, (x.1, x.2))) settings_at cursor.old result cursor.new }
 {
     let id = cursor.vec8()?;
     let max_active = cursor.u32()?;
@@ -51,7 +51,7 @@ fn settings_with(
     max_active: u32,
     limit: u32,
 ) -> Result<LogSettings, RecordError>
-    ensures found { Finds (λ s. s) (settings_with (id.now, max_active, limit)) result }
+    ensures found { Finds (λ s. s) (settings_with (id.now, (max_active, limit))) result }
     ensures allowed { IfOk result (λ s. AreAllowed s.max_active s.limit) }
 {
     if !are_allowed(max_active, limit) {

@@ -48,11 +48,7 @@ const LONG_KEY: [u8; 16] = [
 
 fn disk(alloc: Global, bytes: &[u8], failing: &[u64]) -> Result<MemDisk, Memory> {
     let bytes = Bytes::copy_of(alloc, bytes)?;
-    Ok(MemDisk::over(
-        alloc,
-        bytes,
-        Vec::from_slice(alloc, failing)?,
-    ))
+    Ok(MemDisk::over(alloc, bytes, Vec::from_slice(alloc, failing)?))
 }
 
 fn open(alloc: Global, disk: MemDisk) -> Result<Log<Sha, MemDisk>, LogRefused<MemDisk>> {
@@ -67,11 +63,7 @@ fn size_of(alloc: Global, bytes: &[u8]) -> Result<Result<u64, LogOpenError>, Mem
     }
 }
 
-fn begin(
-    alloc: Global,
-    disk: MemDisk,
-    limit: u32,
-) -> Result<(MemDisk, Option<StartError>), Memory>
+fn begin(alloc: Global, disk: MemDisk, limit: u32) -> Result<(MemDisk, Option<StartError>), Memory>
     requires some { 2 ≤ limit }
     requires few { limit ≤ 1048576 }
 {
@@ -201,7 +193,10 @@ fn a_file_is_opened_or_refused(rt: HostRuntime) -> Result<(), Fail> {
     for (count, wanted) in cuts {
         let mut bytes = Bytes::copy_of(alloc, full.as_slice())?;
         bytes.truncate(count);
-        assert!(rt; size_of(alloc, bytes.as_slice())? == wanted, "{count} bytes");
+        assert!(rt;
+            size_of(alloc, bytes.as_slice())? == wanted,
+            "{count} bytes"
+        );
     }
     Ok(())
 }
@@ -248,8 +243,10 @@ fn long_key(alloc: Global, size: usize) -> Result<Bytes, Memory> {
 #[test]
 fn an_item_has_65535_bytes_at_most(rt: HostRuntime) -> Result<(), Fail> {
     let alloc = rt.alloc();
-    let cases: [(usize, Result<u64, LogError>); 2] =
-        [(65_405, Err(LogError::TooLarge)), (65_404, Ok(1))];
+    let cases: [(usize, Result<u64, LogError>); 2] = [
+        (65_405, Err(LogError::TooLarge)),
+        (65_404, Ok(1)),
+    ];
     for (size, wanted) in cases {
         let key = long_key(alloc, size)?;
         let mut entry = Vec::from_slice(alloc, &ENTRY)?;

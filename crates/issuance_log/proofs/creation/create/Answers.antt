@@ -1,5 +1,4 @@
-use Rattle.std.proofs.Common.{◌≡◌, ◌+◌, ◌≤◌, ℕ, List, length, ap, ◌∙◌, arith}
-use Rattle.tls_wire.specs.Arcs.{IsAnchorId}
+use Rattle.std.proofs.Common.{◌≡◌, ◌+◌, ℕ, List, length, ap, ◌∙◌, arith}
 use Rattle.issuance_log.specs.Records.{settings_record}
 use Rattle.issuance_log.specs.declared.settings.LogSettings.{LogSettings}
 use Rattle.issuance_log.proofs.Spelled.{length-settings, log_created}

@@ -1,7 +1,6 @@
-use Rattle.std.proofs.Common.{◌≡◌, ◌<◌, ◌≤◌, ℕ, List, length, IfSome, sym, subst, ◌∙◌}
+use Rattle.std.proofs.Common.{ℕ, List, IfSome, sym, subst, ◌∙◌}
 use Rattle.journal_core.specs.Format.{StandsForEither}
 use Rattle.journal_core.specs.Words.{disk_of}
-use Rattle.issuance_log.specs.Records.{entry_record}
 use Rattle.issuance_log.specs.Words.{log_records, log_broken, log_end, state_of}
 use Rattle.issuance_log.proofs.Adds.{room_of, record_some, record_few, added_records, added_unrefused}
 use Rattle.issuance_log.proofs.log.Log.add.Goals as goal
