@@ -10,8 +10,8 @@ use Rattle.issuance_log.specs.declared.error.LogOpenError.{LogOpenError}
 use Rattle.mtc_top.specs.declared.answer.Stop.{Stop}
 use Rattle.mtc_top.specs.declared.answer.Stop.TheVariants.{Room, Memory}
 use Rattle.mtc_top.specs.declared.answer.Answer.{Answer}
-use Rattle.mtc_top.specs.declared.log_command.Fallen.{Fallen}
-use Rattle.mtc_top.specs.declared.log_command.Fallen.TheVariants.{Device, Memory as NoMemory}
+use Rattle.mtc_top.specs.declared.work.Fallen.{Fallen}
+use Rattle.mtc_top.specs.declared.work.Fallen.TheVariants.{Device, Memory as NoMemory}
 use Rattle.disk_core.specs.Moments.{Looks}
 use Rattle.mtc_top.specs.Works.{Names, HasFallen}
 use Rattle.mtc_top.proofs.Made.{kept_of, may_have_made}

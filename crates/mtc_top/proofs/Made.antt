@@ -86,12 +86,13 @@ pub may_through : (b b' n n' s s' : List ℕ → Type 0) (did : Journaled) → W
 may_through b b' n n' s s' untouched w k = kept_through b b' n n' s s' w k
 may_through b b' n n' s s' (reads list) w k = kept_through b b' n n' s s' w k
 may_through b b' n n' s s' (appended list body) w k = elim k [
-      inl kept ↦ inl (kept_through b b' n n' s s' w kept)
-    | inr may ↦ inr (record {
+  | inl kept ↦ inl (kept_through b b' n n' s s' w kept)
+  | inr may ↦ inr (record {
     read = read_through b b' list w.from_before may.read;
     now_is = λ c is. may.now_is c (w.to_now c is);
     since_is = λ c is. elim (may.since_is c (w.to_since c is)) [ inl past ↦ inl (w.from_before c past) | inr either ↦ inr either ];
-  }) ]
+  })
+]
 may_through b b' n n' s s' (started body) w k = tt
 
 module _ {D : Type 0} (g : Ghosts D) where

@@ -15,3 +15,4 @@ pub mod Nodes
 pub mod VerifyOutcome
 pub mod LogSteps
 pub mod Works
+pub mod LogOutcomes

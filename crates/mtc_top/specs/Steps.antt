@@ -29,6 +29,9 @@ abbrev pub stops : Stopped → List ℕ → Outcome
 stops why line = record { answer = Stops why line; journal = untouched }
 
 -- the same behind the opening of a journal, where these records were found
+abbrev pub answers_on : List (List ℕ) → Answer → Outcome
+answers_on list answer = record { answer = answer; journal = reads list }
+
 abbrev pub says_on : List (List ℕ) → Said → List ℕ → Outcome
 says_on list status text = record { answer = Says status text; journal = reads list }
 

@@ -7,10 +7,15 @@ use Rattle.issuance_log.specs.declared.error.LogOpenError.TheVariants.{BadRecord
 use Rattle.mtc_top.specs.declared.answer.Answer.{Answer}
 use Rattle.mtc_top.specs.declared.answer.Stop.{Stop}
 use Rattle.mtc_top.specs.declared.answer.Stop.TheVariants.{Room, Memory as NoMemory}
+use Rattle.issuance_log.specs.Openings.{FoundLog}
+use Rattle.mtc_top.specs.declared.work.Work.{Work}
+use Rattle.mtc_top.specs.declared.work.Work.TheVariants.{Checkpoint, Entries}
+use Rattle.mtc_top.specs.LogOutcomes.{checkpoint_says, entries_says}
+use Rattle.mtc_top.specs.Steps.{Outcome}
 use Rattle.mtc_top.specs.LogSteps.{no_log_says}
 use Rattle.mtc_top.specs.Made.{Journaled, MayAdd}
-use Rattle.mtc_top.specs.declared.log_command.Fallen.{Fallen}
-use Rattle.mtc_top.specs.declared.log_command.Fallen.TheVariants.{Device, Memory}
+use Rattle.mtc_top.specs.declared.work.Fallen.{Fallen}
+use Rattle.mtc_top.specs.declared.work.Fallen.TheVariants.{Device, Memory}
 
 -- the room is named as the cause
 abbrev pub IsRoom : Result Answer Stop → Type 0
@@ -46,3 +51,8 @@ abbrev pub Names : Result Answer Fallen → Result Answer Stop → Type 0
 Names (Ok answer) result = result ≡ Ok answer
 Names (Err Device) result = IsRoom result
 Names (Err Memory) result = result ≡ Err NoMemory
+
+-- what a command has to answer over a log that was found
+unfoldable pub work_says : (List ℕ → List ℕ) → Work → FoundLog → Outcome
+work_says h Checkpoint found = checkpoint_says h found
+work_says h (Entries size) found = entries_says size found

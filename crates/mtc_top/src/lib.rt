@@ -7,7 +7,9 @@
 
 mod answer;
 mod cert_fault;
+mod checkpoint;
 mod finish;
+mod init_log;
 mod input;
 mod keygen;
 mod line;
@@ -19,6 +21,7 @@ mod show;
 mod tests;
 mod top;
 mod verify;
+mod work;
 
 pub use mtc_room::{MemRoom, Room, RoomError};
 pub use top::run;
