@@ -1,0 +1,113 @@
+//! What a relying party answers to every change of one byte of a certificate, to be compared with the answers of another
+//! implementation.
+//!
+//! A line of the input is `LABEL MOMENT LOG START END HASH FROM TO CERTIFICATE`: the moment in seconds, and a store for the log
+//! with this id, which trusts the interval from START to END with this hash and has revoked the serial numbers from FROM to TO,
+//! without TO. Hash and certificate are in hexadecimal. The line is answered by a line `LABEL SIZE ANSWER` for the certificate
+//! itself, and a line for each offset: the offset, and `FROM-TO ANSWER` for each run of values of the byte there that have one
+//! answer. An answer is `Accepted` with index, start and end, or the refusal.
+#![tactic(auto)]
+
+use anyhow::{Context, Result};
+use cert_names::log_name;
+use policy_core::{Accepted, Refusal, Revoked, Store, Subtrees, Trusted};
+use relying_party::judge;
+use std::alloc::Global;
+use std::io::{BufRead, BufReader};
+use tls_wire::AnchorId;
+use tree_core::{Sha, Span};
+
+type Answer = std::result::Result<Accepted, Refusal>;
+
+// The text of an answer.
+fn text_of(alloc: Global, answer: Answer) -> Result<String> {
+    match answer {
+        Ok(known) => {
+            Ok(format!(in alloc; "Accepted {} {} {}", known.index, known.start, known.end)?)
+        }
+        Err(refusal) => Ok(format!(in alloc; "{refusal:?}")?),
+    }
+}
+
+// The answers to all values of the byte at an offset, as runs.
+fn row(alloc: Global, certificate: &[u8], place: usize, store: &Store, now: i64) -> Result<String> {
+    let mut changed = Vec::from_slice(alloc, certificate)?;
+    let mut text = format!(in alloc; "{place}")?;
+    let mut from = 0;
+    let mut before = None;
+    for value in 0..=255u8 {
+        if let Some(byte) = changed.get_mut(place) {
+            *byte = value;
+        }
+        let next = judge::<Sha>(changed.as_slice(), store, now);
+        match before {
+            Some(last) if last == next => {}
+            Some(last) => {
+                let last = text_of(alloc, last)?;
+                let run = format!(in alloc; ", {from}-{} {last}", value.saturating_sub(1))?;
+                text.push_str(run.as_str())?;
+                from = value;
+            }
+            None => {}
+        }
+        before = Some(next);
+    }
+    if let Some(last) = before {
+        let last = text_of(alloc, last)?;
+        let run = format!(in alloc; ", {from}-255 {last}")?;
+        text.push_str(run.as_str())?;
+    }
+    Ok(text)
+}
+
+// A number among the words of a line.
+fn number(word: Option<&str>) -> Result<u64> {
+    Ok(word.context("no number")?.parse()?)
+}
+
+// The 32 bytes of a hash.
+fn hash(alloc: Global, word: Option<&str>) -> Result<[u8; 32]> {
+    let bytes = hex::decode(alloc, word.context("no hash")?)?;
+    let hash = bytes.as_slice().first_chunk::<32>();
+    Ok(*hash.context("a short hash")?)
+}
+
+fn main(rt: HostRuntime) -> Result<()> {
+    let alloc = rt.alloc();
+    let input = BufReader::new(alloc, rt.reader())?;
+    for line in input.lines(alloc) {
+        let line = line?;
+        let mut words = line.as_str().split(' ');
+        let label = words.next().context("no label")?;
+        let now = number(words.next())?;
+        let id = words.next().context("no log")?;
+        let log = AnchorId::from_text(alloc, id).ok().context("no id")?;
+        let trusted = Trusted {
+            start: number(words.next())?,
+            end: number(words.next())?,
+            hash: hash(alloc, words.next())?,
+        };
+        let revoked = Span {
+            start: number(words.next())?,
+            end: number(words.next())?,
+        };
+        let certificate = hex::decode(alloc, words.next().context("no certificate")?)?;
+        let name = log_name(alloc, &log).ok().context("no memory")?;
+        let store = Store {
+            log,
+            name,
+            subtrees: Subtrees::from_vec(Vec::from_slice(alloc, &[trusted])?),
+            revoked: Revoked::from_vec(Vec::from_slice(alloc, &[revoked])?),
+        };
+        let itself = text_of(
+            alloc,
+            judge::<Sha>(certificate.as_slice(), &store, now as i64),
+        )?;
+        println!(rt; "{label} {} {itself}", certificate.len())?;
+        for place in 0..certificate.len() {
+            let text = row(alloc, certificate.as_slice(), place, &store, now as i64)?;
+            println!(rt; "{text}")?;
+        }
+    }
+    Ok(())
+}
