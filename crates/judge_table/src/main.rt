@@ -60,52 +60,64 @@ fn row(alloc: Global, certificate: &[u8], place: usize, store: &Store, now: i64)
     Ok(text)
 }
 
-// A number among the words of a line.
-fn number(word: Option<&str>) -> Result<u64> {
-    Ok(word.context("no number")?.parse()?)
+// The word at this place of a line, counted from 0.
+fn word(line: &str, place: usize) -> Result<&str> {
+    line.split(' ').nth(place).context("too few words")
 }
 
-// The 32 bytes of a hash.
-fn hash(alloc: Global, word: Option<&str>) -> Result<[u8; 32]> {
-    let bytes = hex::decode(alloc, word.context("no hash")?)?;
+fn number(line: &str, place: usize) -> Result<u64> {
+    Ok(word(line, place)?.parse()?)
+}
+
+// The interval that is trusted, with its hash.
+fn subtree(alloc: Global, line: &str) -> Result<Trusted> {
+    let bytes = hex::decode(alloc, word(line, 5)?)?;
     let hash = bytes.as_slice().first_chunk::<32>();
-    Ok(*hash.context("a short hash")?)
+    Ok(Trusted {
+        start: number(line, 3)?,
+        end: number(line, 4)?,
+        hash: *hash.context("a short hash")?,
+    })
+}
+
+fn subtrees(alloc: Global, line: &str) -> Result<Subtrees> {
+    let one = subtree(alloc, line)?;
+    Ok(Subtrees::from_vec(Vec::from_slice(alloc, &[one])?))
+}
+
+fn revoked(alloc: Global, line: &str) -> Result<Revoked> {
+    let start = number(line, 6)?;
+    let end = number(line, 7)?;
+    let range = Span { start, end };
+    Ok(Revoked::from_vec(Vec::from_slice(alloc, &[range])?))
+}
+
+fn store(alloc: Global, line: &str) -> Result<Store> {
+    let id = word(line, 2)?;
+    let log = AnchorId::from_text(alloc, id).ok().context("no id")?;
+    let name = log_name(alloc, &log).ok().context("no memory")?;
+    let subtrees = subtrees(alloc, line)?;
+    let revoked = revoked(alloc, line)?;
+    Ok(Store {
+        log,
+        name,
+        subtrees,
+        revoked,
+    })
 }
 
 fn main(rt: HostRuntime) -> Result<()> {
-    let alloc = rt.alloc();
-    let input = BufReader::new(alloc, rt.reader())?;
-    for line in input.lines(alloc) {
+    let input = BufReader::new(rt.alloc(), rt.reader())?;
+    for line in input.lines(rt.alloc()) {
         let line = line?;
-        let mut words = line.as_str().split(' ');
-        let label = words.next().context("no label")?;
-        let now = number(words.next())?;
-        let id = words.next().context("no log")?;
-        let log = AnchorId::from_text(alloc, id).ok().context("no id")?;
-        let trusted = Trusted {
-            start: number(words.next())?,
-            end: number(words.next())?,
-            hash: hash(alloc, words.next())?,
-        };
-        let revoked = Span {
-            start: number(words.next())?,
-            end: number(words.next())?,
-        };
-        let certificate = hex::decode(alloc, words.next().context("no certificate")?)?;
-        let name = log_name(alloc, &log).ok().context("no memory")?;
-        let store = Store {
-            log,
-            name,
-            subtrees: Subtrees::from_vec(Vec::from_slice(alloc, &[trusted])?),
-            revoked: Revoked::from_vec(Vec::from_slice(alloc, &[revoked])?),
-        };
-        let itself = text_of(
-            alloc,
-            judge::<Sha>(certificate.as_slice(), &store, now as i64),
-        )?;
+        let label = word(line.as_str(), 0)?;
+        let now = number(line.as_str(), 1)? as i64;
+        let store = store(rt.alloc(), line.as_str())?;
+        let certificate = hex::decode(rt.alloc(), word(line.as_str(), 8)?)?;
+        let itself = text_of(rt.alloc(), judge::<Sha>(certificate.as_slice(), &store, now))?;
         println!(rt; "{label} {} {itself}", certificate.len())?;
         for place in 0..certificate.len() {
-            let text = row(alloc, certificate.as_slice(), place, &store, now as i64)?;
+            let text = row(rt.alloc(), certificate.as_slice(), place, &store, now)?;
             println!(rt; "{text}")?;
         }
     }
