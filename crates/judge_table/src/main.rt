@@ -114,7 +114,10 @@ fn main(rt: HostRuntime) -> Result<()> {
         let now = number(line.as_str(), 1)? as i64;
         let store = store(rt.alloc(), line.as_str())?;
         let certificate = hex::decode(rt.alloc(), word(line.as_str(), 8)?)?;
-        let itself = text_of(rt.alloc(), judge::<Sha>(certificate.as_slice(), &store, now))?;
+        let itself = text_of(
+            rt.alloc(),
+            judge::<Sha>(certificate.as_slice(), &store, now),
+        )?;
         println!(rt; "{label} {} {itself}", certificate.len())?;
         for place in 0..certificate.len() {
             let text = row(rt.alloc(), certificate.as_slice(), place, &store, now)?;
