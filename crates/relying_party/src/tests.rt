@@ -1,0 +1,171 @@
+//! The judgement of the certificate of one name that a log with id 32473.1 issues as its entry 1, and of changes to it.
+
+use crate::judge;
+use cert_names::log_name;
+use mtc_proof::ProofError;
+use policy_core::{Accepted, By, Refusal, Revoked, Store, Subtrees, Trusted};
+use std::alloc::Global;
+use std::test::Fail;
+use tls_wire::AnchorId;
+use tree_core::{EvalError, Sha, Span};
+
+/// Serial number 1, issuer of log 32473.1, 2026-01-01 to 2026-01-08, no subject, an Ed25519 key of zeros, one critical
+/// subjectAltName with `a.example`, and a proof of the interval 0 to 2 with the leaf hash of the null entry.
+const CERTIFICATE: [u8; 231] = [
+    0x30, 0x81, 0xE4, 0x30, 0x81, 0x9C, 0xA0, 0x03, 0x02, 0x01, 0x02, 0x02, 0x01, 0x01, 0x30, 0x0C,
+    0x06, 0x0A, 0x2B, 0x06, 0x01, 0x04, 0x01, 0x82, 0xDA, 0x4B, 0x2F, 0x00, 0x30, 0x19, 0x31, 0x17,
+    0x30, 0x15, 0x06, 0x0A, 0x2B, 0x06, 0x01, 0x04, 0x01, 0x82, 0xDA, 0x4B, 0x2F, 0x01, 0x0C, 0x07,
+    0x33, 0x32, 0x34, 0x37, 0x33, 0x2E, 0x31, 0x30, 0x1E, 0x17, 0x0D, 0x32, 0x36, 0x30, 0x31, 0x30,
+    0x31, 0x30, 0x30, 0x30, 0x30, 0x30, 0x30, 0x5A, 0x17, 0x0D, 0x32, 0x36, 0x30, 0x31, 0x30, 0x38,
+    0x30, 0x30, 0x30, 0x30, 0x30, 0x30, 0x5A, 0x30, 0x00, 0x30, 0x2A, 0x30, 0x05, 0x06, 0x03, 0x2B,
+    0x65, 0x70, 0x03, 0x21, 0x00, 0x00, 0x00, 0x00, 0x00, 0x00, 0x00, 0x00, 0x00, 0x00, 0x00, 0x00,
+    0x00, 0x00, 0x00, 0x00, 0x00, 0x00, 0x00, 0x00, 0x00, 0x00, 0x00, 0x00, 0x00, 0x00, 0x00, 0x00,
+    0x00, 0x00, 0x00, 0x00, 0x00, 0xA3, 0x1B, 0x30, 0x19, 0x30, 0x17, 0x06, 0x03, 0x55, 0x1D, 0x11,
+    0x01, 0x01, 0xFF, 0x04, 0x0D, 0x30, 0x0B, 0x82, 0x09, 0x61, 0x2E, 0x65, 0x78, 0x61, 0x6D, 0x70,
+    0x6C, 0x65, 0x30, 0x0C, 0x06, 0x0A, 0x2B, 0x06, 0x01, 0x04, 0x01, 0x82, 0xDA, 0x4B, 0x2F, 0x00,
+    0x03, 0x35, 0x00, 0x00, 0x00, 0x00, 0x00, 0x00, 0x00, 0x00, 0x00, 0x00, 0x00, 0x00, 0x00, 0x00,
+    0x00, 0x00, 0x02, 0x00, 0x20, 0x70, 0x9E, 0x80, 0xC8, 0x84, 0x87, 0xA2, 0x41, 0x1E, 0x1E, 0xE4,
+    0xDF, 0xB9, 0xF2, 0x2A, 0x86, 0x14, 0x92, 0xD2, 0x0C, 0x47, 0x65, 0x15, 0x0C, 0x0C, 0x79, 0x4A,
+    0xBD, 0x70, 0xF8, 0x14, 0x7C, 0x00, 0x00,
+];
+
+/// The hash of the pair of the null entry's leaf and the certificate's.
+const TRUSTED: [u8; 32] = [
+    0x77, 0x56, 0x68, 0x25, 0xCD, 0x25, 0xF2, 0x63, 0x27, 0x1E, 0x3F, 0xA5, 0x34, 0x1D, 0xB2, 0x8E,
+    0xD2, 0xC8, 0x79, 0x45, 0xEE, 0x98, 0xF7, 0x31, 0xB2, 0xAA, 0x96, 0xB9, 0xE6, 0xB1, 0x1C, 0xF6,
+];
+
+/// 2026-01-01T00:00:00Z, the first moment of the certificate.
+const FIRST: i64 = 1_767_225_600;
+
+/// 2026-01-08T00:00:00Z, the last one.
+const LAST: i64 = 1_767_830_400;
+
+/// A store for the log with this id.
+fn store_of(
+    alloc: Global,
+    id: &str,
+    subtrees: &[Trusted],
+    revoked: &[Span],
+) -> Result<Store, Fail> {
+    let log = AnchorId::from_text(alloc, id)?;
+    let name = log_name(alloc, &log)?;
+    Ok(Store {
+        log,
+        name,
+        subtrees: Subtrees::from_vec(Vec::from_slice(alloc, subtrees)?),
+        revoked: Revoked::from_vec(Vec::from_slice(alloc, revoked)?),
+    })
+}
+
+/// The certificate with other bytes at some places.
+fn changed(changes: &[(usize, u8)]) -> [u8; 231] {
+    let mut bytes = CERTIFICATE;
+    for (place, byte) in changes {
+        if let Some(old) = bytes.get_mut(*place) {
+            *old = *byte;
+        }
+    }
+    bytes
+}
+
+/// The certificate with parameters of NULL in both algorithms.
+fn with_parameters(alloc: Global) -> Result<Vec<u8>, Fail> {
+    let pieces: [&[u8]; 8] = [
+        &[0x30, 0x81, 0xE8, 0x30, 0x81, 0x9E],
+        &CERTIFICATE[6..14],
+        &[0x30, 0x0E],
+        &CERTIFICATE[16..28],
+        &[0x05, 0x00],
+        &CERTIFICATE[28..162],
+        &[0x30, 0x0E],
+        &CERTIFICATE[164..176],
+    ];
+    let mut bytes = Vec::new(alloc);
+    for piece in pieces {
+        bytes.extend_from_slice(piece)?;
+    }
+    bytes.extend_from_slice(&[0x05, 0x00])?;
+    bytes.extend_from_slice(&CERTIFICATE[176..])?;
+    Ok(bytes)
+}
+
+/// The interval 0 to 2 with this hash.
+fn subtree(hash: [u8; 32]) -> Trusted {
+    Trusted {
+        start: 0,
+        end: 2,
+        hash,
+    }
+}
+
+const ACCEPTED: Accepted = Accepted {
+    index: 1,
+    start: 0,
+    end: 2,
+    hash: TRUSTED,
+    by: By::Landmark,
+};
+
+#[test]
+fn moments_and_changes(rt: HostRuntime) -> Result<(), Fail> {
+    let store = store_of(rt.alloc(), "32473.1", &[subtree(TRUSTED)], &[])?;
+    let moments: [(i64, Result<Accepted, Refusal>); 4] = [
+        (FIRST - 1, Err(Refusal::NotYet)),
+        (FIRST, Ok(ACCEPTED)),
+        (LAST, Ok(ACCEPTED)),
+        (LAST + 1, Err(Refusal::Expired)),
+    ];
+    for (now, wanted) in moments {
+        assert_eq!(rt; judge::<Sha>(&CERTIFICATE, &store, now), wanted);
+    }
+    let changes: [(&[(usize, u8)], Refusal); 11] = [
+        (
+            &[(196, 0x1F)],
+            Refusal::ProofGrammar(ProofError::HashLength),
+        ),
+        (&[(196, 0x40)], Refusal::ProofGrammar(ProofError::Short(16))),
+        (&[(230, 0x01)], Refusal::ProofGrammar(ProofError::Short(50))),
+        (&[(194, 0x00)], Refusal::ProofShape(EvalError::BadSubtree)),
+        (&[(194, 0x01)], Refusal::ProofShape(EvalError::Outside)),
+        (&[(194, 0x03)], Refusal::ProofShape(EvalError::WrongLength)),
+        // A critical issuerAltName.
+        (&[(143, 0x12)], Refusal::UnknownCritical),
+        // The attribute's identifier in the place of the algorithm's.
+        (&[(27, 0x01), (175, 0x01)], Refusal::Algorithm),
+        (&[(197, 0x00)], Refusal::LandmarkDiffers),
+        (&[(101, 0x01)], Refusal::LandmarkDiffers),
+        (&[(54, 0x39)], Refusal::UnknownLog),
+    ];
+    for (bytes, refusal) in changes {
+        assert_eq!(rt; judge::<Sha>(&changed(bytes), &store, FIRST), Err(refusal));
+    }
+    let parameters = with_parameters(rt.alloc())?;
+    assert_eq!(rt;
+        judge::<Sha>(parameters.as_slice(), &store, FIRST),
+        Err(Refusal::Algorithm)
+    );
+    Ok(())
+}
+
+#[test]
+fn stores(rt: HostRuntime) -> Result<(), Fail> {
+    let mut other = TRUSTED;
+    other[31] = 0;
+    let good = [subtree(TRUSTED)];
+    let differs = [subtree(other)];
+    let one = [Span { start: 1, end: 2 }];
+    let two = [Span { start: 2, end: 3 }];
+    let cases: [(&str, &[Trusted], &[Span], Result<Accepted, Refusal>); 5] = [
+        ("32473.1", &good, &one, Err(Refusal::Revoked)),
+        ("32473.1", &good, &two, Ok(ACCEPTED)),
+        ("32473.1", &differs, &[], Err(Refusal::LandmarkDiffers)),
+        ("32473.1", &[], &[], Err(Refusal::TooFewCosigners(0))),
+        ("32473.9", &good, &[], Err(Refusal::UnknownLog)),
+    ];
+    for (id, subtrees, revoked, wanted) in cases {
+        let store = store_of(rt.alloc(), id, subtrees, revoked)?;
+        assert_eq!(rt; judge::<Sha>(&CERTIFICATE, &store, FIRST), wanted);
+    }
+    Ok(())
+}
