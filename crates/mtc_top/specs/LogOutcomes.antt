@@ -14,7 +14,6 @@ use Rattle.mtc_top.specs.declared.answer.Answer.TheVariants.{Says, Stops}
 use Rattle.mtc_top.specs.declared.answer.Said.TheVariants.{Done}
 use Rattle.mtc_top.specs.declared.answer.Stopped.TheVariants.{Refused}
 use Rattle.mtc_top.specs.Lines.{command_line}
-use Rattle.mtc_top.specs.LogSteps.{with_log}
 use Rattle.mtc_top.specs.Steps.{Outcome, Files, says_on, answers_on, starts, with_fresh}
 
 -- A new log.
@@ -38,9 +37,6 @@ checkpoint_text h entries =
 abbrev pub checkpoint_says : (List ℕ → List ℕ) → FoundLog → Outcome
 checkpoint_says h found = says_on found.records Done (checkpoint_text h found.state.entries)
 
-abbrev pub checkpoint_outcome : (List ℕ → List ℕ) → List ℕ → Files → Outcome
-checkpoint_outcome h journal files = with_log h (codes "checkpoint") journal (files journal) (checkpoint_says h)
-
 -- The first items: each entry, and its key, behind its length of two bytes.
 
 abbrev pub items_text : List (List ℕ) → List (List ℕ) → List ℕ
@@ -59,6 +55,3 @@ entries_answer size entries keys =
 
 abbrev pub entries_says : ℕ → FoundLog → Outcome
 entries_says size found = answers_on found.records (entries_answer size found.state.entries found.state.keys)
-
-abbrev pub entries_outcome : (List ℕ → List ℕ) → List ℕ → ℕ → Files → Outcome
-entries_outcome h journal size files = with_log h (codes "entries") journal (files journal) (entries_says size)

@@ -94,3 +94,14 @@ module _ {D : Type 0} (g : Ghosts D) where
   MayAdd (reads list) mid new = ⊥
   MayAdd (appended list body) mid new = IsOpen mid list × LeavesOnly g mid new (StandsForEither list body) × ((c : List ℕ) → g.may_leave new c → StandsForEither list body c)
   MayAdd (started body) mid new = ⊥
+
+-- The images of a name's device before and after a call, and since it began.
+module _ {D : Type 0} (g : Ghosts D) where
+  abbrev pub MadeOf : Journaled → Option D → Option D → Type 0
+  MadeOf did old new = HasMade did (images_of g old) (images_of g new) (left_of g new (moment_of g old))
+
+  abbrev pub MayMadeOf : Journaled → Option D → Option D → Type 0
+  MayMadeOf did old new = MayHaveMade did (images_of g old) (images_of g new) (left_of g new (moment_of g old))
+
+  abbrev pub KeptOf : Option D → Option D → Type 0
+  KeptOf old new = Kept (images_of g old) (images_of g new) (left_of g new (moment_of g old))

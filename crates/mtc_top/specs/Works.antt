@@ -11,8 +11,8 @@ use Rattle.issuance_log.specs.Openings.{FoundLog}
 use Rattle.mtc_top.specs.declared.work.Work.{Work}
 use Rattle.mtc_top.specs.declared.work.Work.TheVariants.{Checkpoint, Entries}
 use Rattle.mtc_top.specs.LogOutcomes.{checkpoint_says, entries_says}
-use Rattle.mtc_top.specs.Steps.{Outcome}
-use Rattle.mtc_top.specs.LogSteps.{no_log_says}
+use Rattle.mtc_top.specs.Steps.{Outcome, Files}
+use Rattle.mtc_top.specs.LogSteps.{no_log_says, with_log}
 use Rattle.mtc_top.specs.Made.{Journaled, MayAdd}
 use Rattle.mtc_top.specs.declared.work.Fallen.{Fallen}
 use Rattle.mtc_top.specs.declared.work.Fallen.TheVariants.{Device, Memory}
@@ -56,3 +56,7 @@ Names (Err Memory) result = result ≡ Err NoMemory
 unfoldable pub work_says : (List ℕ → List ℕ) → Work → FoundLog → Outcome
 work_says h Checkpoint found = checkpoint_says h found
 work_says h (Entries size) found = entries_says size found
+
+-- the outcome of a command on the log of a journal
+abbrev pub on_journal_outcome : (List ℕ → List ℕ) → List ℕ → List ℕ → Work → Files → Outcome
+on_journal_outcome h command journal work files = with_log h command journal (files journal) (work_says h work)

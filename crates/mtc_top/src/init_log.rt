@@ -7,9 +7,9 @@ ghost use Rattle.issuance_log.specs.Records.{settings_record, AreAllowed};
 ghost use Rattle.mtc_top.specs.Answers.{status_of};
 ghost use Rattle.mtc_top.specs.Lines.{file_line};
 ghost use Rattle.mtc_top.specs.LogOutcomes.{log_line, init_log_outcome};
-ghost use Rattle.mtc_top.specs.Made.{HasMade, Kept, images_of, moment_of, left_of, untouched};
+ghost use Rattle.mtc_top.specs.Made.{Kept, MadeOf, untouched};
 ghost use Rattle.mtc_top.specs.Nodes.{IsEarly};
-ghost use Rattle.mtc_top.specs.Settled.{SettledBut, FailedOnly, LeftBy};
+ghost use Rattle.mtc_top.specs.Settled.{SettledBut, FailedOnly, LeftOf};
 ghost use Rattle.mtc_top.specs.Steps.{with_fresh};
 
 use crate::answer::{Answer, Said, Stop, Stopped};
@@ -79,13 +79,11 @@ pub fn init_log<'a, R: Room>(
     ensures not_words { IfOk result (λ answer. status_of answer ≢ 1) }
     ensures fault { IfErr result (FailedOnly (Rose (R.faults room.old) (R.faults room.new))) }
     ensures made { IsOk result → R.tells room.old
-        → HasMade (init_log_outcome journal.now id max_active limit (R.file room.old)).journal
-        (images_of R.Dsk.Disk (R.device room.old journal.now)) (images_of R.Dsk.Disk (R.device room.new journal.now))
-        (left_of R.Dsk.Disk (R.device room.new journal.now) (moment_of R.Dsk.Disk (R.device room.old journal.now))) }
+        → MadeOf R.Dsk.Disk (init_log_outcome journal.now id max_active limit (R.file room.old)).journal
+        (R.device room.old journal.now) (R.device room.new journal.now) }
     ensures left { IfErr result (λ stop. R.tells room.old
-        → LeftBy stop (init_log_outcome journal.now id max_active limit (R.file room.old)).journal
-        (images_of R.Dsk.Disk (R.device room.old journal.now)) (images_of R.Dsk.Disk (R.device room.new journal.now))
-        (left_of R.Dsk.Disk (R.device room.new journal.now) (moment_of R.Dsk.Disk (R.device room.old journal.now)))) }
+        → LeftOf R.Dsk.Disk stop (init_log_outcome journal.now id max_active limit (R.file room.old)).journal
+        (R.device room.old journal.now) (R.device room.new journal.now)) }
     ensures early { IfOk result (λ answer. R.tells room.old
         → (init_log_outcome journal.now id max_active limit (R.file room.old)).journal ≡ untouched
         → IsEarly (status_of answer)) }

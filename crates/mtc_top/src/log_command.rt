@@ -4,9 +4,9 @@ ghost use Rattle.mtc_io.specs.Counts.{Rose};
 ghost use Rattle.issuance_log.specs.Openings.{log_read};
 ghost use Rattle.mtc_top.specs.Answers.{status_of};
 ghost use Rattle.mtc_top.specs.LogSteps.{open_fault_text, on_log, with_log};
-ghost use Rattle.mtc_top.specs.Made.{HasMade, images_of, moment_of, left_of, untouched};
+ghost use Rattle.mtc_top.specs.Made.{HasMade, MadeOf, untouched};
 ghost use Rattle.mtc_top.specs.Nodes.{IsEarly};
-ghost use Rattle.mtc_top.specs.Settled.{SettledBut, FailedOnly, LeftBy};
+ghost use Rattle.mtc_top.specs.Settled.{SettledBut, FailedOnly, LeftBy, LeftOf};
 ghost use Rattle.mtc_top.specs.Works.{Refuses, Names, work_says};
 
 use crate::answer::{Answer, Stop, Stopped};
@@ -116,13 +116,11 @@ pub fn on_journal<'a, H: TreeHash, R: Room>(
     ensures not_words { IfOk result (λ answer. status_of answer ≢ 1) }
     ensures fault { IfErr result (FailedOnly (Rose (R.faults room.old) (R.faults room.new))) }
     ensures made { IsOk result → R.tells room.old
-        → HasMade (with_log H.hash command.now journal.now (R.file room.old journal.now) (work_says H.hash work)).journal
-        (images_of R.Dsk.Disk (R.device room.old journal.now)) (images_of R.Dsk.Disk (R.device room.new journal.now))
-        (left_of R.Dsk.Disk (R.device room.new journal.now) (moment_of R.Dsk.Disk (R.device room.old journal.now))) }
+        → MadeOf R.Dsk.Disk (with_log H.hash command.now journal.now (R.file room.old journal.now) (work_says H.hash work)).journal
+        (R.device room.old journal.now) (R.device room.new journal.now) }
     ensures left { IfErr result (λ stop. R.tells room.old
-        → LeftBy stop (with_log H.hash command.now journal.now (R.file room.old journal.now) (work_says H.hash work)).journal
-        (images_of R.Dsk.Disk (R.device room.old journal.now)) (images_of R.Dsk.Disk (R.device room.new journal.now))
-        (left_of R.Dsk.Disk (R.device room.new journal.now) (moment_of R.Dsk.Disk (R.device room.old journal.now)))) }
+        → LeftOf R.Dsk.Disk stop (with_log H.hash command.now journal.now (R.file room.old journal.now) (work_says H.hash work)).journal
+        (R.device room.old journal.now) (R.device room.new journal.now)) }
     ensures early { IfOk result (λ answer. R.tells room.old
         → (with_log H.hash command.now journal.now (R.file room.old journal.now) (work_says H.hash work)).journal ≡ untouched
         → IsEarly (status_of answer)) }
