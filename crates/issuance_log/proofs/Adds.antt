@@ -2,6 +2,9 @@
 use Rattle.std.proofs.Common.{◌≡◌, ℕ, ◌+◌, ◌<◌, ◌≤◌, ◌==◌, nat_lt, if◌then◌else◌, not, Bool, true, false, List, [], ◌∷◌, ◌++◌, length, Option, Some, None, IfSome, option_map, Ok, refl, sym, ap, ◌∙◌, subst, arith}
 use Rattle.std.proofs.lemmas.Bool.{ltb-true, ltb-false, not-false}
 use Rattle.std.proofs.lemmas.Bool.Decides.{nat_tests}
+use Rattle.disk_core.specs.declared.disk.Disk.{Ghosts}
+use Rattle.journal_core.specs.Format.{records_of}
+use Rattle.journal_core.specs.Words.{AllStandFor}
 use Rattle.log_entry.specs.Matching.{matches}
 use Rattle.issuance_log.specs.Folds.{LogState, with_item, log_of}
 use Rattle.issuance_log.specs.Records.{entry_record}
@@ -55,3 +58,15 @@ module _ (h : List ℕ → List ℕ) (s : LogState) (entry key : List ℕ) (belo
 
       below : (a b : ℕ) → a ≤ b → (a == b) ≡ false → a < b
       below a b few other = grind (arith, nat_tests)
+
+some_records : (x y : List (List ℕ)) → Some x ≡ Some y → x ≡ y
+some_records x y is = cc
+
+-- every image stands for the old records and the new one
+pub all_kept : {D : Type 0} (g : Ghosts D) (disk : D) (told : Option (List ℕ)) (old : Option (List (List ℕ))) (body record_ : List ℕ)
+    → option_map records_of told ≡ option_map (λ list. list ++ body ∷ []) old → body ≡ record_
+    → IfSome told (λ b. AllStandFor g disk (records_of b)) → IfSome old (λ list. AllStandFor g disk (list ++ record_ ∷ []))
+all_kept {D} g disk told None body record_ news is all = tt
+all_kept {D} g disk None (Some list) body record_ news is all = let wrong : None ≡ Some (list ++ body ∷ []) = news in cc
+all_kept {D} g disk (Some b) (Some list) body record_ news is all =
+    subst (AllStandFor g disk) (some_records _ _ news ∙ ap (λ (last : List ℕ). list ++ last ∷ []) is) all

@@ -56,7 +56,7 @@ module _ {D : Type 0} {g : Ghosts D} (h : List ℕ → List ℕ) (old new : Open
 
     pub folded_next : (s t : LogState) → HasFolded h s old → next_log h s body ≡ Some t → HasFolded h t new
     folded_next s t was next = record {
-      open_ = read.goes_on.0;
+      unended = read.goes_on.0;
       unrefused = read.goes_on.1;
       log = if_pushed (λ (list : List (List ℕ)). log_of h list ≡ Ok s) (λ (list : List (List ℕ)). log_of h list ≡ Ok t) (read_list old) (read_list new) body
           list_is (λ list is. log_next h list s body t is next) was.log;
@@ -66,7 +66,7 @@ module _ {D : Type 0} {g : Ghosts D} (h : List ℕ → List ℕ) (old new : Open
 
     pub folded_first : (s : LogState) → read_list old ≡ option_map (λ _. []) (g.told (opening_disk old)) → begun body ≡ Some s → HasFolded h s new
     folded_first s none is = record {
-      open_ = read.goes_on.0;
+      unended = read.goes_on.0;
       unrefused = read.goes_on.1;
       log = if_pushed (λ (list : List (List ℕ)). list ≡ []) (λ (list : List (List ℕ)). log_of h list ≡ Ok s) (read_list old) (read_list new) body
           list_is (λ list empty. ap (λ (l : List (List ℕ)). log_of h (pushed body l)) empty ∙ log_begins h body s is) (all_empty _ (read_list old) none);

@@ -10,7 +10,7 @@ use Rattle.issuance_log.specs.Openings.{log_read}
 module _ {D : Type 0} {g : Ghosts D} where
   -- the records that were read make this log
   pub record HasFolded (h : List ℕ → List ℕ) (state : LogState) (opening : Opening D g) : Type 0 where
-    pub open_ : is_ended opening ≡ false
+    pub unended : is_ended opening ≡ false
     pub unrefused : refusal opening ≡ None
     pub log : IfSome (read_list opening) (λ list. log_of h list ≡ Ok state)
     pub count : IfSome (read_list opening) (λ list. length list ≡ records_in state)

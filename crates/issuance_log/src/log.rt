@@ -92,6 +92,8 @@ impl<H: TreeHash, D: Disk> Log<H, D> {
         requires { matches H.hash entry.now spki.now ≡ true }
         ensures leaves { Leaves entry.now spki.now self.old self.new result }
         ensures answer { KeepsTo (add_refusal (state_of self.old) (log_broken self.old) (log_end self.old) entry.now spki.now) result }
+        ensures kept { OnOk result (IfSome (log_records self.old) (λ list.
+            AllStandFor D.Disk (log_disk self.new) (list ++ entry_record entry.now spki.now ∷ []))) }
         ensures count { D.faults (log_disk self.old) ≤ D.faults (log_disk self.new) }
         ensures any_moment { log_broken self.old ≡ false → IfSome (log_records self.old) (λ list.
             LeavesOnly D.Disk (log_disk self.old) (log_disk self.new) (StandsForEither list (entry_record entry.now spki.now))) }

@@ -1,8 +1,9 @@
 use Rattle.std.proofs.Common.{ℕ, List, IfSome, sym, subst, ◌∙◌}
 use Rattle.journal_core.specs.Format.{StandsForEither}
 use Rattle.journal_core.specs.Words.{disk_of}
+use Rattle.issuance_log.specs.Records.{entry_record}
 use Rattle.issuance_log.specs.Words.{log_records, log_broken, log_end, state_of}
-use Rattle.issuance_log.proofs.Adds.{room_of, record_some, record_few, added_records, added_unrefused}
+use Rattle.issuance_log.proofs.Adds.{room_of, record_some, record_few, added_records, added_unrefused, all_kept}
 use Rattle.issuance_log.proofs.log.Log.add.Goals as goal
 
 pub returns-in_err-record-clause-valid : goal.returns-in_err-record-clause-valid
@@ -40,3 +41,9 @@ pub returns-in-Ok-clause-afterwards : goal.returns-in-Ok-clause-afterwards
 returns-in-Ok-clause-afterwards g c = λ sound.
     subst (λ (body : List ℕ). IfSome (log_records c.args.self.now) (λ list. (i : List ℕ) → g.D.Disk.may_leave (disk_of c.append.new.self) i → StandsForEither list body i))
     (c.as_slice.ensures ∙ c.in_ok-record.ensures) (c.in-Ok.ensures.afterwards sound)
+
+pub returns-in-Ok-clause-kept : goal.returns-in-Ok-clause-kept
+returns-in-Ok-clause-kept g c =
+    let disk = disk_of c.append.new.self in
+    all_kept g.D.Disk disk (g.D.Disk.told disk) (log_records c.args.self.now) c.as_slice.result.now (entry_record c.args.entry.now c.args.spki.now)
+    c.in-Ok.ensures.leaves.records (c.as_slice.ensures ∙ c.in_ok-record.ensures) c.in-Ok.ensures.leaves.all
