@@ -1,1 +1,10 @@
 pub mod Splits
+pub mod Aligned
+pub mod Parts
+pub mod Made
+pub mod Making
+pub mod Opens
+pub mod Pairs
+pub mod Fulls
+pub mod Climbing
+pub mod Checked

@@ -2,11 +2,44 @@
 //! and consistency proofs of subtrees, as the draft on Merkle Tree Certificates defines them.
 //!
 //! A hash is 32 bytes. An interval `[start, end)` holds the entries from `start` up to `end`,
-//! without `end`.
+//! without `end`. Proofs are made over [`Nodes`], which give the hash of any full subtree of a list
+//! and may fail; contracts see the leaf hashes of the list where the nodes tell them. No call takes
+//! memory but [`Listed::push`] and [`Listed::reserve`].
+//!
+//! ```rust
+//! use tree_core::Sha;
+//! use tree_proofs::{Path, check, consist, node_of};
+//!
+//! // the proof that the first four entries of eight are still there
+//! let mut proof = Path::new();
+//! consist(nodes, 0, 4, 8, &mut proof)?;
+//! let subtree = node_of(nodes, 0, 4)?;
+//! let root = node_of(nodes, 0, 8)?;
+//! check::<Sha>(0, 4, 8, &subtree, &root, proof.as_slice())?;
+//! ```
 #![tactic(auto)]
 
+mod checking;
+mod consistency;
+mod error;
+mod hashes;
+mod inclusion;
+mod laws;
+mod leaves;
+mod levels;
+mod nodes;
+mod opened;
 #[cfg(test)]
 mod tests;
 mod tree;
 
+pub use checking::check;
+pub use consistency::consist;
+pub use error::ConsistError;
+pub use hashes::Path;
+pub use inclusion::include;
+pub use laws::consistency_proofs_check;
+pub use leaves::Listed;
+pub use nodes::{Nodes, node_of};
+pub use opened::Opened;
 pub use tree::root;

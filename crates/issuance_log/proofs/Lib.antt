@@ -1,0 +1,7 @@
+mod Adds
+mod Folds
+mod Found
+mod Rules
+mod Spelled
+mod Steps
+mod Walks

@@ -1,0 +1,36 @@
+use Rattle.std.proofs.Common.{ℕ, ap, subst, sym, ◌∙◌, Ok}
+use Rattle.journal_core.specs.Openings.{opening_disk, Nexts}
+use Rattle.issuance_log.specs.Faults.{refused}
+use Rattle.issuance_log.specs.Openings.{HasCauseOf}
+use Rattle.issuance_log.proofs.Steps.{folded_next, cause_taken, found_last, cause_next}
+use Rattle.issuance_log.proofs.reading.read_next.Goals as goal
+
+pub returns-in-Ok-clause-more : goal.returns-in-Ok-clause-more
+returns-in-Ok-clause-more g c =
+    let old = c.args.opening.now in
+    let new = c.next.follows.lender-at-none in
+    let read = subst (Nexts old new) (c.in-Ok-Some.is ∙ ap Ok c.in-Ok-Some.field-0-is) c.next.follows.holds-at-none in
+    folded_next g.H.TreeHash.hash old new c.in-Ok-Some.body.now read.0 read.1 c.args.contents.now c.take.new.self c.requires c.in-Ok.ensures
+
+pub returns-in-Err-take-clause-err : goal.returns-in-Err-take-clause-err
+returns-in-Err-take-clause-err g c =
+    let old = c.args.opening.now in
+    let new = c.next.follows.lender-at-none in
+    let read = subst (Nexts old new) (c.in-Ok-Some.is ∙ ap Ok c.in-Ok-Some.field-0-is) c.next.follows.holds-at-none in
+    subst (HasCauseOf g.D.Disk g.H.TreeHash.hash (opening_disk old) (opening_disk new)) (sym (c.refused.ensures ∙ ap (λ (n : ℕ). refused n c.in-Err-take.why) c.records-number.ensures))
+    (cause_taken g.H.TreeHash.hash old new c.in-Ok-Some.body.now read.0 read.1 read.2.looks c.args.contents.now c.take.new.self c.in-Err-take.why
+    c.requires (c.in-Err-take.ensures))
+
+pub returns-in-Ok-None-clause-more : goal.returns-in-Ok-None-clause-more
+returns-in-Ok-None-clause-more g c =
+    let old = c.args.opening.now in
+    let new = c.next.follows.lender-at-none in
+    let ended = subst (Nexts old new) (c.in-Ok-None.is ∙ ap Ok c.in-Ok-None.field-0-is) c.next.follows.holds-at-none in
+    found_last g.H.TreeHash.hash old new ended.0 ended.1.looks c.args.contents.now c.requires
+
+pub returns-in-Err-clause-err : goal.returns-in-Err-clause-err
+returns-in-Err-clause-err g c =
+    let old = c.args.opening.now in
+    let new = c.next.follows.lender-at-none in
+    let refused = subst (Nexts old new) c.in-Err.is c.next.follows.holds-at-none in
+    cause_next g.H.TreeHash.hash old new c.args.contents.now c.in-Err.why c.requires refused.1

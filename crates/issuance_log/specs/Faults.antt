@@ -1,0 +1,23 @@
+-- Faults of the parts of a record as faults of the record.
+use Rattle.std.specs.Prelude.{ℕ}
+use Rattle.journal_core.specs.declared.error.OpenError.TheVariants as open_error
+use Rattle.tls_wire.specs.declared.fault.AnchorBytesError.{AnchorBytesError}
+use Rattle.tls_wire.specs.declared.fault.AnchorBytesError.TheVariants as id
+use Rattle.issuance_log.specs.declared.error.LogOpenError.{LogOpenError}
+use Rattle.issuance_log.specs.declared.error.LogOpenError.TheVariants.{BadRecord, Open}
+use Rattle.issuance_log.specs.declared.error.RecordError.{RecordError}
+use Rattle.issuance_log.specs.declared.error.RecordError.TheVariants.{Unfit, Memory}
+
+-- an id that is none, or want of memory for it
+abbrev pub of_id : AnchorBytesError → RecordError
+of_id id.Empty = Unfit
+of_id (id.Padding place) = Unfit
+of_id id.Unfinished = Unfit
+of_id id.TooLong = Unfit
+of_id (id.ArcTooLarge place) = Unfit
+of_id id.Memory = Memory
+
+-- a record of this number that is not taken
+abbrev pub refused : ℕ → RecordError → LogOpenError
+refused number Unfit = BadRecord number
+refused number Memory = Open open_error.Memory

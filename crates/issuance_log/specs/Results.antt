@@ -1,0 +1,17 @@
+-- What a call that takes a record answers, and what it leaves of the log.
+use Rattle.std.specs.Prelude.{◌≡◌, Option, Some, None, Result, Ok, Err}
+use Rattle.issuance_log.specs.Folds.{LogState}
+use Rattle.issuance_log.specs.declared.error.RecordError.{RecordError}
+use Rattle.issuance_log.specs.declared.error.RecordError.TheVariants.{Unfit, Memory}
+
+-- what was wanted is found, or there is none, or memory was refused
+abbrev pub Finds : {X Y : Type 0} → (X → Y) → Option Y → Result X RecordError → Type 0
+Finds view wanted (Ok x) = wanted ≡ Some (view x)
+Finds view wanted (Err Unfit) = wanted ≡ None
+Finds view wanted (Err Memory) = Unit {0}
+
+-- the log becomes what was wanted; where there is none, or memory was refused, it stays
+abbrev pub Takes : Option LogState → LogState → Result (Unit {0}) RecordError → LogState → Type 0
+Takes wanted old (Ok done) new = wanted ≡ Some new
+Takes wanted old (Err Unfit) new = (wanted ≡ None) × (new ≡ old)
+Takes wanted old (Err Memory) new = new ≡ old

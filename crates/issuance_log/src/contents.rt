@@ -1,0 +1,146 @@
+// What the records of a journal make of a log.
+ghost use Rattle.std.specs.Prelude.{◌≡◌, ◌<◌, ◌≤◌, length, nat_lt, not, option_and_then, OnOk, OnErr};
+ghost use Rattle.issuance_log.specs.Folds.{begun, records_in, next_log, with_entry, with_item, first_items};
+ghost use Rattle.issuance_log.specs.Records.{AreAllowed, all_of, entry_at};
+ghost use Rattle.issuance_log.specs.Results.{Finds, Takes};
+ghost use Rattle.issuance_log.specs.Sound.{IsSound};
+
+use crate::error::RecordError;
+use crate::items::Items;
+use crate::record::{ENTRY, read_entry, read_settings};
+use crate::settings::LogSettings;
+use log_entry::key_matches;
+use mtc_io::{Bytes, Memory};
+use std::alloc::Global;
+use std::marker::Model;
+use tls_wire::Cursor;
+use tree_core::TreeHash;
+
+/// The settings and the items of a log.
+#[derive(Debug, Drop)]
+pub(crate) struct Contents {
+    settings: LogSettings,
+    items: Items,
+}
+
+impl Model for Contents {
+    ghost use Rattle.issuance_log.specs.Folds.{LogState};
+    ghost use Rattle.issuance_log.specs.Sound.{IsSound};
+
+    ghost Value = { LogState };
+
+    ghost view = { λ c. record {
+      settings = c.settings;
+      entries = c.items.entries.items;
+      keys = c.items.keys.items;
+    } };
+
+    ghost invariant = { λ c. IsSound (record {
+      settings = c.settings;
+      entries = c.items.entries.items;
+      keys = c.items.keys.items;
+    }) };
+}
+
+impl Contents {
+    /// The log that the first record begins.
+    #[tactic(auto, unfolding(crate::specs::Folds::begun))]
+    pub(crate) fn begin(alloc: Global, body: &[u8]) -> Result<Contents, RecordError>
+        ensures { Finds (λ c. c) (begun body.now) result }
+    {
+        let settings = read_settings(alloc, body)?;
+        let items = Items::begin(alloc)?;
+        Ok(Contents { settings, items })
+    }
+
+    /// Takes one record more. `Unfit` comes exactly where it breaks the rules, and a refusal leaves the log as it was.
+    #[tactic(auto, unfolding(crate::specs::Folds::next_log))]
+    pub(crate) fn take<H: TreeHash>(
+        &mut self,
+        alloc: Global,
+        body: &[u8],
+    ) -> Result<(), RecordError>
+        ensures { Takes (next_log H.hash self.old body.now) self.old result self.new }
+    {
+        let mut cursor = Cursor::new(body);
+        if cursor.u8()? == ENTRY {
+            self.take_entry::<H>(alloc, cursor)
+        } else {
+            Err(RecordError::Unfit)
+        }
+    }
+
+    fn take_entry<H: TreeHash>(
+        &mut self,
+        alloc: Global,
+        cursor: Cursor<'_>,
+    ) -> Result<(), RecordError>
+        ensures { Takes (option_and_then (with_entry H.hash self.old) (all_of (entry_at cursor.entry))) self.old result self.new }
+    {
+        let (entry, key) = read_entry(cursor)?;
+        if self.is_full() || !key_matches::<H>(entry, key) {
+            return Err(RecordError::Unfit);
+        }
+        self.push(alloc, entry, key)?;
+        Ok(())
+    }
+
+    /// The log has as many entries as its limit allows.
+    pub(crate) fn is_full(&self) -> bool
+        ensures full { result ≡ not (nat_lt (length self.now.entries) self.now.settings.limit) }
+        ensures sound { IsSound self.now }
+    {
+        self.items.len() as u64 >= self.settings.limit as u64
+    }
+
+    pub(crate) fn len(&self) -> usize
+        ensures value { result ≡ length self.now.entries }
+        ensures sound { IsSound self.now }
+    {
+        self.items.len()
+    }
+
+    /// How many records made the log, so the number of the next one.
+    pub(crate) fn records(&self) -> u64
+        ensures { result ≡ records_in self.now }
+    {
+        self.items.len() as u64
+    }
+
+    pub(crate) fn settings(&self) -> &LogSettings
+        ensures value { result.now ≡ self.now.settings }
+        ensures allowed { AreAllowed result.now.max_active result.now.limit }
+    {
+        &self.settings
+    }
+
+    pub(crate) fn entries(&self) -> &[Bytes]
+        ensures { result.now ≡ self.now.entries }
+    {
+        self.items.entries()
+    }
+
+    pub(crate) fn keys(&self) -> &[Bytes]
+        ensures value { result.now ≡ self.now.keys }
+        ensures even { length result.now ≡ length self.now.entries }
+    {
+        self.items.keys()
+    }
+
+    /// Puts an item behind the others. Where memory is refused the log stays as it was.
+    pub(crate) fn push(&mut self, alloc: Global, entry: &[u8], key: &[u8]) -> Result<(), Memory>
+        requires { length self.old.entries < self.old.settings.limit }
+        ensures ok { OnOk result (self.new ≡ with_item entry.now key.now self.old) }
+        ensures err { OnErr result (self.new ≡ self.old) }
+    {
+        self.items.push(alloc, entry, key)
+    }
+
+    /// Takes off all but the first `count` items.
+    pub(crate) fn truncate(&mut self, count: usize)
+        requires { 1 ≤ count }
+        ensures { self.new ≡ first_items count self.old }
+    {
+        self.items.truncate(count);
+    }
+}

@@ -1,0 +1,99 @@
+// What the calls of a log refuse.
+ghost use Rattle.std.specs.Prelude.{◌≡◌};
+ghost use Rattle.issuance_log.specs.declared.error.LogError.TheVariants.{Append as NotAppended, Memory as LogMemory};
+ghost use Rattle.issuance_log.specs.declared.error.RecordError.TheVariants.{Unfit, Memory as RecordMemory};
+ghost use Rattle.issuance_log.specs.Faults.{of_id};
+
+use journal_core::{AppendError, OpenError};
+use mtc_io::Memory;
+use tls_wire::{AnchorBytesError, Short};
+
+/// A refused opening hands the disk back.
+#[derive(Debug, Drop)]
+pub struct LogRefused<D> {
+    pub disk: D,
+    pub why: LogOpenError,
+}
+
+pub(crate) fn hand_back<D>(disk: D, why: LogOpenError) -> LogRefused<D>
+    ensures disk { result.disk ≡ disk }
+    ensures why { result.why ≡ why }
+{
+    LogRefused { disk, why }
+}
+
+/// Why a file is not opened as a log. The records are read and tested one by one, and the first fault is answered.
+#[derive(Clone, Copy, Debug, PartialEq, Eq)]
+pub enum LogOpenError {
+    /// The record of this number, counted from 0, breaks the rules of a log's records, or there is no record.
+    BadRecord(u64),
+    /// The file is not read as a journal. The disk may have failed, or memory was refused.
+    Open(OpenError),
+}
+
+/// What a log refuses, in the order of the tests.
+#[derive(Clone, Copy, Debug, PartialEq, Eq)]
+pub enum LogError {
+    /// The log has as many entries as its limit allows.
+    Full,
+    /// The entry and its key have more than 65,535 bytes together.
+    TooLarge,
+    /// The log has no entry at this index.
+    NoSuchEntry,
+    /// The record of the entry was not appended.
+    Append(AppendError),
+    /// Memory was refused.
+    Memory,
+}
+
+/// Why a record is not taken into a log.
+#[derive(Clone, Copy, Debug, PartialEq, Eq)]
+pub(crate) enum RecordError {
+    /// It breaks the rules.
+    Unfit,
+    /// Memory was refused.
+    Memory,
+}
+
+impl From<Memory> for LogError {
+    ghost from_gives = { λ _ e. e ≡ LogMemory };
+
+    fn from(_: Memory) -> Self {
+        LogError::Memory
+    }
+}
+
+impl From<AppendError> for LogError {
+    ghost from_gives = { λ why e. e ≡ NotAppended why };
+
+    fn from(why: AppendError) -> Self {
+        LogError::Append(why)
+    }
+}
+
+impl From<Memory> for RecordError {
+    ghost from_gives = { λ _ e. e ≡ RecordMemory };
+
+    fn from(_: Memory) -> Self {
+        RecordError::Memory
+    }
+}
+
+impl From<Short> for RecordError {
+    ghost from_gives = { λ _ e. e ≡ Unfit };
+
+    fn from(_: Short) -> Self {
+        RecordError::Unfit
+    }
+}
+
+impl From<AnchorBytesError> for RecordError {
+    ghost from_gives = { λ fault e. e ≡ of_id fault };
+
+    fn from(fault: AnchorBytesError) -> Self {
+        match fault {
+            AnchorBytesError::Memory => RecordError::Memory,
+            _ => RecordError::Unfit,
+        }
+    }
+}

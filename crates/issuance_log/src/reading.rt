@@ -1,0 +1,103 @@
+// The records of a file that is opened as a log.
+ghost use Rattle.std.specs.Prelude.{◌≡◌, ◌<◌, [], false, None, option_map, MatchBool, IfOk, IfErr, OnOk};
+ghost use Rattle.disk_core.specs.Moments.{Looks};
+ghost use Rattle.journal_core.specs.Openings.{opening_disk, read_list, is_ended, refusal, left_of};
+ghost use Rattle.issuance_log.specs.Faults.{refused};
+ghost use Rattle.issuance_log.specs.Openings.{HasCauseOf};
+ghost use Rattle.issuance_log.specs.Readings.{HasFolded, HasFound};
+
+use crate::contents::Contents;
+use crate::error::{LogOpenError, RecordError};
+use disk_core::Disk;
+use journal_core::{OpenError, Opening};
+use std::alloc::Global;
+use tree_core::TreeHash;
+
+// A record that is not taken is refused by its number.
+fn refused(number: u64, why: RecordError) -> LogOpenError
+    ensures { result ≡ refused number why }
+{
+    match why {
+        RecordError::Unfit => LogOpenError::BadRecord(number),
+        RecordError::Memory => LogOpenError::Open(OpenError::Memory),
+    }
+}
+
+// The log that the first record begins.
+fn read_first<H: TreeHash, D: Disk>(
+    alloc: Global,
+    opening: &mut Opening<D>,
+) -> Result<Contents, LogOpenError>
+    requires list { read_list opening.old ≡ option_map (λ _. []) (D.told (opening_disk opening.old)) }
+    requires goes_on { (is_ended opening.old ≡ false) × (refusal opening.old ≡ None) }
+    ensures folded { IfOk result (λ c. HasFolded H.hash c opening.new) }
+    ensures err { IfErr result (HasCauseOf D.Disk H.hash (opening_disk opening.old) (opening_disk opening.new)) }
+    ensures looks { Looks D.Disk (opening_disk opening.old) (opening_disk opening.new) }
+{
+    match opening.next() {
+        Ok(Some(body)) => match Contents::begin(alloc, body) {
+            Ok(contents) => Ok(contents),
+            Err(why) => Err(refused(0, why)),
+        },
+        Ok(None) => Err(LogOpenError::BadRecord(0)),
+        Err(why) => Err(LogOpenError::Open(why)),
+    }
+}
+
+// Reads and tests the next record: whether there was one.
+fn read_next<H: TreeHash, D: Disk>(
+    alloc: Global,
+    opening: &mut Opening<D>,
+    contents: &mut Contents,
+) -> Result<bool, LogOpenError>
+    requires { HasFolded H.hash contents.old opening.old }
+    ensures more { IfOk result (λ more. MatchBool more (HasFolded H.hash contents.new opening.new)
+        (HasFound H.hash contents.new opening.new)) }
+    ensures shorter { IfOk result (λ more. MatchBool more (left_of opening.new < left_of opening.old) (Unit {0})) }
+    ensures err { IfErr result (HasCauseOf D.Disk H.hash (opening_disk opening.old) (opening_disk opening.new)) }
+    ensures looks { Looks D.Disk (opening_disk opening.old) (opening_disk opening.new) }
+{
+    let number = contents.records();
+    match opening.next() {
+        Ok(Some(body)) => match contents.take::<H>(alloc, body) {
+            Ok(()) => Ok(true),
+            Err(why) => Err(refused(number, why)),
+        },
+        Ok(None) => Ok(false),
+        Err(why) => Err(LogOpenError::Open(why)),
+    }
+}
+
+// The records behind the first one, up to the closed gate.
+fn read_rest<H: TreeHash, D: Disk>(
+    alloc: Global,
+    opening: &mut Opening<D>,
+    contents: &mut Contents,
+) -> Result<(), LogOpenError>
+    requires { HasFolded H.hash contents.old opening.old }
+    ensures found { OnOk result (HasFound H.hash contents.new opening.new) }
+    ensures err { IfErr result (HasCauseOf D.Disk H.hash (opening_disk opening.old) (opening_disk opening.new)) }
+    ensures looks { Looks D.Disk (opening_disk opening.old) (opening_disk opening.new) }
+{
+    'records: loop {
+        if !read_next::<H, D>(alloc, opening, contents)? {
+            return Ok(());
+        }
+    }
+}
+
+/// The log in a file, of which no record was read yet.
+pub(crate) fn read_log<H: TreeHash, D: Disk>(
+    alloc: Global,
+    opening: &mut Opening<D>,
+) -> Result<Contents, LogOpenError>
+    requires list { read_list opening.old ≡ option_map (λ _. []) (D.told (opening_disk opening.old)) }
+    requires goes_on { (is_ended opening.old ≡ false) × (refusal opening.old ≡ None) }
+    ensures found { IfOk result (λ c. HasFound H.hash c opening.new) }
+    ensures err { IfErr result (HasCauseOf D.Disk H.hash (opening_disk opening.old) (opening_disk opening.new)) }
+    ensures looks { Looks D.Disk (opening_disk opening.old) (opening_disk opening.new) }
+{
+    let mut contents = read_first::<H, D>(alloc, opening)?;
+    read_rest::<H, D>(alloc, opening, &mut contents)?;
+    Ok(contents)
+}

@@ -1,0 +1,122 @@
+// The bodies of a log's records.
+ghost use Rattle.std.specs.Prelude.{◌≡◌, ◌+◌, ◌≤◌, length, true, IfOk};
+ghost use Rattle.byte_forms.specs.Readings.{Moves};
+ghost use Rattle.issuance_log.specs.Records.{settings_at, entry_at, all_of, are_allowed, AreAllowed, settings_with, settings_in, settings_record, entry_record};
+ghost use Rattle.issuance_log.specs.Results.{Finds};
+ghost use Rattle.tls_wire.specs.Arcs.{IsAnchorId};
+
+use crate::error::RecordError;
+use crate::settings::LogSettings;
+use mtc_io::{Bytes, Memory};
+use std::alloc::Global;
+use tls_wire::{AnchorId, Cursor, Short, put_u8, put_u32, put_vec8, put_vec16};
+
+const LOG: u8 = 1;
+
+/// The tag of an Entry.
+pub(crate) const ENTRY: u8 = 2;
+
+// The settings behind the tag, in their order.
+#[tactic(auto, unfolding(crate::specs::Records::settings_at))]
+fn settings_fields<'a>(cursor: &mut Cursor<'a>) -> Result<(&'a [u8], u32, u32), Short>
+    ensures { Moves (λ x. (x.0.now, (x.1, x.2))) settings_at cursor.old result cursor.new }
+{
+    let id = cursor.vec8()?;
+    let max_active = cursor.u32()?;
+    let limit = cursor.u32()?;
+    Ok((id, max_active, limit))
+}
+
+// The entry and the key behind the tag.
+#[tactic(auto, unfolding(crate::specs::Records::entry_at))]
+fn entry_fields<'a>(cursor: &mut Cursor<'a>) -> Result<(&'a [u8], &'a [u8]), Short>
+    ensures { Moves (λ x. (x.0.now, x.1.now)) entry_at cursor.old result cursor.new }
+{
+    let entry = cursor.vec16()?;
+    let key = cursor.vec16()?;
+    Ok((entry, key))
+}
+
+// The numbers may be those of a log.
+fn are_allowed(max_active: u32, limit: u32) -> bool
+    ensures exact { result ≡ are_allowed max_active limit }
+    ensures allowed { result ≡ true → AreAllowed max_active limit }
+{
+    (1 <= max_active && max_active <= 10_000) && (2 <= limit && limit <= 1_048_576)
+}
+
+fn settings_with(
+    alloc: Global,
+    id: &[u8],
+    max_active: u32,
+    limit: u32,
+) -> Result<LogSettings, RecordError>
+    ensures found { Finds (λ s. s) (settings_with (id.now, (max_active, limit))) result }
+    ensures allowed { IfOk result (λ s. AreAllowed s.max_active s.limit) }
+{
+    if !are_allowed(max_active, limit) {
+        return Err(RecordError::Unfit);
+    }
+    let id = AnchorId::from_bytes(alloc, id)?;
+    Ok(LogSettings {
+        id,
+        max_active,
+        limit,
+    })
+}
+
+/// The settings in the body of a Log, the first record of a journal.
+#[tactic(auto, unfolding(crate::specs::Records::settings_in))]
+pub(crate) fn read_settings(alloc: Global, body: &[u8]) -> Result<LogSettings, RecordError>
+    ensures found { Finds (λ s. s) (settings_in body.now) result }
+    ensures allowed { IfOk result (λ s. AreAllowed s.max_active s.limit) }
+{
+    let mut cursor = Cursor::new(body);
+    if cursor.u8()? != LOG {
+        return Err(RecordError::Unfit);
+    }
+    let (id, max_active, limit) = settings_fields(&mut cursor)?;
+    if cursor.left() != 0 {
+        return Err(RecordError::Unfit);
+    }
+    settings_with(alloc, id, max_active, limit)
+}
+
+/// The entry and the key in the body of an Entry, behind its tag. They are all that is left.
+pub(crate) fn read_entry<'a>(mut cursor: Cursor<'a>) -> Result<(&'a [u8], &'a [u8]), RecordError>
+    ensures { Finds (λ x. (x.0.now, x.1.now)) (all_of (entry_at cursor.entry)) result }
+{
+    let item = entry_fields(&mut cursor)?;
+    if cursor.left() != 0 {
+        return Err(RecordError::Unfit);
+    }
+    Ok(item)
+}
+
+/// The body of a Log.
+#[tactic(auto, unfolding(crate::specs::Records::settings_record))]
+pub(crate) fn settings_record(alloc: Global, settings: &LogSettings) -> Result<Bytes, Memory>
+    ensures value { IfOk result (λ body. body ≡ settings_record settings.now) }
+    ensures id { IsAnchorId settings.now.id }
+{
+    let id = settings.id.as_bytes();
+    let mut body = Bytes::new(alloc);
+    put_u8(&mut body, LOG)?;
+    put_vec8(&mut body, id)?;
+    put_u32(&mut body, settings.max_active)?;
+    put_u32(&mut body, settings.limit)?;
+    Ok(body)
+}
+
+/// The body of an Entry. The entry and its key have at most 65,535 bytes together.
+#[tactic(auto, unfolding(crate::specs::Records::entry_record))]
+pub(crate) fn entry_record(alloc: Global, entry: &[u8], key: &[u8]) -> Result<Bytes, Memory>
+    requires { length entry.now + length key.now ≤ 65535 }
+    ensures { IfOk result (λ body. body ≡ entry_record entry.now key.now) }
+{
+    let mut body = Bytes::new(alloc);
+    put_u8(&mut body, ENTRY)?;
+    put_vec16(&mut body, entry)?;
+    put_vec16(&mut body, key)?;
+    Ok(body)
+}

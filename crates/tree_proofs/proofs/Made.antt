@@ -1,0 +1,280 @@
+-- The cases of the definition of a consistency proof, at any depth that is not below the number of
+-- leaves, and in a part of a list.
+use Rattle.std.proofs.Common.{◌≡◌, ℕ, zero, suc, ◌+◌, ◌-◌, ◌<◌, ◌≤◌, ◌⊎◌, ⊎_elim, inl, inr, Bool, false, ◌&&◌, cond, eqb, List, [], ◌∷◌, ◌++◌, length, take, drop, sym, ◌∙◌, ap, arith}
+use Rattle.std.proofs.lemmas.Bool.{and_from, and_left, and_right, cond-false, cond-true, eq-eqb, ne_eqb, le-leb, lt-leb, cases_lt}
+use Rattle.std.proofs.lemmas.List.{length-drop, length-take}
+use Rattle.tree_core.proofs.Powers.{split_bounds}
+use Rattle.tree_core.specs.Path.{part_of}
+use Rattle.tree_core.specs.Split.{split_of}
+use Rattle.tree_core.specs.Tree.{root_of}
+use Rattle.tree_proofs.proofs.Parts.{part-drop, part-length, part-take}
+use Rattle.tree_proofs.specs.Proof.{proof_of, proof_within}
+
+-- an interval that is not the whole of n entries
+pub other-whole : (start end n : ℕ) → (0 < start) ⊎ (end < n) → (eqb start 0 && eqb end n) ≡ false
+other-whole start end n other =
+    ⊎_elim
+    (λ (later : 0 < start). and_left (eqb start 0) (eqb end n) (ne_eqb start 0 (λ first. omega arith)))
+    (λ (before : end < n). and_right (eqb start 0) (eqb end n) (ne_eqb end n (λ last. omega arith)))
+    other
+
+-- One step.
+
+proof_within-whole : (depth : ℕ) (h : List ℕ → List ℕ) (s e : ℕ) (known : Bool) (leaves : List (List ℕ))
+    → s ≡ 0 → e ≡ length leaves
+    → proof_within (suc depth) h s e known leaves ≡ cond known [] (root_of h leaves ∷ [])
+unfolding proof_within
+proof_within-whole depth h s e known leaves first last =
+    cond-true _ _ _ (and_from (eqb s 0) (eqb e (length leaves)) (eq-eqb s 0 first) (eq-eqb e (length leaves) last))
+
+proof_within-left : (depth : ℕ) (h : List ℕ → List ℕ) (s e : ℕ) (known : Bool) (leaves : List (List ℕ))
+    → 1 < length leaves → e ≤ split_of (length leaves)
+    → proof_within (suc depth) h s e known leaves
+    ≡ proof_within depth h s e known (take (split_of (length leaves)) leaves)
+    ++ root_of h (drop (split_of (length leaves)) leaves) ∷ []
+unfolding proof_within
+proof_within-left depth h s e known leaves more left =
+    let bounds = split_bounds (length leaves) in
+    let below = bounds.below in
+    cond-false _ _ _ (other-whole s e (length leaves) (inr (omega arith)))
+    ∙ cond-true _ _ _ (le-leb e (split_of (length leaves)) left)
+
+proof_within-right : (depth : ℕ) (h : List ℕ → List ℕ) (s e : ℕ) (known : Bool) (leaves : List (List ℕ))
+    → s < e → split_of (length leaves) ≤ s
+    → proof_within (suc depth) h s e known leaves
+    ≡ proof_within depth h (s - split_of (length leaves)) (e - split_of (length leaves)) known
+    (drop (split_of (length leaves)) leaves)
+    ++ root_of h (take (split_of (length leaves)) leaves) ∷ []
+unfolding proof_within
+proof_within-right depth h s e known leaves some right =
+    let bounds = split_bounds (length leaves) in
+    let positive = bounds.positive in
+    cond-false _ _ _ (other-whole s e (length leaves) (inl (omega arith)))
+    ∙ cond-false _ _ _ (lt-leb e (split_of (length leaves)) (omega arith))
+    ∙ cond-true _ _ _ (le-leb (split_of (length leaves)) s right)
+
+proof_within-over : (depth : ℕ) (h : List ℕ → List ℕ) (s e : ℕ) (known : Bool) (leaves : List (List ℕ))
+    → (0 < s) ⊎ (e < length leaves) → s < split_of (length leaves) → split_of (length leaves) < e
+    → proof_within (suc depth) h s e known leaves
+    ≡ proof_within depth h 0 (e - split_of (length leaves)) false (drop (split_of (length leaves)) leaves)
+    ++ root_of h (take (split_of (length leaves)) leaves) ∷ []
+unfolding proof_within
+proof_within-over depth h s e known leaves part before behind =
+    cond-false _ _ _ (other-whole s e (length leaves) part)
+    ∙ cond-false _ _ _ (lt-leb e (split_of (length leaves)) behind)
+    ∙ cond-false _ _ _ (lt-leb (split_of (length leaves)) s before)
+
+-- where an interval lies: it is the whole, or on one side of the split, or on both
+pub cases_place : {P : Type 0} (s e n : ℕ) → s < e → e ≤ n
+    → (s ≡ 0 → e ≡ n → P)
+    → (1 < n → e ≤ split_of n → P)
+    → (1 < n → split_of n ≤ s → P)
+    → (1 < n → (0 < s) ⊎ (e < n) → s < split_of n → split_of n < e → P)
+    → P
+cases_place {P = P} s e n some within whole left right over =
+    ⊎_elim
+    (λ (later : 0 < s). part (inl later) (omega arith))
+    (λ (first : s ≤ 0).
+    ⊎_elim
+    (λ (before : e < n). part (inr before) (omega arith))
+    (λ (last : n ≤ e). whole (omega arith) (omega arith))
+    (cases_lt e n))
+    (cases_lt 0 s)
+  where
+    part : (0 < s) ⊎ (e < n) → 1 < n → P
+    part inner more =
+        ⊎_elim
+        (λ (behind : split_of n < e).
+        ⊎_elim
+        (λ (before : s < split_of n). over more inner before behind)
+        (λ (le : split_of n ≤ s). right more le)
+        (cases_lt s (split_of n)))
+        (λ (le : e ≤ split_of n). left more le)
+        (cases_lt (split_of n) e)
+
+-- a bound on the depth that is not below the number of leaves changes nothing
+proof_within_more : (d f : ℕ) (h : List ℕ → List ℕ) (s e : ℕ) (known : Bool) (leaves : List (List ℕ))
+    → length leaves ≤ d → length leaves ≤ f → s < e → e ≤ length leaves
+    → proof_within d h s e known leaves ≡ proof_within f h s e known leaves
+proof_within_more zero f h s e known leaves small same some within = let none : ⊥ = omega arith in absurd none
+proof_within_more (suc d) zero h s e known leaves small same some within = let none : ⊥ = omega arith in absurd none
+proof_within_more (suc d) (suc f) h s e known leaves small same some within =
+    let k = split_of (length leaves) in
+    let bounds = split_bounds (length leaves) in
+    let below = bounds.below in
+    let positive = bounds.positive in
+    let front = length-take (split_of (length leaves)) leaves in
+    let back = length-drop (split_of (length leaves)) leaves in
+    cases_place s e (length leaves) some within
+    (λ first last.
+    proof_within-whole d h s e known leaves first last
+    ∙ sym (proof_within-whole f h s e known leaves first last))
+    (λ more le.
+    proof_within-left d h s e known leaves more le
+    ∙ ap (λ p. p ++ root_of h (drop k leaves) ∷ [])
+    (proof_within_more d f h s e known (take (split_of (length leaves)) leaves)
+    (omega arith) (omega arith) some (omega arith))
+    ∙ sym (proof_within-left f h s e known leaves more le))
+    (λ more le.
+    proof_within-right d h s e known leaves some le
+    ∙ ap (λ p. p ++ root_of h (take k leaves) ∷ [])
+    (proof_within_more d f h (s - split_of (length leaves)) (e - split_of (length leaves)) known
+    (drop (split_of (length leaves)) leaves)
+    (omega arith) (omega arith) (omega arith) (omega arith))
+    ∙ sym (proof_within-right f h s e known leaves some le))
+    (λ more part before behind.
+    proof_within-over d h s e known leaves part before behind
+    ∙ ap (λ p. p ++ root_of h (take k leaves) ∷ [])
+    (proof_within_more d f h 0 (e - split_of (length leaves)) false
+    (drop (split_of (length leaves)) leaves)
+    (omega arith) (omega arith) (omega arith) (omega arith))
+    ∙ sym (proof_within-over f h s e known leaves part before behind))
+
+-- The whole definition.
+
+pub proof_of-whole : (h : List ℕ → List ℕ) (s e : ℕ) (known : Bool) (leaves : List (List ℕ))
+    → s ≡ 0 → e ≡ length leaves → 0 < length leaves
+    → proof_of h s e known leaves ≡ cond known [] (root_of h leaves ∷ [])
+unfolding proof_of
+proof_of-whole h s e known [] first last some = let none : ⊥ = omega arith in absurd none
+proof_of-whole h s e known (x ∷ rest) first last some =
+    proof_within-whole (length rest) h s e known (x ∷ rest) first last
+
+pub proof_of-left : (h : List ℕ → List ℕ) (s e : ℕ) (known : Bool) (leaves : List (List ℕ))
+    → 1 < length leaves → s < e → e ≤ split_of (length leaves)
+    → proof_of h s e known leaves
+    ≡ proof_of h s e known (take (split_of (length leaves)) leaves)
+    ++ root_of h (drop (split_of (length leaves)) leaves) ∷ []
+unfolding proof_of
+proof_of-left h s e known [] more some left = let none : ⊥ = omega arith in absurd none
+proof_of-left h s e known (x ∷ rest) more some left =
+    let leaves : List (List ℕ) = x ∷ rest in
+    let bounds = split_bounds (length (x ∷ rest)) in
+    let below = bounds.below in
+    let size = length-take (split_of (length (x ∷ rest))) (x ∷ rest) in
+    proof_within-left (length rest) h s e known (x ∷ rest) more left
+    ∙ ap (λ p. p ++ root_of h (drop (split_of (length leaves)) leaves) ∷ [])
+    (proof_within_more (length rest) (length (take (split_of (length leaves)) leaves)) h s e known
+    (take (split_of (length leaves)) leaves) (omega arith) (omega arith) some (omega arith))
+
+pub proof_of-right : (h : List ℕ → List ℕ) (s e : ℕ) (known : Bool) (leaves : List (List ℕ))
+    → s < e → e ≤ length leaves → split_of (length leaves) ≤ s
+    → proof_of h s e known leaves
+    ≡ proof_of h (s - split_of (length leaves)) (e - split_of (length leaves)) known
+    (drop (split_of (length leaves)) leaves)
+    ++ root_of h (take (split_of (length leaves)) leaves) ∷ []
+unfolding proof_of
+proof_of-right h s e known [] some within right = let none : ⊥ = omega arith in absurd none
+proof_of-right h s e known (x ∷ rest) some within right =
+    let leaves : List (List ℕ) = x ∷ rest in
+    let bounds = split_bounds (length (x ∷ rest)) in
+    let positive = bounds.positive in
+    let size = length-drop (split_of (length (x ∷ rest))) (x ∷ rest) in
+    proof_within-right (length rest) h s e known (x ∷ rest) some right
+    ∙ ap (λ p. p ++ root_of h (take (split_of (length leaves)) leaves) ∷ [])
+    (proof_within_more (length rest) (length (drop (split_of (length leaves)) leaves)) h
+    (s - split_of (length leaves)) (e - split_of (length leaves)) known
+    (drop (split_of (length leaves)) leaves) (omega arith) (omega arith) (omega arith) (omega arith))
+
+pub proof_of-over : (h : List ℕ → List ℕ) (s e : ℕ) (known : Bool) (leaves : List (List ℕ))
+    → e ≤ length leaves → (0 < s) ⊎ (e < length leaves) → s < split_of (length leaves)
+    → split_of (length leaves) < e
+    → proof_of h s e known leaves
+    ≡ proof_of h 0 (e - split_of (length leaves)) false (drop (split_of (length leaves)) leaves)
+    ++ root_of h (take (split_of (length leaves)) leaves) ∷ []
+unfolding proof_of
+proof_of-over h s e known [] within part before behind = let none : ⊥ = omega arith in absurd none
+proof_of-over h s e known (x ∷ rest) within part before behind =
+    let leaves : List (List ℕ) = x ∷ rest in
+    let bounds = split_bounds (length (x ∷ rest)) in
+    let positive = bounds.positive in
+    let size = length-drop (split_of (length (x ∷ rest))) (x ∷ rest) in
+    proof_within-over (length rest) h s e known (x ∷ rest) part before behind
+    ∙ ap (λ p. p ++ root_of h (take (split_of (length leaves)) leaves) ∷ [])
+    (proof_within_more (length rest) (length (drop (split_of (length leaves)) leaves)) h
+    0 (e - split_of (length leaves)) false
+    (drop (split_of (length leaves)) leaves) (omega arith) (omega arith) (omega arith) (omega arith))
+
+-- The proof in a part of a list, by the halves of its interval.
+
+pub part_proof-left : (h : List ℕ → List ℕ) (xs : List (List ℕ)) (first end low middle high : ℕ) (known : Bool)
+    → high ≤ length xs → low + 1 < high → middle ≡ low + split_of (high - low)
+    → low ≤ first → first < end → end ≤ middle
+    → proof_of h (first - low) (end - low) known (part_of xs low high)
+    ≡ proof_of h (first - low) (end - low) known (part_of xs low middle) ++ root_of h (part_of xs middle high) ∷ []
+part_proof-left h xs first end low middle high known within more is from some left =
+    let bounds = split_bounds (high - low) in
+    let below = bounds.below in
+    let size = part-length xs low high within in
+    let split : split_of (length (part_of xs low high)) ≡ middle - low = ap split_of size ∙ omega arith in
+    proof_of-left h (first - low) (end - low) known (part_of xs low high) (omega arith) (omega arith) (omega arith)
+    ∙ ap (λ k. proof_of h (first - low) (end - low) known (take k (part_of xs low high))
+    ++ root_of h (drop k (part_of xs low high)) ∷ []) split
+    ∙ ap (λ l. proof_of h (first - low) (end - low) known l
+    ++ root_of h (drop (middle - low) (part_of xs low high)) ∷ [])
+    (part-take xs low middle high (omega arith) (omega arith))
+    ∙ ap (λ r. proof_of h (first - low) (end - low) known (part_of xs low middle) ++ root_of h r ∷ [])
+    (part-drop xs low middle high (omega arith) (omega arith))
+
+pub part_proof-right : (h : List ℕ → List ℕ) (xs : List (List ℕ)) (first end low middle high : ℕ) (known : Bool)
+    → high ≤ length xs → low + 1 < high → middle ≡ low + split_of (high - low)
+    → middle ≤ first → first < end → end ≤ high
+    → proof_of h (first - low) (end - low) known (part_of xs low high)
+    ≡ proof_of h (first - middle) (end - middle) known (part_of xs middle high) ++ root_of h (part_of xs low middle) ∷ []
+part_proof-right h xs first end low middle high known within more is right some inside =
+    let bounds = split_bounds (high - low) in
+    let below = bounds.below in
+    let size = part-length xs low high within in
+    let split : split_of (length (part_of xs low high)) ≡ middle - low = ap split_of size ∙ omega arith in
+    let begin : (first - low) - (middle - low) ≡ first - middle = omega arith in
+    let stop : (end - low) - (middle - low) ≡ end - middle = omega arith in
+    proof_of-right h (first - low) (end - low) known (part_of xs low high) (omega arith) (omega arith) (omega arith)
+    ∙ ap (λ k. proof_of h ((first - low) - k) ((end - low) - k) known (drop k (part_of xs low high))
+    ++ root_of h (take k (part_of xs low high)) ∷ []) split
+    ∙ ap (λ s. proof_of h s ((end - low) - (middle - low)) known (drop (middle - low) (part_of xs low high))
+    ++ root_of h (take (middle - low) (part_of xs low high)) ∷ []) begin
+    ∙ ap (λ e. proof_of h (first - middle) e known (drop (middle - low) (part_of xs low high))
+    ++ root_of h (take (middle - low) (part_of xs low high)) ∷ []) stop
+    ∙ ap (λ l. proof_of h (first - middle) (end - middle) known (drop (middle - low) (part_of xs low high))
+    ++ root_of h l ∷ [])
+    (part-take xs low middle high (omega arith) (omega arith))
+    ∙ ap (λ r. proof_of h (first - middle) (end - middle) known r ++ root_of h (part_of xs low middle) ∷ [])
+    (part-drop xs low middle high (omega arith) (omega arith))
+
+pub part_proof-over : (h : List ℕ → List ℕ) (xs : List (List ℕ)) (first end low middle high : ℕ) (known : Bool)
+    → high ≤ length xs → low + 1 < high → middle ≡ low + split_of (high - low)
+    → low ≤ first → (low < first) ⊎ (end < high) → first < middle → middle < end → end ≤ high
+    → proof_of h (first - low) (end - low) known (part_of xs low high)
+    ≡ proof_of h (middle - middle) (end - middle) false (part_of xs middle high) ++ root_of h (part_of xs low middle) ∷ []
+part_proof-over h xs first end low middle high known within more is from part before behind inside =
+    let bounds = split_bounds (high - low) in
+    let below = bounds.below in
+    let size = part-length xs low high within in
+    let split : split_of (length (part_of xs low high)) ≡ middle - low = ap split_of size ∙ omega arith in
+    let begin : 0 ≡ middle - middle = omega arith in
+    let stop : (end - low) - (middle - low) ≡ end - middle = omega arith in
+    let inner : (0 < first - low) ⊎ (end - low < length (part_of xs low high)) =
+    ⊎_elim
+    (λ (later : low < first). inl (omega arith))
+    (λ (before : end < high). inr (omega arith))
+    part in
+    proof_of-over h (first - low) (end - low) known (part_of xs low high) (omega arith) inner (omega arith) (omega arith)
+    ∙ ap (λ k. proof_of h 0 ((end - low) - k) false (drop k (part_of xs low high))
+    ++ root_of h (take k (part_of xs low high)) ∷ []) split
+    ∙ ap (λ s. proof_of h s ((end - low) - (middle - low)) false (drop (middle - low) (part_of xs low high))
+    ++ root_of h (take (middle - low) (part_of xs low high)) ∷ []) begin
+    ∙ ap (λ e. proof_of h (middle - middle) e false (drop (middle - low) (part_of xs low high))
+    ++ root_of h (take (middle - low) (part_of xs low high)) ∷ []) stop
+    ∙ ap (λ l. proof_of h (middle - middle) (end - middle) false (drop (middle - low) (part_of xs low high))
+    ++ root_of h l ∷ [])
+    (part-take xs low middle high (omega arith) (omega arith))
+    ∙ ap (λ r. proof_of h (middle - middle) (end - middle) false r ++ root_of h (part_of xs low middle) ∷ [])
+    (part-drop xs low middle high (omega arith) (omega arith))
+
+pub part_proof-whole : (h : List ℕ → List ℕ) (xs : List (List ℕ)) (first end low high : ℕ) (known : Bool)
+    → high ≤ length xs → first ≡ low → end ≡ high → low < high
+    → proof_of h (first - low) (end - low) known (part_of xs low high)
+    ≡ cond known [] (root_of h (part_of xs low high) ∷ [])
+part_proof-whole h xs first end low high known within first_is end_is some =
+    let size = part-length xs low high within in
+    proof_of-whole h (first - low) (end - low) known (part_of xs low high) (omega arith) (omega arith) (omega arith)

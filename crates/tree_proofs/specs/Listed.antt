@@ -1,0 +1,7 @@
+-- What a list of leaf hashes is to a caller.
+use Rattle.std.specs.Prelude.{ℕ, List}
+
+-- the leaf hashes, and how many more need no memory
+pub record Leaves : Type 0 where
+  pub leaves : List (List ℕ)
+  pub spare : ℕ

@@ -1,0 +1,63 @@
+ghost use Rattle.std.specs.Prelude.{◌≡◌, ℕ, List, [], ◌∷◌, ◌++◌, ◌<◌, ◌≤◌, length, reverse, take};
+
+use std::marker::Model;
+
+/// The most hashes that a path holds: both sides of each of the 64 levels that a tree can have.
+const MOST: usize = 128;
+
+/// The hashes of a proof, in an array of a fixed size. Contracts see it as the list of its hashes.
+#[derive(Drop)]
+pub struct Path {
+    hashes: [[u8; 32]; 128],
+    length: usize,
+}
+
+impl Model for Path {
+    ghost Value = { List (List ℕ) };
+
+    ghost view = { λ p. take p.length p.hashes };
+
+    ghost invariant = { λ p. p.length ≤ 128 };
+}
+
+impl Path {
+    /// No hashes.
+    pub fn new() -> Path
+        ensures { result ≡ [] }
+    {
+        Path {
+            hashes: [[0; 32]; MOST],
+            length: 0,
+        }
+    }
+
+    /// The hashes, at most 128.
+    pub fn as_slice(&self) -> &[[u8; 32]]
+        ensures value { result.now ≡ self.now }
+        ensures few { length result.now ≤ 128 }
+    {
+        &self.hashes[..self.length]
+    }
+
+    pub(crate) fn clear(&mut self)
+        ensures { self.new ≡ [] }
+    {
+        self.length = 0;
+    }
+
+    // Puts a hash behind the others.
+    pub(crate) fn push(&mut self, hash: &[u8; 32])
+        requires { length self.old < 128 }
+        ensures { self.new ≡ self.old ++ hash.now ∷ [] }
+    {
+        self.hashes[self.length] = *hash;
+        self.length += 1;
+    }
+
+    // Turns the order of the hashes round.
+    pub(crate) fn reverse(&mut self)
+        ensures { self.new ≡ reverse self.old }
+    {
+        self.hashes[..self.length].reverse();
+    }
+}

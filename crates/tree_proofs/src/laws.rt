@@ -1,0 +1,12 @@
+ghost use Rattle.std.specs.Prelude.{ℕ, List};
+ghost use Rattle.tree_proofs.specs.ProofLaws.{PassesWhereChecks, ProofsCheck, WrongLengthByProof};
+
+/// The law of consistency proofs, for every hash function: the proof of a subtree, as the draft on
+/// Merkle Tree Certificates makes it, checks for the tree hashes of the subtree and of the list; a
+/// proof passes exactly where it checks; and the answer is `WrongLength` exactly where the proof is
+/// not as long as the made one.
+pub fn consistency_proofs_check()
+    ensures checks { (h : List ℕ → List ℕ) → ProofsCheck h }
+    ensures passes { (h : List ℕ → List ℕ) → PassesWhereChecks h }
+    ensures wrong_length { (h : List ℕ → List ℕ) → WrongLengthByProof h }
+{}

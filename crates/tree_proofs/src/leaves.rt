@@ -1,0 +1,83 @@
+ghost use Rattle.std.specs.Prelude.{◌≡◌, ℕ, ◌+◌, ◌-◌, ◌<◌, ◌≤◌, List, [], ◌∷◌, ◌++◌, length, Some, refl, vec_len, vec_capacity, OnOk, OnErr};
+ghost use Rattle.tree_proofs.specs.Listed.{Leaves};
+
+use crate::Nodes;
+use crate::tree::root_over;
+use mtc_io::{Failed, Memory};
+use std::alloc::Global;
+use std::marker::{Model, PhantomData};
+use tree_core::TreeHash;
+
+/// A list of leaf hashes as nodes, which makes the hash of a full subtree anew each time it is
+/// asked for, in the time of its size. It never fails.
+///
+/// Contracts see the leaf hashes and a number of spare leaves: so many more need no memory.
+#[derive(Drop)]
+pub struct Listed<H: TreeHash> {
+    items: Vec<[u8; 32]>,
+    function: PhantomData<H>,
+}
+
+impl<H: TreeHash> Model for Listed<H> {
+    ghost Value = { Leaves };
+
+    ghost view = { λ l. record { leaves = l.items.items; spare = vec_capacity l.items - vec_len l.items } };
+}
+
+impl<H: TreeHash> Listed<H> {
+    /// No leaves. It takes no memory.
+    pub fn new(alloc: Global) -> Listed<H>
+        ensures { result.leaves ≡ [] }
+    {
+        Listed {
+            items: Vec::new(alloc),
+            function: PhantomData,
+        }
+    }
+
+    /// Makes room for at least `count` more leaves. The list stays as it was, also where memory is
+    /// refused.
+    pub fn reserve(&mut self, count: usize) -> Result<(), Memory>
+        ensures list { self.new.leaves ≡ self.old.leaves }
+        ensures spare { OnOk result (count ≤ self.new.spare) }
+        ensures kept { self.old.spare ≤ self.new.spare }
+    {
+        self.items.reserve(count)?;
+        Ok(())
+    }
+
+    /// Puts a leaf hash behind the others. It is refused only where no spare leaf is left, and
+    /// leaves the list as it was then.
+    pub fn push(&mut self, leaf: &[u8; 32]) -> Result<(), Memory>
+        ensures ok { OnOk result (self.new.leaves ≡ self.old.leaves ++ leaf.now ∷ []) }
+        ensures spare { self.old.spare ≤ self.new.spare + 1 }
+        ensures err { OnErr result (self.new.leaves ≡ self.old.leaves) }
+        ensures full { OnErr result (self.old.spare ≡ 0) }
+    {
+        self.items.push(*leaf)?;
+        Ok(())
+    }
+}
+
+impl<H: TreeHash> Nodes for Listed<H> {
+    type H = H;
+
+    ghost leaves = { λ l. Some l.leaves };
+
+    ghost count = { λ l. length l.leaves };
+
+    ghost faults = { λ _. 0 };
+
+    ghost counted = { λ _. refl };
+
+    fn size(&self) -> u64 {
+        self.items.len() as u64
+    }
+
+    fn node(&mut self, level: u32, place: u64) -> Result<[u8; 32], Failed> {
+        let leaves = self.items.as_slice();
+        let from = (place << level) as usize;
+        let to = from + (1 << level);
+        Ok(root_over::<H>(&leaves[from..to]))
+    }
+}
