@@ -1,7 +1,7 @@
 -- Host names: labels with dots between them (RFC 1034, section 3.5; RFC 1123, section 2.1), of which the first may be
 -- a star (RFC 6125, section 6.4.3).
 use Rattle.std.specs.Prelude.{◌≡◌, ℕ, ◌-◌, ◌≤◌, ◌==◌, ◌&&◌, ◌||◌, not, nat_le, Bool, true, false, List, [], ◌∷◌, length, codes, bytes_eq, slice_index}
-use Rattle.std.specs.List.{list_all, slice_split}
+use Rattle.std.specs.List.{join_with_byte, list_all, slice_split}
 use Rattle.std.specs.Char.{is_ascii_alphanumeric}
 use Rattle.cert_fields.specs.AltNames.{is_ascii}
 
@@ -41,3 +41,12 @@ pub record IsHostName (name : List ℕ) : Type 0 where
   pub some : 1 ≤ length name
   pub short : length name ≤ 253
   pub ascii : is_ascii name ≡ true
+
+-- labels, one or more, with dots between them: 1 to 253 bytes
+pub record AreJoined (text : List ℕ) : Type 0 where
+  pub labels : List (List ℕ)
+  pub one : 1 ≤ length labels
+  pub each : are_labels true labels ≡ true
+  pub joined : text ≡ join_with_byte 46 labels
+  pub some : 1 ≤ length text
+  pub short : length text ≤ 253

@@ -7,5 +7,6 @@
 mod requests;
 
 pub use requests::{
-    Field, Names, Request, RequestError, public_keys_are_their_grammar, read_request,
+    Field, Names, Request, RequestError, host_names_are_joined_labels,
+    public_keys_are_their_grammar, read_request,
 };

@@ -25,12 +25,13 @@ fn store_from(alloc: Global, root: &Table) -> Result<Store, StoreError>
     let name = log_name(alloc, &log)?;
     let subtrees = subtrees_of(alloc, root)?;
     let revoked = revoked_of(alloc, root)?;
-    check(Store {
+    let store = Store {
         log,
         name,
         subtrees,
         revoked,
-    })
+    };
+    check(alloc, store)
 }
 
 // The store that a text says.

@@ -212,7 +212,7 @@ fn a_whole_store(rt: HostRuntime) -> Result<(), Fail> {
 fn a_store_of_its_log_alone(rt: HostRuntime) -> Result<(), Fail> {
     let store = read(rt.alloc(), &["log = {id = \"1\"}\nsubtree = []\n"])??;
     assert_eq!(rt; store.log.as_bytes(), [1].as_slice());
-    assert_eq!(rt; store.subtrees.as_slice().len(), 0);
+    assert_eq!(rt; store.subtrees.into_vec().len(), 0);
     assert_eq!(rt; store.revoked.into_vec().len(), 0);
     Ok(())
 }

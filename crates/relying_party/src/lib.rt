@@ -6,8 +6,10 @@
 
 mod admission;
 mod judging;
+mod laws;
 #[cfg(test)]
 mod tests;
 mod trust;
 
 pub use judging::judge;
+pub use laws::accepted_certificates;

@@ -31,8 +31,10 @@ impl Path {
         }
     }
 
+    /// The hashes, at most 128.
     pub fn as_slice(&self) -> &[[u8; 32]]
-        ensures { result.now ≡ self.now }
+        ensures value { result.now ≡ self.now }
+        ensures few { length result.now ≤ 128 }
     {
         &self.hashes[..self.length]
     }

@@ -1,7 +1,9 @@
 //! The eight entries that implementations of RFC 6962 and RFC 9162 are tried on.
 
+ghost use Rattle.std.specs.Prelude.{None};
+
 use crate::{ConsistError, Listed, Nodes, Path, check, consist, include, node_of, root};
-use mtc_io::Bytes;
+use mtc_io::{Bytes, Failed};
 use std::alloc::Global;
 use std::process::Abort;
 use tree_core::{Sha, Toy, evaluate, leaf};
@@ -217,4 +219,51 @@ fn checked_proofs(rt: HostRuntime) {
         let found = check::<Sha>(*start, *end, *size, node, root, proof);
         assert_eq!(&rt; found, *wanted, "case {i}");
     }
+}
+
+/// Eight leaves that are not told, whose nodes fail from the call with this number on.
+#[derive(Drop)]
+struct Failing {
+    calls: u64,
+    failed: u64,
+}
+
+impl Nodes for Failing {
+    type H = Toy;
+
+    ghost leaves = { λ _. None };
+
+    ghost count = { λ _. 8 };
+
+    ghost faults = { λ nodes. nodes.failed };
+
+    ghost counted = { λ _. tt };
+
+    fn size(&self) -> u64 {
+        8
+    }
+
+    fn node(&mut self, _level: u32, _place: u64) -> Result<[u8; 32], Failed> {
+        if self.calls == 0 {
+            self.failed = self.failed.saturating_add(1);
+            return Err(Failed);
+        }
+        self.calls -= 1;
+        Ok([7; 32])
+    }
+}
+
+#[test]
+fn failures_are_handed_on(rt: HostRuntime) {
+    for calls in 0..4 {
+        let wanted = if calls < 3 { Err(Failed) } else { Ok(()) };
+        let mut path = Path::new();
+        let mut nodes = Failing { calls, failed: 0 };
+        assert_eq!(&rt; include(&mut nodes, 1, 0, 8, &mut path), wanted, "path {calls}");
+        let mut nodes = Failing { calls, failed: 0 };
+        assert_eq!(&rt; consist(&mut nodes, 0, 6, 8, &mut path), wanted, "proof {calls}");
+    }
+    let mut nodes = Failing { calls: 0, failed: 0 };
+    assert_eq!(&rt; node_of(&mut nodes, 0, 6), Err(Failed));
+    assert_eq!(&rt; nodes.failed, 1);
 }

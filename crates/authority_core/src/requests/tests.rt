@@ -189,9 +189,9 @@ fn host_names(rt: HostRuntime) -> Result<(), Fail> {
         assert_eq!(rt; is_host(name.as_bytes()), wanted, "{name}");
     }
     let mut long = [b'a'; 254];
-    for dot in [63, 127, 191] {
-        long[dot] = b'.';
-    }
+    long[63] = b'.';
+    long[127] = b'.';
+    long[191] = b'.';
     // Labels of 63 bytes, and the last one of 61 or 62.
     assert!(rt; is_host(&long[..63]));
     assert!(rt; is_host(&long[..253]));

@@ -1,0 +1,205 @@
+-- Requests: what is read is spelled so, and what is spelled so is read again.
+use Rattle.std.proofs.Common.{◌≡◌, ℕ, ◌^◌, ◌<◌, true, false, ltb, List, [], ◌∷◌, ◌++◌, length, take, Result, Ok, Err, refl, sym, ap, subst, ◌∙◌, append-nil, arith, eqb-true, ne_eqb}
+use Rattle.std.specs.Prelude.{if◌then◌else◌, ◌==◌, not}
+use Rattle.std.specs.Int.{w8, w64}
+use Rattle.std.proofs.lemmas.List.{length-take-le, nil_from_length}
+use Rattle.std.proofs.lemmas.Bool.{ltb-false}
+use Rattle.byte_forms.specs.Places.{At, IsBytes, after, at}
+use Rattle.byte_forms.specs.Readings.{◌>>=◌, both_at, lifted, mapped_at}
+use Rattle.byte_forms.specs.Forms.{Anything, FitsBoth, IsForm, both, itself}
+use Rattle.byte_forms.proofs.Steps.{bind_ok, guard_ok, ok_is, pass_ok}
+use Rattle.byte_forms.proofs.Forms.{both_form, mapped_form, said_form, tested_form}
+use Rattle.tls_wire.specs.declared.cursor.Short.{Short as ShortForm}
+use Rattle.tls_wire.specs.Reading.{bytes_at, hashes_at, number_at, vector_at}
+use Rattle.tls_wire.specs.Spelling.{AreHashes, hashes, number, vector}
+use Rattle.tls_wire.proofs.Hashes.{hashes_form}
+use Rattle.tls_wire.proofs.Numbers.{bytes_form, number_form, wide64, wide8}
+use Rattle.tls_wire.proofs.Vectors.{vector_form}
+use Rattle.cosigner_core.specs.declared.fault.FormError.{FormError}
+use Rattle.cosigner_core.specs.declared.fault.FormError.TheVariants.{EmptyId, Trailing}
+use Rattle.cosigner_core.specs.Reading.{advance_at, advance_in, form_at, hash_at, id_at, is_some, of_hashes, of_short, proof_at, subtree_at, subtree_in, to_advance, to_subtree, whole_in, word_at}
+use Rattle.cosigner_core.specs.Requests.{AdvanceParts, IsAdvance, IsSubtreeRequest, SubtreeParts, advance_text, subtree_text}
+
+-- ---- the parts
+
+lifted_ok : {A E F : Type 0} (fault : E → F) (r : Result A E) (y : A) → lifted fault r ≡ Ok y → r ≡ Ok y
+lifted_ok fault (Ok x) y e = cc
+lifted_ok fault (Err d) y e = absurd cc
+
+lifted_form : {X E F : Type 0} (spell : X → List ℕ) (Fits : X → Type 0) (Follows : List ℕ → Type 0) (read : At → Result (X × At) E) (fault : E → F)
+    → IsForm spell Fits Follows read → IsForm spell Fits Follows (λ a. lifted fault (read a))
+lifted_form spell Fits Follows read fault form = record {
+  takes = λ a x b h e. form.takes a x b h (lifted_ok fault (read a) (x, b) e);
+  again = λ x p rest f q. rw (form.again x p rest f q) refl;
+}
+
+abbrev IsId : List ℕ → Type 0
+IsId id = (length id < 2 ^ 8) × (is_some id ≡ true)
+
+abbrev IsWord : ℕ → Type 0
+IsWord n = n < 2 ^ 64
+
+abbrev IsHash : List ℕ → Type 0
+IsHash hash = length hash ≡ 32
+
+short_id : IsForm (vector w8) (λ id. length id < 2 ^ 8) Anything (form_at (vector_at w8))
+short_id = lifted_form (vector w8) (λ id. length id < 2 ^ 8) Anything (vector_at w8) of_short (vector_form w8 (2 ^ 8) wide8)
+
+id_form : IsForm (vector w8) IsId Anything id_at
+id_form = tested_form (vector w8) (λ id. length id < 2 ^ 8) Anything (form_at (vector_at w8)) is_some EmptyId short_id
+
+word_form : IsForm (number w64) IsWord Anything word_at
+word_form = lifted_form (number w64) IsWord Anything (number_at w64) of_short (number_form w64 (2 ^ 64) wide64)
+
+hash_form : IsForm itself IsHash Anything hash_at
+hash_form = lifted_form itself IsHash Anything (bytes_at 32) of_short (bytes_form 32)
+
+proof_form : IsForm hashes AreHashes Anything proof_at
+proof_form = lifted_form hashes AreHashes Anything hashes_at of_hashes hashes_form
+
+some_bytes : (id : List ℕ) → is_some id ≡ true → 0 < length id
+some_bytes [] e = absurd cc
+some_bytes (b ∷ id) e = omega arith
+
+bytes_some : (id : List ℕ) → 0 < length id → is_some id ≡ true
+bytes_some id lt = let some : (length id == 0) ≡ false = ne_eqb (length id) 0 (λ none. omega arith) in ap not some
+
+-- ---- to hold a larger log
+
+abbrev Root : Type 0
+Root = List ℕ × List (List ℕ)
+
+abbrev root_text : Root → List ℕ
+root_text = both itself hashes
+
+abbrev IsRoot : Root → Type 0
+IsRoot = FitsBoth IsHash AreHashes
+
+root_form : IsForm root_text IsRoot Anything (both_at hash_at proof_at)
+root_form = both_form itself IsHash Anything hash_at hashes AreHashes Anything proof_at hash_form proof_form (λ y rest f q. tt)
+
+sized_form : IsForm (both (number w64) root_text) (FitsBoth IsWord IsRoot) Anything (both_at word_at (both_at hash_at proof_at))
+sized_form = both_form (number w64) IsWord Anything word_at root_text IsRoot Anything (both_at hash_at proof_at) word_form root_form (λ y rest f q. tt)
+
+abbrev Advance : Type 0
+Advance = List ℕ × (ℕ × Root)
+
+abbrev from_advance : AdvanceParts → Advance
+from_advance r = (r.log, (r.size, (r.root, r.proof)))
+
+abbrev advance_spelled : Advance → List ℕ
+advance_spelled = both (vector w8) (both (number w64) root_text)
+
+abbrev AreAdvance : Advance → Type 0
+AreAdvance = FitsBoth IsId (FitsBoth IsWord IsRoot)
+
+advance_to : (r : AdvanceParts) → AreAdvance (from_advance r) → IsAdvance r
+advance_to r f = record {
+  some = some_bytes r.log f.0.1;
+  log = f.0.0;
+  size = f.1.0;
+  root = f.1.1.0;
+  proof = f.1.1.1;
+}
+
+advance_from : (r : AdvanceParts) → IsAdvance r → AreAdvance (from_advance r)
+advance_from r f = ((f.log, bytes_some r.log f.some), (f.size, (f.root, f.proof)))
+
+pub advance_form : IsForm advance_text IsAdvance Anything advance_at
+unfolding advance_at
+advance_form =
+    let read : At → Result (Advance × At) FormError = both_at id_at (both_at word_at (both_at hash_at proof_at)) in
+    said_form (λ r. advance_spelled (from_advance r)) (λ r. AreAdvance (from_advance r)) IsAdvance Anything Anything
+    (mapped_at to_advance read) advance_to advance_from (λ rest q. q)
+    (mapped_form advance_spelled AreAdvance Anything read to_advance from_advance (λ x f. refl) (λ r f. refl)
+    (both_form (vector w8) IsId Anything id_at (both (number w64) root_text) (FitsBoth IsWord IsRoot) Anything
+    (both_at word_at (both_at hash_at proof_at)) id_form sized_form (λ y rest f q. tt)))
+
+-- ---- to sign a subtree
+
+spanned_form : IsForm (both (number w64) (both (number w64) root_text)) (FitsBoth IsWord (FitsBoth IsWord IsRoot)) Anything
+    (both_at word_at (both_at word_at (both_at hash_at proof_at)))
+spanned_form = both_form (number w64) IsWord Anything word_at (both (number w64) root_text) (FitsBoth IsWord IsRoot) Anything
+    (both_at word_at (both_at hash_at proof_at)) word_form sized_form (λ y rest f q. tt)
+
+abbrev Subtree : Type 0
+Subtree = List ℕ × (ℕ × (ℕ × Root))
+
+abbrev from_subtree : SubtreeParts → Subtree
+from_subtree r = (r.log, (r.start, (r.end, (r.hash, r.proof))))
+
+abbrev subtree_spelled : Subtree → List ℕ
+subtree_spelled = both (vector w8) (both (number w64) (both (number w64) root_text))
+
+abbrev AreSubtree : Subtree → Type 0
+AreSubtree = FitsBoth IsId (FitsBoth IsWord (FitsBoth IsWord IsRoot))
+
+subtree_to : (r : SubtreeParts) → AreSubtree (from_subtree r) → IsSubtreeRequest r
+subtree_to r f = record {
+  some = some_bytes r.log f.0.1;
+  log = f.0.0;
+  start = f.1.0;
+  end = f.1.1.0;
+  hash = f.1.1.1.0;
+  proof = f.1.1.1.1;
+}
+
+subtree_from : (r : SubtreeParts) → IsSubtreeRequest r → AreSubtree (from_subtree r)
+subtree_from r f = ((f.log, bytes_some r.log f.some), (f.start, (f.end, (f.hash, f.proof))))
+
+pub subtree_form : IsForm subtree_text IsSubtreeRequest Anything subtree_at
+unfolding subtree_at
+subtree_form =
+    let read : At → Result (Subtree × At) FormError = both_at id_at (both_at word_at (both_at word_at (both_at hash_at proof_at))) in
+    said_form (λ r. subtree_spelled (from_subtree r)) (λ r. AreSubtree (from_subtree r)) IsSubtreeRequest Anything Anything
+    (mapped_at to_subtree read) subtree_to subtree_from (λ rest q. q)
+    (mapped_form subtree_spelled AreSubtree Anything read to_subtree from_subtree (λ x f. refl) (λ r f. refl)
+    (both_form (vector w8) IsId Anything id_at (both (number w64) (both (number w64) root_text)) (FitsBoth IsWord (FitsBoth IsWord IsRoot)) Anything
+    (both_at word_at (both_at word_at (both_at hash_at proof_at))) id_form spanned_form (λ y rest f q. tt)))
+
+-- ---- all of the bytes
+
+whole_only : {X : Type 0} (spell : X → List ℕ) (Fits : X → Type 0) (read : At → Result (X × At) FormError)
+    → IsForm spell Fits Anything read
+    → (bytes : List ℕ) (r : X) → IsBytes bytes → whole_in read bytes ≡ Ok r → (bytes ≡ spell r) × Fits r
+whole_only {X} spell Fits read form bytes r h e =
+    let s = bind_ok (read (at bytes 0)) (λ (x : X × At). if length x.1.rest == 0 then Ok x.0 else Err Trailing) r e in
+    let g = pass_ok (length s.0.1.rest == 0) (Ok s.0.0) Trailing r s.2 in
+    let known = form.takes (at bytes 0) s.0.0 s.0.1 h s.1 in
+    let none : s.0.1.rest ≡ [] = nil_from_length s.0.1.rest (eqb-true (length s.0.1.rest) 0 g.0) in
+    let all : bytes ≡ spell s.0.0 = known.0.parts ∙ ap (λ rest. spell s.0.0 ++ rest) none ∙ append-nil (spell s.0.0) in
+    let P : X → Type 0 = λ x. (bytes ≡ spell x) × Fits x in
+    subst P (ok_is FormError s.0.0 r g.1) (all, known.1)
+
+whole_again : {X : Type 0} (spell : X → List ℕ) (Fits : X → Type 0) (read : At → Result (X × At) FormError)
+    → IsForm spell Fits Anything read → (r : X) → Fits r → whole_in read (spell r) ≡ Ok r
+whole_again {X} spell Fits read form r f =
+    let step = form.again r 0 [] f tt in
+    let same : spell r ≡ spell r ++ [] = sym (append-nil (spell r)) in
+    ap (λ (c : List ℕ). read (record { place = 0; rest = c }) >>= λ (x : X × At). if length x.1.rest == 0 then Ok x.0 else Err Trailing) same
+    ∙ rw step refl
+
+pub advance_only : (bytes : List ℕ) (r : AdvanceParts) → IsBytes bytes → advance_in bytes ≡ Ok r → (bytes ≡ advance_text r) × IsAdvance r
+unfolding advance_in
+advance_only = whole_only advance_text IsAdvance advance_at advance_form
+
+pub advance_again : (r : AdvanceParts) → IsAdvance r → advance_in (advance_text r) ≡ Ok r
+unfolding advance_in
+advance_again = whole_again advance_text IsAdvance advance_at advance_form
+
+pub subtree_only : (bytes : List ℕ) (r : SubtreeParts) → IsBytes bytes → subtree_in bytes ≡ Ok r → (bytes ≡ subtree_text r) × IsSubtreeRequest r
+unfolding subtree_in
+subtree_only = whole_only subtree_text IsSubtreeRequest subtree_at subtree_form
+
+pub subtree_again : (r : SubtreeParts) → IsSubtreeRequest r → subtree_in (subtree_text r) ≡ Ok r
+unfolding subtree_in
+subtree_again = whole_again subtree_text IsSubtreeRequest subtree_at subtree_form
+
+-- ---- a hash that was read
+
+pub bytes_length : (count : ℕ) (a : At) (bytes : List ℕ) (b : At) → bytes_at count a ≡ Ok (bytes, b) → length bytes ≡ count
+bytes_length count a bytes b e =
+    let g = guard_ok (ltb (length a.rest) count) (record { place = a.place }) (Ok (take count a.rest, after count a)) (bytes, b) e in
+    let room = ltb-false (length a.rest) count g.0 in
+    let P : List ℕ × At → Type 0 = λ x. length x.0 ≡ count in
+    subst P (ok_is ShortForm (take count a.rest, after count a) (bytes, b) g.1) (length-take-le count a.rest room)

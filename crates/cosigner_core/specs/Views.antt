@@ -1,0 +1,10 @@
+-- Parts of the code's values as contracts see them: slices as their bytes.
+use Rattle.cosigner_core.specs.declared.requests.AdvanceRequest.{AdvanceRequest}
+use Rattle.cosigner_core.specs.declared.requests.SubtreeRequest.{SubtreeRequest}
+use Rattle.cosigner_core.specs.Requests.{AdvanceParts, SubtreeParts}
+
+abbrev pub advance_parts : AdvanceRequest → AdvanceParts
+advance_parts r = record { log = r.log.now; size = r.size; root = r.root; proof = r.proof.now }
+
+abbrev pub subtree_parts : SubtreeRequest → SubtreeParts
+subtree_parts r = record { log = r.log.now; start = r.start; end = r.end; hash = r.hash; proof = r.proof.now }

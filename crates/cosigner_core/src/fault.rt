@@ -1,0 +1,41 @@
+//! What can be wrong with a request.
+
+use tls_wire::{HashesError, Short};
+
+/// Why bytes aren't a request. They are read from the left, and the first fault is answered.
+#[derive(Clone, Copy, Debug, PartialEq, Eq)]
+pub enum FormError {
+    /// The id, the number, the hash or the vector of hashes that begins at this offset doesn't fit.
+    Short(usize),
+    /// The length of the hashes is no multiple of 32.
+    HashLength,
+    /// Something stands behind the hashes.
+    Trailing,
+    /// The log's id has no bytes.
+    EmptyId,
+}
+
+impl From<Short> for FormError {
+    ghost use Rattle.std.specs.Prelude.{◌≡◌};
+    ghost use Rattle.cosigner_core.specs.declared.fault.FormError.TheVariants.{Short as TooShort};
+
+    ghost from_gives = { λ short e. e ≡ TooShort short.place };
+
+    fn from(short: Short) -> FormError {
+        FormError::Short(short.place)
+    }
+}
+
+impl From<HashesError> for FormError {
+    ghost use Rattle.std.specs.Prelude.{◌≡◌};
+    ghost use Rattle.cosigner_core.specs.Reading.{of_hashes};
+
+    ghost from_gives = { λ fault e. e ≡ of_hashes fault };
+
+    fn from(fault: HashesError) -> FormError {
+        match fault {
+            HashesError::Short(short) => FormError::Short(short.place),
+            HashesError::HashLength => FormError::HashLength,
+        }
+    }
+}

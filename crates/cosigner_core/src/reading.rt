@@ -1,0 +1,106 @@
+//! Reading requests.
+
+ghost use Rattle.std.specs.Prelude.{◌≡◌, Ok, IfOk};
+ghost use Rattle.byte_forms.specs.Readings.{Gives, Moves};
+ghost use Rattle.cosigner_core.specs.Reading.{advance_at, advance_in, hash_at, id_at, subtree_at, subtree_in};
+ghost use Rattle.cosigner_core.specs.Requests.{AdvanceParts, IsAdvance, IsSubtreeRequest, SubtreeParts, advance_text, subtree_text};
+ghost use Rattle.cosigner_core.specs.Views.{advance_parts, subtree_parts};
+
+use crate::fault::FormError;
+use crate::requests::{AdvanceRequest, SubtreeRequest};
+use tls_wire::Cursor;
+
+// The id of a log.
+fn log_id<'a>(cursor: &mut Cursor<'a>) -> Result<&'a [u8], FormError>
+    ensures { Moves (λ id. id.now) id_at cursor.old result cursor.new }
+{
+    let id = cursor.vec8()?;
+    if id.is_empty() {
+        return Err(FormError::EmptyId);
+    }
+    Ok(id)
+}
+
+// A hash of 32 bytes.
+fn hash(cursor: &mut Cursor) -> Result<[u8; 32], FormError>
+    ensures { Moves (λ hash. hash) hash_at cursor.old result cursor.new }
+{
+    let bytes = cursor.bytes(32)?;
+    let mut hash = [0; 32];
+    hash.copy_from_slice(bytes);
+    Ok(hash)
+}
+
+// The parts of a request to hold a larger log.
+#[tactic(auto, unfolding(crate::specs::Reading::advance_at))]
+fn advance<'a>(cursor: &mut Cursor<'a>) -> Result<AdvanceRequest<'a>, FormError>
+    ensures { Moves advance_parts advance_at cursor.old result cursor.new }
+{
+    let log = log_id(cursor)?;
+    let size = cursor.u64()?;
+    let root = hash(cursor)?;
+    let proof = cursor.hashes()?;
+    Ok(AdvanceRequest {
+        log,
+        size,
+        root,
+        proof,
+    })
+}
+
+// The parts of a request to sign a subtree.
+#[tactic(auto, unfolding(crate::specs::Reading::subtree_at))]
+fn subtree<'a>(cursor: &mut Cursor<'a>) -> Result<SubtreeRequest<'a>, FormError>
+    ensures { Moves subtree_parts subtree_at cursor.old result cursor.new }
+{
+    let log = log_id(cursor)?;
+    let start = cursor.u64()?;
+    let end = cursor.u64()?;
+    let hash = hash(cursor)?;
+    let proof = cursor.hashes()?;
+    Ok(SubtreeRequest {
+        log,
+        start,
+        end,
+        hash,
+        proof,
+    })
+}
+
+/// Reads a request to hold a larger log, without taking memory: the id of the log behind its length
+/// in one byte, the size in eight bytes, the root in 32, and the hashes of the proof behind their
+/// length in two bytes.
+///
+/// The first fault from the left is answered: `Short` with the offset of the id, the size, the root
+/// or the vector of hashes that doesn't fit; `EmptyId` for an id of no bytes; `HashLength` where the
+/// length of the hashes is no multiple of 32; `Trailing` where something stands behind them.
+#[tactic(auto, unfolding(crate::specs::Reading::advance_in))]
+pub fn read_advance(bytes: &[u8]) -> Result<AdvanceRequest<'_>, FormError>
+    ensures { Gives advance_parts result (advance_in bytes.now) }
+{
+    let mut cursor = Cursor::new(bytes);
+    let request = advance(&mut cursor)?;
+    if cursor.left() > 0 {
+        return Err(FormError::Trailing);
+    }
+    Ok(request)
+}
+
+/// Reads a request to sign a subtree, without taking memory: the id of the log behind its length in
+/// one byte, start and end of the subtree in eight bytes each, its hash in 32, and the hashes of the
+/// proof behind their length in two bytes.
+///
+/// The first fault from the left is answered: `Short` with the offset of the id, the number, the
+/// hash or the vector of hashes that doesn't fit; `EmptyId` for an id of no bytes; `HashLength` where
+/// the length of the hashes is no multiple of 32; `Trailing` where something stands behind them.
+#[tactic(auto, unfolding(crate::specs::Reading::subtree_in))]
+pub fn read_subtree(bytes: &[u8]) -> Result<SubtreeRequest<'_>, FormError>
+    ensures { Gives subtree_parts result (subtree_in bytes.now) }
+{
+    let mut cursor = Cursor::new(bytes);
+    let request = subtree(&mut cursor)?;
+    if cursor.left() > 0 {
+        return Err(FormError::Trailing);
+    }
+    Ok(request)
+}

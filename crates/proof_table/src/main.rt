@@ -1,0 +1,117 @@
+//! The proofs of every subtree of a list and of its beginnings, to be compared with those of another
+//! implementation of the same definitions.
+//!
+//! The lines of the input are the entries of the list, in hexadecimal. For each subtree of the list
+//! a line `START END HASH PATHS` is written: its hash, and the SHA-256 of the inclusion paths of its
+//! entries one behind the other. For each size from 1 to the list's and each subtree within it a line
+//! `START END SIZE COUNT PROOF` is written: the number of hashes of its consistency proof, and the
+//! first 16 digits of their SHA-256. Each path is evaluated and each proof checked here; one that
+//! fails ends the program.
+#![tactic(auto)]
+
+use anyhow::{Result, bail};
+use std::alloc::Global;
+use std::io::{BufRead, BufReader};
+use tree_core::{Sha, TreeHash, evaluate, leaf, subtree_ok};
+use tree_proofs::{Listed, Nodes, Path, check, consist, include, node_of};
+
+fn add_all(digest: &mut Sha, hashes: &[[u8; 32]]) {
+    for hash in hashes {
+        digest.add(hash);
+    }
+}
+
+// Makes the inclusion path of an entry in a subtree, and evaluates it.
+fn make_path(nodes: &mut Listed<Sha>, index: u64, start: u64, end: u64, path: &mut Path) -> Result<()> {
+    if !subtree_ok(start, end) || index < start || end <= index || nodes.size() < end {
+        bail!("no entry of a subtree");
+    }
+    let Ok(()) = include(nodes, index, start, end, path) else {
+        bail!("a node failed");
+    };
+    let (Ok(leaf), Ok(subtree)) = (nodes.node(0, index), node_of(nodes, start, end)) else {
+        bail!("a node failed");
+    };
+    if evaluate::<Sha>(&leaf, index, start, end, path.as_slice()) != Ok(subtree) {
+        bail!("a path that does not evaluate");
+    }
+    Ok(())
+}
+
+// The line of a subtree.
+fn subtree_line(alloc: Global, nodes: &mut Listed<Sha>, start: u64, end: u64) -> Result<String> {
+    let mut path = Path::new();
+    let mut digest = Sha::begin();
+    for index in start..end {
+        make_path(nodes, index, start, end, &mut path)?;
+        add_all(&mut digest, path.as_slice());
+    }
+    if !subtree_ok(start, end) || nodes.size() < end {
+        bail!("no subtree of the list");
+    }
+    let Ok(subtree) = node_of(nodes, start, end) else {
+        bail!("a node failed");
+    };
+    let hash = hex::encode(alloc, &subtree)?;
+    let paths = hex::encode(alloc, &digest.end())?;
+    Ok(format!(in alloc; "{start} {end} {hash} {paths}")?)
+}
+
+// Makes the consistency proof of a subtree at a size, and checks it.
+fn make_proof(nodes: &mut Listed<Sha>, start: u64, end: u64, size: u64, proof: &mut Path) -> Result<()> {
+    if !subtree_ok(start, end) || !subtree_ok(0, size) || size < end || nodes.size() < size {
+        bail!("no subtree of the list");
+    }
+    let Ok(()) = consist(nodes, start, end, size, proof) else {
+        bail!("a node failed");
+    };
+    let (Ok(subtree), Ok(root)) = (node_of(nodes, start, end), node_of(nodes, 0, size)) else {
+        bail!("a node failed");
+    };
+    if check::<Sha>(start, end, size, &subtree, &root, proof.as_slice()).is_err() {
+        bail!("a proof that does not check");
+    }
+    Ok(())
+}
+
+// The line of a subtree at a size.
+fn proof_line(alloc: Global, nodes: &mut Listed<Sha>, start: u64, end: u64, size: u64) -> Result<String> {
+    let mut proof = Path::new();
+    make_proof(nodes, start, end, size, &mut proof)?;
+    let mut digest = Sha::begin();
+    add_all(&mut digest, proof.as_slice());
+    let hash = digest.end();
+    let digits = hex::encode(alloc, &hash[..8])?;
+    Ok(format!(in alloc; "{start} {end} {size} {} {digits}", proof.as_slice().len())?)
+}
+
+fn main(rt: HostRuntime) -> Result<()> {
+    let alloc = rt.alloc();
+    let mut nodes: Listed<Sha> = Listed::new(alloc);
+    let input = BufReader::new(alloc, rt.reader())?;
+    for line in input.lines(alloc) {
+        let entry = hex::decode(alloc, line?.as_str())?;
+        if nodes.push(&leaf::<Sha>(entry.as_slice())).is_err() {
+            bail!("out of memory");
+        }
+    }
+    for start in 0..nodes.size() {
+        for end in start..nodes.size().saturating_add(1) {
+            if subtree_ok(start, end) {
+                let text = subtree_line(alloc, &mut nodes, start, end)?;
+                println!(rt; "{text}")?;
+            }
+        }
+    }
+    for size in 1..nodes.size().saturating_add(1) {
+        for start in 0..size {
+            for end in start..size.saturating_add(1) {
+                if subtree_ok(start, end) {
+                    let text = proof_line(alloc, &mut nodes, start, end, size)?;
+                    println!(rt; "{text}")?;
+                }
+            }
+        }
+    }
+    Ok(())
+}

@@ -1,0 +1,5 @@
+use Rattle.relying_party.proofs.Accepted.{accepted_only, accepted_again}
+use Rattle.relying_party.proofs.laws.accepted_certificates.Goals as goal
+
+pub returns : goal.returns
+returns c = record { only = accepted_only; again = accepted_again }
