@@ -9,7 +9,9 @@ use Rattle.mtc_top.specs.declared.answer.Stop.{Stop}
 use Rattle.mtc_top.specs.declared.answer.Stop.TheVariants.{Room, Memory as NoMemory}
 use Rattle.issuance_log.specs.Openings.{FoundLog}
 use Rattle.mtc_top.specs.declared.work.Work.{Work}
-use Rattle.mtc_top.specs.declared.work.Work.TheVariants.{Checkpoint, Entries}
+use Rattle.mtc_top.specs.declared.work.Work.TheVariants.{Checkpoint, Entries, Issue}
+use Rattle.authority_core.specs.Requests.{CanBeIssued}
+use Rattle.mtc_top.specs.IssueOutcome.{issue_says}
 use Rattle.mtc_top.specs.LogOutcomes.{checkpoint_says, entries_says}
 use Rattle.mtc_top.specs.Steps.{Outcome, Files}
 use Rattle.mtc_top.specs.LogSteps.{no_log_says, with_log}
@@ -56,6 +58,13 @@ Names (Err Memory) result = result ≡ Err NoMemory
 unfoldable pub work_says : (List ℕ → List ℕ) → Work → FoundLog → Outcome
 work_says h Checkpoint found = checkpoint_says h found
 work_says h (Entries size) found = entries_says size found
+work_says h (Issue request) found = issue_says h request found
+
+-- a request can be issued
+abbrev pub CanBeDone : Work → Type 0
+CanBeDone Checkpoint = Unit {0}
+CanBeDone (Entries size) = Unit {0}
+CanBeDone (Issue request) = CanBeIssued request
 
 -- the outcome of a command on the log of a journal
 abbrev pub on_journal_outcome : (List ℕ → List ℕ) → List ℕ → List ℕ → Work → Files → Outcome

@@ -7,7 +7,7 @@ ghost use Rattle.mtc_top.specs.LogSteps.{open_fault_text, on_log, with_log};
 ghost use Rattle.mtc_top.specs.Made.{HasMade, MadeOf, untouched};
 ghost use Rattle.mtc_top.specs.Nodes.{IsEarly};
 ghost use Rattle.mtc_top.specs.Settled.{SettledBut, FailedOnly, LeftBy, LeftOf};
-ghost use Rattle.mtc_top.specs.Works.{Refuses, Names, work_says};
+ghost use Rattle.mtc_top.specs.Works.{Refuses, Names, CanBeDone, work_says};
 
 use crate::answer::{Answer, Stop, Stopped};
 use crate::input::NoInput;
@@ -75,6 +75,7 @@ fn on_device<'a, H: TreeHash, D: Disk>(
     journal: &'a str,
     work: Work,
 ) -> (D, Result<Answer, Stop<'a>>)
+    requires { CanBeDone work }
     ensures answer { IfOk result.1 (λ answer. IfSome (D.told disk) (λ bytes. answer
         ≡ (on_log command.now journal.now (log_read H.hash bytes) (work_says H.hash work)).answer)) }
     ensures not_words { IfOk result.1 (λ answer. status_of answer ≢ 1) }
@@ -107,7 +108,8 @@ pub fn on_journal<'a, H: TreeHash, R: Room>(
     journal: &'a str,
     work: Work,
 ) -> Result<Answer, Stop<'a>>
-    requires { R.lent room.old < 2 ^ 32 }
+    requires lent { R.lent room.old < 2 ^ 32 }
+    requires possible { CanBeDone work }
     ensures settled { SettledBut (R.lent room.old) (R.lent room.new) (R.faults room.old) (R.faults room.new)
         (R.file room.old) (R.file room.new) (R.device room.old) (R.device room.new) (λ name. name ≡ journal.now) }
     ensures tells { R.tells room.old → R.tells room.new }
