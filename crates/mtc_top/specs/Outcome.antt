@@ -2,7 +2,7 @@
 -- command; each command's own outcome stands in a file of its own.
 use Rattle.std.specs.Prelude.{◌≡◌, ℕ, List, codes, Result, Ok, Err}
 use Rattle.mtc_words.specs.declared.error.WordError.{WordError}
-use Rattle.mtc_words.specs.Commands.{CommandValue, member, show, verify, init_log, issue, checkpoint, entries, consist, subtree, keygen}
+use Rattle.mtc_words.specs.Commands.{CommandValue, member, show, verify, init_log, checkpoint, entries, keygen}
 use Rattle.mtc_words.specs.Words.{command_of}
 use Rattle.mtc_top.specs.KeygenOutcome.{keygen_outcome}
 use Rattle.mtc_top.specs.LogOutcomes.{init_log_outcome}
@@ -20,11 +20,8 @@ command_outcome h (member file) files = member_outcome h file files
 command_outcome h (show file) files = show_outcome file files
 command_outcome h (verify cert store moment) files = verify_outcome h cert store moment files
 command_outcome h (init_log journal id active limit) files = init_log_outcome journal id active limit files
-command_outcome h (issue journal request) files = on_journal_outcome h (codes "checkpoint") journal Checkpoint files
 command_outcome h (checkpoint journal) files = on_journal_outcome h (codes "checkpoint") journal Checkpoint files
 command_outcome h (entries journal size) files = on_journal_outcome h (codes "entries") journal (Entries size) files
-command_outcome h (consist journal old new) files = on_journal_outcome h (codes "checkpoint") journal Checkpoint files
-command_outcome h (subtree journal start end size) files = on_journal_outcome h (codes "checkpoint") journal Checkpoint files
 command_outcome h (keygen height width file) files = keygen_outcome height width file files
 
 -- what is answered where the words say this
@@ -41,11 +38,8 @@ Touches (member file) name = ⊥
 Touches (show file) name = ⊥
 Touches (verify cert store moment) name = ⊥
 Touches (init_log journal id active limit) name = name ≡ journal
-Touches (issue journal request) name = name ≡ journal
 Touches (checkpoint journal) name = name ≡ journal
 Touches (entries journal size) name = name ≡ journal
-Touches (consist journal old new) name = name ≡ journal
-Touches (subtree journal start end size) name = name ≡ journal
 Touches (keygen height width file) name = ⊥
 
 -- and those that words may

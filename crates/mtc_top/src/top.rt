@@ -70,7 +70,6 @@ fn perform<'a, H: TreeHash, R: Room>(
         Command::Member(file) => member::<H, R>(alloc, room, file),
         Command::Show(file) => show(alloc, room, file),
         Command::Verify(cert, store, now) => verify::<H, R>(alloc, room, cert, store, now),
-        Command::Keygen(height, width, secret) => keygen(alloc, room, height, width, secret),
         Command::InitLog(journal, id, max_active, limit) => {
             init_log(alloc, room, journal, id, max_active, limit)
         }
@@ -80,9 +79,7 @@ fn perform<'a, H: TreeHash, R: Room>(
         Command::Entries(journal, size) => {
             on_journal::<H, R>(alloc, room, "entries", journal, Work::Entries(size))
         }
-        Command::Issue(journal, _) | Command::Consist(journal, _, _) | Command::Subtree(journal, _, _, _) => {
-            on_journal::<H, R>(alloc, room, "checkpoint", journal, Work::Checkpoint)
-        }
+        Command::Keygen(height, width, secret) => keygen(alloc, room, height, width, secret),
     }
 }
 

@@ -13,16 +13,10 @@ pub enum Command<'a> {
     /// `init-log J LOGID MAXACTIVE LIMIT`: make the journal of a log, with 1 to 10,000 active landmarks and at most 2 to
     /// 1,048,576 entries.
     InitLog(&'a str, AnchorId, u64, u64),
-    /// `issue J REQUEST`: add the entry of a request to the log.
-    Issue(&'a str, &'a str),
     /// `checkpoint J`: print the size of the log and its tree hash.
     Checkpoint(&'a str),
     /// `entries J SIZE`: write the first entries of the log with their keys.
     Entries(&'a str, u64),
-    /// `consist J OLD NEW`: write a request to a cosigner to advance from one size of the log to another.
-    Consist(&'a str, u64, u64),
-    /// `subtree J START END SIZE`: write a request to a cosigner to sign a subtree.
-    Subtree(&'a str, u64, u64, u64),
     /// `keygen HEIGHT WIDTH SECRET`: print the public key of a secret. The height is 5 or 10, the width 1, 2, 4 or 8.
     Keygen(u64, u64, &'a str),
 }

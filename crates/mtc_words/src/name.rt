@@ -8,11 +8,8 @@ pub enum Name {
     Show,
     Verify,
     InitLog,
-    Issue,
     Checkpoint,
     Entries,
-    Consist,
-    Subtree,
     Keygen,
 }
 
@@ -26,11 +23,8 @@ pub fn read_name(word: &str) -> Option<Name>
         "show" => Some(Name::Show),
         "verify" => Some(Name::Verify),
         "init-log" => Some(Name::InitLog),
-        "issue" => Some(Name::Issue),
         "checkpoint" => Some(Name::Checkpoint),
         "entries" => Some(Name::Entries),
-        "consist" => Some(Name::Consist),
-        "subtree" => Some(Name::Subtree),
         "keygen" => Some(Name::Keygen),
         _ => None,
     }
@@ -42,8 +36,8 @@ pub fn wanted_count(name: Name) -> usize
 {
     match name {
         Name::Member | Name::Show | Name::Checkpoint => 1,
-        Name::Issue | Name::Entries => 2,
-        Name::Verify | Name::Consist | Name::Keygen => 3,
-        Name::InitLog | Name::Subtree => 4,
+        Name::Entries => 2,
+        Name::Verify | Name::Keygen => 3,
+        Name::InitLog => 4,
     }
 }
