@@ -1,6 +1,7 @@
 mod Adds
 mod Folds
 mod Found
+pub mod Leaves
 mod Rules
 mod Spelled
 mod Standing

@@ -9,7 +9,8 @@ use mtc_io::{Bytes, Memory};
 use std::alloc::Global;
 use std::test::Fail;
 use tls_wire::AnchorId;
-use tree_core::Sha;
+use tree_core::{Sha, leaf, subtree_ok};
+use tree_proofs::{Nodes, node_of};
 
 // The journal of a new log with id 32473.1, 2 active landmarks and a limit of 64.
 const NEW_LOG: [u8; 36] = [
@@ -38,6 +39,12 @@ const KEY: [u8; 44] = [
     0x30, 0x2A, 0x30, 0x05, 0x06, 0x03, 0x2B, 0x65, 0x70, 0x03, 0x21, 0x00, 0x00, 0x00, 0x00, 0x00,
     0x00, 0x00, 0x00, 0x00, 0x00, 0x00, 0x00, 0x00, 0x00, 0x00, 0x00, 0x00, 0x00, 0x00, 0x00, 0x00,
     0x00, 0x00, 0x00, 0x00, 0x00, 0x00, 0x00, 0x00, 0x00, 0x00, 0x00, 0x00,
+];
+
+// The tree hash of the null entry and that one.
+const ROOT: [u8; 32] = [
+    0x77, 0x56, 0x68, 0x25, 0xCD, 0x25, 0xF2, 0x63, 0x27, 0x1E, 0x3F, 0xA5, 0x34, 0x1D, 0xB2, 0x8E,
+    0xD2, 0xC8, 0x79, 0x45, 0xEE, 0x98, 0xF7, 0x31, 0xB2, 0xAA, 0x96, 0xB9, 0xE6, 0xB1, 0x1C, 0xF6,
 ];
 
 // The head of a public key like that one in so many bytes, of which the last ones are 0: the lengths of the whole and of
@@ -339,5 +346,21 @@ fn each_call_of_the_disk_may_fail(rt: HostRuntime) -> Result<(), Fail> {
             }
         }
     }
+    Ok(())
+}
+
+#[test]
+fn a_log_is_the_nodes_of_its_tree(rt: HostRuntime) -> Result<(), Fail> {
+    let alloc = rt.alloc();
+    let bytes = with_entry(alloc)?;
+    let Ok(mut log) = open(alloc, disk(alloc, bytes.as_slice(), &[])?) else {
+        return Err(Memory)?;
+    };
+    let mut leaves = log.leaves(alloc)?;
+    assert!(rt; log.size() == 2 && leaves.size() == 2);
+    assert!(rt; subtree_ok(0, 2) && subtree_ok(1, 2));
+    assert_eq!(rt; node_of(&mut log, 1, 2), Ok(leaf::<Sha>(&ENTRY)));
+    assert_eq!(rt; node_of(&mut log, 0, 2), Ok(ROOT));
+    assert_eq!(rt; node_of(&mut leaves, 0, 2), Ok(ROOT));
     Ok(())
 }
