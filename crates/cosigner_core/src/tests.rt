@@ -3,8 +3,8 @@
 use crate::{FormError, read_advance, read_subtree, write_advance, write_subtree};
 use std::alloc::Global;
 use std::process::Abort;
-use tree_core::{Toy, leaf};
-use tree_proofs::{Listed, Path, consist};
+use tree_core::{Toy, leaf, subtree_ok};
+use tree_proofs::{Listed, Nodes, Path, consist};
 
 const LOG: [u8; 4] = [0x81, 0xfd, 0x59, 0x01];
 
@@ -19,6 +19,7 @@ fn proof_of_second(rt: &impl Abort, alloc: Global) -> Path {
     nodes.push(&leaf::<Toy>(b"\x07")).expect(rt, "memory");
     nodes.push(&leaf::<Toy>(b"\x08")).expect(rt, "memory");
     let mut proof = Path::new();
+    assert!(rt; subtree_ok(1, 2) && nodes.size() == 2);
     assert_eq!(rt; consist(&mut nodes, 1, 2, 2, &mut proof), Ok(()));
     proof
 }

@@ -3,5 +3,6 @@ mod Folds
 mod Found
 mod Rules
 mod Spelled
+mod Standing
 mod Steps
 mod Walks

@@ -1,12 +1,12 @@
 -- What a log shows, and what `add` makes of it.
-use Rattle.std.specs.Prelude.{◌≡◌, ℕ, ◌+◌, Bool, true, false, List, [], ◌∷◌, ◌++◌, length, Option, option_map, IfSome, Result, Ok, Err}
+use Rattle.std.specs.Prelude.{◌≡◌, ℕ, ◌+◌, Bool, true, false, List, [], ◌∷◌, ◌++◌, length, Option, option_map, Result, Ok, Err}
 use Rattle.mtc_io.specs.Counts.{Rose}
 use Rattle.disk_core.specs.declared.disk.Disk.{Ghosts}
 use Rattle.tree_core.specs.declared.hashing.TreeHash.{Ghosts as Hashes}
-use Rattle.journal_core.specs.Words.{AllStandFor, disk_of, end_of, is_broken, records}
+use Rattle.journal_core.specs.Words.{disk_of, end_of, is_broken, records}
 use Rattle.journal_core.specs.declared.journal.Journal.{Journal}
 use Rattle.journal_core.specs.declared.error.AppendError.TheVariants as append_error
-use Rattle.issuance_log.specs.Folds.{LogState, log_of, with_item}
+use Rattle.issuance_log.specs.Folds.{LogState, with_item}
 use Rattle.issuance_log.specs.Records.{entry_record}
 use Rattle.issuance_log.specs.declared.error.LogError.{LogError}
 use Rattle.issuance_log.specs.declared.error.LogError.TheVariants.{Full, TooLarge, NoSuchEntry, Append, Memory}
@@ -50,15 +50,13 @@ module _ {H D : Type 0} {hashes : Hashes H} {g : Ghosts D} where
     pub was_sound : log_broken old ≡ false
     pub broken : log_broken new ≡ true
 
-  -- one item more: every image of the disk stands for the records with that of the item, which make this log
+  -- one item more, and a record with it
   pub record HasAdded (entry key : List ℕ) (old new : Log H D hashes g) : Type 0 where
     pub records : log_records new ≡ option_map (λ list. list ++ entry_record entry key ∷ []) (log_records old)
     pub state : state_of new ≡ with_item entry key (state_of old)
     pub end : log_end new ≡ log_end old + 5 + length (entry_record entry key)
     pub was_sound : log_broken old ≡ false
     pub sound : log_broken new ≡ false
-    pub all : IfSome (log_records new) (AllStandFor g (log_disk new))
-    pub valid : IfSome (log_records new) (λ list. log_of hashes.hash list ≡ Ok (state_of new))
 
   -- what `add` leaves, by its answer
   abbrev pub Leaves : List ℕ → List ℕ → Log H D hashes g → Log H D hashes g → Result ℕ LogError → Type 0

@@ -3,7 +3,7 @@ ghost use Rattle.std.specs.Prelude.{◌≡◌, ◌<◌, ℕ, List, length, Some,
 ghost use Rattle.byte_forms.specs.Places.{IsBytes};
 ghost use Rattle.journal_core.specs.Format.{StandsFor};
 ghost use Rattle.issuance_log.specs.Folds.{LogState, begun, next_log, log_of};
-ghost use Rattle.issuance_log.specs.Openings.{log_read};
+ghost use Rattle.issuance_log.specs.Openings.{FoundLog, log_read};
 ghost use Rattle.issuance_log.specs.Records.{entry_record, item_in};
 ghost use Rattle.issuance_log.specs.Rules.{IsFirst, IsNext};
 
@@ -25,8 +25,10 @@ pub fn records_keep_to_the_rules()
         → next_log h s body ≡ Some t → IsNext h s body t }
 {}
 
-/// A file that stands for records of which a log is made is read as that log.
+/// A file is read as a log exactly where it stands for records that make this log.
 pub fn logs_are_read_from_their_journals()
     ensures read { (h : List ℕ → List ℕ) (bytes : List ℕ) (list : List (List ℕ)) (s : LogState) → StandsFor bytes list
         → log_of h list ≡ Ok s → log_read h bytes ≡ Ok (record { records = list; state = s }) }
+    ensures only { (h : List ℕ → List ℕ) (bytes : List ℕ) (found : FoundLog) → IsBytes bytes → log_read h bytes ≡ Ok found
+        → StandsFor bytes found.records × (log_of h found.records ≡ Ok found.state) }
 {}

@@ -201,6 +201,30 @@ fn a_file_is_opened_or_refused(rt: HostRuntime) -> Result<(), Fail> {
     Ok(())
 }
 
+// A record that breaks the rules is told before what is missing behind it; what is missing within it, before that.
+#[test]
+fn the_first_fault_is_told(rt: HostRuntime) -> Result<(), Fail> {
+    let alloc = rt.alloc();
+    let other_key = changed(alloc, with_entry(alloc)?.as_slice(), 113, 0x73)?;
+    let cuts: [(usize, LogOpenError); 2] = [
+        (220, LogOpenError::BadRecord(1)),
+        (219, LogOpenError::Open(OpenError::CutShort(35))),
+    ];
+    for (count, wanted) in cuts {
+        let mut bytes = Bytes::copy_of(alloc, other_key.as_slice())?;
+        bytes.truncate(count);
+        assert!(rt;
+            size_of(alloc, bytes.as_slice())? == Err(wanted),
+            "{count} bytes"
+        );
+    }
+    // The one record of a new log stands there twice.
+    let mut twice = Bytes::copy_of(alloc, &NEW_LOG[..35])?;
+    twice.append(&NEW_LOG[16..])?;
+    assert!(rt; size_of(alloc, twice.as_slice())? == Err(LogOpenError::BadRecord(1)));
+    Ok(())
+}
+
 #[test]
 fn a_full_log_takes_no_entry(rt: HostRuntime) -> Result<(), Fail> {
     let alloc = rt.alloc();

@@ -111,7 +111,7 @@ fn main(rt: HostRuntime) -> Result<()> {
     for line in input.lines(rt.alloc()) {
         let line = line?;
         let label = word(line.as_str(), 0)?;
-        let now = number(line.as_str(), 1)? as i64;
+        let now: i64 = word(line.as_str(), 1)?.parse()?;
         let store = store(rt.alloc(), line.as_str())?;
         let certificate = hex::decode(rt.alloc(), word(line.as_str(), 8)?)?;
         let itself = text_of(

@@ -1,25 +1,37 @@
 -- What contracts see of a room in memory.
 use Rattle.std.specs.Prelude.{ℕ, List, Option, option_map}
 use Rattle.std.specs.BTreeMap.{get_by_text}
+use Rattle.disk_core.specs.Memory.{bytes_of, failing_of}
+use Rattle.disk_core.specs.declared.memory.mem_disk.MemDisk.{MemDisk}
 use Rattle.mtc_room.specs.declared.memory.MemRoom.{MemRoom}
 
--- a file in memory: its bytes, and the numbers of the calls that fail, counted anew from each lending
+-- a file in memory: its bytes, and the numbers of the calls that fail
 pub record FileState : Type 0 where
   pub bytes : List ℕ
   pub failing : List ℕ
 
--- a room in memory: the file of each name, the objects that are out, the faults so far, and those that came from
--- want of memory
+-- a room in memory: the file of each name, the calls that fail of each file that is yet to be made, the objects that
+-- are out, the faults so far, and those that came from want of memory
 pub record RoomState : Type 0 where
   pub file : List ℕ → Option FileState
+  pub fresh_failing : List ℕ
   pub lent : ℕ
   pub faults : ℕ
   pub starved : ℕ
 
+-- a device as a file
+abbrev pub file_of : MemDisk → FileState
+file_of disk = record { bytes = bytes_of disk; failing = failing_of disk }
+
+-- the device of each name
+abbrev pub disk_in : MemRoom → List ℕ → Option MemDisk
+disk_in room name = get_by_text room.files name
+
 -- what a room holds and counts
 abbrev pub state : MemRoom → RoomState
 state room = record {
-  file = λ name. option_map (λ f. record { bytes = f.bytes; failing = f.failing.items }) (get_by_text room.files name);
+  file = λ name. option_map file_of (disk_in room name);
+  fresh_failing = room.fresh_failing.items;
   lent = room.lent;
   faults = room.faults;
   starved = room.starved;
@@ -27,4 +39,4 @@ state room = record {
 
 -- the bytes of each name's file
 abbrev pub bytes_in : MemRoom → List ℕ → Option (List ℕ)
-bytes_in room name = option_map (λ f. f.bytes) ((state room).file name)
+bytes_in room name = option_map bytes_of (disk_in room name)

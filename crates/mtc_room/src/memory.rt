@@ -1,53 +1,52 @@
 // A room in memory.
-ghost use Rattle.std.specs.Prelude.{◌≡◌, ◌≢◌, ⊤, ℕ, ◌<◌, ◌^◌, List, Some, None, IfOk, OnOk, OnErr, IsErrOf};
-ghost use Rattle.std.specs.Option.{option_copied};
+ghost use Rattle.std.specs.Prelude.{◌≡◌, ◌≢◌, ⊤, ℕ, ◌+◌, ◌<◌, ◌^◌, List, [], Option, Result, Ok, Some, None, IfOk, OnOk, OnErr, IsErrOf, IsSome, IfErr, IsErr, ◌≤◌, length};
+ghost use Rattle.std.specs.Option.{option_copied, IsSomeAnd};
 ghost use Rattle.mtc_io.specs.Counts.{Rose, with_count};
+ghost use Rattle.disk_core.specs.Same.{SameDevice};
+ghost use Rattle.disk_core.specs.Memory.{bytes_of, calls_of, failing_of, made_of, faults_of, starved_of, images_of, IsFresh};
 
 use crate::RoomError;
 use crate::room::Room;
+use disk_core::{Disk, MemDisk};
 use mtc_io::{Bytes, MemSource, Memory};
 use std::alloc::Global;
 use std::collections::BTreeMap;
 
-#[derive(Debug, Drop)]
-struct MemFile {
-    bytes: Bytes,
-    failing: Vec<u64>,
-}
-
-impl MemFile {
-    fn source(&self, alloc: Global) -> Result<MemSource, Memory>
-        ensures { IfOk result (λ s. s ≡ record {
-          left = self.now.bytes;
-          calls = 0;
-          failing = self.now.failing.items;
-          faults = 0;
-        }) }
-    {
-        let bytes = Bytes::copy_of(alloc, self.bytes.as_slice())?;
-        let failing = Vec::from_slice(alloc, &self.failing)?;
-        Ok(MemSource::new(bytes, failing))
-    }
-}
-
-/// A room whose files stand in memory. It tells them. Each file has a list of the calls that fail, counted anew
-/// from each lending. A source is lent as a copy; where the room finds no memory for it, it fails, and counts that
-/// apart too.
+/// A room whose files stand in memory. It tells them. Each file has a list of the calls that fail. For its device they
+/// are counted over all lendings, and for a source anew from each lending. Sources and devices are lent as copies;
+/// where the room finds no memory it fails, and counts that apart too, as it does what a device counted so.
 #[derive(Debug, Drop)]
 pub struct MemRoom {
     alloc: Global,
-    files: BTreeMap<String, MemFile>,
+    files: BTreeMap<String, MemDisk>,
+    fresh_failing: Vec<u64>,
     lent: u64,
     faults: u64,
     starved: u64,
 }
 
+// A source over a copy of the file's bytes.
+fn source_of(alloc: Global, disk: &MemDisk) -> Result<MemSource, Memory>
+    ensures { IfOk result (λ s. s ≡ record {
+      left = bytes_of disk.now;
+      calls = 0;
+      failing = failing_of disk.now;
+      faults = 0;
+    }) }
+{
+    let bytes = Bytes::copy_of(alloc, disk.bytes())?;
+    let failing = Vec::from_slice(alloc, disk.failing())?;
+    Ok(MemSource::new(bytes, failing))
+}
+
 impl MemRoom {
-    ghost use Rattle.mtc_room.specs.Memory.{state, bytes_in};
+    ghost use Rattle.mtc_room.specs.Memory.{state, bytes_in, disk_in};
+    ghost use Rattle.mtc_room.specs.Room.{Lending};
 
     /// A room without a file. It takes no memory.
     pub fn new(alloc: Global) -> MemRoom
         ensures empty { (name : List ℕ) → (state result).file name ≡ None }
+        ensures fresh_failing { (state result).fresh_failing ≡ [] }
         ensures lent { (state result).lent ≡ 0 }
         ensures faults { (state result).faults ≡ 0 }
         ensures starved { (state result).starved ≡ 0 }
@@ -55,10 +54,18 @@ impl MemRoom {
         MemRoom {
             alloc,
             files: BTreeMap::new(alloc),
+            fresh_failing: Vec::new(alloc),
             lent: 0,
             faults: 0,
             starved: 0,
         }
+    }
+
+    /// From here on each file that is made fails the calls with these numbers.
+    pub fn fail_fresh(&mut self, failing: Vec<u64>)
+        ensures { state self.new ≡ record (state self.old) { fresh_failing = failing.items } }
+    {
+        self.fresh_failing = failing;
     }
 
     /// Puts a file with these bytes and failing calls in the place of any file of that name. Where memory is
@@ -68,12 +75,14 @@ impl MemRoom {
             ≡ Some (record { bytes = bytes; failing = failing.items })) }
         ensures others { (other : List ℕ) → other ≢ name.now → (state self.new).file other ≡ (state self.old).file other }
         ensures err { OnErr result ((other : List ℕ) → (state self.new).file other ≡ (state self.old).file other) }
+        ensures fresh_failing { (state self.new).fresh_failing ≡ (state self.old).fresh_failing }
         ensures lent { (state self.new).lent ≡ (state self.old).lent }
         ensures faults { (state self.new).faults ≡ (state self.old).faults }
         ensures starved { (state self.new).starved ≡ (state self.old).starved }
     {
         let name = String::from_str(self.alloc, name)?;
-        self.files.insert(name, MemFile { bytes, failing })?;
+        self.files
+            .insert(name, MemDisk::over(self.alloc, bytes, failing))?;
         Ok(())
     }
 
@@ -82,37 +91,88 @@ impl MemRoom {
         ensures { option_copied result ≡ bytes_in self.now name.now }
     {
         match self.files.get(name) {
-            Some(file) => Some(file.bytes.as_slice()),
+            Some(disk) => Some(disk.bytes()),
             None => None,
         }
     }
 
-    /// How often the room found no memory.
+    /// How often the room found no memory, or a device that it took back.
     pub fn starved(&self) -> u64
         ensures { result ≡ (state self.now).starved }
     {
         self.starved
     }
+
+    // Counts the loan of what was made, or the want of memory.
+    fn lend_out<T>(&mut self, made: Result<T, Memory>) -> Result<T, RoomError>
+        requires { self.old.lent < 2 ^ 32 }
+        ensures lending { Lending self.old.lent self.new.lent self.old.faults self.new.faults result }
+        ensures ok { IfOk result (λ it. made ≡ Ok it) }
+        ensures err { IfErr result (λ why. (why ≡ RoomError.Failed) × IsErr made) }
+        ensures files { self.new.files ≡ self.old.files }
+        ensures fresh_failing { self.new.fresh_failing ≡ self.old.fresh_failing }
+        ensures starved { OnErr result (Rose self.old.starved self.new.starved) }
+    {
+        match made {
+            Ok(lent) => {
+                self.lent += 1;
+                Ok(lent)
+            }
+            Err(Memory) => {
+                self.faults = self.faults.saturating_add(1);
+                self.starved = self.starved.saturating_add(1);
+                Err(RoomError::Failed)
+            }
+        }
+    }
+
+    // Makes an empty file, and a copy of its device to lend.
+    fn make(&mut self, name: &str) -> Result<MemDisk, Memory>
+        ensures others { (other : List ℕ) → other ≢ name.now → disk_in self.new other ≡ disk_in self.old other }
+        ensures err { OnErr result (disk_in self.new name.now ≡ disk_in self.old name.now) }
+        ensures made { IfOk result (λ d. IsSomeAnd (disk_in self.new name.now)
+            (λ e. IsFresh [] e × SameDevice ⟦<MemDisk as Disk>⟧ e d)) }
+        ensures failing { IfOk result (λ d. failing_of d ≡ self.old.fresh_failing.items) }
+        ensures first { IfOk result (λ d. (made_of d ≡ 0) × (faults_of d ≡ 0)) }
+        ensures fresh_failing { self.new.fresh_failing ≡ self.old.fresh_failing }
+        ensures lent { self.new.lent ≡ self.old.lent }
+        ensures faults { self.new.faults ≡ self.old.faults }
+        ensures starved { self.new.starved ≡ self.old.starved }
+    {
+        let name = String::from_str(self.alloc, name)?;
+        let failing = Vec::from_slice(self.alloc, &self.fresh_failing)?;
+        let disk = MemDisk::new(self.alloc, failing);
+        let lent = disk.lend()?;
+        self.files.insert(name, disk)?;
+        Ok(lent)
+    }
 }
 
 impl Room for MemRoom {
-    ghost use Rattle.mtc_room.specs.Memory.{state, bytes_in};
-    ghost use Rattle.mtc_room.specs.Room.{Lending, AllStay, LendsBytes};
+    ghost use Rattle.mtc_room.specs.Memory.{state, bytes_in, disk_in};
+    ghost use Rattle.mtc_room.specs.MemoryLaws.{told_in};
+    ghost use Rattle.mtc_room.specs.Room.{Lending, Stays, AllStay, OthersStay, LendsBytes};
 
     type Src = MemSource;
+
+    type Dsk = MemDisk;
 
     ghost tells = { λ _. ⊤ };
 
     ghost file = { bytes_in };
 
+    ghost device = { disk_in };
+
     ghost faults = { λ r. (state r).faults };
 
     ghost lent = { λ r. (state r).lent };
 
+    ghost told_file = { λ m name _. told_in (disk_in m name) };
+
     fn source(&mut self, name: &str) -> Result<MemSource, RoomError>
         requires { (state self.old).lent < 2 ^ 32 }
         ensures lending { Lending (state self.old).lent (state self.new).lent (state self.old).faults (state self.new).faults result }
-        ensures stay { AllStay (bytes_in self.old) (bytes_in self.new) }
+        ensures stay { AllStay (bytes_in self.old) (bytes_in self.new) (disk_in self.old) (disk_in self.new) }
         ensures tells { ⊤ → ⊤ }
         ensures bytes { IfOk result (λ s. ⊤ → LendsBytes (bytes_in self.old name.now) (Some s.left)) }
         ensures begins { IfOk result (λ s. s.faults ≡ 0) }
@@ -123,24 +183,86 @@ impl Room for MemRoom {
         ensures counted { IfOk result (λ s. s.calls ≡ 0) }
         ensures starved { IsErrOf result RoomError.Failed → Rose (state self.old).starved (state self.new).starved }
     {
-        let Some(file) = self.files.get(name) else {
+        let Some(disk) = self.files.get(name) else {
             return Err(RoomError::Absent);
         };
-        match file.source(self.alloc) {
-            Ok(source) => {
-                self.lent += 1;
-                Ok(source)
-            }
-            Err(Memory) => {
-                self.faults = self.faults.saturating_add(1);
-                self.starved = self.starved.saturating_add(1);
-                Err(RoomError::Failed)
-            }
+        let source = source_of(self.alloc, disk);
+        self.lend_out(source)
+    }
+
+    fn disk(&mut self, name: &str) -> Result<MemDisk, RoomError>
+        requires { (state self.old).lent < 2 ^ 32 }
+        ensures lending { Lending (state self.old).lent (state self.new).lent (state self.old).faults (state self.new).faults result }
+        ensures stay { AllStay (bytes_in self.old) (bytes_in self.new) (disk_in self.old) (disk_in self.new) }
+        ensures tells { ⊤ → ⊤ }
+        ensures bytes { IfOk result (λ d. ⊤ → LendsBytes (bytes_in self.old name.now) (Some (bytes_of d))) }
+        ensures device { IfOk result (λ d. ⊤
+            → IsSomeAnd (disk_in self.old name.now) (λ e. SameDevice ⟦<MemDisk as Disk>⟧ e d)) }
+        ensures begins { IfOk result (λ d. faults_of d ≡ 0) }
+        ensures absent { IsErrOf result RoomError.Absent → ⊤ → bytes_in self.old name.now ≡ None }
+        ensures never { IsErrOf result RoomError.Exists → ⊥ }
+        ensures counted { IfOk result (λ d. IsSomeAnd (disk_in self.old name.now)
+            (λ e. (failing_of d ≡ failing_of e) × (made_of d ≡ made_of e))) }
+        ensures starved { IsErrOf result RoomError.Failed → Rose (state self.old).starved (state self.new).starved }
+    {
+        let Some(disk) = self.files.get(name) else {
+            return Err(RoomError::Absent);
+        };
+        let copy = disk.lend();
+        self.lend_out(copy)
+    }
+
+    fn fresh(&mut self, name: &str) -> Result<MemDisk, RoomError>
+        requires { (state self.old).lent < 2 ^ 32 }
+        ensures lending { Lending (state self.old).lent (state self.new).lent (state self.old).faults (state self.new).faults result }
+        ensures others { OthersStay (bytes_in self.old) (bytes_in self.new) (disk_in self.old) (disk_in self.new) name.now }
+        ensures err { OnErr result (Stays (bytes_in self.old) (bytes_in self.new) (disk_in self.old) (disk_in self.new) name.now) }
+        ensures tells { ⊤ → ⊤ }
+        ensures was_absent { OnOk result (⊤ → bytes_in self.old name.now ≡ None) }
+        ensures no_device { OnOk result (⊤ → disk_in self.old name.now ≡ None) }
+        ensures empty { IfOk result (λ d. ⊤ → (bytes_in self.new name.now ≡ Some []) × (Some (bytes_of d) ≡ Some [])) }
+        ensures device { IfOk result (λ d. ⊤
+            → IsSomeAnd (disk_in self.new name.now) (λ e. SameDevice ⟦<MemDisk as Disk>⟧ e d)) }
+        ensures only { IfOk result (λ d. ⊤ → (c : List ℕ) → images_of d c → c ≡ []) }
+        ensures time { IfOk result (λ d. length (calls_of d) ≡ 0) }
+        ensures begins { IfOk result (λ d. faults_of d ≡ 0) }
+        ensures exists { IsErrOf result RoomError.Exists → ⊤ → IsSome (bytes_in self.old name.now) }
+        ensures never { IsErrOf result RoomError.Absent → ⊥ }
+        ensures counted { IfOk result (λ d. (failing_of d ≡ (state self.old).fresh_failing) × (made_of d ≡ 0)) }
+        ensures starved { IsErrOf result RoomError.Failed → Rose (state self.old).starved (state self.new).starved }
+    {
+        if self.files.contains_key(name) {
+            return Err(RoomError::Exists);
+        }
+        match self.make(name) {
+            Ok(disk) => self.lend_out(Ok(disk)),
+            Err(why) => self.lend_out(Err(why)),
         }
     }
 
     fn done(&mut self, source: MemSource) {
         self.faults = self.faults.saturating_add(source.faults());
         self.lent -= 1;
+    }
+
+    fn keep(&mut self, name: &str, disk: MemDisk)
+        requires { 0 < (state self.old).lent }
+        ensures out { (state self.new).lent + 1 ≡ (state self.old).lent }
+        ensures count { (state self.new).faults ≡ with_count (state self.old).faults (faults_of disk) }
+        ensures others { OthersStay (bytes_in self.old) (bytes_in self.new) (disk_in self.old) (disk_in self.new) name.now }
+        ensures tells { ⊤ → ⊤ }
+        ensures bytes { ⊤ → IsSome (bytes_in self.old name.now)
+            → LendsBytes (bytes_in self.new name.now) (Some (bytes_of disk)) }
+        ensures device { ⊤ → IsSome (bytes_in self.old name.now)
+            → IsSomeAnd (disk_in self.new name.now) (λ e. SameDevice ⟦<MemDisk as Disk>⟧ disk e) }
+        ensures kept { IsSome (bytes_in self.old name.now) → disk_in self.new name.now ≡ Some disk }
+        ensures starved { (state self.new).starved ≡ with_count (state self.old).starved (starved_of disk) }
+    {
+        self.faults = self.faults.saturating_add(disk.faults());
+        self.starved = self.starved.saturating_add(disk.starved());
+        self.lent -= 1;
+        if let Some(file) = self.files.get_mut(name) {
+            *file = disk;
+        }
     }
 }

@@ -3,7 +3,7 @@ use Rattle.std.specs.Prelude.{ℕ, List, []}
 use Rattle.mtc_top.specs.declared.answer.Said.{Said}
 use Rattle.mtc_top.specs.declared.answer.Said.TheVariants.{Done, Against}
 use Rattle.mtc_top.specs.declared.answer.Stopped.{Stopped}
-use Rattle.mtc_top.specs.declared.answer.Stopped.TheVariants.{BadWords, BadForm, Missing, Beyond}
+use Rattle.mtc_top.specs.declared.answer.Stopped.TheVariants.{BadWords, BadForm, Refused, Missing, Beyond}
 use Rattle.mtc_top.specs.declared.answer.Answer.{Answer}
 use Rattle.mtc_top.specs.declared.answer.Answer.TheVariants.{Says, Stops}
 
@@ -14,6 +14,7 @@ said_code Against = 3
 abbrev pub stopped_code : Stopped → ℕ
 stopped_code BadWords = 1
 stopped_code BadForm = 2
+stopped_code Refused = 4
 stopped_code Missing = 7
 stopped_code Beyond = 9
 

@@ -10,3 +10,9 @@ pub mod Settled
 pub mod ShowOutcome
 pub mod Steps
 pub mod WordsOutcome
+pub mod Made
+pub mod Nodes
+pub mod VerifyOutcome
+pub mod LogSteps
+pub mod Works
+pub mod LogOutcomes

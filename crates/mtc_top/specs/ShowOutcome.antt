@@ -1,8 +1,15 @@
 -- The outcome of `show CERT`.
-use Rattle.std.specs.Prelude.{ℕ, ◌&&◌, Bool, nat_le, List, [], ◌∷◌, ◌++◌, codes, Option, Some, None, Result, Ok, Err, bytes_eq, if◌then◌else◌}
+use Rattle.std.specs.Prelude.{ℕ, ◌&&◌, Bool, nat_le, List, [], ◌∷◌, ◌++◌, length, codes, Option, Some, None, Result, Ok, Err, bytes_eq, if◌then◌else◌}
 use Rattle.std.specs.Fmt.{decimal}
 use Rattle.std.specs.List.{list_all, flat_map}
 use Rattle.hex.specs.Hex.{encode_lower}
+use Rattle.byte_forms.specs.Places.{at}
+use Rattle.tls_wire.specs.Anchors.{anchor_of, text_of as text_of_id}
+use Rattle.tls_wire.specs.declared.fault.AnchorBytesError.{AnchorBytesError}
+use Rattle.mtc_proof.specs.Proofs.{SigParts, ProofParts}
+use Rattle.mtc_proof.specs.Reading.{proof_in, signatures_left}
+use Rattle.mtc_proof.specs.declared.fault.ProofError.{ProofError}
+use Rattle.cert_fields.specs.Given.{mtc_proof}
 use Rattle.der_core.specs.declared.fault.CertError.{CertError}
 use Rattle.cert_time.specs.Texts.{text_of}
 use Rattle.cert_fields.specs.Certificate.{Parts, parts_of}
@@ -41,9 +48,32 @@ fields_text p =
     ++ (codes "\nsubject " ++ (subject_text p.subject
     ++ (codes "\nkey " ++ (encode_lower p.spki ++ codes "\n")))))))))))
 
--- the lines of a certificate: its fields, and one for each dNSName
+-- a cosigner's id as text, or in hexadecimal where it is no anchor id
+abbrev pub cosigner_text : List ℕ → Result (List ℕ) AnchorBytesError → List ℕ
+cosigner_text bytes (Ok id) = text_of_id id
+cosigner_text bytes (Err why) = codes "hex:" ++ encode_lower bytes
+
+abbrev pub signature_line : SigParts → List ℕ
+signature_line s =
+    codes "signature " ++ (cosigner_text s.cosigner (anchor_of s.cosigner) ++ (codes " " ++ (decimal (length s.signature) ++ codes "\n")))
+
+-- the interval, and the length of the path
+abbrev pub interval_text : ProofParts → List ℕ
+interval_text p =
+    codes "interval " ++ (decimal p.start ++ (codes " " ++ (decimal p.end ++ (codes "\npath " ++ (decimal (length p.path) ++ codes "\n")))))
+
+-- these, and a line for each signature
+abbrev pub proof_lines : Result ProofParts ProofError → List ℕ
+proof_lines (Ok p) = interval_text p ++ flat_map signature_line (signatures_left (at p.signatures 0))
+proof_lines (Err why) = codes "proof none\n"
+
+-- a certificate of another algorithm has no proof
+abbrev pub proof_text : Parts → List ℕ
+proof_text p = if bytes_eq p.algorithm mtc_proof then proof_lines (proof_in p.proof) else codes "proof none\n"
+
+-- the lines of a certificate: its fields, one for each dNSName, and the proof
 abbrev pub show_text : Parts → List ℕ
-show_text p = fields_text p ++ (flat_map name_line (dns_names_in p.extensions) ++ codes "proof none\n")
+show_text p = fields_text p ++ (flat_map name_line (dns_names_in p.extensions) ++ proof_text p)
 
 abbrev pub shown : List ℕ → Result Parts CertError → Outcome
 shown file (Ok p) = says Done (show_text p)

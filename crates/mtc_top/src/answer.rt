@@ -19,9 +19,11 @@ pub enum Stopped {
     BadWords,
     /// A named file isn't in its grammar.
     BadForm,
-    /// A named file isn't there.
+    /// The state doesn't allow it.
+    Refused,
+    /// A named file isn't there, or that of a new journal is.
     Missing,
-    /// An input is over its limit.
+    /// An input, the log or its journal is over its limit.
     Beyond,
 }
 

@@ -5,6 +5,7 @@ ghost use Rattle.mtc_io.specs.Counts.{Rose};
 ghost use Rattle.mtc_io.specs.Streams.{AppendsPrefix, joined};
 ghost use Rattle.mtc_top.specs.Answers.{status_of, said_code, stopped_code, out_of, err_of};
 ghost use Rattle.mtc_top.specs.Lines.{command_line, file_line, memory_line, stop_line, WritesLine};
+ghost use Rattle.mtc_top.specs.Nodes.{IsEarly};
 ghost use Rattle.mtc_top.specs.Settled.{stop_code};
 
 use crate::answer::{Answer, Said, Stop, Stopped};
@@ -31,6 +32,7 @@ fn code_stopped(why: Stopped) -> u8
     match why {
         Stopped::BadWords => 1,
         Stopped::BadForm => 2,
+        Stopped::Refused => 4,
         Stopped::Missing => 7,
         Stopped::Beyond => 9,
     }
@@ -108,6 +110,7 @@ pub fn conclude<O: Sink, E: Sink>(command: &str, out: &mut O, err: &mut E, answe
     ensures prefix { result ≡ 6 → AppendsPrefix (O.taken out.old) (O.taken out.new) (out_of answer.now) }
     ensures out_line { result ≡ 6 → WritesLine (Rose (E.faults err.old) (E.faults err.new))
         (E.taken err.old) (E.taken err.new) (command_line command.now (codes "OutputFailed")) }
+    ensures early { IsEarly (status_of answer.now) → result ≡ status_of answer.now }
     ensures bad_words { status_of answer.now ≡ 1 → result ≡ 1 }
     ensures not_5 { result ≢ 5 }
     ensures not_8 { result ≢ 8 }

@@ -119,7 +119,7 @@ pub fn keygen<'a, R: Room>(
     requires height { is_height height ≡ true }
     requires width { is_width width ≡ true }
     ensures settled { Settled (R.lent room.old) (R.lent room.new) (R.faults room.old) (R.faults room.new)
-        (R.file room.old) (R.file room.new) }
+        (R.file room.old) (R.file room.new) (R.device room.old) (R.device room.new) }
     ensures tells { R.tells room.old → R.tells room.new }
     ensures answer { IfOk result (λ answer. R.tells room.old
         → answer ≡ (keygen_outcome height width file.now (R.file room.old)).answer) }

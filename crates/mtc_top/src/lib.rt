@@ -7,16 +7,21 @@
 
 mod answer;
 mod cert_fault;
+mod checkpoint;
 mod finish;
+mod init_log;
 mod input;
 mod keygen;
 mod line;
+mod log_command;
 mod member;
 mod refused_words;
 mod show;
 #[cfg(test)]
 mod tests;
 mod top;
+mod verify;
+mod work;
 
 pub use mtc_room::{MemRoom, Room, RoomError};
 pub use top::run;

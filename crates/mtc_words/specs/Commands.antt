@@ -1,19 +1,33 @@
 -- What contracts see of a command.
-use Rattle.std.specs.Prelude.{◌≡◌, ℕ, ◌==◌, ◌||◌, Bool, true, List}
+use Rattle.std.specs.Prelude.{◌≡◌, ℕ, ◌==◌, ◌&&◌, ◌||◌, Bool, true, nat_le, List, Result, Ok, Err}
 use Rattle.mtc_words.specs.declared.command.Command.{Command}
-use Rattle.mtc_words.specs.declared.command.Command.TheVariants.{Member, Show, Keygen}
+use Rattle.mtc_words.specs.declared.command.Command.TheVariants.{Member, Show, Verify, InitLog, Checkpoint, Entries, Keygen}
+use Rattle.mtc_words.specs.declared.error.WordError.{WordError}
 
--- a command with the values of its words: a text is the list of its bytes
+-- a command with the values of its words: a text is the list of its bytes, and so is an id
 pub data CommandValue : Type 0 where
   member : List ℕ → CommandValue
   show : List ℕ → CommandValue
+  verify : List ℕ → List ℕ → ℕ → CommandValue
+  init_log : List ℕ → List ℕ → ℕ → ℕ → CommandValue
+  checkpoint : List ℕ → CommandValue
+  entries : List ℕ → ℕ → CommandValue
   keygen : ℕ → ℕ → List ℕ → CommandValue
 
 -- the values of a command's words
 abbrev pub command_value : Command → CommandValue
 command_value (Member file) = member file.now
 command_value (Show file) = show file.now
+command_value (Verify cert store moment) = verify cert.now store.now moment
+command_value (InitLog journal id active limit) = init_log journal.now id active limit
+command_value (Checkpoint journal) = checkpoint journal.now
+command_value (Entries journal size) = entries journal.now size
 command_value (Keygen height width secret) = keygen height width secret.now
+
+-- the answer, with the command seen by its values
+abbrev pub said : Result Command WordError → Result CommandValue WordError
+said (Ok command) = Ok (command_value command)
+said (Err why) = Err why
 
 -- the heights and the widths of keys that are made
 abbrev pub is_height : ℕ → Bool
@@ -22,8 +36,27 @@ is_height n = (n == 5) || (n == 10)
 abbrev pub is_width : ℕ → Bool
 is_width n = (n == 1) || ((n == 2) || ((n == 4) || (n == 8)))
 
+-- the moments up to the end of the year 9999, in seconds since 1970-01-01T00:00:00Z
+abbrev pub is_time : ℕ → Bool
+is_time n = nat_le n 253402300799
+
+-- the numbers of active landmarks that a log may have, and of entries
+abbrev pub is_active : ℕ → Bool
+is_active n = nat_le 1 n && nat_le n 10000
+
+abbrev pub is_limit : ℕ → Bool
+is_limit n = nat_le 2 n && nat_le n 1048576
+
+-- every number
+abbrev pub is_any : ℕ → Bool
+is_any n = true
+
 -- the numbers lie in the ranges of their command
 abbrev pub IsInRange : CommandValue → Type 0
 IsInRange (member file) = Unit {0}
 IsInRange (show file) = Unit {0}
+IsInRange (verify cert store moment) = is_time moment ≡ true
+IsInRange (init_log journal id active limit) = (is_active active ≡ true) × (is_limit limit ≡ true)
+IsInRange (checkpoint journal) = Unit {0}
+IsInRange (entries journal size) = Unit {0}
 IsInRange (keygen height width secret) = (is_height height ≡ true) × (is_width width ≡ true)

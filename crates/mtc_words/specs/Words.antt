@@ -1,11 +1,12 @@
 -- The words of a command, and what they say: the first fault in the order of the tests, or the command.
 use Rattle.std.specs.Prelude.{ℕ, ◌+◌, ◌==◌, Bool, true, List, [], ◌∷◌, length, Option, Some, None, Result, Ok, Err, slice_index_or, is_some, if◌then◌else◌}
-use Rattle.byte_forms.specs.Readings.{◌>>=◌}
+use Rattle.byte_forms.specs.Readings.{◌>>=◌, blamed}
+use Rattle.tls_wire.specs.Anchors.{anchor_text}
 use Rattle.mtc_words.specs.declared.error.WordError.{WordError}
-use Rattle.mtc_words.specs.declared.error.WordError.TheVariants.{NoCommand, UnknownCommand, BadWord, WrongCount, BadNumber}
+use Rattle.mtc_words.specs.declared.error.WordError.TheVariants.{NoCommand, UnknownCommand, BadWord, WrongCount, BadNumber, BadId}
 use Rattle.mtc_words.specs.declared.name.Name.{Name}
-use Rattle.mtc_words.specs.declared.name.Name.TheVariants.{Member, Show, Keygen}
-use Rattle.mtc_words.specs.Commands.{CommandValue, member, show, keygen, is_height, is_width}
+use Rattle.mtc_words.specs.declared.name.Name.TheVariants.{Member, Show, Verify, InitLog, Checkpoint, Entries, Keygen}
+use Rattle.mtc_words.specs.Commands.{CommandValue, member, show, verify, init_log, checkpoint, entries, keygen, is_height, is_width, is_time, is_active, is_limit, is_any}
 use Rattle.mtc_words.specs.Names.{name_of, count_of}
 use Rattle.mtc_words.specs.Numbers.{number_of}
 
@@ -40,10 +41,26 @@ ranged place test (Some n) = if test n then Ok n else Err (BadNumber place)
 abbrev pub number_at : ℕ → (ℕ → Bool) → List ℕ → Result ℕ WordError
 number_at place test w = ranged place test (number_of w)
 
+-- the anchor id with this text; else the word of this number is a bad one
+abbrev pub id_at : ℕ → List ℕ → Result (List ℕ) WordError
+id_at place w = blamed (BadId place) (anchor_text w)
+
 -- the command of this name with its words, of which there are as many as it wants
 abbrev pub command_from : Name → List (List ℕ) → Result CommandValue WordError
 command_from Member ws = Ok (member (word ws 0))
 command_from Show ws = Ok (show (word ws 0))
+command_from Verify ws = do
+  moment ← number_at 3 is_time (word ws 2)
+  Ok (verify (word ws 0) (word ws 1) moment)
+command_from InitLog ws = do
+  active ← number_at 3 is_active (word ws 2)
+  limit ← number_at 4 is_limit (word ws 3)
+  id ← id_at 2 (word ws 1)
+  Ok (init_log (word ws 0) id active limit)
+command_from Checkpoint ws = Ok (checkpoint (word ws 0))
+command_from Entries ws = do
+  size ← number_at 2 is_any (word ws 1)
+  Ok (entries (word ws 0) size)
 command_from Keygen ws = do
   height ← number_at 1 is_height (word ws 0)
   width ← number_at 2 is_width (word ws 1)

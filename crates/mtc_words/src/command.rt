@@ -1,10 +1,22 @@
-/// A command with its words, in their order: a file word is a text, a number a `u64`.
-#[derive(Clone, Copy, Debug)]
+use tls_wire::AnchorId;
+
+/// A command with its words, in their order: a file word is a text, a number a `u64`, and an id an anchor id.
+#[derive(Debug, Drop)]
 pub enum Command<'a> {
     /// `member FILE`: evaluate the inclusion path that the file holds.
     Member(&'a str),
     /// `show CERT`: print what a certificate says.
     Show(&'a str),
+    /// `verify CERT STORE NOW`: judge a certificate by a store at a moment, in seconds since 1970-01-01T00:00:00Z, at most
+    /// 253402300799.
+    Verify(&'a str, &'a str, u64),
+    /// `init-log J LOGID MAXACTIVE LIMIT`: make the journal of a log, with 1 to 10,000 active landmarks and at most 2 to
+    /// 1,048,576 entries.
+    InitLog(&'a str, AnchorId, u64, u64),
+    /// `checkpoint J`: print the size of the log and its tree hash.
+    Checkpoint(&'a str),
+    /// `entries J SIZE`: write the first entries of the log with their keys.
+    Entries(&'a str, u64),
     /// `keygen HEIGHT WIDTH SECRET`: print the public key of a secret. The height is 5 or 10, the width 1, 2, 4 or 8.
     Keygen(u64, u64, &'a str),
 }

@@ -4,6 +4,7 @@
 //! the order of [`WordError`]'s variants.
 #![tactic(auto)]
 
+mod building;
 mod command;
 mod error;
 mod name;

@@ -6,6 +6,10 @@ ghost use Rattle.mtc_words.specs.Names.{name_of, count_of};
 pub enum Name {
     Member,
     Show,
+    Verify,
+    InitLog,
+    Checkpoint,
+    Entries,
     Keygen,
 }
 
@@ -17,6 +21,10 @@ pub fn read_name(word: &str) -> Option<Name>
     match word {
         "member" => Some(Name::Member),
         "show" => Some(Name::Show),
+        "verify" => Some(Name::Verify),
+        "init-log" => Some(Name::InitLog),
+        "checkpoint" => Some(Name::Checkpoint),
+        "entries" => Some(Name::Entries),
         "keygen" => Some(Name::Keygen),
         _ => None,
     }
@@ -27,7 +35,9 @@ pub fn wanted_count(name: Name) -> usize
     ensures { result ≡ count_of name }
 {
     match name {
-        Name::Member | Name::Show => 1,
-        Name::Keygen => 3,
+        Name::Member | Name::Show | Name::Checkpoint => 1,
+        Name::Entries => 2,
+        Name::Verify | Name::Keygen => 3,
+        Name::InitLog => 4,
     }
 }

@@ -1,13 +1,13 @@
 ghost use Rattle.std.specs.Prelude.{◌≡◌, length, map, string_bytes, IfNone, IfOk};
-ghost use Rattle.byte_forms.specs.Readings.{Gives};
-ghost use Rattle.mtc_words.specs.Commands.{command_value, is_height, is_width, IsInRange};
-ghost use Rattle.mtc_words.specs.Names.{count_of};
-ghost use Rattle.mtc_words.specs.Words.{is_bad_word, bad_word, word_fault, command_from, command_of, known_word, number_at};
+ghost use Rattle.byte_forms.specs.Readings.{Answers};
+ghost use Rattle.mtc_words.specs.Commands.{command_value, said, IsInRange};
+ghost use Rattle.mtc_words.specs.Words.{is_bad_word, bad_word, word_fault, command_of, known_word};
 
+use crate::building::build;
 use crate::command::Command;
 use crate::error::WordError;
-use crate::name::{Name, read_name, wanted_count};
-use crate::number::read_number;
+use crate::name::{read_name, wanted_count};
+use std::alloc::Global;
 
 fn is_bad(word: &str) -> bool
     ensures { result ≡ is_bad_word word.now }
@@ -44,49 +44,12 @@ fn fault(words: &[String], want: usize) -> Option<WordError>
     }
 }
 
-// A height of keys that are made.
-fn height(place: usize, word: &str) -> Result<u64, WordError>
-    ensures { result ≡ number_at place is_height word.now }
-{
-    match read_number(word) {
-        Some(height) if height == 5 || height == 10 => Ok(height),
-        _ => Err(WordError::BadNumber(place)),
-    }
-}
-
-// A width of keys that are made.
-fn width(place: usize, word: &str) -> Result<u64, WordError>
-    ensures { result ≡ number_at place is_width word.now }
-{
-    match read_number(word) {
-        Some(width) if width == 1 || width == 2 || width == 4 || width == 8 => Ok(width),
-        _ => Err(WordError::BadNumber(place)),
-    }
-}
-
-// The command of this name with its words, of which there are as many as it wants.
-fn build<'a>(name: Name, words: &'a [String]) -> Result<Command<'a>, WordError>
-    requires { length words.now ≡ count_of name }
-    ensures exact { Gives command_value result (command_from name (map string_bytes words.now)) }
-    ensures range { IfOk result (λ command. IsInRange (command_value command)) }
-{
-    match name {
-        Name::Member => Ok(Command::Member(words[0].as_str())),
-        Name::Show => Ok(Command::Show(words[0].as_str())),
-        Name::Keygen => {
-            let height = height(1, words[0].as_str())?;
-            let width = width(2, words[1].as_str())?;
-            Ok(Command::Keygen(height, width, words[2].as_str()))
-        }
-    }
-}
-
 /// Reads the words of a command. Refuses, the first that holds: `NoCommand`, `UnknownCommand`, `BadWord` with the
 /// number of the first word that is empty or begins with a hyphen, `WrongCount`, `BadNumber` with the number of the
-/// first number word that is none, or lies outside its range.
+/// first number word that is none, or lies outside its range, `BadId` with that of the first id word that is no anchor id.
 #[tactic(auto, unfolding(crate::specs::Words::command_of))]
-pub fn read_words<'a>(words: &'a [String]) -> Result<Command<'a>, WordError>
-    ensures exact { Gives command_value result (command_of (map string_bytes words.now)) }
+pub fn read_words<'a>(alloc: Global, words: &'a [String]) -> Result<Command<'a>, WordError>
+    ensures exact { Answers WordError.Memory (command_of (map string_bytes words.now)) (said result) }
     ensures range { IfOk result (λ command. IsInRange (command_value command)) }
 {
     let Some((first, rest)) = words.split_first() else {
@@ -97,7 +60,7 @@ pub fn read_words<'a>(words: &'a [String]) -> Result<Command<'a>, WordError>
     };
     match fault(rest, wanted_count(name)) {
         Some(why) => Err(why),
-        None => build(name, rest),
+        None => build(alloc, name, rest),
     }
 }
 

@@ -3,7 +3,7 @@ use std::test::Fail;
 
 #[test]
 fn words_are_refused_by_their_first_fault(rt: HostRuntime) -> Result<(), Fail> {
-    let cases: [(&[&str], WordError); 18] = [
+    let cases: [(&[&str], WordError); 26] = [
         (&[], WordError::NoCommand),
         (&["frob"], WordError::UnknownCommand),
         (&["--help"], WordError::UnknownCommand),
@@ -31,13 +31,27 @@ fn words_are_refused_by_their_first_fault(rt: HostRuntime) -> Result<(), Fail> {
             &["keygen", "10", "18446744073709551617", "f"],
             WordError::BadNumber(2),
         ),
+        (&["verify", "c"], WordError::WrongCount { have: 1, want: 3 }),
+        (&["verify", "c", "s", "01"], WordError::BadNumber(3)),
+        (&["verify", "c", "s", "-1"], WordError::BadWord(3)),
+        (
+            &["verify", "c", "s", "253402300800"],
+            WordError::BadNumber(3),
+        ),
+        (&["init-log", "j", "01", "2", "64"], WordError::BadId(2)),
+        (&["init-log", "j", "01", "2", "1"], WordError::BadNumber(4)),
+        (
+            &["init-log", "j", "32473.1", "10001", "1048577"],
+            WordError::BadNumber(3),
+        ),
+        (&["entries", "j", "x"], WordError::BadNumber(2)),
     ];
     for (texts, fault) in cases {
         let mut words = Vec::new(rt.alloc());
         for text in texts {
             words.push(String::from_str(rt.alloc(), text)?)?;
         }
-        match read_words(&words) {
+        match read_words(rt.alloc(), &words) {
             Ok(command) => assert!(rt; false, "read as {command:?}"),
             Err(why) => assert_eq!(rt; why, fault),
         }
@@ -51,7 +65,7 @@ fn a_command_has_its_words(rt: HostRuntime) -> Result<(), Fail> {
         String::from_str(rt.alloc(), "member")?,
         String::from_str(rt.alloc(), "f")?,
     ]?;
-    match read_words(&words) {
+    match read_words(rt.alloc(), &words) {
         Ok(Command::Member(file)) => assert_eq!(rt; file, "f"),
         Ok(command) => assert!(rt; false, "read as {command:?}"),
         Err(why) => assert!(rt; false, "refused: {why}"),

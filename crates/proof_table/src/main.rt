@@ -22,7 +22,13 @@ fn add_all(digest: &mut Sha, hashes: &[[u8; 32]]) {
 }
 
 // Makes the inclusion path of an entry in a subtree, and evaluates it.
-fn make_path(nodes: &mut Listed<Sha>, index: u64, start: u64, end: u64, path: &mut Path) -> Result<()> {
+fn make_path(
+    nodes: &mut Listed<Sha>,
+    index: u64,
+    start: u64,
+    end: u64,
+    path: &mut Path,
+) -> Result<()> {
     if !subtree_ok(start, end) || index < start || end <= index || nodes.size() < end {
         bail!("no entry of a subtree");
     }
@@ -58,7 +64,13 @@ fn subtree_line(alloc: Global, nodes: &mut Listed<Sha>, start: u64, end: u64) ->
 }
 
 // Makes the consistency proof of a subtree at a size, and checks it.
-fn make_proof(nodes: &mut Listed<Sha>, start: u64, end: u64, size: u64, proof: &mut Path) -> Result<()> {
+fn make_proof(
+    nodes: &mut Listed<Sha>,
+    start: u64,
+    end: u64,
+    size: u64,
+    proof: &mut Path,
+) -> Result<()> {
     if !subtree_ok(start, end) || !subtree_ok(0, size) || size < end || nodes.size() < size {
         bail!("no subtree of the list");
     }
@@ -75,7 +87,13 @@ fn make_proof(nodes: &mut Listed<Sha>, start: u64, end: u64, size: u64, proof: &
 }
 
 // The line of a subtree at a size.
-fn proof_line(alloc: Global, nodes: &mut Listed<Sha>, start: u64, end: u64, size: u64) -> Result<String> {
+fn proof_line(
+    alloc: Global,
+    nodes: &mut Listed<Sha>,
+    start: u64,
+    end: u64,
+    size: u64,
+) -> Result<String> {
     let mut proof = Path::new();
     make_proof(nodes, start, end, size, &mut proof)?;
     let mut digest = Sha::begin();

@@ -2,10 +2,8 @@ ghost use Rattle.std.specs.Prelude.{◌≡◌, ℕ, List, [], ◌∷◌, ◌++�
 
 use std::marker::Model;
 
-/// The most hashes that a path holds: both sides of each of the 64 levels that a tree can have.
-const MOST: usize = 128;
-
-/// The hashes of a proof, in an array of a fixed size. Contracts see it as the list of its hashes.
+/// The hashes of a proof, in an array of a fixed size: of 128 hashes, where a proof in a tree of 64
+/// levels has 65 at most. Contracts see it as the list of its hashes.
 #[derive(Drop)]
 pub struct Path {
     hashes: [[u8; 32]; 128],
@@ -26,7 +24,7 @@ impl Path {
         ensures { result ≡ [] }
     {
         Path {
-            hashes: [[0; 32]; MOST],
+            hashes: [[0; 32]; 128],
             length: 0,
         }
     }

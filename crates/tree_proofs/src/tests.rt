@@ -6,7 +6,7 @@ use crate::{ConsistError, Listed, Nodes, Path, check, consist, include, node_of,
 use mtc_io::{Bytes, Failed};
 use std::alloc::Global;
 use std::process::Abort;
-use tree_core::{Sha, Toy, evaluate, leaf};
+use tree_core::{Sha, Toy, evaluate, leaf, subtree_ok};
 
 /// The hash of no bytes by SHA-256.
 const NONE: [u8; 32] = [
@@ -99,12 +99,49 @@ fn nodes(rt: &impl Abort, alloc: Global) -> Listed<Sha> {
     nodes
 }
 
+// The hash of a subtree of the nodes.
+fn subtree<N: Nodes>(
+    rt: &impl Abort,
+    nodes: &mut N,
+    start: u64,
+    end: u64,
+) -> Result<[u8; 32], Failed> {
+    assert!(rt; subtree_ok(start, end) && end <= nodes.size());
+    node_of(nodes, start, end)
+}
+
+// The inclusion path of an entry in a subtree of the nodes.
+fn make_path<N: Nodes>(
+    rt: &impl Abort,
+    nodes: &mut N,
+    index: u64,
+    interval: (u64, u64),
+    path: &mut Path,
+) -> Result<(), Failed> {
+    let (start, end) = interval;
+    assert!(rt; subtree_ok(start, end) && end <= nodes.size() && start <= index && index < end);
+    include(nodes, index, start, end, path)
+}
+
+// The consistency proof of a subtree in the first nodes.
+fn make_proof<N: Nodes>(
+    rt: &impl Abort,
+    nodes: &mut N,
+    interval: (u64, u64),
+    size: u64,
+    proof: &mut Path,
+) -> Result<(), Failed> {
+    let (start, end) = interval;
+    assert!(rt; subtree_ok(start, end) && end <= size && size <= nodes.size());
+    consist(nodes, start, end, size, proof)
+}
+
 #[test]
 fn roots_of_lists(rt: HostRuntime) {
     let entries = entries(&rt, rt.alloc());
     let entries = entries.as_slice();
     assert_eq!(&rt; root::<Sha>(entries), N0_8);
-    assert_eq!(&rt; root::<Sha>(&entries[..6]), N0_6);
+    assert_eq!(&rt; root::<Sha>(entries.get(..6).expect(&rt, "six")), N0_6);
     assert_eq!(&rt; root::<Sha>(&entries[..0]), NONE);
     let mut toy = [0; 32];
     toy[0] = 0xd3;
@@ -129,11 +166,8 @@ fn nodes_of_the_list(rt: HostRuntime) {
     let mut nodes = nodes(&rt, rt.alloc());
     assert_eq!(&rt; nodes.size(), 8);
     for (start, end, wanted) in cases {
-        assert_eq!(&rt;
-            node_of(&mut nodes, start, end),
-            Ok(wanted),
-            "{start} to {end}"
-        );
+        let found = subtree(&rt, &mut nodes, start, end);
+        assert_eq!(&rt; found, Ok(wanted), "{start} to {end}");
     }
 }
 
@@ -146,9 +180,12 @@ fn evaluates_each_path(
 ) {
     let mut path = Path::new();
     for index in start..end {
-        let leaf = leaf::<Sha>(ENTRIES[index as usize]);
-        assert_eq!(rt; include(nodes, index, start, end, &mut path), Ok(()));
-        let found = evaluate::<Sha>(&leaf, index, start, end, path.as_slice());
+        let entry = ENTRIES.get(index as usize).expect(rt, "an entry");
+        assert_eq!(rt;
+            make_path(rt, nodes, index, (start, end), &mut path),
+            Ok(())
+        );
+        let found = evaluate::<Sha>(&leaf::<Sha>(entry), index, start, end, path.as_slice());
         assert_eq!(rt; found, Ok(wanted), "{index} in {start} to {end}");
     }
 }
@@ -160,9 +197,9 @@ fn inclusion_paths(rt: HostRuntime) {
     evaluates_each_path(&rt, &mut nodes, 0, 6, N0_6);
     evaluates_each_path(&rt, &mut nodes, 4, 8, N4_8);
     let mut path = Path::new();
-    assert_eq!(&rt; include(&mut nodes, 1, 0, 8, &mut path), Ok(()));
+    assert_eq!(&rt; make_path(&rt, &mut nodes, 1, (0, 8), &mut path), Ok(()));
     assert_eq!(&rt; path.as_slice(), &[N0_1, N2_4, N4_8][..]);
-    assert_eq!(&rt; include(&mut nodes, 5, 5, 6, &mut path), Ok(()));
+    assert_eq!(&rt; make_path(&rt, &mut nodes, 5, (5, 6), &mut path), Ok(()));
     assert_eq!(&rt; path.as_slice().len(), 0);
 }
 
@@ -177,7 +214,10 @@ fn consistency_proofs(rt: HostRuntime) {
         (0, 6, 8, &[N4_6, N6_8, N0_4]),
     ];
     for (start, end, size, wanted) in cases {
-        assert_eq!(&rt; consist(&mut nodes, start, end, size, &mut proof), Ok(()));
+        assert_eq!(&rt;
+            make_proof(&rt, &mut nodes, (start, end), size, &mut proof),
+            Ok(())
+        );
         assert_eq!(&rt; proof.as_slice(), wanted, "{start} to {end} of {size}");
     }
 }
@@ -255,15 +295,26 @@ impl Nodes for Failing {
 
 #[test]
 fn failures_are_handed_on(rt: HostRuntime) {
+    let mut path = Path::new();
     for calls in 0..4 {
         let wanted = if calls < 3 { Err(Failed) } else { Ok(()) };
-        let mut path = Path::new();
         let mut nodes = Failing { calls, failed: 0 };
-        assert_eq!(&rt; include(&mut nodes, 1, 0, 8, &mut path), wanted, "path {calls}");
+        assert_eq!(&rt;
+            make_path(&rt, &mut nodes, 1, (0, 8), &mut path),
+            wanted,
+            "path {calls}"
+        );
         let mut nodes = Failing { calls, failed: 0 };
-        assert_eq!(&rt; consist(&mut nodes, 0, 6, 8, &mut path), wanted, "proof {calls}");
+        assert_eq!(&rt;
+            make_proof(&rt, &mut nodes, (0, 6), 8, &mut path),
+            wanted,
+            "proof {calls}"
+        );
     }
-    let mut nodes = Failing { calls: 0, failed: 0 };
-    assert_eq!(&rt; node_of(&mut nodes, 0, 6), Err(Failed));
+    let mut nodes = Failing {
+        calls: 1,
+        failed: 0,
+    };
+    assert_eq!(&rt; subtree(&rt, &mut nodes, 0, 6), Err(Failed));
     assert_eq!(&rt; nodes.failed, 1);
 }

@@ -76,7 +76,7 @@ pub fn member<'a, H: TreeHash, R: Room>(
 ) -> Result<Answer, Stop<'a>>
     requires { R.lent room.old < 2 ^ 32 }
     ensures settled { Settled (R.lent room.old) (R.lent room.new) (R.faults room.old) (R.faults room.new)
-        (R.file room.old) (R.file room.new) }
+        (R.file room.old) (R.file room.new) (R.device room.old) (R.device room.new) }
     ensures tells { R.tells room.old → R.tells room.new }
     ensures answer { IfOk result (λ answer. R.tells room.old
         → answer ≡ (member_outcome H.hash file.now (R.file room.old)).answer) }

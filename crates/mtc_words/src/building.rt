@@ -1,0 +1,140 @@
+// The command of a name, from the words behind it.
+ghost use Rattle.std.specs.Prelude.{◌≡◌, Bool, length, map, string_bytes, IfOk};
+ghost use Rattle.byte_forms.specs.Readings.{Answers};
+ghost use Rattle.mtc_words.specs.Commands.{command_value, said, is_height, is_width, is_time, is_active, is_limit, is_any, IsInRange};
+ghost use Rattle.mtc_words.specs.Names.{count_of};
+ghost use Rattle.mtc_words.specs.Words.{command_from, number_at, id_at};
+
+use crate::command::Command;
+use crate::error::WordError;
+use crate::name::Name;
+use crate::number::read_number;
+use std::alloc::Global;
+use tls_wire::{AnchorError, AnchorId};
+
+// A height of keys that are made.
+fn height(place: usize, word: &str) -> Result<u64, WordError>
+    ensures { result ≡ number_at place is_height word.now }
+{
+    match read_number(word) {
+        Some(height) if height == 5 || height == 10 => Ok(height),
+        _ => Err(WordError::BadNumber(place)),
+    }
+}
+
+// A width of keys that are made.
+fn width(place: usize, word: &str) -> Result<u64, WordError>
+    ensures { result ≡ number_at place is_width word.now }
+{
+    match read_number(word) {
+        Some(width) if width == 1 || width == 2 || width == 4 || width == 8 => Ok(width),
+        _ => Err(WordError::BadNumber(place)),
+    }
+}
+
+// A moment, up to the end of the year 9999.
+fn time(place: usize, word: &str) -> Result<u64, WordError>
+    ensures { result ≡ number_at place is_time word.now }
+{
+    match read_number(word) {
+        Some(seconds) if seconds <= 253_402_300_799 => Ok(seconds),
+        _ => Err(WordError::BadNumber(place)),
+    }
+}
+
+// A number of active landmarks.
+fn active(place: usize, word: &str) -> Result<u64, WordError>
+    ensures { result ≡ number_at place is_active word.now }
+{
+    match read_number(word) {
+        Some(count) if 1 <= count && count <= 10_000 => Ok(count),
+        _ => Err(WordError::BadNumber(place)),
+    }
+}
+
+// The most entries of a log.
+fn limit(place: usize, word: &str) -> Result<u64, WordError>
+    ensures { result ≡ number_at place is_limit word.now }
+{
+    match read_number(word) {
+        Some(count) if 2 <= count && count <= 1_048_576 => Ok(count),
+        _ => Err(WordError::BadNumber(place)),
+    }
+}
+
+// Any number.
+fn number(place: usize, word: &str) -> Result<u64, WordError>
+    ensures { result ≡ number_at place is_any word.now }
+{
+    match read_number(word) {
+        Some(number) => Ok(number),
+        None => Err(WordError::BadNumber(place)),
+    }
+}
+
+fn id(alloc: Global, place: usize, word: &str) -> Result<AnchorId, WordError>
+    ensures { Answers WordError.Memory (id_at place word.now) result }
+{
+    match AnchorId::from_text(alloc, word) {
+        Ok(id) => Ok(id),
+        Err(AnchorError::Memory) => Err(WordError::Memory),
+        Err(_) => Err(WordError::BadId(place)),
+    }
+}
+
+// The words of `init-log`.
+fn init_log<'a>(alloc: Global, words: &'a [String]) -> Result<Command<'a>, WordError>
+    requires { length words.now ≡ count_of Name.InitLog }
+    ensures exact { Answers WordError.Memory (command_from Name.InitLog (map string_bytes words.now)) (said result) }
+    ensures range { IfOk result (λ command. IsInRange (command_value command)) }
+{
+    let active = active(3, words[2].as_str())?;
+    let limit = limit(4, words[3].as_str())?;
+    let id = id(alloc, 2, words[1].as_str())?;
+    Ok(Command::InitLog(words[0].as_str(), id, active, limit))
+}
+
+fn keygen<'a>(words: &'a [String]) -> Result<Command<'a>, WordError>
+    requires { length words.now ≡ count_of Name.Keygen }
+    ensures exact { said result ≡ command_from Name.Keygen (map string_bytes words.now) }
+    ensures range { IfOk result (λ command. IsInRange (command_value command)) }
+{
+    let height = height(1, words[0].as_str())?;
+    let width = width(2, words[1].as_str())?;
+    Ok(Command::Keygen(height, width, words[2].as_str()))
+}
+
+fn verify<'a>(words: &'a [String]) -> Result<Command<'a>, WordError>
+    requires { length words.now ≡ count_of Name.Verify }
+    ensures exact { said result ≡ command_from Name.Verify (map string_bytes words.now) }
+    ensures range { IfOk result (λ command. IsInRange (command_value command)) }
+{
+    let now = time(3, words[2].as_str())?;
+    Ok(Command::Verify(words[0].as_str(), words[1].as_str(), now))
+}
+
+fn entries<'a>(words: &'a [String]) -> Result<Command<'a>, WordError>
+    requires { length words.now ≡ count_of Name.Entries }
+    ensures exact { said result ≡ command_from Name.Entries (map string_bytes words.now) }
+    ensures range { IfOk result (λ command. IsInRange (command_value command)) }
+{
+    let size = number(2, words[1].as_str())?;
+    Ok(Command::Entries(words[0].as_str(), size))
+}
+
+// The command of this name with its words, of which there are as many as it wants.
+pub fn build<'a>(alloc: Global, name: Name, words: &'a [String]) -> Result<Command<'a>, WordError>
+    requires { length words.now ≡ count_of name }
+    ensures exact { Answers WordError.Memory (command_from name (map string_bytes words.now)) (said result) }
+    ensures range { IfOk result (λ command. IsInRange (command_value command)) }
+{
+    match name {
+        Name::Member => Ok(Command::Member(words[0].as_str())),
+        Name::Show => Ok(Command::Show(words[0].as_str())),
+        Name::Verify => verify(words),
+        Name::InitLog => init_log(alloc, words),
+        Name::Checkpoint => Ok(Command::Checkpoint(words[0].as_str())),
+        Name::Entries => entries(words),
+        Name::Keygen => keygen(words),
+    }
+}
