@@ -1,3 +1,5 @@
 mod Labels
 mod PublicKeys
 mod Items
+mod Sizes
+mod Issued
