@@ -1,19 +1,18 @@
 // The command `issue`: the entry of a request is added to a log.
 ghost use Rattle.std.specs.Prelude.{◌≡◌, ◌≢◌, ◌≤◌, ◌<◌, ◌^◌, ◌+◌, true, false, length, codes, string_bytes, IfOk, IfErr, IfSome, IsOk};
 ghost use Rattle.mtc_io.specs.Counts.{Rose};
-ghost use Rattle.authority_core.specs.Files.{request_of};
 ghost use Rattle.authority_core.specs.Issuing.{entry_for};
 ghost use Rattle.authority_core.specs.Requests.{CanBeIssued};
 ghost use Rattle.journal_core.specs.Format.{behind};
 ghost use Rattle.log_entry.specs.Matching.{matches};
 ghost use Rattle.issuance_log.specs.Words.{log_disk, log_records, log_end, log_broken, state_of};
 ghost use Rattle.mtc_top.specs.Answers.{status_of};
-ghost use Rattle.mtc_top.specs.IssueOutcome.{field_text, request_fault_text, issued_text, item_says, issue_says, with_request};
+ghost use Rattle.mtc_top.specs.IssueOutcome.{field_text, request_fault_text, issued_text, item_says, issue_says};
 ghost use Rattle.mtc_top.specs.Lines.{command_line, file_line};
 ghost use Rattle.mtc_top.specs.LogSteps.{found_log};
 ghost use Rattle.mtc_top.specs.Made.{IsOpen, Adds, MadeOf, untouched};
 ghost use Rattle.mtc_top.specs.Nodes.{IsEarly};
-ghost use Rattle.mtc_top.specs.Outcome.{issue_outcome};
+ghost use Rattle.mtc_top.specs.Outcome.{issue_outcome, request_says};
 ghost use Rattle.mtc_top.specs.Settled.{SettledBut, FailedOnly, LeftOf};
 ghost use Rattle.mtc_top.specs.Works.{FallenOnly, HasFallen};
 
@@ -76,8 +75,11 @@ fn add<H: TreeHash, D: Disk>(
         Err(LogError::TooLarge) => (log.into_disk(), refused(alloc, "TooLarge")),
         Err(LogError::NoSuchEntry) => unreachable!(),
         Err(LogError::Append(AppendError::Failed)) => (log.into_disk(), Err(Fallen::Device)),
-        Err(LogError::Append(AppendError::Broken)) => unreachable!(),
-        Err(LogError::Append(AppendError::Full)) => (log.into_disk(), refused(alloc, "JournalFull")),
+        Err(LogError::Append(AppendError::Broken)) => (log.into_disk(), refused(alloc, "Broken")),
+        Err(LogError::Append(AppendError::Full)) => (
+            log.into_disk(),
+            refused(alloc, "JournalFull"),
+        ),
         Err(LogError::Memory) => (log.into_disk(), Err(Fallen::Memory)),
     }
 }
@@ -155,6 +157,40 @@ fn bad_request(alloc: Global, file: &str, why: RequestError) -> Result<Answer, M
     })
 }
 
+// Reads the request, and adds its entry.
+#[tactic(auto, unfolding(crate::specs::Outcome::request_says))]
+fn issue_text<'a, H: TreeHash, R: Room>(
+    alloc: Global,
+    room: &mut R,
+    journal: &'a str,
+    file: &'a str,
+    text: &[u8],
+) -> Result<Answer, Stop<'a>>
+    requires { R.lent room.old < 2 ^ 32 }
+    ensures settled { SettledBut (R.lent room.old) (R.lent room.new) (R.faults room.old) (R.faults room.new)
+        (R.file room.old) (R.file room.new) (R.device room.old) (R.device room.new) (λ name. name ≡ journal.now) }
+    ensures tells { R.tells room.old → R.tells room.new }
+    ensures answer { IfOk result (λ answer. R.tells room.old
+        → answer ≡ (request_says H.hash journal.now file.now (R.file room.old journal.now) text.now).answer) }
+    ensures not_words { IfOk result (λ answer. status_of answer ≢ 1) }
+    ensures fault { IfErr result (FailedOnly (Rose (R.faults room.old) (R.faults room.new))) }
+    ensures made { IsOk result → R.tells room.old
+        → MadeOf R.Dsk.Disk (request_says H.hash journal.now file.now (R.file room.old journal.now) text.now).journal
+        (R.device room.old journal.now) (R.device room.new journal.now) }
+    ensures left { IfErr result (λ stop. R.tells room.old
+        → LeftOf R.Dsk.Disk stop (request_says H.hash journal.now file.now (R.file room.old journal.now) text.now).journal
+        (R.device room.old journal.now) (R.device room.new journal.now)) }
+    ensures early { IfOk result (λ answer. R.tells room.old
+        → (request_says H.hash journal.now file.now (R.file room.old journal.now) text.now).journal ≡ untouched
+        → IsEarly (status_of answer)) }
+{
+    match read_request(alloc, text) {
+        Ok(request) => on_journal::<H, R>(alloc, room, "issue", journal, Work::Issue(request)),
+        Err(RequestError::Memory) => Err(Stop::Memory),
+        Err(why) => Ok(bad_request(alloc, file, why)?),
+    }
+}
+
 /// The command `issue J REQUEST`.
 pub fn issue<'a, H: TreeHash, R: Room>(
     alloc: Global,
@@ -180,13 +216,8 @@ pub fn issue<'a, H: TreeHash, R: Room>(
         → (issue_outcome H.hash journal.now file.now (R.file room.old)).journal ≡ untouched
         → IsEarly (status_of answer)) }
 {
-    let text = match read_input(alloc, room, file, INPUT_LIMIT)? {
-        Ok(text) => text,
-        Err(why) => return Ok(no_input(alloc, "issue", file, why)?),
-    };
-    match read_request(alloc, text.as_slice()) {
-        Ok(request) => on_journal::<H, R>(alloc, room, "issue", journal, Work::Issue(request)),
-        Err(RequestError::Memory) => Err(Stop::Memory),
-        Err(why) => Ok(bad_request(alloc, file, why)?),
+    match read_input(alloc, room, file, INPUT_LIMIT)? {
+        Ok(text) => issue_text::<H, R>(alloc, room, journal, file, text.as_slice()),
+        Err(why) => Ok(no_input(alloc, "issue", file, why)?),
     }
 }
