@@ -3,3 +3,4 @@ mod PublicKeys
 mod Items
 mod Sizes
 mod Issued
+mod Grown

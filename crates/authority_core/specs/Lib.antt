@@ -3,3 +3,4 @@ pub mod Keys
 pub mod Requests
 pub mod Files
 pub mod Issuing
+pub mod Issues

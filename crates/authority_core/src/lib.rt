@@ -8,7 +8,7 @@
 mod issuing;
 mod requests;
 
-pub use issuing::{entries_say_what_was_asked, entry_of_request};
+pub use issuing::{IssueError, entries_say_what_was_asked, entry_of_request, issue};
 pub use requests::{
     Field, Names, Request, RequestError, host_names_are_joined_labels,
     public_keys_are_their_grammar, read_request,
