@@ -1,7 +1,6 @@
 -- Bytes behind their length of two bytes, one behind the other.
 use Rattle.std.proofs.Common.{◌≡◌, ℕ, zero, suc, ◌+◌, ◌<◌, ◌%◌, ◌/◌, List, ◌∷◌, [], ◌++◌, length, take, slice_index_or, refl, sym, ap, ◌∙◌, append_assoc, arith}
 use Rattle.std.specs.Int.{w16, to_be_bytes}
-use Rattle.std.proofs.Math.Seq.{take-length}
 use Rattle.tls_wire.specs.Spelling.{vector}
 use Rattle.mtc_top.specs.LogOutcomes.{items_text}
 

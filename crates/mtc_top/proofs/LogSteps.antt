@@ -1,5 +1,5 @@
 -- Opening a log: from what the opening found to the outcome behind it.
-use Rattle.std.proofs.Common.{◌≡◌, ℕ, List, Option, None, Some, option_map, IfSome, Ok, Err, refl, sym, ap, subst, ◌∙◌, inl, arith, rules, Result, IsOk, IfErr}
+use Rattle.std.proofs.Common.{◌≡◌, ℕ, List, Option, None, Some, option_map, IfSome, Ok, Err, refl, sym, subst, inl, arith, rules, Result, IsOk, IfErr}
 use Rattle.std.proofs.lemmas.Option.{IfSome_then}
 use Rattle.disk_core.specs.declared.disk.Disk.{Ghosts}
 use Rattle.journal_core.specs.Format.{StandsFor, records_of}

@@ -1,14 +1,12 @@
 -- What a command leaves of its journal: from the device as it was opened to the device before, and from the lent device to
 -- the room's.
-use Rattle.std.proofs.Common.{◌≡◌, ◌⊎◌, inl, inr, ℕ, List, [], ◌∷◌, ◌++◌, Option, None, Some, IsSome, IfSome, refl, sym, ap, subst, ◌∙◌, rules}
-use Rattle.std.specs.Prelude.{◌↔◌}
+use Rattle.std.proofs.Common.{◌≡◌, ◌⊎◌, inl, inr, ℕ, List, Option, None, Some, sym, subst}
 use Rattle.std.specs.Option.{IsSomeAnd}
 use Rattle.disk_core.specs.Moments.{LeavesOnly, Looks}
 use Rattle.disk_core.specs.Same.{SameDevice}
 use Rattle.disk_core.specs.declared.disk.Disk.{Ghosts}
-use Rattle.journal_core.specs.Format.{StandsFor, StandsForEither}
-use Rattle.journal_core.specs.Words.{AllStandFor}
-use Rattle.mtc_top.specs.Made.{Journaled, untouched, reads, appended, started, images_of, moment_of, left_of, Kept, WasRead, HasRead, HasAdded, MayHaveAdded, HasMade, MayHaveMade, IsOpen, Adds, MayAdd}
+use Rattle.journal_core.specs.Format.{StandsForEither}
+use Rattle.mtc_top.specs.Made.{Journaled, untouched, reads, appended, started, images_of, moment_of, left_of, Kept, WasRead, HasRead, HasMade, MayHaveMade, IsOpen, Adds, MayAdd}
 
 module _ {D : Type 0} (g : Ghosts D) where
   -- a look leaves nothing new

@@ -1,14 +1,14 @@
 -- How a command ends, as steps of a node.
-use Rattle.std.proofs.Common.{◌≡◌, ◌≢◌, ◌⊎◌, inl, inr, ℕ, ◌+◌, ◌<◌, true, false, Bool, List, [], ◌∷◌, ◌++◌, length, Option, None, Some, IsSome, IfSome, refl, sym, ap, subst, ◌∙◌, arith, rules}
+use Rattle.std.proofs.Common.{◌≡◌, ◌≢◌, ◌⊎◌, inl, inr, ℕ, ◌+◌, true, false, Bool, List, [], ◌∷◌, ◌++◌, length, Option, None, Some, IfSome, refl, sym, ap, subst, ◌∙◌, arith, rules}
 use Rattle.std.proofs.lemmas.Bool.Decides.{eqb_tells, leb_tells}
 use Rattle.std.proofs.lemmas.List.{length-append}
 use Rattle.std.specs.Io.KnownBytes.{Appends}
 use Rattle.disk_core.specs.declared.disk.Disk.{Ghosts}
 use Rattle.mtc_room.specs.Room.{TellsFile}
-use Rattle.journal_core.specs.Format.{StandsFor, StandsForEither, records_of}
+use Rattle.journal_core.specs.Format.{StandsFor, StandsForEither}
 use Rattle.journal_core.proofs.Records.{records_of-stands}
 use Rattle.mtc_top.specs.Made.{Journaled, untouched, reads, appended, started, images_of, Kept, WasRead, HasMade, MayHaveMade}
-use Rattle.mtc_top.specs.Nodes.{NodeState, with_pending, StandsForNode, AllStandForNode, stop, begin, fresh_node, End, same, stopped, begun, has_settled, has_handed, after, IsEarly, IsRecord, MayEnd, IsOnOld, IsOneOf, TookSome, EndsWell}
+use Rattle.mtc_top.specs.Nodes.{NodeState, StandsForNode, AllStandForNode, stop, begin, fresh_node, End, same, stopped, begun, has_settled, has_handed, after, IsEarly, IsRecord, MayEnd, IsOnOld, IsOneOf, TookSome, EndsWell}
 
 -- what was read are the records of the node behind a stop
 record Stopped (n : NodeState) (list : List (List ℕ)) : Type 0 where

@@ -1,5 +1,5 @@
 -- The outcome of `verify CERT STORE NOW`.
-use Rattle.std.specs.Prelude.{ℕ, List, ◌++◌, codes, Result, Ok, Err, ℤ, pos}
+use Rattle.std.specs.Prelude.{ℕ, List, ◌++◌, codes, Result, Ok, Err, pos}
 use Rattle.std.specs.Fmt.{decimal}
 use Rattle.tree_core.specs.declared.error.EvalError.{EvalError}
 use Rattle.tree_core.specs.declared.error.EvalError.TheVariants as eval_error

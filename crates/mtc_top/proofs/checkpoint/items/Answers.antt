@@ -1,4 +1,4 @@
-use Rattle.std.proofs.Common.{◌≡◌, ◌++◌, ◌+◌, ◌<◌, refl, ap, sym, ◌∙◌, append_assoc, arith, length, slice_index_or, [], take}
+use Rattle.std.proofs.Common.{◌≡◌, ◌++◌, ◌<◌, refl, ap, sym, ◌∙◌, append_assoc, arith, length, slice_index_or, take}
 use Rattle.std.specs.Int.{w16}
 use Rattle.tls_wire.specs.Spelling.{vector}
 use Rattle.mtc_top.specs.LogOutcomes.{items_text}
