@@ -16,3 +16,4 @@ pub mod VerifyOutcome
 pub mod LogSteps
 pub mod Works
 pub mod LogOutcomes
+pub mod RequestOutcomes

@@ -9,8 +9,9 @@ use Rattle.mtc_top.specs.declared.answer.Stop.{Stop}
 use Rattle.mtc_top.specs.declared.answer.Stop.TheVariants.{Room, Memory as NoMemory}
 use Rattle.issuance_log.specs.Openings.{FoundLog}
 use Rattle.mtc_top.specs.declared.work.Work.{Work}
-use Rattle.mtc_top.specs.declared.work.Work.TheVariants.{Checkpoint, Entries}
+use Rattle.mtc_top.specs.declared.work.Work.TheVariants.{Checkpoint, Entries, Consist, Subtree}
 use Rattle.mtc_top.specs.LogOutcomes.{checkpoint_says, entries_says}
+use Rattle.mtc_top.specs.RequestOutcomes.{consist_says, subtree_says}
 use Rattle.mtc_top.specs.Steps.{Outcome, Files}
 use Rattle.mtc_top.specs.LogSteps.{no_log_says, with_log}
 use Rattle.mtc_top.specs.Made.{Journaled, MayAdd}
@@ -56,6 +57,8 @@ Names (Err Memory) result = result ≡ Err NoMemory
 unfoldable pub work_says : (List ℕ → List ℕ) → Work → FoundLog → Outcome
 work_says h Checkpoint found = checkpoint_says h found
 work_says h (Entries size) found = entries_says size found
+work_says h (Consist old new) found = consist_says h old new found
+work_says h (Subtree start end size) found = subtree_says h start end size found
 
 -- the outcome of a command on the log of a journal
 abbrev pub on_journal_outcome : (List ℕ → List ℕ) → List ℕ → List ℕ → Work → Files → Outcome

@@ -11,6 +11,7 @@ ghost use Rattle.mtc_top.specs.Works.{FallenOnly, HasFallen, work_says};
 
 use crate::answer::Answer;
 use crate::checkpoint::{checkpoint, entries};
+use crate::requests::{ask_advance, ask_subtree};
 use disk_core::Disk;
 use issuance_log::Log;
 use mtc_io::Memory;
@@ -43,6 +44,10 @@ pub enum Work {
     Checkpoint,
     /// So many of the first entries.
     Entries(u64),
+    /// The request to hold the first `.1` entries, of a cosigner that holds the first `.0`.
+    Consist(u64, u64),
+    /// The request to sign the subtree from the first number up to the second one, of so many of the first entries.
+    Subtree(u64, u64, u64),
 }
 
 /// Carries out a command on a log. The device is handed back.
@@ -67,5 +72,7 @@ pub fn carry_out<H: TreeHash, D: Disk>(
     match work {
         Work::Checkpoint => checkpoint(alloc, log),
         Work::Entries(size) => entries(alloc, log, size),
+        Work::Consist(old, new) => ask_advance(alloc, log, old, new),
+        Work::Subtree(start, end, size) => ask_subtree(alloc, log, start, end, size),
     }
 }
