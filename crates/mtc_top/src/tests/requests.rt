@@ -30,9 +30,10 @@ fn answer_of(alloc: Global, work: Work) -> Result<Answer, Fail> {
     let Ok(log) = Log::<Sha, MemDisk>::open(alloc, disk) else {
         return Err(Memory)?;
     };
-    match carry_out(alloc, log, work) {
-        (_, Ok(answer)) => Ok(answer),
-        (_, Err(_)) => Err(Memory)?,
+    let (_disk, answer) = carry_out(alloc, log, work);
+    match answer {
+        Ok(answer) => Ok(answer),
+        Err(_) => Err(Memory)?,
     }
 }
 
