@@ -2,7 +2,7 @@
 -- command; each command's own outcome stands in a file of its own.
 use Rattle.std.specs.Prelude.{◌≡◌, ℕ, List, codes, Option, Result, Ok, Err}
 use Rattle.mtc_words.specs.declared.error.WordError.{WordError}
-use Rattle.mtc_words.specs.Commands.{CommandValue, member, show, verify, init_log, issue, checkpoint, entries, keygen}
+use Rattle.mtc_words.specs.Commands.{CommandValue, member, show, verify, init_log, issue, checkpoint, entries, consist, subtree, keygen}
 use Rattle.mtc_words.specs.Words.{command_of}
 use Rattle.authority_core.specs.Files.{request_of}
 use Rattle.mtc_top.specs.IssueOutcome.{with_request}
@@ -14,7 +14,7 @@ use Rattle.mtc_top.specs.Steps.{Outcome, Files, with_bytes}
 use Rattle.mtc_top.specs.VerifyOutcome.{verify_outcome}
 use Rattle.mtc_top.specs.WordsOutcome.{words_say, first_word}
 use Rattle.mtc_top.specs.Works.{journal_outcome}
-use Rattle.mtc_top.specs.declared.work.Work.TheVariants.{Checkpoint, Entries, Issue}
+use Rattle.mtc_top.specs.declared.work.Work.TheVariants.{Checkpoint, Entries, Issue, Consist, Subtree}
 
 -- the request is read, and then its entry is added
 unfoldable pub request_says : (List ℕ → List ℕ) → List ℕ → List ℕ → Option (List ℕ) → List ℕ → Outcome
@@ -34,6 +34,8 @@ command_outcome h (init_log journal id active limit) files = init_log_outcome jo
 command_outcome h (issue journal request) files = issue_outcome h journal request files
 command_outcome h (checkpoint journal) files = journal_outcome h (codes "checkpoint") journal (files journal) Checkpoint
 command_outcome h (entries journal size) files = journal_outcome h (codes "entries") journal (files journal) (Entries size)
+command_outcome h (consist journal old new) files = journal_outcome h (codes "consist") journal (files journal) (Consist old new)
+command_outcome h (subtree journal start end size) files = journal_outcome h (codes "subtree") journal (files journal) (Subtree start end size)
 command_outcome h (keygen height width file) files = keygen_outcome height width file files
 
 -- what is answered where the words say this
@@ -53,6 +55,8 @@ Touches (init_log journal id active limit) name = name ≡ journal
 Touches (issue journal request) name = name ≡ journal
 Touches (checkpoint journal) name = name ≡ journal
 Touches (entries journal size) name = name ≡ journal
+Touches (consist journal old new) name = name ≡ journal
+Touches (subtree journal start end size) name = name ≡ journal
 Touches (keygen height width file) name = ⊥
 
 -- and those that words may

@@ -9,10 +9,11 @@ use Rattle.mtc_top.specs.declared.answer.Stop.{Stop}
 use Rattle.mtc_top.specs.declared.answer.Stop.TheVariants.{Room, Memory as NoMemory}
 use Rattle.issuance_log.specs.Openings.{FoundLog}
 use Rattle.mtc_top.specs.declared.work.Work.{Work}
-use Rattle.mtc_top.specs.declared.work.Work.TheVariants.{Checkpoint, Entries, Issue}
+use Rattle.mtc_top.specs.declared.work.Work.TheVariants.{Checkpoint, Entries, Issue, Consist, Subtree}
 use Rattle.authority_core.specs.Requests.{CanBeIssued}
 use Rattle.mtc_top.specs.IssueOutcome.{issue_says}
 use Rattle.mtc_top.specs.LogOutcomes.{checkpoint_says, entries_says}
+use Rattle.mtc_top.specs.RequestOutcomes.{consist_says, subtree_says}
 use Rattle.mtc_top.specs.Steps.{Outcome}
 use Rattle.mtc_top.specs.LogSteps.{no_log_says, with_log}
 use Rattle.mtc_top.specs.Made.{Journaled, MayAdd}
@@ -59,12 +60,16 @@ unfoldable pub work_says : (List ℕ → List ℕ) → Work → FoundLog → Out
 work_says h Checkpoint found = checkpoint_says h found
 work_says h (Entries size) found = entries_says size found
 work_says h (Issue request) found = issue_says h request found
+work_says h (Consist old new) found = consist_says h old new found
+work_says h (Subtree start end size) found = subtree_says h start end size found
 
 -- a request can be issued
 abbrev pub CanBeDone : Work → Type 0
 CanBeDone Checkpoint = Unit {0}
 CanBeDone (Entries size) = Unit {0}
 CanBeDone (Issue request) = CanBeIssued request
+CanBeDone (Consist old new) = Unit {0}
+CanBeDone (Subtree start end size) = Unit {0}
 
 -- the outcome of a command on the log of a journal, over the bytes of its file
 unfoldable pub journal_outcome : (List ℕ → List ℕ) → List ℕ → List ℕ → Option (List ℕ) → Work → Outcome

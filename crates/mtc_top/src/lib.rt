@@ -17,6 +17,7 @@ mod line;
 mod log_command;
 mod member;
 mod refused_words;
+mod requests;
 mod show;
 #[cfg(test)]
 mod tests;

@@ -81,6 +81,18 @@ fn perform<'a, H: TreeHash, R: Room>(
         Command::Entries(journal, size) => {
             on_journal::<H, R>(alloc, room, "entries", journal, Work::Entries(size))
         }
+        Command::Consist(journal, old, new) => {
+            on_journal::<H, R>(alloc, room, "consist", journal, Work::Consist(old, new))
+        }
+        Command::Subtree(journal, start, end, size) => {
+            on_journal::<H, R>(
+                alloc,
+                room,
+                "subtree",
+                journal,
+                Work::Subtree(start, end, size),
+            )
+        }
         Command::Keygen(height, width, secret) => keygen(alloc, room, height, width, secret),
     }
 }

@@ -12,6 +12,7 @@ ghost use Rattle.mtc_top.specs.Works.{FallenOnly, HasFallen, CanBeDone, work_say
 use crate::answer::Answer;
 use crate::checkpoint::{checkpoint, entries};
 use crate::issue::issue_on;
+use crate::requests::{ask_advance, ask_subtree};
 use authority_core::Request;
 use disk_core::Disk;
 use issuance_log::Log;
@@ -47,6 +48,10 @@ pub enum Work {
     Entries(u64),
     /// One entry more: that of a request.
     Issue(Request),
+    /// The request to hold the first `.1` entries, of a cosigner that holds the first `.0`.
+    Consist(u64, u64),
+    /// The request to sign the subtree from the first number up to the second one, of so many of the first entries.
+    Subtree(u64, u64, u64),
 }
 
 /// Carries out a command on a log. The device is handed back.
@@ -73,5 +78,7 @@ pub fn carry_out<H: TreeHash, D: Disk>(
         Work::Checkpoint => checkpoint(alloc, log),
         Work::Entries(size) => entries(alloc, log, size),
         Work::Issue(request) => issue_on(alloc, log, request),
+        Work::Consist(old, new) => ask_advance(alloc, log, old, new),
+        Work::Subtree(start, end, size) => ask_subtree(alloc, log, start, end, size),
     }
 }

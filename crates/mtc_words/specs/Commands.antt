@@ -1,7 +1,7 @@
 -- What contracts see of a command.
 use Rattle.std.specs.Prelude.{◌≡◌, ℕ, ◌==◌, ◌&&◌, ◌||◌, Bool, true, nat_le, List, Result, Ok, Err}
 use Rattle.mtc_words.specs.declared.command.Command.{Command}
-use Rattle.mtc_words.specs.declared.command.Command.TheVariants.{Member, Show, Verify, InitLog, Issue, Checkpoint, Entries, Keygen}
+use Rattle.mtc_words.specs.declared.command.Command.TheVariants.{Member, Show, Verify, InitLog, Issue, Checkpoint, Entries, Consist, Subtree, Keygen}
 use Rattle.mtc_words.specs.declared.error.WordError.{WordError}
 
 -- a command with the values of its words: a text is the list of its bytes, and so is an id
@@ -13,6 +13,8 @@ pub data CommandValue : Type 0 where
   issue : List ℕ → List ℕ → CommandValue
   checkpoint : List ℕ → CommandValue
   entries : List ℕ → ℕ → CommandValue
+  consist : List ℕ → ℕ → ℕ → CommandValue
+  subtree : List ℕ → ℕ → ℕ → ℕ → CommandValue
   keygen : ℕ → ℕ → List ℕ → CommandValue
 
 -- the values of a command's words
@@ -24,6 +26,8 @@ command_value (InitLog journal id active limit) = init_log journal.now id active
 command_value (Issue journal request) = issue journal.now request.now
 command_value (Checkpoint journal) = checkpoint journal.now
 command_value (Entries journal size) = entries journal.now size
+command_value (Consist journal old new) = consist journal.now old new
+command_value (Subtree journal start end size) = subtree journal.now start end size
 command_value (Keygen height width secret) = keygen height width secret.now
 
 -- the answer, with the command seen by its values
@@ -62,4 +66,6 @@ IsInRange (init_log journal id active limit) = (is_active active ≡ true) × (i
 IsInRange (issue journal request) = Unit {0}
 IsInRange (checkpoint journal) = Unit {0}
 IsInRange (entries journal size) = Unit {0}
+IsInRange (consist journal old new) = Unit {0}
+IsInRange (subtree journal start end size) = Unit {0}
 IsInRange (keygen height width secret) = (is_height height ≡ true) × (is_width width ≡ true)

@@ -5,8 +5,8 @@ use Rattle.tls_wire.specs.Anchors.{anchor_text}
 use Rattle.mtc_words.specs.declared.error.WordError.{WordError}
 use Rattle.mtc_words.specs.declared.error.WordError.TheVariants.{NoCommand, UnknownCommand, BadWord, WrongCount, BadNumber, BadId}
 use Rattle.mtc_words.specs.declared.name.Name.{Name}
-use Rattle.mtc_words.specs.declared.name.Name.TheVariants.{Member, Show, Verify, InitLog, Issue, Checkpoint, Entries, Keygen}
-use Rattle.mtc_words.specs.Commands.{CommandValue, member, show, verify, init_log, issue, checkpoint, entries, keygen, is_height, is_width, is_time, is_active, is_limit, is_any}
+use Rattle.mtc_words.specs.declared.name.Name.TheVariants.{Member, Show, Verify, InitLog, Issue, Checkpoint, Entries, Consist, Subtree, Keygen}
+use Rattle.mtc_words.specs.Commands.{CommandValue, member, show, verify, init_log, issue, checkpoint, entries, consist, subtree, keygen, is_height, is_width, is_time, is_active, is_limit, is_any}
 use Rattle.mtc_words.specs.Names.{name_of, count_of}
 use Rattle.mtc_words.specs.Numbers.{number_of}
 
@@ -62,6 +62,15 @@ command_from Checkpoint ws = Ok (checkpoint (word ws 0))
 command_from Entries ws = do
   size ← number_at 2 is_any (word ws 1)
   Ok (entries (word ws 0) size)
+command_from Consist ws = do
+  old ← number_at 2 is_any (word ws 1)
+  new ← number_at 3 is_any (word ws 2)
+  Ok (consist (word ws 0) old new)
+command_from Subtree ws = do
+  start ← number_at 2 is_any (word ws 1)
+  end ← number_at 3 is_any (word ws 2)
+  size ← number_at 4 is_any (word ws 3)
+  Ok (subtree (word ws 0) start end size)
 command_from Keygen ws = do
   height ← number_at 1 is_height (word ws 0)
   width ← number_at 2 is_width (word ws 1)

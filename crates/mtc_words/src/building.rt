@@ -94,6 +94,28 @@ fn init_log<'a>(alloc: Global, words: &'a [String]) -> Result<Command<'a>, WordE
     Ok(Command::InitLog(words[0].as_str(), id, active, limit))
 }
 
+// The words of the commands that ask for proofs.
+fn consist<'a>(words: &'a [String]) -> Result<Command<'a>, WordError>
+    requires { length words.now ≡ count_of Name.Consist }
+    ensures exact { said result ≡ command_from Name.Consist (map string_bytes words.now) }
+    ensures range { IfOk result (λ command. IsInRange (command_value command)) }
+{
+    let old = number(2, words[1].as_str())?;
+    let new = number(3, words[2].as_str())?;
+    Ok(Command::Consist(words[0].as_str(), old, new))
+}
+
+fn subtree<'a>(words: &'a [String]) -> Result<Command<'a>, WordError>
+    requires { length words.now ≡ count_of Name.Subtree }
+    ensures exact { said result ≡ command_from Name.Subtree (map string_bytes words.now) }
+    ensures range { IfOk result (λ command. IsInRange (command_value command)) }
+{
+    let start = number(2, words[1].as_str())?;
+    let end = number(3, words[2].as_str())?;
+    let size = number(4, words[3].as_str())?;
+    Ok(Command::Subtree(words[0].as_str(), start, end, size))
+}
+
 fn keygen<'a>(words: &'a [String]) -> Result<Command<'a>, WordError>
     requires { length words.now ≡ count_of Name.Keygen }
     ensures exact { said result ≡ command_from Name.Keygen (map string_bytes words.now) }
@@ -136,6 +158,8 @@ pub fn build<'a>(alloc: Global, name: Name, words: &'a [String]) -> Result<Comma
         Name::Issue => Ok(Command::Issue(words[0].as_str(), words[1].as_str())),
         Name::Checkpoint => Ok(Command::Checkpoint(words[0].as_str())),
         Name::Entries => entries(words),
+        Name::Consist => consist(words),
+        Name::Subtree => subtree(words),
         Name::Keygen => keygen(words),
     }
 }

@@ -19,6 +19,10 @@ pub enum Command<'a> {
     Checkpoint(&'a str),
     /// `entries J SIZE`: write the first entries of the log with their keys.
     Entries(&'a str, u64),
+    /// `consist J OLD NEW`: write a request to a cosigner to advance from one size of the log to another.
+    Consist(&'a str, u64, u64),
+    /// `subtree J START END SIZE`: write a request to a cosigner to sign a subtree.
+    Subtree(&'a str, u64, u64, u64),
     /// `keygen HEIGHT WIDTH SECRET`: print the public key of a secret. The height is 5 or 10, the width 1, 2, 4 or 8.
     Keygen(u64, u64, &'a str),
 }

@@ -11,6 +11,8 @@ pub enum Name {
     Issue,
     Checkpoint,
     Entries,
+    Consist,
+    Subtree,
     Keygen,
 }
 
@@ -27,6 +29,8 @@ pub fn read_name(word: &str) -> Option<Name>
         "issue" => Some(Name::Issue),
         "checkpoint" => Some(Name::Checkpoint),
         "entries" => Some(Name::Entries),
+        "consist" => Some(Name::Consist),
+        "subtree" => Some(Name::Subtree),
         "keygen" => Some(Name::Keygen),
         _ => None,
     }
@@ -39,7 +43,7 @@ pub fn wanted_count(name: Name) -> usize
     match name {
         Name::Member | Name::Show | Name::Checkpoint => 1,
         Name::Issue | Name::Entries => 2,
-        Name::Verify | Name::Keygen => 3,
-        Name::InitLog => 4,
+        Name::Verify | Name::Consist | Name::Keygen => 3,
+        Name::InitLog | Name::Subtree => 4,
     }
 }

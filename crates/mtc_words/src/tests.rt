@@ -3,7 +3,7 @@ use std::test::Fail;
 
 #[test]
 fn words_are_refused_by_their_first_fault(rt: HostRuntime) -> Result<(), Fail> {
-    let cases: [(&[&str], WordError); 26] = [
+    let cases: [(&[&str], WordError); 27] = [
         (&[], WordError::NoCommand),
         (&["frob"], WordError::UnknownCommand),
         (&["--help"], WordError::UnknownCommand),
@@ -45,6 +45,7 @@ fn words_are_refused_by_their_first_fault(rt: HostRuntime) -> Result<(), Fail> {
             WordError::BadNumber(3),
         ),
         (&["entries", "j", "x"], WordError::BadNumber(2)),
+        (&["subtree", "j", "1", "2", ""], WordError::BadWord(4)),
     ];
     for (texts, fault) in cases {
         let mut words = Vec::new(rt.alloc());
