@@ -1,3 +1,6 @@
 mod Labels
 mod PublicKeys
 mod Items
+mod Sizes
+mod Issued
+mod Grown

@@ -1,4 +1,5 @@
 use crate::file_room::FileRoom;
+use disk_core::Disk;
 use mtc_io::read_all;
 use mtc_room::{Room, RoomError};
 use std::test::Fail;
@@ -28,5 +29,33 @@ fn lends_the_files_of_the_system(rt: HostRuntime) -> Result<(), Fail> {
         }
         Err(why) => assert_eq!(rt; why, RoomError::Absent),
     }
+    Ok(())
+}
+
+#[test]
+fn makes_files_and_opens_them_again(rt: HostRuntime) -> Result<(), Fail> {
+    let mut path = env::temp_dir(&rt)?;
+    path.push("mtc-file-room-fresh-test")?;
+    // One may be left of a run that was cut off.
+    let _ = fs::remove_file(&rt, &path);
+    let name = path.to_str().expect(&rt, "a path in UTF-8");
+
+    let mut room = FileRoom::new(&rt);
+    assert!(rt; matches!(room.disk(name), Err(RoomError::Absent)));
+    let mut disk = room.fresh(name).expect(&rt, "a new file");
+    assert_eq!(rt; disk.len(), Ok(0));
+    assert_eq!(rt; disk.write_at(0, b"entry"), Ok(()));
+    assert_eq!(rt; disk.sync(), Ok(()));
+    room.keep(name, disk);
+    assert!(rt; matches!(room.fresh(name), Err(RoomError::Exists)));
+
+    let mut disk = room.disk(name).expect(&rt, "the file");
+    assert_eq!(rt; disk.len(), Ok(5));
+    assert_eq!(rt; disk.write_at(5, b" 1"), Ok(()));
+    room.keep(name, disk);
+    let bytes = fs::read(&rt, &path)?;
+    assert_eq!(rt; bytes.as_slice(), b"entry 1".as_slice());
+    fs::remove_file(&rt, &path)?;
+    assert!(rt; matches!(room.disk(name), Err(RoomError::Absent)));
     Ok(())
 }

@@ -17,3 +17,4 @@ pub mod LogSteps
 pub mod Works
 pub mod LogOutcomes
 pub mod RequestOutcomes
+pub mod IssueOutcome

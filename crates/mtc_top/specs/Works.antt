@@ -1,5 +1,5 @@
 -- Why the work on a journal ends without an answer, and what it leaves.
-use Rattle.std.specs.Prelude.{◌≡◌, ℕ, List, Result, Ok, Err}
+use Rattle.std.specs.Prelude.{◌≡◌, ℕ, List, Option, Result, Ok, Err}
 use Rattle.disk_core.specs.declared.disk.Disk.{Ghosts}
 use Rattle.journal_core.specs.declared.error.OpenError.TheVariants as open_error
 use Rattle.issuance_log.specs.declared.error.LogOpenError.{LogOpenError}
@@ -9,10 +9,12 @@ use Rattle.mtc_top.specs.declared.answer.Stop.{Stop}
 use Rattle.mtc_top.specs.declared.answer.Stop.TheVariants.{Room, Memory as NoMemory}
 use Rattle.issuance_log.specs.Openings.{FoundLog}
 use Rattle.mtc_top.specs.declared.work.Work.{Work}
-use Rattle.mtc_top.specs.declared.work.Work.TheVariants.{Checkpoint, Entries, Consist, Subtree}
+use Rattle.mtc_top.specs.declared.work.Work.TheVariants.{Checkpoint, Entries, Issue, Consist, Subtree}
+use Rattle.authority_core.specs.Requests.{CanBeIssued}
+use Rattle.mtc_top.specs.IssueOutcome.{issue_says}
 use Rattle.mtc_top.specs.LogOutcomes.{checkpoint_says, entries_says}
 use Rattle.mtc_top.specs.RequestOutcomes.{consist_says, subtree_says}
-use Rattle.mtc_top.specs.Steps.{Outcome, Files}
+use Rattle.mtc_top.specs.Steps.{Outcome}
 use Rattle.mtc_top.specs.LogSteps.{no_log_says, with_log}
 use Rattle.mtc_top.specs.Made.{Journaled, MayAdd}
 use Rattle.mtc_top.specs.declared.work.Fallen.{Fallen}
@@ -57,9 +59,18 @@ Names (Err Memory) result = result ≡ Err NoMemory
 unfoldable pub work_says : (List ℕ → List ℕ) → Work → FoundLog → Outcome
 work_says h Checkpoint found = checkpoint_says h found
 work_says h (Entries size) found = entries_says size found
+work_says h (Issue request) found = issue_says h request found
 work_says h (Consist old new) found = consist_says h old new found
 work_says h (Subtree start end size) found = subtree_says h start end size found
 
--- the outcome of a command on the log of a journal
-abbrev pub on_journal_outcome : (List ℕ → List ℕ) → List ℕ → List ℕ → Work → Files → Outcome
-on_journal_outcome h command journal work files = with_log h command journal (files journal) (work_says h work)
+-- a request can be issued
+abbrev pub CanBeDone : Work → Type 0
+CanBeDone Checkpoint = Unit {0}
+CanBeDone (Entries size) = Unit {0}
+CanBeDone (Issue request) = CanBeIssued request
+CanBeDone (Consist old new) = Unit {0}
+CanBeDone (Subtree start end size) = Unit {0}
+
+-- the outcome of a command on the log of a journal, over the bytes of its file
+unfoldable pub journal_outcome : (List ℕ → List ℕ) → List ℕ → List ℕ → Option (List ℕ) → Work → Outcome
+journal_outcome h command journal file work = with_log h command journal file (work_says h work)

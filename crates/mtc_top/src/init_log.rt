@@ -3,7 +3,7 @@ ghost use Rattle.std.specs.Prelude.{◌≡◌, ◌≢◌, ◌≤◌, ◌<◌, �
 ghost use Rattle.mtc_io.specs.Counts.{Rose};
 ghost use Rattle.mtc_words.specs.Commands.{is_active, is_limit};
 ghost use Rattle.journal_core.specs.Format.{StandsFor};
-ghost use Rattle.issuance_log.specs.Records.{settings_record, AreAllowed};
+ghost use Rattle.issuance_log.specs.Records.{settings_record};
 ghost use Rattle.mtc_top.specs.Answers.{status_of};
 ghost use Rattle.mtc_top.specs.Lines.{file_line};
 ghost use Rattle.mtc_top.specs.LogOutcomes.{log_line, init_log_outcome};
@@ -44,7 +44,10 @@ fn text_of_log(alloc: Global, id: &AnchorId) -> Result<Bytes, Memory>
 
 // Makes the journal on an empty device. The device is handed back.
 fn begin<D: Disk>(alloc: Global, disk: D, settings: &LogSettings) -> (D, Result<(), StartError>)
-    requires { AreAllowed settings.now.max_active settings.now.limit }
+    requires some_active { 1 ≤ settings.now.max_active }
+    requires few_active { settings.now.max_active ≤ 10000 }
+    requires some { 2 ≤ settings.now.limit }
+    requires few { settings.now.limit ≤ 1048576 }
     ensures made { IsOk result.1 → D.told disk ≡ Some [] → (c : List ℕ) → D.may_leave result.0 c
         → StandsFor c (settings_record settings.now ∷ []) }
     ensures no_memory { IsErrOf result.1 StartError.Memory

@@ -11,6 +11,7 @@ mod checkpoint;
 mod finish;
 mod init_log;
 mod input;
+mod issue;
 mod keygen;
 mod line;
 mod log_command;

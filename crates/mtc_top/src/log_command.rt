@@ -3,11 +3,11 @@ ghost use Rattle.std.specs.Prelude.{◌≡◌, ◌≢◌, ◌≤◌, ◌<◌, �
 ghost use Rattle.mtc_io.specs.Counts.{Rose};
 ghost use Rattle.issuance_log.specs.Openings.{log_read};
 ghost use Rattle.mtc_top.specs.Answers.{status_of};
-ghost use Rattle.mtc_top.specs.LogSteps.{open_fault_text, on_log, with_log};
+ghost use Rattle.mtc_top.specs.LogSteps.{open_fault_text, on_log};
 ghost use Rattle.mtc_top.specs.Made.{HasMade, MadeOf, untouched};
 ghost use Rattle.mtc_top.specs.Nodes.{IsEarly};
 ghost use Rattle.mtc_top.specs.Settled.{SettledBut, FailedOnly, LeftBy, LeftOf};
-ghost use Rattle.mtc_top.specs.Works.{Refuses, Names, work_says};
+ghost use Rattle.mtc_top.specs.Works.{Refuses, Names, CanBeDone, work_says, journal_outcome};
 
 use crate::answer::{Answer, Stop, Stopped};
 use crate::input::NoInput;
@@ -75,6 +75,7 @@ fn on_device<'a, H: TreeHash, D: Disk>(
     journal: &'a str,
     work: Work,
 ) -> (D, Result<Answer, Stop<'a>>)
+    requires { CanBeDone work }
     ensures answer { IfOk result.1 (λ answer. IfSome (D.told disk) (λ bytes. answer
         ≡ (on_log command.now journal.now (log_read H.hash bytes) (work_says H.hash work)).answer)) }
     ensures not_words { IfOk result.1 (λ answer. status_of answer ≢ 1) }
@@ -100,6 +101,7 @@ fn on_device<'a, H: TreeHash, D: Disk>(
 }
 
 /// Lends a journal, opens its log and works on it. Whatever comes of it, the device is put back.
+#[tactic(auto, unfolding(crate::specs::Works::journal_outcome))]
 pub fn on_journal<'a, H: TreeHash, R: Room>(
     alloc: Global,
     room: &mut R,
@@ -107,22 +109,23 @@ pub fn on_journal<'a, H: TreeHash, R: Room>(
     journal: &'a str,
     work: Work,
 ) -> Result<Answer, Stop<'a>>
-    requires { R.lent room.old < 2 ^ 32 }
+    requires lent { R.lent room.old < 2 ^ 32 }
+    requires possible { CanBeDone work }
     ensures settled { SettledBut (R.lent room.old) (R.lent room.new) (R.faults room.old) (R.faults room.new)
         (R.file room.old) (R.file room.new) (R.device room.old) (R.device room.new) (λ name. name ≡ journal.now) }
     ensures tells { R.tells room.old → R.tells room.new }
     ensures answer { IfOk result (λ answer. R.tells room.old → answer
-        ≡ (with_log H.hash command.now journal.now (R.file room.old journal.now) (work_says H.hash work)).answer) }
+        ≡ (journal_outcome H.hash command.now journal.now (R.file room.old journal.now) work).answer) }
     ensures not_words { IfOk result (λ answer. status_of answer ≢ 1) }
     ensures fault { IfErr result (FailedOnly (Rose (R.faults room.old) (R.faults room.new))) }
     ensures made { IsOk result → R.tells room.old
-        → MadeOf R.Dsk.Disk (with_log H.hash command.now journal.now (R.file room.old journal.now) (work_says H.hash work)).journal
+        → MadeOf R.Dsk.Disk (journal_outcome H.hash command.now journal.now (R.file room.old journal.now) work).journal
         (R.device room.old journal.now) (R.device room.new journal.now) }
     ensures left { IfErr result (λ stop. R.tells room.old
-        → LeftOf R.Dsk.Disk stop (with_log H.hash command.now journal.now (R.file room.old journal.now) (work_says H.hash work)).journal
+        → LeftOf R.Dsk.Disk stop (journal_outcome H.hash command.now journal.now (R.file room.old journal.now) work).journal
         (R.device room.old journal.now) (R.device room.new journal.now)) }
     ensures early { IfOk result (λ answer. R.tells room.old
-        → (with_log H.hash command.now journal.now (R.file room.old journal.now) (work_says H.hash work)).journal ≡ untouched
+        → (journal_outcome H.hash command.now journal.now (R.file room.old journal.now) work).journal ≡ untouched
         → IsEarly (status_of answer)) }
 {
     let disk = match room.disk(journal) {

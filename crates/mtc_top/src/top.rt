@@ -17,6 +17,7 @@ ghost use Rattle.mtc_top.specs.WordsOutcome.{first_word};
 use crate::answer::{Answer, Stop};
 use crate::finish::{conclude, fail};
 use crate::init_log::init_log;
+use crate::issue::issue;
 use crate::keygen::keygen;
 use crate::log_command::on_journal;
 use crate::member::member;
@@ -73,6 +74,7 @@ fn perform<'a, H: TreeHash, R: Room>(
         Command::InitLog(journal, id, max_active, limit) => {
             init_log(alloc, room, journal, id, max_active, limit)
         }
+        Command::Issue(journal, request) => issue::<H, R>(alloc, room, journal, request),
         Command::Checkpoint(journal) => {
             on_journal::<H, R>(alloc, room, "checkpoint", journal, Work::Checkpoint)
         }

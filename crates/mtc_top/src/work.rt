@@ -7,11 +7,13 @@ ghost use Rattle.issuance_log.specs.Words.{log_disk, log_records, log_end, log_b
 ghost use Rattle.mtc_top.specs.Answers.{status_of};
 ghost use Rattle.mtc_top.specs.LogSteps.{found_log};
 ghost use Rattle.mtc_top.specs.Made.{IsOpen, Adds};
-ghost use Rattle.mtc_top.specs.Works.{FallenOnly, HasFallen, work_says};
+ghost use Rattle.mtc_top.specs.Works.{FallenOnly, HasFallen, CanBeDone, work_says};
 
 use crate::answer::Answer;
 use crate::checkpoint::{checkpoint, entries};
+use crate::issue::issue_on;
 use crate::requests::{ask_advance, ask_subtree};
+use authority_core::Request;
 use disk_core::Disk;
 use issuance_log::Log;
 use mtc_io::Memory;
@@ -44,6 +46,8 @@ pub enum Work {
     Checkpoint,
     /// So many of the first entries.
     Entries(u64),
+    /// One entry more: that of a request.
+    Issue(Request),
     /// The request to hold the first `.1` entries, of a cosigner that holds the first `.0`.
     Consist(u64, u64),
     /// The request to sign the subtree from the first number up to the second one, of so many of the first entries.
@@ -57,6 +61,7 @@ pub fn carry_out<H: TreeHash, D: Disk>(
     log: Log<H, D>,
     work: Work,
 ) -> (D, Result<Answer, Fallen>)
+    requires possible { CanBeDone work }
     requires sound { log_broken log ≡ false }
     requires end { IfSome (log_records log) (λ list. log_end log ≡ behind 16 list + 1) }
     ensures answer { IfOk result.1 (λ answer. IfSome (log_records log)
@@ -72,6 +77,7 @@ pub fn carry_out<H: TreeHash, D: Disk>(
     match work {
         Work::Checkpoint => checkpoint(alloc, log),
         Work::Entries(size) => entries(alloc, log, size),
+        Work::Issue(request) => issue_on(alloc, log, request),
         Work::Consist(old, new) => ask_advance(alloc, log, old, new),
         Work::Subtree(start, end, size) => ask_subtree(alloc, log, start, end, size),
     }

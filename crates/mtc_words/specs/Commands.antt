@@ -1,7 +1,7 @@
 -- What contracts see of a command.
 use Rattle.std.specs.Prelude.{◌≡◌, ℕ, ◌==◌, ◌&&◌, ◌||◌, Bool, true, nat_le, List, Result, Ok, Err}
 use Rattle.mtc_words.specs.declared.command.Command.{Command}
-use Rattle.mtc_words.specs.declared.command.Command.TheVariants.{Member, Show, Verify, InitLog, Checkpoint, Entries, Keygen}
+use Rattle.mtc_words.specs.declared.command.Command.TheVariants.{Member, Show, Verify, InitLog, Issue, Checkpoint, Entries, Keygen}
 use Rattle.mtc_words.specs.declared.error.WordError.{WordError}
 
 -- a command with the values of its words: a text is the list of its bytes, and so is an id
@@ -10,6 +10,7 @@ pub data CommandValue : Type 0 where
   show : List ℕ → CommandValue
   verify : List ℕ → List ℕ → ℕ → CommandValue
   init_log : List ℕ → List ℕ → ℕ → ℕ → CommandValue
+  issue : List ℕ → List ℕ → CommandValue
   checkpoint : List ℕ → CommandValue
   entries : List ℕ → ℕ → CommandValue
   keygen : ℕ → ℕ → List ℕ → CommandValue
@@ -20,6 +21,7 @@ command_value (Member file) = member file.now
 command_value (Show file) = show file.now
 command_value (Verify cert store moment) = verify cert.now store.now moment
 command_value (InitLog journal id active limit) = init_log journal.now id active limit
+command_value (Issue journal request) = issue journal.now request.now
 command_value (Checkpoint journal) = checkpoint journal.now
 command_value (Entries journal size) = entries journal.now size
 command_value (Keygen height width secret) = keygen height width secret.now
@@ -57,6 +59,7 @@ IsInRange (member file) = Unit {0}
 IsInRange (show file) = Unit {0}
 IsInRange (verify cert store moment) = is_time moment ≡ true
 IsInRange (init_log journal id active limit) = (is_active active ≡ true) × (is_limit limit ≡ true)
+IsInRange (issue journal request) = Unit {0}
 IsInRange (checkpoint journal) = Unit {0}
 IsInRange (entries journal size) = Unit {0}
 IsInRange (keygen height width secret) = (is_height height ≡ true) × (is_width width ≡ true)

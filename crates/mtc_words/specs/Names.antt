@@ -1,7 +1,7 @@
 -- The table of the commands: the name of each, and how many words it wants.
 use Rattle.std.specs.Prelude.{ℕ, List, Option, Some, None, codes, bytes_eq, if◌then◌else◌}
 use Rattle.mtc_words.specs.declared.name.Name.{Name}
-use Rattle.mtc_words.specs.declared.name.Name.TheVariants.{Member, Show, Verify, InitLog, Checkpoint, Entries, Keygen}
+use Rattle.mtc_words.specs.declared.name.Name.TheVariants.{Member, Show, Verify, InitLog, Issue, Checkpoint, Entries, Keygen}
 
 -- the command that a word names
 unfoldable pub name_of : List ℕ → Option Name
@@ -10,10 +10,11 @@ name_of word =
     else (if bytes_eq word (codes "show") then Some Show
     else (if bytes_eq word (codes "verify") then Some Verify
     else (if bytes_eq word (codes "init-log") then Some InitLog
+    else (if bytes_eq word (codes "issue") then Some Issue
     else (if bytes_eq word (codes "checkpoint") then Some Checkpoint
     else (if bytes_eq word (codes "entries") then Some Entries
     else (if bytes_eq word (codes "keygen") then Some Keygen
-    else None))))))
+    else None)))))))
 
 -- how many words stand behind a command
 abbrev pub count_of : Name → ℕ
@@ -21,6 +22,7 @@ count_of Member = 1
 count_of Show = 1
 count_of Verify = 3
 count_of InitLog = 4
+count_of Issue = 2
 count_of Checkpoint = 1
 count_of Entries = 2
 count_of Keygen = 3

@@ -5,8 +5,8 @@ use Rattle.tls_wire.specs.Anchors.{anchor_text}
 use Rattle.mtc_words.specs.declared.error.WordError.{WordError}
 use Rattle.mtc_words.specs.declared.error.WordError.TheVariants.{NoCommand, UnknownCommand, BadWord, WrongCount, BadNumber, BadId}
 use Rattle.mtc_words.specs.declared.name.Name.{Name}
-use Rattle.mtc_words.specs.declared.name.Name.TheVariants.{Member, Show, Verify, InitLog, Checkpoint, Entries, Keygen}
-use Rattle.mtc_words.specs.Commands.{CommandValue, member, show, verify, init_log, checkpoint, entries, keygen, is_height, is_width, is_time, is_active, is_limit, is_any}
+use Rattle.mtc_words.specs.declared.name.Name.TheVariants.{Member, Show, Verify, InitLog, Issue, Checkpoint, Entries, Keygen}
+use Rattle.mtc_words.specs.Commands.{CommandValue, member, show, verify, init_log, issue, checkpoint, entries, keygen, is_height, is_width, is_time, is_active, is_limit, is_any}
 use Rattle.mtc_words.specs.Names.{name_of, count_of}
 use Rattle.mtc_words.specs.Numbers.{number_of}
 
@@ -57,6 +57,7 @@ command_from InitLog ws = do
   limit ← number_at 4 is_limit (word ws 3)
   id ← id_at 2 (word ws 1)
   Ok (init_log (word ws 0) id active limit)
+command_from Issue ws = Ok (issue (word ws 0) (word ws 1))
 command_from Checkpoint ws = Ok (checkpoint (word ws 0))
 command_from Entries ws = do
   size ← number_at 2 is_any (word ws 1)

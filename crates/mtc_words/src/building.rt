@@ -133,6 +133,7 @@ pub fn build<'a>(alloc: Global, name: Name, words: &'a [String]) -> Result<Comma
         Name::Show => Ok(Command::Show(words[0].as_str())),
         Name::Verify => verify(words),
         Name::InitLog => init_log(alloc, words),
+        Name::Issue => Ok(Command::Issue(words[0].as_str(), words[1].as_str())),
         Name::Checkpoint => Ok(Command::Checkpoint(words[0].as_str())),
         Name::Entries => entries(words),
         Name::Keygen => keygen(words),

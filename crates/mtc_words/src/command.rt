@@ -13,6 +13,8 @@ pub enum Command<'a> {
     /// `init-log J LOGID MAXACTIVE LIMIT`: make the journal of a log, with 1 to 10,000 active landmarks and at most 2 to
     /// 1,048,576 entries.
     InitLog(&'a str, AnchorId, u64, u64),
+    /// `issue J REQUEST`: add the entry of a request to the log.
+    Issue(&'a str, &'a str),
     /// `checkpoint J`: print the size of the log and its tree hash.
     Checkpoint(&'a str),
     /// `entries J SIZE`: write the first entries of the log with their keys.

@@ -8,6 +8,7 @@ pub enum Name {
     Show,
     Verify,
     InitLog,
+    Issue,
     Checkpoint,
     Entries,
     Keygen,
@@ -23,6 +24,7 @@ pub fn read_name(word: &str) -> Option<Name>
         "show" => Some(Name::Show),
         "verify" => Some(Name::Verify),
         "init-log" => Some(Name::InitLog),
+        "issue" => Some(Name::Issue),
         "checkpoint" => Some(Name::Checkpoint),
         "entries" => Some(Name::Entries),
         "keygen" => Some(Name::Keygen),
@@ -36,7 +38,7 @@ pub fn wanted_count(name: Name) -> usize
 {
     match name {
         Name::Member | Name::Show | Name::Checkpoint => 1,
-        Name::Entries => 2,
+        Name::Issue | Name::Entries => 2,
         Name::Verify | Name::Keygen => 3,
         Name::InitLog => 4,
     }

@@ -1,10 +1,10 @@
 // What `show` prints.
-use super::{Case, MEMBER, bytes_of, outcome};
+use super::{CERTIFICATE, Case, MEMBER, Wanted, answers, bytes_of, certificate, outcome};
+use crate::MemRoom;
+use mtc_io::Bytes;
+use std::alloc::Global;
+use std::process::Abort;
 use std::test::Fail;
-
-// A certificate of log 32473.1 for a.example, 231 bytes, and a byte behind it.
-const CERTIFICATE: &str =
-    "3081e430819ca003020102020101300c060a2b0601040182da4b2f00301931173015060a2b0601040182da4b2f010c0733323437332e31301e170d3236303130313030303030305a170d3236303130383030303030305a3000302a300506032b65700321000000000000000000000000000000000000000000000000000000000000000000a31b301930170603551d110101ff040d300b8209612e6578616d706c65300c060a2b0601040182da4b2f00033500000000000000000000000000000000020020709e80c88487a2411e1ee4dfb9f22a861492d20c4765150c0c794abd70f8147c000000";
 
 // One of another issuer, with a subject, and a name with a blank before another.
 const OTHER_CERTIFICATE: &str =
@@ -77,7 +77,8 @@ const SHOW_CASES: [(usize, Case); 6] = [
 
 #[test]
 fn refuses_to_show(rt: HostRuntime) -> Result<(), Fail> {
-    let certificate = bytes_of(rt.alloc(), &[CERTIFICATE])?;
+    // A byte more than the certificate.
+    let certificate = bytes_of(rt.alloc(), &[CERTIFICATE, "00"])?;
     for (i, (count, case)) in SHOW_CASES.iter().enumerate() {
         let mut file = Vec::from_slice(rt.alloc(), &certificate)?;
         file.truncate(*count);
@@ -89,14 +90,29 @@ fn refuses_to_show(rt: HostRuntime) -> Result<(), Fail> {
     Ok(())
 }
 
+// Shows a certificate, and looks at the lines.
+fn shows(
+    rt: &impl Abort,
+    alloc: Global,
+    certificate: Vec<u8>,
+    lines: &'static [u8],
+) -> Result<(), Fail> {
+    let mut room = MemRoom::new(alloc);
+    room.place("f", Bytes::from_vec(certificate), Vec::new(alloc))?;
+    let wanted = Wanted {
+        status: 0,
+        out: lines,
+        err: b"",
+    };
+    answers(rt, alloc, &mut room, &["show", "f"], &wanted)
+}
+
 #[test]
 fn shows_certificates(rt: HostRuntime) -> Result<(), Fail> {
-    let mut certificate = bytes_of(rt.alloc(), &[CERTIFICATE])?;
-    certificate.truncate(231);
-    let (status, out, _) = outcome(rt.alloc(), &SHOW, certificate)?;
-    assert_eq!(rt; status, 0);
-    assert_eq!(rt;
-        out.taken(),
+    shows(
+        &rt,
+        rt.alloc(),
+        certificate(rt.alloc(), &[])?,
         b"serial 1
 issuer 32473.1
 not_before 2026-01-01T00:00:00Z
@@ -104,16 +120,14 @@ not_after 2026-01-08T00:00:00Z
 subject empty
 key 302a300506032b65700321000000000000000000000000000000000000000000000000000000000000000000
 name a.example
-proof none
-"
-            .as_slice()
-    );
-
-    let other = bytes_of(rt.alloc(), &[OTHER_CERTIFICATE])?;
-    let (status, out, _) = outcome(rt.alloc(), &SHOW, other)?;
-    assert_eq!(rt; status, 0);
-    assert_eq!(rt;
-        out.taken(),
+interval 0 2
+path 1
+",
+    )?;
+    shows(
+        &rt,
+        rt.alloc(),
+        bytes_of(rt.alloc(), &[OTHER_CERTIFICATE])?,
         b"serial 1000
 issuer other
 not_before 2026-01-01T00:00:00Z
@@ -122,9 +136,54 @@ subject 300c310a300806035504030c0179
 key 302a300506032b65700321000000000000000000000000000000000000000000000000000000000000000000
 name-hex 622063
 name ~!ok
+interval 0 2
+path 1
+",
+    )
+}
+
+// What is shown of a certificate without a proof that reads.
+const WITHOUT_PROOF: &[u8] = b"serial 1
+issuer 32473.1
+not_before 2026-01-01T00:00:00Z
+not_after 2026-01-08T00:00:00Z
+subject empty
+key 302a300506032b65700321000000000000000000000000000000000000000000000000000000000000000000
+name a.example
 proof none
-"
-            .as_slice()
-    );
-    Ok(())
+";
+
+#[test]
+fn shows_no_proof(rt: HostRuntime) -> Result<(), Fail> {
+    // The attribute's identifier in the place of the algorithm's.
+    let other = certificate(rt.alloc(), &[(27, 0x01), (175, 0x01)])?;
+    shows(&rt, rt.alloc(), other, WITHOUT_PROOF)?;
+    // A path of 31 bytes.
+    let odd = certificate(rt.alloc(), &[(196, 0x1F)])?;
+    shows(&rt, rt.alloc(), odd, WITHOUT_PROOF)
+}
+
+#[test]
+fn shows_signatures(rt: HostRuntime) -> Result<(), Fail> {
+    // The lengths of the whole and of the proof, which ends with two signatures.
+    let mut signed = certificate(rt.alloc(), &[(2, 0xF2), (177, 0x43), (230, 0x0E)])?;
+    signed.extend_from_slice(&[0x04, 0x81, 0xFD, 0x59, 0x02, 0x00, 0x03, 0x01, 0x02, 0x03])?;
+    signed.extend_from_slice(&[0x01, 0xFF, 0x00, 0x00])?;
+    shows(
+        &rt,
+        rt.alloc(),
+        signed,
+        b"serial 1
+issuer 32473.1
+not_before 2026-01-01T00:00:00Z
+not_after 2026-01-08T00:00:00Z
+subject empty
+key 302a300506032b65700321000000000000000000000000000000000000000000000000000000000000000000
+name a.example
+interval 0 2
+path 1
+signature 32473.2 3
+signature hex:ff 0
+",
+    )
 }

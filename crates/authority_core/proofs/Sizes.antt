@@ -1,0 +1,65 @@
+-- How long the parts of an entry that is issued are at most.
+use Rattle.std.proofs.Common.{◌≡◌, ℕ, ◌+◌, ◌*◌, ◌≤◌, Bool, true, false, List, [], ◌∷◌, ◌++◌, length, arith, append-nil}
+use Rattle.std.specs.List.{flat_map, AllByRecursion}
+use Rattle.std.proofs.lemmas.List.{length-append}
+use Rattle.der_core.specs.Elements.{element}
+use Rattle.der_core.proofs.Elements.{element-short}
+use Rattle.cert_fields.specs.Extensions.{ExtensionFields}
+use Rattle.cert_fields.specs.Grammar.{mark, extension, extension_contents}
+use Rattle.authority_core.specs.Hosts.{IsHostName}
+use Rattle.authority_core.specs.Requests.{CanBeIssued}
+use Rattle.authority_core.specs.Issuing.{common_name_id, attribute_parts, set_parts, name_parts, dns_names, alt_name_of}
+use Rattle.authority_core.specs.declared.requests.parts.Request.{Request}
+
+-- One extension alone.
+pub one_extension : (x : ExtensionFields) → flat_map extension (x ∷ []) ≡ extension x
+one_extension x = append-nil (extension x)
+
+-- An attribute, for any identifier and text.
+pub attribute-size : (identifier text : List ℕ) → length (element 6 identifier ++ element 12 text) ≤ length identifier + length text + 10
+attribute-size identifier text =
+    omega (arith, length-append (element 6 identifier) (element 12 text), element-short 6 identifier, element-short 12 text)
+
+pub attribute-short : (text : List ℕ) → length text ≤ 64 → length (attribute_parts text) ≤ 77
+attribute-short text few = omega (arith, few, attribute-size common_name_id text)
+
+pub set-short : (text : List ℕ) → length text ≤ 64 → length (set_parts text) ≤ 82
+set-short text few = omega (arith, attribute-short text few, element-short 48 (attribute_parts text))
+
+pub name-short : (text : List ℕ) → length text ≤ 64 → length (name_parts text) ≤ 87
+name-short text few = omega (arith, set-short text few, element-short 49 (set_parts text))
+
+pub names-size : (names : List (List ℕ)) → AllByRecursion IsHostName names → length (dns_names names) ≤ 258 * length names
+names-size [] hosts = omega arith
+names-size (name ∷ names) hosts =
+    omega (arith, names-size names hosts.1, hosts.0.short, element-short 130 name, length-append (element 130 name) (dns_names names))
+
+pub names-short : (names : List (List ℕ)) → AllByRecursion IsHostName names → length names ≤ 100 → length (dns_names names) ≤ 25800
+names-short names hosts few = omega (arith, names-size names hosts, few)
+
+pub octets-short : (names : List (List ℕ)) → AllByRecursion IsHostName names → length names ≤ 100 → length (element 48 (dns_names names)) ≤ 25805
+octets-short names hosts few = omega (arith, names-short names hosts few, element-short 48 (dns_names names))
+
+mark-short : (critical : Bool) → length (mark critical) ≤ 3
+mark-short true = omega arith
+mark-short false = omega arith
+
+pub contents-short : (r : Request) → CanBeIssued r → length (extension_contents (alt_name_of r)) ≤ 26000
+contents-short r f =
+    let x : ExtensionFields = alt_name_of r in
+    let octets = octets-short r.names f.names f.few in
+    omega (
+      arith,
+      octets,
+      length-append (element 6 x.identifier) (mark x.critical ++ element 4 x.octets),
+      length-append (mark x.critical) (element 4 x.octets),
+      element-short 6 x.identifier,
+      mark-short x.critical,
+      element-short 4 x.octets,
+    )
+
+pub extension-short : (r : Request) → CanBeIssued r → length (extension (alt_name_of r)) ≤ 26010
+extension-short r f = omega (arith, contents-short r f, element-short 48 (extension_contents (alt_name_of r)))
+
+pub sequence-short : (r : Request) → CanBeIssued r → length (element 48 (extension (alt_name_of r))) ≤ 26020
+sequence-short r f = omega (arith, extension-short r f, element-short 48 (extension (alt_name_of r)))

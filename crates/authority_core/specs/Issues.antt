@@ -1,0 +1,28 @@
+-- What issuing answers, beside what the log answers when an entry is added.
+use Rattle.std.specs.Prelude.{ℕ, List, Option, Result, Ok, Err}
+use Rattle.issuance_log.specs.Folds.{LogState}
+use Rattle.issuance_log.specs.Refusals.{KeepsTo}
+use Rattle.issuance_log.specs.declared.error.LogError.{LogError}
+use Rattle.issuance_log.specs.declared.error.LogError.TheVariants as log_error
+use Rattle.authority_core.specs.Issuing.{entry_for}
+use Rattle.authority_core.specs.declared.issuing.error.IssueError.{IssueError}
+use Rattle.authority_core.specs.declared.issuing.error.IssueError.TheVariants.{Log}
+use Rattle.authority_core.specs.declared.requests.parts.Request.{Request}
+
+-- The entry of a request in a log: under the id in the log's settings.
+abbrev pub entry_in : (List ℕ → List ℕ) → LogState → Request → List ℕ
+entry_in h s r = entry_for h s.settings.id r
+
+-- The answer as one of the log.
+abbrev pub of_log : Result ℕ IssueError → Result ℕ LogError
+of_log (Ok index) = Ok index
+of_log (Err (Log why)) = Err why
+
+-- The answer keeps to the refusal that the log's state and journal settle, where memory may be refused before any test.
+abbrev pub KeepsToOrMemory : Option LogError → Result ℕ LogError → Type 0
+KeepsToOrMemory wanted (Ok index) = KeepsTo wanted (Ok index)
+KeepsToOrMemory wanted (Err log_error.Full) = KeepsTo wanted (Err log_error.Full)
+KeepsToOrMemory wanted (Err log_error.TooLarge) = KeepsTo wanted (Err log_error.TooLarge)
+KeepsToOrMemory wanted (Err log_error.NoSuchEntry) = KeepsTo wanted (Err log_error.NoSuchEntry)
+KeepsToOrMemory wanted (Err (log_error.Append why)) = KeepsTo wanted (Err (log_error.Append why))
+KeepsToOrMemory wanted (Err log_error.Memory) = Unit {0}

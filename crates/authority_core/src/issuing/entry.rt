@@ -1,0 +1,57 @@
+//! The entry of a request.
+
+ghost use Rattle.std.specs.Prelude.{◌≡◌, true, IfOk};
+ghost use Rattle.tls_wire.specs.Arcs.{IsAnchorId};
+ghost use Rattle.log_entry.specs.Matching.{matches};
+ghost use Rattle.authority_core.specs.Issuing.{entry_for};
+ghost use Rattle.authority_core.specs.Requests.{CanBeIssued};
+
+use crate::issuing::extensions::extensions_of;
+use crate::issuing::subject::subject_of;
+use crate::requests::Request;
+use cert_names::log_name;
+use log_entry::{EntryParts, key_hash, write_entry};
+use mtc_io::{Bytes, Memory};
+use std::alloc::Global;
+use tls_wire::AnchorId;
+use tree_core::TreeHash;
+
+// The entry, field by field.
+#[tactic(auto, unfolding(crate::specs::Issuing::entry_for))]
+fn written<H: TreeHash>(alloc: Global, id: &AnchorId, request: &Request) -> Result<Bytes, Memory>
+    requires { CanBeIssued request.now }
+    ensures { IfOk result (λ bytes. bytes ≡ entry_for H.hash id.now request.now) }
+{
+    let issuer = log_name(alloc, id)?;
+    let subject = subject_of(alloc, &request.common_name)?;
+    let extensions = extensions_of(alloc, request)?;
+    let key = key_hash::<H>(request.key.as_slice());
+    write_entry(
+        alloc,
+        &EntryParts {
+            issuer: issuer.as_slice(),
+            validity: request.validity,
+            subject: subject.as_slice(),
+            key_hash: &key,
+            extensions: extensions.as_slice(),
+        },
+    )
+}
+
+/// The entry that a request makes in the log with this id. Its issuer is the name of the log; its subject is empty or the
+/// common name (RFC 5280, section 4.1.2.6); its one extension is subjectAltName with the names in their order as
+/// dNSNames, critical exactly where the subject is empty (section 4.2.1.6). The key of the request belongs to it. Want of
+/// memory is the only refusal.
+pub fn entry_of_request<H: TreeHash>(
+    alloc: Global,
+    id: &AnchorId,
+    request: &Request,
+) -> Result<Bytes, Memory>
+    requires { CanBeIssued request.now }
+    ensures bytes { IfOk result (λ bytes. bytes ≡ entry_for H.hash id.now request.now) }
+    ensures belongs { matches H.hash (entry_for H.hash id.now request.now) request.now.key ≡ true }
+{
+    // The key belongs to the entry since these bytes are an anchor id, whose text is short enough for a name.
+    let _bytes = id.as_bytes();
+    written::<H>(alloc, id, request)
+}

@@ -1,0 +1,82 @@
+//! The extensions of what is issued: subjectAltName alone (RFC 5280, section 4.2.1.6).
+
+ghost use Rattle.std.specs.Prelude.{◌≡◌, ◌≤◌, ◌++◌, [], ◌∷◌, length, is_none, IfOk, OnOk};
+ghost use Rattle.std.specs.List.{AllByRecursion, flat_map};
+ghost use Rattle.der_core.specs.Elements.{element};
+ghost use Rattle.cert_fields.specs.Grammar.{extension, extension_contents, mark};
+ghost use Rattle.authority_core.specs.Hosts.{IsHostName};
+ghost use Rattle.authority_core.specs.Issuing.{alt_name_of, dns_names, extensions_of};
+ghost use Rattle.authority_core.specs.Requests.{CanBeIssued};
+
+use crate::issuing::elements::element_of;
+use crate::requests::{Names, Request};
+use der_core::put;
+use mtc_io::{Bytes, Memory};
+use std::alloc::Global;
+
+/// subjectAltName, 2.5.29.17.
+const SUBJECT_ALT_NAME: [u8; 3] = [0x55, 0x1D, 0x11];
+
+/// A BOOLEAN of TRUE.
+const CRITICAL: [u8; 3] = [0x01, 0x01, 0xFF];
+
+/// The tag of a dNSName.
+const DNS_NAME: u8 = 0x82;
+
+// The names as dNSNames, in their order.
+fn dns_names(alloc: Global, names: &Names) -> Result<Bytes, Memory>
+    requires { AllByRecursion IsHostName names.now }
+    ensures { IfOk result (λ bytes. bytes ≡ dns_names names.now) }
+{
+    let mut out = Bytes::new(alloc);
+    for name in names.as_slice() {
+        put(DNS_NAME, name.as_slice(), &mut out)?;
+    }
+    Ok(out)
+}
+
+// The names in their SEQUENCE.
+fn general_names(alloc: Global, names: &Names) -> Result<Bytes, Memory>
+    requires hosts { AllByRecursion IsHostName names.now }
+    requires few { length names.now ≤ 100 }
+    ensures { IfOk result (λ bytes. bytes ≡ element 48 (dns_names names.now)) }
+{
+    let names = dns_names(alloc, names)?;
+    element_of(alloc, 0x30, names.as_slice())
+}
+
+// Puts the mark of a critical extension behind the bytes; no bytes where it is not critical.
+fn put_mark(critical: bool, out: &mut Bytes) -> Result<(), Memory>
+    ensures { OnOk result (out.new ≡ out.old ++ mark critical) }
+{
+    if critical {
+        out.append(&CRITICAL)
+    } else {
+        Ok(())
+    }
+}
+
+// The identifier, the mark and the names. The extension is critical exactly where the subject is empty.
+fn alt_name(alloc: Global, request: &Request) -> Result<Bytes, Memory>
+    requires { CanBeIssued request.now }
+    ensures { IfOk result (λ bytes. bytes ≡ extension_contents (alt_name_of request.now)) }
+{
+    let octets = general_names(alloc, &request.names)?;
+    let mut out = Bytes::new(alloc);
+    put(0x06, &SUBJECT_ALT_NAME, &mut out)?;
+    put_mark(request.common_name.is_none(), &mut out)?;
+    put(0x04, octets.as_slice(), &mut out)?;
+    Ok(out)
+}
+
+/// The extensions field, in which subjectAltName stands alone.
+#[tactic(auto, using(crate::proofs::Sizes::one_extension), unfolding(crate::specs::Issuing::extensions_of))]
+pub fn extensions_of(alloc: Global, request: &Request) -> Result<Bytes, Memory>
+    requires { CanBeIssued request.now }
+    ensures { IfOk result (λ bytes. bytes ≡ extensions_of request.now) }
+{
+    let contents = alt_name(alloc, request)?;
+    let extension = element_of(alloc, 0x30, contents.as_slice())?;
+    let list = element_of(alloc, 0x30, extension.as_slice())?;
+    element_of(alloc, 0xA3, list.as_slice())
+}
