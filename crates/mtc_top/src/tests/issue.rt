@@ -22,16 +22,15 @@ const NEW: usize = 36;
 const ISSUE: &[&str] = &["issue", "j", "r"];
 
 // A room with this request and a journal of so many bytes, of whose calls these fail.
-fn room_with(
-    alloc: Global,
-    request: &str,
-    count: usize,
-    failing: &[u64],
-) -> Result<MemRoom, Fail>
+fn room_with(alloc: Global, request: &str, count: usize, failing: &[u64]) -> Result<MemRoom, Fail>
     ensures { IfOk result (λ room. ⟦<MemRoom as Room>⟧.lent room ≡ 0) }
 {
     let mut room = MemRoom::new(alloc);
-    room.place("r", Bytes::copy_of(alloc, request.as_bytes())?, Vec::new(alloc))?;
+    room.place(
+        "r",
+        Bytes::copy_of(alloc, request.as_bytes())?,
+        Vec::new(alloc),
+    )?;
     let mut journal = bytes_of(alloc, &ISSUED)?;
     journal.truncate(count);
     if count == NEW
@@ -39,7 +38,11 @@ fn room_with(
     {
         *gate = 0;
     }
-    room.place("j", Bytes::from_vec(journal), Vec::from_slice(alloc, failing)?)?;
+    room.place(
+        "j",
+        Bytes::from_vec(journal),
+        Vec::from_slice(alloc, failing)?,
+    )?;
     Ok(room)
 }
 
@@ -58,7 +61,13 @@ fn an_entry_is_issued(rt: HostRuntime) -> Result<(), Fail> {
     let wanted = stops(4, b"mtc: consist: NothingNew\n");
     answers(&rt, alloc, &mut room, &["consist", "j", "2", "2"], &wanted)?;
     let wanted = stops(4, b"mtc: subtree: Beyond 2\n");
-    answers(&rt, alloc, &mut room, &["subtree", "j", "0", "3", "3"], &wanted)?;
+    answers(
+        &rt,
+        alloc,
+        &mut room,
+        &["subtree", "j", "0", "3", "3"],
+        &wanted,
+    )?;
     let wanted = stops(4, b"mtc: entries: Beyond 2\n");
     answers(&rt, alloc, &mut room, &["entries", "j", "3"], &wanted)?;
     Ok(())
