@@ -1,5 +1,14 @@
 use crate::{Command, WordError, read_words};
+use std::alloc::Global;
 use std::test::Fail;
+
+fn owned(alloc: Global, texts: &[&str]) -> Result<Vec<String>, Fail> {
+    let mut words = Vec::new(alloc);
+    for text in texts {
+        words.push(String::from_str(alloc, text)?)?;
+    }
+    Ok(words)
+}
 
 #[test]
 fn words_are_refused_by_their_first_fault(rt: HostRuntime) -> Result<(), Fail> {
@@ -48,10 +57,7 @@ fn words_are_refused_by_their_first_fault(rt: HostRuntime) -> Result<(), Fail> {
         (&["subtree", "j", "1", "2", ""], WordError::BadWord(4)),
     ];
     for (texts, fault) in cases {
-        let mut words = Vec::new(rt.alloc());
-        for text in texts {
-            words.push(String::from_str(rt.alloc(), text)?)?;
-        }
+        let words = owned(rt.alloc(), texts)?;
         match read_words(rt.alloc(), &words) {
             Ok(command) => assert!(rt; false, "read as {command:?}"),
             Err(why) => assert_eq!(rt; why, fault),

@@ -116,22 +116,24 @@ fn each_call_fails(rt: HostRuntime) -> Result<(), Fail> {
         String::from_str(alloc, "j")?,
         String::from_str(alloc, "r")?,
     ]?;
-    let mut failed = 0;
+    let mut some_fail = false;
+    let mut some_pass = false;
     for call in 0..16 {
         let mut room = room_with(alloc, REQUEST, NEW, &[call])?;
         let mut out = MemSink::new(alloc, 100, Vec::new(alloc));
         let mut err = MemSink::new(alloc, 100, Vec::new(alloc));
         let status = run::<Sha, _, _, _>(alloc, &words, &mut room, &mut out, &mut err);
         let wanted: (&[u8], &[u8]) = if status == 5 {
-            failed += 1;
+            some_fail = true;
             (b"", b"mtc: issue: j: Failed\n")
         } else {
+            some_pass = true;
             (b"issued 1\n", b"")
         };
         assert_eq!(rt; (out.taken(), err.taken()), wanted, "call {call}");
         let size = room.bytes("j").map_or(0, |bytes| bytes.len());
         assert!(rt; size == 36 || size == 221, "call {call}");
     }
-    assert!(rt; failed > 4 && failed < 16);
+    assert!(rt; some_fail && some_pass);
     Ok(())
 }
