@@ -57,6 +57,7 @@ fn make<R: Files>(files: &R, name: &str) -> io::Result<R::File> {
 
 impl<'a, R: Files<File = File>> Room for FileRoom<'a, R> {
     type Src = StdSource<R::File>;
+
     type Dsk = FileDisk;
 
     ghost tells = { λ _. ⊥ };
