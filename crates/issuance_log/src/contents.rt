@@ -1,12 +1,13 @@
-// What the records of a journal make of a log.
-ghost use Rattle.std.specs.Prelude.{◌≡◌, ◌<◌, ◌≤◌, length, nat_lt, not, option_and_then, OnOk, OnErr};
+// What the records of a journal make of a log, with the leaf hashes of its entries.
+ghost use Rattle.std.specs.Prelude.{◌≡◌, ◌<◌, ◌≤◌, length, map, nat_lt, not, option_and_then, OnOk, OnErr};
 ghost use Rattle.issuance_log.specs.Folds.{begun, records_in, next_log, with_entry, with_item, first_items};
 ghost use Rattle.issuance_log.specs.Records.{AreAllowed, all_of, entry_at};
 ghost use Rattle.issuance_log.specs.Results.{Finds, Takes};
 ghost use Rattle.issuance_log.specs.Sound.{IsSound};
+ghost use Rattle.tree_core.specs.Tree.{leaf_hash};
 
 use crate::error::RecordError;
-use crate::items::Items;
+use crate::items::{Items, NULL_ENTRY};
 use crate::record::{ENTRY, read_entry, read_settings};
 use crate::settings::LogSettings;
 use log_entry::key_matches;
@@ -14,16 +15,19 @@ use mtc_io::{Bytes, Memory};
 use std::alloc::Global;
 use std::marker::Model;
 use tls_wire::Cursor;
-use tree_core::TreeHash;
+use tree_core::{TreeHash, leaf};
+use tree_proofs::Listed;
 
-/// The settings and the items of a log.
-#[derive(Debug, Drop)]
-pub(crate) struct Contents {
+/// The settings and the items of a log, and the leaf hashes of its entries.
+#[derive(Drop)]
+pub(crate) struct Contents<H: TreeHash> {
     settings: LogSettings,
     items: Items,
+    leaves: Listed<H>,
+    ghost hashed: { leaves.leaves ≡ map (leaf_hash H.TreeHash.hash) items.entries.items },
 }
 
-impl Model for Contents {
+impl<H: TreeHash> Model for Contents<H> {
     ghost use Rattle.issuance_log.specs.Folds.{LogState};
     ghost use Rattle.issuance_log.specs.Sound.{IsSound};
 
@@ -42,39 +46,37 @@ impl Model for Contents {
     }) };
 }
 
-impl Contents {
+impl<H: TreeHash> Contents<H> {
     /// The log that the first record begins.
     #[tactic(auto, unfolding(crate::specs::Folds::begun))]
-    pub(crate) fn begin(alloc: Global, body: &[u8]) -> Result<Contents, RecordError>
+    pub(crate) fn begin(alloc: Global, body: &[u8]) -> Result<Contents<H>, RecordError>
         ensures { Finds (λ c. c) (begun body.now) result }
     {
         let settings = read_settings(alloc, body)?;
         let items = Items::begin(alloc)?;
-        Ok(Contents { settings, items })
+        let mut leaves = Listed::new(alloc);
+        leaves.push(&leaf::<H>(&NULL_ENTRY))?;
+        Ok(Contents {
+            settings,
+            items,
+            leaves,
+        })
     }
 
     /// Takes one record more. `Unfit` comes exactly where it breaks the rules, and a refusal leaves the log as it was.
     #[tactic(auto, unfolding(crate::specs::Folds::next_log))]
-    pub(crate) fn take<H: TreeHash>(
-        &mut self,
-        alloc: Global,
-        body: &[u8],
-    ) -> Result<(), RecordError>
+    pub(crate) fn take(&mut self, alloc: Global, body: &[u8]) -> Result<(), RecordError>
         ensures { Takes (next_log H.hash self.old body.now) self.old result self.new }
     {
         let mut cursor = Cursor::new(body);
         if cursor.u8()? == ENTRY {
-            self.take_entry::<H>(alloc, cursor)
+            self.take_entry(alloc, cursor)
         } else {
             Err(RecordError::Unfit)
         }
     }
 
-    fn take_entry<H: TreeHash>(
-        &mut self,
-        alloc: Global,
-        cursor: Cursor<'_>,
-    ) -> Result<(), RecordError>
+    fn take_entry(&mut self, alloc: Global, cursor: Cursor<'_>) -> Result<(), RecordError>
         ensures { Takes (option_and_then (with_entry H.hash self.old) (all_of (entry_at cursor.entry))) self.old result self.new }
     {
         let (entry, key) = read_entry(cursor)?;
@@ -127,13 +129,22 @@ impl Contents {
         self.items.keys()
     }
 
+    /// The leaf hashes of the entries, each at its index.
+    pub(crate) fn leaves(&self) -> &Listed<H>
+        ensures { result.now.leaves ≡ map (leaf_hash H.hash) self.now.entries }
+    {
+        &self.leaves
+    }
+
     /// Puts an item behind the others. Where memory is refused the log stays as it was.
     pub(crate) fn push(&mut self, alloc: Global, entry: &[u8], key: &[u8]) -> Result<(), Memory>
         requires { length self.old.entries < self.old.settings.limit }
         ensures ok { OnOk result (self.new ≡ with_item entry.now key.now self.old) }
         ensures err { OnErr result (self.new ≡ self.old) }
     {
-        self.items.push(alloc, entry, key)
+        self.leaves.reserve(1)?;
+        self.items.push(alloc, entry, key)?;
+        self.leaves.push(&leaf::<H>(entry))
     }
 
     /// Takes off all but the first `count` items.
@@ -142,5 +153,6 @@ impl Contents {
         ensures { self.new ≡ first_items count self.old }
     {
         self.items.truncate(count);
+        self.leaves.truncate(count);
     }
 }

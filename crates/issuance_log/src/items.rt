@@ -5,8 +5,8 @@ ghost use Rattle.issuance_log.specs.Folds.{null_entry};
 use mtc_io::{Bytes, Memory};
 use std::alloc::Global;
 
-// The null entry: the type 0, and no body.
-const NULL_ENTRY: [u8; 2] = [0, 0];
+/// The null entry: the type 0, and no body.
+pub(crate) const NULL_ENTRY: [u8; 2] = [0, 0];
 
 /// Entries and keys, as many of these as of those.
 #[derive(Debug, Drop)]

@@ -7,7 +7,7 @@
 //! What the records of a journal make of a log is one function of them. A log keeps to it: unless an append has failed,
 //! its settings and items are what the records on its disk make.
 //!
-//! A log is the [`Nodes`](tree_proofs::Nodes) of the tree over its entries, and [`Log::leaves`] makes their leaf hashes.
+//! A log is the [`Nodes`](tree_proofs::Nodes) of the tree over its entries: it keeps their leaf hashes.
 #![tactic(auto)]
 
 mod contents;

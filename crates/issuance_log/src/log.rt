@@ -1,5 +1,5 @@
 // A log that is open for more entries.
-ghost use Rattle.std.specs.Prelude.{◌≡◌, ◌≢◌, ◌↔◌, ◌≤◌, ◌<◌, ◌+◌, ◌++◌, ℕ, List, [], ◌∷◌, length, take, true, false, slice_index_or, Some, None, Ok, IfSome, IfOk, IfErr, OnOk, OnErr, IsErrOf};
+ghost use Rattle.std.specs.Prelude.{◌≡◌, ◌≢◌, ◌↔◌, ◌≤◌, ◌<◌, ◌+◌, ◌++◌, ℕ, List, [], ◌∷◌, length, map, take, true, false, slice_index_or, Some, None, Ok, IfSome, IfOk, IfErr, OnOk, OnErr, IsErrOf};
 ghost use Rattle.std.proofs.Props.{props};
 ghost use Rattle.disk_core.specs.Moments.{LeavesOnly, Looks};
 ghost use Rattle.mtc_io.specs.Counts.{Rose};
@@ -7,6 +7,7 @@ ghost use Rattle.journal_core.specs.Format.{StandsFor, StandsForEither, behind};
 ghost use Rattle.journal_core.specs.Words.{is_broken, records, AllStandFor};
 ghost use Rattle.issuance_log.specs.Folds.{log_of, with_item};
 ghost use Rattle.log_entry.specs.Matching.{matches};
+ghost use Rattle.tree_core.specs.Tree.{leaf_hash, tree_hash};
 ghost use Rattle.issuance_log.specs.Openings.{HasCauseOf, log_read};
 ghost use Rattle.issuance_log.specs.Records.{AreAllowed, entry_record};
 ghost use Rattle.issuance_log.specs.Refusals.{add_refusal, KeepsTo, item_at, GivesItem};
@@ -20,19 +21,18 @@ use disk_core::Disk;
 use journal_core::{Journal, Opening, Refused};
 use mtc_io::{Bytes, Memory};
 use std::alloc::Global;
-use std::marker::PhantomData;
 use tree_core::TreeHash;
+use tree_proofs::Listed;
 
 // An entry and its key have at most so many bytes together.
 const MAX_ITEM: usize = 65_535;
 
-/// The entries of a log, each with the key to it, over the journal of their records. Unless an append has failed, they
+/// The entries of a log, each with the key to it, and their leaf hashes, over the journal of their records. Unless an append has failed, they
 /// are what the records on the disk make. `H` is the hash function by which a key belongs to an entry.
 #[derive(Drop)]
 pub struct Log<H: TreeHash, D: Disk> {
     journal: Journal<D>,
-    contents: Contents,
-    hash: PhantomData<H>,
+    contents: Contents<H>,
     ghost agrees: { is_broken journal ≡ false → IfSome (records journal)
         (λ list. log_of H.TreeHash.hash list ≡ Ok contents) } by { Prim.hlevel props },
 }
@@ -74,7 +74,6 @@ impl<H: TreeHash, D: Disk> Log<H, D> {
             Ok(contents) => Ok(Log {
                 journal: opening.ready(),
                 contents,
-                hash: PhantomData,
             }),
             Err(why) => Err(hand_back(opening.into_disk(), why)),
         }
@@ -134,6 +133,20 @@ impl<H: TreeHash, D: Disk> Log<H, D> {
         ensures allowed { AreAllowed result.now.max_active result.now.limit }
     {
         self.contents.settings()
+    }
+
+    /// The tree hash of the entries (RFC 9162, section 2.1.1).
+    pub fn root(&self) -> [u8; 32]
+        ensures { result ≡ tree_hash H.hash (state_of self.now).entries }
+    {
+        self.leaves().root_between(0, self.size())
+    }
+
+    // The leaf hashes of the entries, each at its index.
+    pub(crate) fn leaves(&self) -> &Listed<H>
+        ensures { result.now.leaves ≡ map (leaf_hash H.hash) (state_of self.now).entries }
+    {
+        self.contents.leaves()
     }
 
     /// The entries, each at its index.

@@ -1,41 +1,19 @@
 // The tree over the entries of a log.
-ghost use Rattle.std.specs.Prelude.{◌≡◌, List, length, map, IfOk};
+ghost use Rattle.std.specs.Prelude.{◌≡◌, length, map};
 ghost use Rattle.issuance_log.specs.Words.{state_of};
 ghost use Rattle.tree_core.specs.Tree.{leaf_hash};
 
 use crate::Log;
 use disk_core::Disk;
-use mtc_io::{Bytes, Failed, Memory};
-use std::alloc::Global;
-use tree_core::{TreeHash, leaf};
-use tree_proofs::{Listed, Nodes, root};
+use mtc_io::Failed;
+use tree_core::TreeHash;
+use tree_proofs::Nodes;
 
-// The leaf hashes of these entries.
-fn leaves_of<H: TreeHash>(alloc: Global, entries: &[Bytes]) -> Result<Listed<H>, Memory>
-    ensures { IfOk result (λ listed. listed.leaves ≡ map (leaf_hash H.hash) entries.now) }
-{
-    let mut listed: Listed<H> = Listed::new(alloc);
-    listed.reserve(entries.len())?;
-    for entry in entries {
-        listed.push(&leaf::<H>(entry.as_slice()))?;
-    }
-    Ok(listed)
-}
-
-impl<H: TreeHash, D: Disk> Log<H, D> {
-    /// The leaf hashes of the entries, each at its index, as nodes of their own. The log is only read.
-    pub fn leaves(&self, alloc: Global) -> Result<Listed<H>, Memory>
-        ensures { IfOk result (λ listed. listed.leaves ≡ map (leaf_hash H.hash) (state_of self.now).entries) }
-    {
-        leaves_of::<H>(alloc, self.entries())
-    }
-}
-
-/// A log is the nodes of the tree over its entries. It makes the hash of a full subtree from the entries each time it is
-/// asked for, in the time of their size, and never fails.
+/// A log is the nodes of the tree over its entries. It keeps the leaf hashes, makes the hash of a full subtree from them
+/// each time it is asked for, in the time of its size, and never fails. All of the log stays as it was.
 impl<H: TreeHash, D: Disk> Nodes for Log<H, D> {
-    ghost use Rattle.std.specs.Prelude.{Some};
-    ghost use Rattle.std.proofs.Common.{sym};
+    ghost use Rattle.std.specs.Prelude.{Some, refl};
+    ghost use Rattle.std.proofs.Common.{sym, ◌∙◌};
     ghost use Rattle.std.proofs.lemmas.List.{length-map};
 
     type H = H;
@@ -46,16 +24,19 @@ impl<H: TreeHash, D: Disk> Nodes for Log<H, D> {
 
     ghost faults = { λ _. 0 };
 
+    ghost stays = { λ old new. new ≡ old };
+
     ghost counted = { λ log. sym (length-map (state_of log).entries (leaf_hash H.hash)) };
+
+    ghost stays_before = { λ _. refl };
+
+    ghost stays_on = { λ _ _ _ first second. second ∙ first };
 
     fn size(&self) -> u64 {
         self.entries().len() as u64
     }
 
     fn node(&mut self, level: u32, place: u64) -> Result<[u8; 32], Failed> {
-        let entries = self.entries();
-        let from = (place << level) as usize;
-        let to = from + (1 << level);
-        Ok(root::<H>(&entries[from..to]))
+        Ok(self.leaves().node_at(level, place))
     }
 }

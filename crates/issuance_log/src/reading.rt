@@ -27,7 +27,7 @@ fn refused(number: u64, why: RecordError) -> LogOpenError
 fn read_first<H: TreeHash, D: Disk>(
     alloc: Global,
     opening: &mut Opening<D>,
-) -> Result<Contents, LogOpenError>
+) -> Result<Contents<H>, LogOpenError>
     requires list { read_list opening.old ≡ option_map (λ _. []) (D.told (opening_disk opening.old)) }
     requires goes_on { (is_ended opening.old ≡ false) × (refusal opening.old ≡ None) }
     ensures folded { IfOk result (λ c. HasFolded H.hash c opening.new) }
@@ -48,7 +48,7 @@ fn read_first<H: TreeHash, D: Disk>(
 fn read_next<H: TreeHash, D: Disk>(
     alloc: Global,
     opening: &mut Opening<D>,
-    contents: &mut Contents,
+    contents: &mut Contents<H>,
 ) -> Result<bool, LogOpenError>
     requires { HasFolded H.hash contents.old opening.old }
     ensures more { IfOk result (λ more. MatchBool more (HasFolded H.hash contents.new opening.new)
@@ -59,7 +59,7 @@ fn read_next<H: TreeHash, D: Disk>(
 {
     let number = contents.records();
     match opening.next() {
-        Ok(Some(body)) => match contents.take::<H>(alloc, body) {
+        Ok(Some(body)) => match contents.take(alloc, body) {
             Ok(()) => Ok(true),
             Err(why) => Err(refused(number, why)),
         },
@@ -72,7 +72,7 @@ fn read_next<H: TreeHash, D: Disk>(
 fn read_rest<H: TreeHash, D: Disk>(
     alloc: Global,
     opening: &mut Opening<D>,
-    contents: &mut Contents,
+    contents: &mut Contents<H>,
 ) -> Result<(), LogOpenError>
     requires { HasFolded H.hash contents.old opening.old }
     ensures found { OnOk result (HasFound H.hash contents.new opening.new) }
@@ -90,7 +90,7 @@ fn read_rest<H: TreeHash, D: Disk>(
 pub(crate) fn read_log<H: TreeHash, D: Disk>(
     alloc: Global,
     opening: &mut Opening<D>,
-) -> Result<Contents, LogOpenError>
+) -> Result<Contents<H>, LogOpenError>
     requires list { read_list opening.old ≡ option_map (λ _. []) (D.told (opening_disk opening.old)) }
     requires goes_on { (is_ended opening.old ≡ false) × (refusal opening.old ≡ None) }
     ensures found { IfOk result (λ c. HasFound H.hash c opening.new) }

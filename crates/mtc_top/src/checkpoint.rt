@@ -21,14 +21,13 @@ use issuance_log::Log;
 use mtc_io::{Bytes, Memory};
 use std::alloc::Global;
 use tree_core::TreeHash;
-use tree_proofs::root;
 
 // The size, and the tree hash in hexadecimal.
-fn checkpoint_answer<H: TreeHash>(alloc: Global, entries: &[Bytes]) -> Result<Answer, Memory>
-    ensures { IfOk result (λ answer. answer ≡ Answer.Says Said.Done (checkpoint_text H.hash entries.now)) }
+fn checkpoint_answer<H: TreeHash, D: Disk>(alloc: Global, log: &Log<H, D>) -> Result<Answer, Memory>
+    ensures { IfOk result (λ answer. answer ≡ Answer.Says Said.Done (checkpoint_text H.hash (state_of log.now).entries)) }
 {
-    let hash = hex::encode(alloc, &root::<H>(entries))?;
-    let text = format!(in alloc; "size {}\nroot {hash}\n", entries.len())?;
+    let hash = hex::encode(alloc, &log.root())?;
+    let text = format!(in alloc; "size {}\nroot {hash}\n", log.size())?;
     Ok(Answer::Says {
         status: Said::Done,
         text: Bytes::from_vec(text.into_bytes()),
@@ -52,7 +51,7 @@ pub fn checkpoint<H: TreeHash, D: Disk>(
     ensures fallen { IfErr result.1 (λ why. IfSome (log_records log) (λ list. IsOpen D.Disk (log_disk log) list
         → HasFallen D.Disk why (checkpoint_says H.hash (found_log list (state_of log))).journal (log_disk log) result.0)) }
 {
-    match checkpoint_answer::<H>(alloc, log.entries()) {
+    match checkpoint_answer(alloc, &log) {
         Ok(answer) => (log.into_disk(), Ok(answer)),
         Err(Memory) => (log.into_disk(), Err(Fallen::Memory)),
     }

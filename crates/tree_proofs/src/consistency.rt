@@ -24,6 +24,7 @@ pub fn consist<N: Nodes>(
     ensures proof { OnOk result (IsProofOf N.H.hash (N.leaves nodes.old) start end size out.new) }
     ensures list { N.leaves nodes.new ≡ N.leaves nodes.old }
     ensures count { N.count nodes.new ≡ N.count nodes.old }
+    ensures stays { N.stays nodes.old nodes.new }
     ensures cause { HasCause (N.faults nodes.old) (N.faults nodes.new) result }
 {
     out.clear();

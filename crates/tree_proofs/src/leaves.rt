@@ -1,4 +1,7 @@
-ghost use Rattle.std.specs.Prelude.{◌≡◌, ℕ, ◌+◌, ◌-◌, ◌<◌, ◌≤◌, List, [], ◌∷◌, ◌++◌, length, Some, refl, vec_len, vec_capacity, OnOk, OnErr};
+ghost use Rattle.std.specs.Prelude.{◌≡◌, ℕ, ◌+◌, ◌-◌, ◌*◌, ◌^◌, ◌<◌, ◌≤◌, List, [], ◌∷◌, ◌++◌, length, take, Some, refl, vec_len, vec_capacity, OnOk, OnErr};
+ghost use Rattle.std.proofs.Common.{◌∙◌};
+ghost use Rattle.tree_core.specs.Path.{part_of};
+ghost use Rattle.tree_core.specs.Tree.{root_of};
 ghost use Rattle.tree_proofs.specs.Listed.{Leaves};
 
 use crate::Nodes;
@@ -57,6 +60,33 @@ impl<H: TreeHash> Listed<H> {
         self.items.push(*leaf)?;
         Ok(())
     }
+
+    /// Takes off all but the first `count` leaves; where there are fewer, nothing.
+    pub fn truncate(&mut self, count: usize)
+        ensures { self.new.leaves ≡ take count self.old.leaves }
+    {
+        self.items.truncate(count);
+    }
+
+    /// The hash of the `2^level` leaves from `place * 2^level` on. It takes no memory.
+    pub fn node_at(&self, level: u32, place: u64) -> [u8; 32]
+        requires { (place + 1) * 2 ^ level ≤ length self.now.leaves }
+        ensures { result ≡ root_of H.hash (part_of self.now.leaves (place * 2 ^ level) ((place + 1) * 2 ^ level)) }
+    {
+        let leaves = self.items.as_slice();
+        let from = (place << level) as usize;
+        let to = from + (1 << level);
+        root_over::<H>(&leaves[from..to])
+    }
+
+    /// The tree hash of the leaves from `start` up to `end`. It takes no memory.
+    pub fn root_between(&self, start: u64, end: u64) -> [u8; 32]
+        requires order { start ≤ end }
+        requires within { end ≤ length self.now.leaves }
+        ensures { result ≡ root_of H.hash (part_of self.now.leaves start end) }
+    {
+        root_over::<H>(&self.items[start as usize..end as usize])
+    }
 }
 
 impl<H: TreeHash> Nodes for Listed<H> {
@@ -68,16 +98,19 @@ impl<H: TreeHash> Nodes for Listed<H> {
 
     ghost faults = { λ _. 0 };
 
+    ghost stays = { λ old new. new ≡ old };
+
     ghost counted = { λ _. refl };
+
+    ghost stays_before = { λ _. refl };
+
+    ghost stays_on = { λ _ _ _ first second. second ∙ first };
 
     fn size(&self) -> u64 {
         self.items.len() as u64
     }
 
     fn node(&mut self, level: u32, place: u64) -> Result<[u8; 32], Failed> {
-        let leaves = self.items.as_slice();
-        let from = (place << level) as usize;
-        let to = from + (1 << level);
-        Ok(root_over::<H>(&leaves[from..to]))
+        Ok(self.node_at(level, place))
     }
 }

@@ -21,21 +21,31 @@ pub trait Nodes {
     /// How often it has failed.
     ghost faults: { Self → ℕ };
 
+    /// What else stays where nodes are asked for, said of the value before and of the value after.
+    ghost stays: { Self → Self → Type 0 };
+
     /// How many leaves there are.
     fn size(&self) -> u64
         ensures { result ≡ count self.now };
 
     /// The hash of the `2^level` leaves from `place * 2^level` on. `Failed` comes only where the
-    /// count of faults rose. The list stays as it was, also then.
+    /// count of faults rose. The list stays as it was, also then, and so does all that `stays` says.
     fn node(&mut self, level: u32, place: u64) -> Result<[u8; 32], Failed>
         requires { (place + 1) * 2 ^ level ≤ count self.old }
         ensures value { IfOk result (IsRootOf Self.H.hash (leaves self.old) (place * 2 ^ level) ((place + 1) * 2 ^ level)) }
         ensures list { leaves self.new ≡ leaves self.old }
         ensures count { count self.new ≡ count self.old }
+        ensures stays { stays self.old self.new }
         ensures cause { HasCause (faults self.old) (faults self.new) result };
 
     /// Where the list is told, it has that many leaves.
     ghost counted: { (n : Self) → IfSome (leaves n) (λ list. count n ≡ length list) };
+
+    /// Without a call all stays.
+    ghost stays_before: { (n : Self) → stays n n };
+
+    /// What stays in two calls one after the other stays in both.
+    ghost stays_on: { (a b c : Self) → stays a b → stays b c → stays a c };
 }
 
 // The largest full subtree that a subtree begins with: its level, and where it ends.
@@ -54,6 +64,7 @@ pub fn node_of<N: Nodes>(nodes: &mut N, start: u64, end: u64) -> Result<[u8; 32]
     ensures value { IfOk result (IsRootOf N.H.hash (N.leaves nodes.old) start end) }
     ensures list { N.leaves nodes.new ≡ N.leaves nodes.old }
     ensures count { N.count nodes.new ≡ N.count nodes.old }
+    ensures stays { N.stays nodes.old nodes.new }
     ensures cause { HasCause (N.faults nodes.old) (N.faults nodes.new) result }
 {
     let (level, middle) = first_full(start, end);

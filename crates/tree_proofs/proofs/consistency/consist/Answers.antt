@@ -11,7 +11,7 @@ halves-init g c = (
   Proves-first g.N.H.TreeHash.hash (g.N.Nodes.leaves c.args.nodes.now) c.args.start c.args.end c.args.size
       c.clear.new.self (some_in c.args.start c.args.end c.requires.valid) c.requires.inside
       c.ranges.size.fits c.clear.ensures,
-  (refl, (refl, omega arith)),
+  (refl, (refl, (omega arith, g.met.N.Nodes.stays_before c.args.nodes.now))),
 )
 
 pub node_of-requires-clause-valid : goal.node_of-requires-clause-valid
@@ -38,13 +38,19 @@ halves-preserved-then-end-middle g c =
     (g.met.N.Nodes.counted c.args.nodes.now) c.requires.within in
     let call = c.in_ok-node_of.ensures in
     let later = call.cause.later in
-    let so_far = before.1.1.1 in (
+    let so_far = before.1.1.1.0 in (
       Proves-left g.N.H.TreeHash.hash (g.N.Nodes.leaves c.args.nodes.now) (g.N.Nodes.leaves c.halves.nodes)
           c.args.start c.args.end c.args.size c.halves.low c.split_between-middle.result c.halves.high
           c.halves.first c.halves.known c.halves.out c.push.new.self c.in_ok-node_of.field-0 before.0 is
           c.split_between-middle.ensures.value
           c.if-end-middle.true before.1.0 within call.value c.push.ensures,
-      (call.list ∙ before.1.0, (call.count ∙ before.1.1.0, omega arith)),
+      (
+        call.list ∙ before.1.0,
+        (
+          call.count ∙ before.1.1.0,
+          (omega arith, g.met.N.Nodes.stays_on _ _ _ before.1.1.1.1 call.stays),
+        ),
+      ),
     )
 
 pub node_of-requires-else-end-middle-clause-valid : goal.node_of-requires-else-end-middle-clause-valid
@@ -71,13 +77,19 @@ halves-preserved-then-first-middle g c =
     (g.met.N.Nodes.counted c.args.nodes.now) c.requires.within in
     let call = c.in_ok-node_of-2.ensures in
     let later = call.cause.later in
-    let so_far = before.1.1.1 in (
+    let so_far = before.1.1.1.0 in (
       Proves-over g.N.H.TreeHash.hash (g.N.Nodes.leaves c.args.nodes.now) (g.N.Nodes.leaves c.halves.nodes)
           c.args.start c.args.end c.args.size c.halves.low c.split_between-middle.result c.halves.high
           c.halves.first c.halves.known c.halves.out c.push-else-end-middle.new.self c.in_ok-node_of-2.field-0
           before.0 is c.split_between-middle.ensures.value
           c.if-first-middle.true c.if-end-middle.false before.1.0 within call.value c.push-else-end-middle.ensures,
-      (call.list ∙ before.1.0, (call.count ∙ before.1.1.0, omega arith)),
+      (
+        call.list ∙ before.1.0,
+        (
+          call.count ∙ before.1.1.0,
+          (omega arith, g.met.N.Nodes.stays_on _ _ _ before.1.1.1.1 call.stays),
+        ),
+      ),
     )
 
 pub halves-preserved : goal.halves-preserved
@@ -93,13 +105,19 @@ halves-preserved g c =
     (g.met.N.Nodes.counted c.args.nodes.now) c.requires.within in
     let call = c.in_ok-node_of-2.ensures in
     let later = call.cause.later in
-    let so_far = before.1.1.1 in (
+    let so_far = before.1.1.1.0 in (
       Proves-right g.N.H.TreeHash.hash (g.N.Nodes.leaves c.args.nodes.now) (g.N.Nodes.leaves c.halves.nodes)
           c.args.start c.args.end c.args.size c.halves.low c.split_between-middle.result c.halves.high
           c.halves.first c.halves.known c.halves.out c.push-else-end-middle.new.self c.in_ok-node_of-2.field-0
           before.0 is c.split_between-middle.ensures.value
           c.if-first-middle.false before.1.0 within call.value c.push-else-end-middle.ensures,
-      (call.list ∙ before.1.0, (call.count ∙ before.1.1.0, omega arith)),
+      (
+        call.list ∙ before.1.0,
+        (
+          call.count ∙ before.1.1.0,
+          (omega arith, g.met.N.Nodes.stays_on _ _ _ before.1.1.1.1 call.stays),
+        ),
+      ),
     )
 
 pub node_of-requires-then-not-known-clause-valid : goal.node_of-requires-then-not-known-clause-valid

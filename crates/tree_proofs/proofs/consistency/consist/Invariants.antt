@@ -11,4 +11,5 @@ invariant-halves g l =
     Proves g.N.H.TreeHash.hash (g.N.Nodes.leaves l.fn.nodes) l.start l.end l.size l.low l.high l.first l.known l.out
     × ((g.N.Nodes.leaves l.nodes ≡ g.N.Nodes.leaves l.fn.nodes)
     × ((g.N.Nodes.count l.nodes ≡ g.N.Nodes.count l.fn.nodes)
-    × (g.N.Nodes.faults l.fn.nodes ≤ g.N.Nodes.faults l.nodes)))
+    × ((g.N.Nodes.faults l.fn.nodes ≤ g.N.Nodes.faults l.nodes)
+    × g.N.Nodes.stays l.fn.nodes l.nodes)))

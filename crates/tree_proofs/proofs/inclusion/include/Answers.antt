@@ -9,7 +9,7 @@ halves-init g c = (
   Includes-first g.N.H.TreeHash.hash (g.N.Nodes.leaves c.args.nodes.now) c.args.index c.args.start c.args.end
       c.clear.new.self (IsAligned-from c.args.start c.args.end c.requires.valid) c.requires.from c.requires.below
       c.ranges.end.fits c.clear.ensures,
-  (refl, (refl, omega arith)),
+  (refl, (refl, (omega arith, g.met.N.Nodes.stays_before c.args.nodes.now))),
 )
 
 pub node_of-requires-clause-valid : goal.node_of-requires-clause-valid
@@ -26,12 +26,18 @@ halves-preserved-then-index-middle g c =
     (g.met.N.Nodes.counted c.args.nodes.now) c.requires.within in
     let call = c.in_ok-node_of.ensures in
     let later = call.cause.later in
-    let so_far = before.1.1.1 in (
+    let so_far = before.1.1.1.0 in (
       Includes-left g.N.H.TreeHash.hash (g.N.Nodes.leaves c.args.nodes.now) (g.N.Nodes.leaves c.halves.nodes)
           c.args.index c.args.start c.args.end c.halves.low c.split_between-middle.result c.halves.high
           c.halves.out c.push.new.self c.in_ok-node_of.field-0 before.0 more c.split_between-middle.ensures.value
           c.if-index-middle.true before.1.0 within call.value c.push.ensures,
-      (call.list ∙ before.1.0, (call.count ∙ before.1.1.0, omega arith)),
+      (
+        call.list ∙ before.1.0,
+        (
+          call.count ∙ before.1.1.0,
+          (omega arith, g.met.N.Nodes.stays_on _ _ _ before.1.1.1.1 call.stays),
+        ),
+      ),
     )
 
 pub node_of-requires-else-index-middle-clause-valid : goal.node_of-requires-else-index-middle-clause-valid
@@ -48,13 +54,19 @@ halves-preserved g c =
     (g.met.N.Nodes.counted c.args.nodes.now) c.requires.within in
     let call = c.in_ok-node_of-2.ensures in
     let later = call.cause.later in
-    let so_far = before.1.1.1 in (
+    let so_far = before.1.1.1.0 in (
       Includes-right g.N.H.TreeHash.hash (g.N.Nodes.leaves c.args.nodes.now) (g.N.Nodes.leaves c.halves.nodes)
           c.args.index c.args.start c.args.end c.halves.low c.split_between-middle.result c.halves.high
           c.halves.out c.push-else-index-middle.new.self c.in_ok-node_of-2.field-0 before.0 more
           c.split_between-middle.ensures.value
           c.if-index-middle.false before.1.0 within call.value c.push-else-index-middle.ensures,
-      (call.list ∙ before.1.0, (call.count ∙ before.1.1.0, omega arith)),
+      (
+        call.list ∙ before.1.0,
+        (
+          call.count ∙ before.1.1.0,
+          (omega arith, g.met.N.Nodes.stays_on _ _ _ before.1.1.1.1 call.stays),
+        ),
+      ),
     )
 
 pub returns-clause-path : goal.returns-clause-path

@@ -11,4 +11,5 @@ invariant-halves g l =
     Includes g.N.H.TreeHash.hash (g.N.Nodes.leaves l.fn.nodes) l.index l.start l.end l.low l.high l.out
     × ((g.N.Nodes.leaves l.nodes ≡ g.N.Nodes.leaves l.fn.nodes)
     × ((g.N.Nodes.count l.nodes ≡ g.N.Nodes.count l.fn.nodes)
-    × (g.N.Nodes.faults l.fn.nodes ≤ g.N.Nodes.faults l.nodes)))
+    × ((g.N.Nodes.faults l.fn.nodes ≤ g.N.Nodes.faults l.nodes)
+    × g.N.Nodes.stays l.fn.nodes l.nodes)))

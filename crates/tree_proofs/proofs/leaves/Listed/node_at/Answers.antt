@@ -1,6 +1,6 @@
 use Rattle.std.proofs.Common.{◌≡◌, ◌<◌, ◌^◌, ◌∙◌, ap, length, arith}
 use Rattle.tree_proofs.proofs.Fulls.{level_fits}
-use Rattle.tree_proofs.proofs.leaves.ListedNodes.node.Goals as goal
+use Rattle.tree_proofs.proofs.leaves.Listed.node_at.Goals as goal
 
 pub overflow_shl-from : goal.overflow_shl-from
 overflow_shl-from g c =
