@@ -1,7 +1,6 @@
 // The program over a room in memory: what it answers to words and files, and what it writes where.
 mod issue;
 mod log;
-mod requests;
 mod show;
 mod verify;
 

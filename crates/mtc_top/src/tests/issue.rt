@@ -1,7 +1,6 @@
 // What `issue` answers, and what it leaves of a journal.
 ghost use Rattle.std.specs.Prelude.{◌≡◌, IfOk};
 
-use super::requests::JOURNAL as ISSUED;
 use super::{answers, bytes_of, says, stops};
 use crate::{MemRoom, Room, run};
 use mtc_io::{Bytes, MemSink};
@@ -9,6 +8,13 @@ use std::alloc::Global;
 use std::process::Abort;
 use std::test::Fail;
 use tree_core::Sha;
+
+// The journal of the log 32473.1: its settings, and an entry with its key.
+const ISSUED: [&str; 3] = [
+    "6d74632d6a6f75726e616c2f76310a00010000000e010481fd5901000000020000004001000000b4020083",
+    "0001a003020102301931173015060a2b0601040182da4b2f010c0733323437332e31301e170d3236303130313030303030305a170d3236303130383030303030305a30000420722abd12e99a5367f375aeb9672a8e07712e03c2add16fa8d6914d1cfa2efe0ca31b301930170603551d110101ff040d300b8209612e6578616d706c65",
+    "002c302a300506032b6570032100000000000000000000000000000000000000000000000000000000000000000000",
+];
 
 const REQUEST: &str = r#"not_before = "2026-01-01T00:00:00Z"
 not_after = "2026-01-08T00:00:00Z"
