@@ -91,7 +91,7 @@ fn text_of_index(alloc: Global, index: u64) -> Result<Bytes, Memory>
 }
 
 /// The work of `issue J REQUEST`.
-pub fn issue_on<H: TreeHash, D: Disk>(
+pub(crate) fn issue_on<H: TreeHash, D: Disk>(
     alloc: Global,
     log: Log<H, D>,
     request: Request,

@@ -14,4 +14,4 @@ mod tests;
 mod work;
 
 pub use log_command::on_journal;
-pub use work::{Fallen, Work};
+pub use work::Work;

@@ -87,8 +87,8 @@ fn against(alloc: Global, line: &str) -> Result<Answer, Memory>
     })
 }
 
-/// The answer to a certificate that is refused.
-pub fn refuse(alloc: Global, command: &str, cert: &str, why: Refusal) -> Result<Answer, Memory>
+// The answer to a certificate that is refused.
+fn refuse(alloc: Global, command: &str, cert: &str, why: Refusal) -> Result<Answer, Memory>
     ensures { IfOk result (λ answer. answer ≡ (refused command.now cert.now why).answer) }
 {
     match why {

@@ -1,5 +1,5 @@
 -- The outcome: what the program has to answer, as a function of the words and the room's files. One line for each
--- command; each command's own outcome stands in a file of its own.
+-- command; each command's own outcome stands in a file of its own, in mtc_reads or mtc_logs.
 use Rattle.std.specs.Prelude.{◌≡◌, ℕ, List, codes, Result, Ok, Err}
 use Rattle.mtc_words.specs.declared.error.WordError.{WordError}
 use Rattle.mtc_words.specs.Commands.{CommandValue, member, show, verify, init_log, issue, checkpoint, entries, consist, subtree, keygen}
