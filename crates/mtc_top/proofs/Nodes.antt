@@ -7,8 +7,9 @@ use Rattle.disk_core.specs.declared.disk.Disk.{Ghosts}
 use Rattle.mtc_room.specs.Room.{TellsFile}
 use Rattle.journal_core.specs.Format.{StandsFor, StandsForEither}
 use Rattle.journal_core.proofs.Records.{records_of-stands}
-use Rattle.mtc_top.specs.Made.{Journaled, untouched, reads, appended, started, images_of, Kept, WasRead, HasMade, MayHaveMade}
-use Rattle.mtc_top.specs.Nodes.{NodeState, StandsForNode, AllStandForNode, stop, begin, fresh_node, End, same, stopped, begun, has_settled, has_handed, after, IsEarly, IsRecord, MayEnd, IsOnOld, IsOneOf, TookSome, EndsWell}
+use Rattle.mtc_answers.specs.Answers.{IsEarly}
+use Rattle.mtc_answers.specs.Made.{Journaled, untouched, reads, appended, started, images_of, Kept, WasRead, HasMade, MayHaveMade}
+use Rattle.mtc_top.specs.Nodes.{NodeState, StandsForNode, AllStandForNode, stop, begin, fresh_node, End, same, stopped, begun, has_settled, has_handed, after, IsRecord, MayEnd, IsOnOld, IsOneOf, TookSome, EndsWell}
 
 -- what was read are the records of the node behind a stop
 record Stopped (n : NodeState) (list : List (List ℕ)) : Type 0 where

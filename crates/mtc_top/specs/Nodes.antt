@@ -1,7 +1,8 @@
 -- A node's journal as a state of a history, and how a command may end: which steps of the history it was.
 use Rattle.std.specs.Prelude.{◌≡◌, ◌⊎◌, ℕ, ◌<◌, Bool, true, false, List, [], ◌∷◌, ◌++◌, length, Option, None, Some, IfSome, if◌then◌else◌}
 use Rattle.journal_core.specs.Format.{StandsFor}
-use Rattle.mtc_top.specs.Made.{Journaled, untouched, reads, appended, started}
+use Rattle.mtc_answers.specs.Answers.{IsEarly}
+use Rattle.mtc_answers.specs.Made.{Journaled, untouched, reads, appended, started}
 
 -- the first record of a node, those that are settled behind it, at most one that is pending, the numbers of those that were
 -- handed out, and whether the last one may be
@@ -59,10 +60,6 @@ after (stopped kept) n = stop kept n
 after (begun kept body) n = begin body (stop kept n)
 after (has_settled kept body) n = settle (begin body (stop kept n))
 after (has_handed kept body) n = hand (settle (begin body (stop kept n)))
-
--- the statuses of a command that may not have opened its journal
-abbrev pub IsEarly : ℕ → Type 0
-IsEarly status = (status ≡ 1) ⊎ ((status ≡ 2) ⊎ ((status ≡ 5) ⊎ ((status ≡ 7) ⊎ ((status ≡ 8) ⊎ (status ≡ 9)))))
 
 -- the command adds this record
 abbrev pub IsRecord : Journaled → List ℕ → Type 0

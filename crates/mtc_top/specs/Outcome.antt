@@ -1,29 +1,19 @@
 -- The outcome: what the program has to answer, as a function of the words and the room's files. One line for each
--- command; each command's own outcome stands in a file of its own.
-use Rattle.std.specs.Prelude.{◌≡◌, ℕ, List, codes, Option, Result, Ok, Err}
+-- command; each command's own outcome stands in a file of its own, in mtc_reads or mtc_logs.
+use Rattle.std.specs.Prelude.{◌≡◌, ℕ, List, codes, Result, Ok, Err}
 use Rattle.mtc_words.specs.declared.error.WordError.{WordError}
 use Rattle.mtc_words.specs.Commands.{CommandValue, member, show, verify, init_log, issue, checkpoint, entries, consist, subtree, keygen}
 use Rattle.mtc_words.specs.Words.{command_of}
-use Rattle.authority_core.specs.Files.{request_of}
-use Rattle.mtc_top.specs.IssueOutcome.{with_request}
-use Rattle.mtc_top.specs.KeygenOutcome.{keygen_outcome}
-use Rattle.mtc_top.specs.LogOutcomes.{init_log_outcome}
-use Rattle.mtc_top.specs.MemberOutcome.{member_outcome}
-use Rattle.mtc_top.specs.ShowOutcome.{show_outcome}
-use Rattle.mtc_top.specs.Steps.{Outcome, Files, with_bytes}
-use Rattle.mtc_top.specs.VerifyOutcome.{verify_outcome}
+use Rattle.mtc_logs.specs.IssueCommand.{issue_outcome}
+use Rattle.mtc_reads.specs.KeygenOutcome.{keygen_outcome}
+use Rattle.mtc_logs.specs.LogOutcomes.{init_log_outcome}
+use Rattle.mtc_reads.specs.MemberOutcome.{member_outcome}
+use Rattle.mtc_reads.specs.ShowOutcome.{show_outcome}
+use Rattle.mtc_answers.specs.Steps.{Outcome, Files}
+use Rattle.mtc_reads.specs.VerifyOutcome.{verify_outcome}
 use Rattle.mtc_top.specs.WordsOutcome.{words_say, first_word}
-use Rattle.mtc_top.specs.Works.{journal_outcome}
-use Rattle.mtc_top.specs.declared.work.Work.TheVariants.{Checkpoint, Entries, Issue, Consist, Subtree}
-
--- the request is read, and then its entry is added
-unfoldable pub request_says : (List ℕ → List ℕ) → List ℕ → List ℕ → Option (List ℕ) → List ℕ → Outcome
-request_says h journal request file bytes =
-    with_request (codes "issue") request (request_of bytes) (λ r. journal_outcome h (codes "issue") journal file (Issue r))
-
-abbrev pub issue_outcome : (List ℕ → List ℕ) → List ℕ → List ℕ → Files → Outcome
-issue_outcome h journal request files =
-    with_bytes 16777216 (codes "issue") request (files request) (request_says h journal request (files journal))
+use Rattle.mtc_logs.specs.Works.{journal_outcome}
+use Rattle.mtc_logs.specs.declared.work.Work.TheVariants.{Checkpoint, Entries, Consist, Subtree}
 
 -- what a command answers over these files
 abbrev pub command_outcome : (List ℕ → List ℕ) → CommandValue → Files → Outcome

@@ -3,9 +3,9 @@ use Rattle.std.specs.Prelude.{ℕ, List, [], ◌∷◌, ◌++◌, codes}
 use Rattle.std.specs.Fmt.{decimal}
 use Rattle.mtc_words.specs.declared.error.WordError.{WordError}
 use Rattle.mtc_words.specs.declared.error.WordError.TheVariants.{NoCommand, UnknownCommand, BadWord, WrongCount, BadNumber, BadId, Memory}
-use Rattle.mtc_top.specs.declared.answer.Stopped.TheVariants.{BadWords}
-use Rattle.mtc_top.specs.Lines.{bare_line, command_line}
-use Rattle.mtc_top.specs.Steps.{Outcome, stops}
+use Rattle.mtc_answers.specs.declared.answer.Stopped.TheVariants.{BadWords}
+use Rattle.mtc_answers.specs.Lines.{bare_line, command_line}
+use Rattle.mtc_answers.specs.Steps.{Outcome, stops}
 
 abbrev pub first_word : List (List ℕ) → List ℕ
 first_word [] = []

@@ -3,12 +3,11 @@ ghost use Rattle.std.specs.Prelude.{◌≡◌, ◌≢◌, ℕ, List, codes};
 ghost use Rattle.std.specs.Io.KnownBytes.{Appends};
 ghost use Rattle.mtc_io.specs.Counts.{Rose};
 ghost use Rattle.mtc_io.specs.Streams.{AppendsPrefix, joined};
-ghost use Rattle.mtc_top.specs.Answers.{status_of, said_code, stopped_code, out_of, err_of};
-ghost use Rattle.mtc_top.specs.Lines.{command_line, file_line, memory_line, stop_line, WritesLine};
-ghost use Rattle.mtc_top.specs.Nodes.{IsEarly};
-ghost use Rattle.mtc_top.specs.Settled.{stop_code};
+ghost use Rattle.mtc_answers.specs.Answers.{status_of, said_code, stopped_code, out_of, err_of, IsEarly};
+ghost use Rattle.mtc_answers.specs.Lines.{command_line, file_line, memory_line, stop_line, WritesLine};
+ghost use Rattle.mtc_answers.specs.Settled.{stop_code};
 
-use crate::answer::{Answer, Said, Stop, Stopped};
+use mtc_answers::{Answer, Said, Stop, Stopped};
 use mtc_io::{Failed, Sink, write_all, write_pieces};
 
 const ROOM_FAILED: u8 = 5;

@@ -5,25 +5,11 @@
 //! contract of `run` says that this is what comes out, or that something outside failed.
 #![tactic(auto)]
 
-mod answer;
-mod cert_fault;
-mod checkpoint;
 mod finish;
-mod init_log;
-mod input;
-mod issue;
-mod keygen;
-mod line;
-mod log_command;
-mod member;
 mod refused_words;
-mod requests;
-mod show;
 #[cfg(test)]
 mod tests;
 mod top;
-mod verify;
-mod work;
 
 pub use mtc_room::{MemRoom, Room, RoomError};
 pub use top::run;

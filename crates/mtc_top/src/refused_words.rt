@@ -2,8 +2,7 @@
 ghost use Rattle.std.specs.Prelude.{◌≡◌, IfOk, string_bytes};
 ghost use Rattle.mtc_top.specs.WordsOutcome.{word_fault_text, words_line, words_say};
 
-use crate::answer::{Answer, Stopped};
-use crate::line::{line_bare, line_of_command};
+use mtc_answers::{Answer, Stopped, line_bare, line_of_command};
 use mtc_io::{Bytes, Memory};
 use mtc_words::WordError;
 use std::alloc::{AllocError, Global};

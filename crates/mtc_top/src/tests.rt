@@ -1,18 +1,15 @@
 // The program over a room in memory: what it answers to words and files, and what it writes where.
+mod desk;
 mod issue;
 mod log;
-mod requests;
 mod show;
 mod verify;
 
-ghost use Rattle.std.specs.Prelude.{◌≡◌};
-
-use crate::{MemRoom, Room, run};
+use desk::Desk;
 use mtc_io::{Bytes, MemSink};
 use std::alloc::Global;
 use std::process::Abort;
 use std::test::Fail;
-use tree_core::Sha;
 
 /// One run: the words, the file `f` in hexadecimal, the calls of its source, of `out` and of `err` that fail, and
 /// how many bytes `out` takes a call; then the status and what `out` and `err` took.
@@ -392,27 +389,59 @@ const fn stops(status: u8, err: &'static [u8]) -> Wanted {
     }
 }
 
-// Runs the program over a room, and looks at what comes of it.
-fn answers(
-    rt: &impl Abort,
-    alloc: Global,
-    room: &mut MemRoom,
-    words: &[&str],
-    wanted: &Wanted,
-) -> Result<(), Fail>
-    requires { ⟦<MemRoom as Room>⟧.lent room.old ≡ 0 }
-    ensures { ⟦<MemRoom as Room>⟧.lent room.new ≡ 0 }
-{
+/// One run over a room: the words, and what comes of it.
+#[derive(Drop)]
+struct Step {
+    words: &'static [&'static str],
+    status: u8,
+    out: &'static [u8],
+    err: &'static [u8],
+}
+
+// A step without words that does its work and says nothing.
+const STEP: Step = Step {
+    words: &[],
+    status: 0,
+    out: b"",
+    err: b"",
+};
+
+fn owned_words(alloc: Global, words: &[&str]) -> Result<Vec<String>, Fail> {
     let mut owned = Vec::new(alloc);
     for word in words {
         owned.push(String::from_str(alloc, word)?)?;
     }
+    Ok(owned)
+}
+
+// Runs the program over a room, and looks at what comes of it.
+fn answers(
+    rt: &impl Abort,
+    alloc: Global,
+    desk: &mut Desk,
+    words: &[&str],
+    wanted: &Wanted,
+) -> Result<(), Fail> {
+    let owned = owned_words(alloc, words)?;
     let mut out = MemSink::new(alloc, 100, Vec::new(alloc));
     let mut err = MemSink::new(alloc, 100, Vec::new(alloc));
-    let status = run::<Sha, _, _, _>(alloc, &owned, room, &mut out, &mut err);
+    let status = desk.run(alloc, &owned, &mut out, &mut err);
     assert_eq!(rt; err.taken(), wanted.err, "standard error of {words:?}");
     assert_eq!(rt; out.taken(), wanted.out, "standard output of {words:?}");
     assert_eq!(rt; status, wanted.status, "status of {words:?}");
+    Ok(())
+}
+
+// Runs the program again and again over one room.
+fn all_answer(rt: &impl Abort, alloc: Global, desk: &mut Desk, steps: &[Step]) -> Result<(), Fail> {
+    for step in steps {
+        let wanted = Wanted {
+            status: step.status,
+            out: step.out,
+            err: step.err,
+        };
+        answers(rt, alloc, desk, step.words, &wanted)?;
+    }
     Ok(())
 }
 
@@ -426,17 +455,14 @@ fn bytes_of(alloc: Global, parts: &[&str]) -> Result<Vec<u8>, Fail> {
 }
 
 fn outcome(alloc: Global, case: &Case, file: Vec<u8>) -> Result<(u8, MemSink, MemSink), Fail> {
-    let mut words = Vec::new(alloc);
-    for word in case.words {
-        words.push(String::from_str(alloc, word)?)?;
-    }
-    let mut room = MemRoom::new(alloc);
+    let words = owned_words(alloc, case.words)?;
+    let mut desk = Desk::new(alloc);
     let failing = Vec::from_slice(alloc, case.source_fails)?;
-    room.place("f", Bytes::from_vec(file), failing)?;
+    desk.place("f", Bytes::from_vec(file), failing)?;
     let failing = Vec::from_slice(alloc, case.out_fails)?;
     let mut out = MemSink::new(alloc, case.out_takes.max(1), failing);
     let mut err = MemSink::new(alloc, 100, Vec::from_slice(alloc, case.err_fails)?);
-    let status = run::<Sha, _, _, _>(alloc, &words, &mut room, &mut out, &mut err);
+    let status = desk.run(alloc, &words, &mut out, &mut err);
     Ok((status, out, err))
 }
 
@@ -455,21 +481,9 @@ fn answers_words_and_files(rt: HostRuntime) -> Result<(), Fail> {
 #[test]
 fn refuses_a_file_over_its_limit(rt: HostRuntime) -> Result<(), Fail> {
     let alloc = rt.alloc();
-    let words = vec![in alloc;
-        String::from_str(alloc, "member")?,
-        String::from_str(alloc, "f")?,
-    ]?;
-    let mut room = MemRoom::new(alloc);
-    room.place(
-        "f",
-        Bytes::from_vec(vec![in alloc; 0; 16_777_217]?),
-        Vec::new(alloc),
-    )?;
-    let mut out = MemSink::new(alloc, 100, Vec::new(alloc));
-    let mut err = MemSink::new(alloc, 100, Vec::new(alloc));
-    let status = run::<Sha, _, _, _>(alloc, &words, &mut room, &mut out, &mut err);
-    assert_eq!(rt; status, 9);
-    assert_eq!(rt; out.taken(), b"".as_slice());
-    assert_eq!(rt; err.taken(), b"mtc: member: f: TooLong\n".as_slice());
-    Ok(())
+    let mut desk = Desk::new(alloc);
+    let bytes = Bytes::from_vec(vec![in alloc; 0; 16_777_217]?);
+    desk.place("f", bytes, Vec::new(alloc))?;
+    let wanted = stops(9, b"mtc: member: f: TooLong\n");
+    answers(&rt, alloc, &mut desk, &["member", "f"], &wanted)
 }

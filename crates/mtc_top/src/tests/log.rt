@@ -1,6 +1,6 @@
 // What `init-log`, `checkpoint` and `entries` answer, and what they leave of a journal.
-use super::{Wanted, answers, bytes_of, says, stops};
-use crate::MemRoom;
+use super::desk::Desk;
+use super::{STEP, Step, Wanted, all_answer, answers, bytes_of, says, stops};
 use mtc_io::Bytes;
 use std::alloc::Global;
 use std::process::Abort;
@@ -15,32 +15,53 @@ const INIT_LOG: &[&str] = &["init-log", "j", "32473.1", "2", "64"];
 const SIZE_1: &[u8] =
     b"size 1\nroot 709e80c88487a2411e1ee4dfb9f22a861492d20c4765150c0c794abd70f8147c\n";
 
+// What is told of the new log.
+const NEW_STEPS: [Step; 6] = [
+    Step {
+        words: INIT_LOG,
+        status: 7,
+        err: b"mtc: init-log: j: Exists\n",
+        ..STEP
+    },
+    Step {
+        words: &["checkpoint", "k"],
+        status: 7,
+        err: b"mtc: checkpoint: k: Absent\n",
+        ..STEP
+    },
+    Step {
+        words: &["checkpoint", "j"],
+        out: SIZE_1,
+        ..STEP
+    },
+    Step {
+        words: &["entries", "j", "1"],
+        out: b"\x00\x02\x00\x00\x00\x00",
+        ..STEP
+    },
+    Step {
+        words: &["entries", "j", "2"],
+        status: 4,
+        err: b"mtc: entries: Beyond 1\n",
+        ..STEP
+    },
+    Step {
+        words: &["entries", "j", "0"],
+        out: b"",
+        ..STEP
+    },
+];
+
 #[test]
 fn a_new_log(rt: HostRuntime) -> Result<(), Fail> {
     let alloc = rt.alloc();
-    let mut room = MemRoom::new(alloc);
-    answers(&rt, alloc, &mut room, INIT_LOG, &says(0, b"log 32473.1\n"))?;
+    let mut desk = Desk::new(alloc);
+    answers(&rt, alloc, &mut desk, INIT_LOG, &says(0, b"log 32473.1\n"))?;
     let journal = bytes_of(alloc, &[JOURNAL])?;
-    assert_eq!(rt; room.bytes("j"), Some(journal.as_slice()));
-
-    let wanted = stops(7, b"mtc: init-log: j: Exists\n");
-    answers(&rt, alloc, &mut room, INIT_LOG, &wanted)?;
-    let wanted = stops(7, b"mtc: checkpoint: k: Absent\n");
-    answers(&rt, alloc, &mut room, &["checkpoint", "k"], &wanted)?;
-    answers(
-        &rt,
-        alloc,
-        &mut room,
-        &["checkpoint", "j"],
-        &says(0, SIZE_1),
-    )?;
-    let wanted = says(0, b"\x00\x02\x00\x00\x00\x00");
-    answers(&rt, alloc, &mut room, &["entries", "j", "1"], &wanted)?;
-    let wanted = stops(4, b"mtc: entries: Beyond 1\n");
-    answers(&rt, alloc, &mut room, &["entries", "j", "2"], &wanted)?;
-    answers(&rt, alloc, &mut room, &["entries", "j", "0"], &says(0, b""))?;
-    assert_eq!(rt; room.bytes("j"), Some(journal.as_slice()));
-    assert_eq!(rt; room.bytes("k"), None);
+    assert_eq!(rt; desk.bytes("j"), Some(journal.as_slice()));
+    all_answer(&rt, alloc, &mut desk, &NEW_STEPS)?;
+    assert_eq!(rt; desk.bytes("j"), Some(journal.as_slice()));
+    assert_eq!(rt; desk.bytes("k"), None);
     Ok(())
 }
 
@@ -69,9 +90,9 @@ fn bad_words(rt: HostRuntime) -> Result<(), Fail> {
         ),
     ];
     for (words, wanted) in &cases {
-        let mut room = MemRoom::new(rt.alloc());
-        answers(&rt, rt.alloc(), &mut room, words, wanted)?;
-        assert_eq!(rt; room.bytes("j"), None);
+        let mut desk = Desk::new(rt.alloc());
+        answers(&rt, rt.alloc(), &mut desk, words, wanted)?;
+        assert_eq!(rt; desk.bytes("j"), None);
     }
     Ok(())
 }
@@ -83,18 +104,18 @@ fn at_the_ends_of_the_ranges(rt: HostRuntime) -> Result<(), Fail> {
         &["init-log", "j", "32473.1", "10000", "1048576"],
     ];
     for words in &cases {
-        let mut room = MemRoom::new(rt.alloc());
+        let mut desk = Desk::new(rt.alloc());
         answers(
             &rt,
             rt.alloc(),
-            &mut room,
+            &mut desk,
             words,
             &says(0, b"log 32473.1\n"),
         )?;
         answers(
             &rt,
             rt.alloc(),
-            &mut room,
+            &mut desk,
             &["checkpoint", "j"],
             &says(0, SIZE_1),
         )?;
@@ -133,10 +154,10 @@ fn changed_journals(rt: HostRuntime) -> Result<(), Fail> {
         (15, &[], stops(2, b"mtc: checkpoint: j: NotJournal\n")),
     ];
     for (count, changes, wanted) in &cases {
-        let mut room = MemRoom::new(rt.alloc());
+        let mut desk = Desk::new(rt.alloc());
         let bytes = journal(rt.alloc(), *count, changes)?;
-        room.place("j", bytes, Vec::new(rt.alloc()))?;
-        answers(&rt, rt.alloc(), &mut room, &["checkpoint", "j"], wanted)?;
+        desk.place("j", bytes, Vec::new(rt.alloc()))?;
+        answers(&rt, rt.alloc(), &mut desk, &["checkpoint", "j"], wanted)?;
     }
     Ok(())
 }
@@ -149,30 +170,39 @@ const SECOND: &str =
 const ITEMS: &[u8] =
     b"\x00\x02\x00\x00\x00\x00\x00\x83\x00\x01\xa0\x03\x02\x01\x02\x30\x19\x31\x17\x30\x15\x06\x0a\x2b\x06\x01\x04\x01\x82\xda\x4b\x2f\x01\x0c\x0732473.1\x30\x1e\x17\x0d260101000000Z\x17\x0d260108000000Z\x30\x00\x04\x20\x72\x2a\xbd\x12\xe9\x9a\x53\x67\xf3\x75\xae\xb9\x67\x2a\x8e\x07\x71\x2e\x03\xc2\xad\xd1\x6f\xa8\xd6\x91\x4d\x1c\xfa\x2e\xfe\x0c\xa3\x1b\x30\x19\x30\x17\x06\x03\x55\x1d\x11\x01\x01\xff\x04\x0d\x30\x0b\x82\x09a.example\x00\x2c\x30\x2a\x30\x05\x06\x03\x2b\x65\x70\x03\x21\x00\x00\x00\x00\x00\x00\x00\x00\x00\x00\x00\x00\x00\x00\x00\x00\x00\x00\x00\x00\x00\x00\x00\x00\x00\x00\x00\x00\x00\x00\x00\x00\x00";
 
+const TWO_STEPS: [Step; 4] = [
+    Step {
+        words: &["checkpoint", "j"],
+        out: b"size 2\nroot 77566825cd25f263271e3fa5341db28ed2c87945ee98f731b2aa96b9e6b11cf6\n",
+        ..STEP
+    },
+    Step {
+        words: &["entries", "j", "1"],
+        out: b"\x00\x02\x00\x00\x00\x00",
+        ..STEP
+    },
+    Step {
+        words: &["entries", "j", "2"],
+        out: ITEMS,
+        ..STEP
+    },
+    Step {
+        words: &["entries", "j", "3"],
+        status: 4,
+        err: b"mtc: entries: Beyond 2\n",
+        ..STEP
+    },
+];
+
 #[test]
 fn a_log_of_two_entries(rt: HostRuntime) -> Result<(), Fail> {
     let alloc = rt.alloc();
     let mut bytes = bytes_of(alloc, &[JOURNAL])?;
     bytes.truncate(35);
     bytes.extend_from_slice(&bytes_of(alloc, &[SECOND])?)?;
-    let mut room = MemRoom::new(alloc);
-    room.place("j", Bytes::from_vec(bytes), Vec::new(alloc))?;
-    let wanted = says(
-        0,
-        b"size 2\nroot 77566825cd25f263271e3fa5341db28ed2c87945ee98f731b2aa96b9e6b11cf6\n",
-    );
-    answers(&rt, alloc, &mut room, &["checkpoint", "j"], &wanted)?;
-    let wanted = says(0, b"\x00\x02\x00\x00\x00\x00");
-    answers(&rt, alloc, &mut room, &["entries", "j", "1"], &wanted)?;
-    answers(
-        &rt,
-        alloc,
-        &mut room,
-        &["entries", "j", "2"],
-        &says(0, ITEMS),
-    )?;
-    let wanted = stops(4, b"mtc: entries: Beyond 2\n");
-    answers(&rt, alloc, &mut room, &["entries", "j", "3"], &wanted)
+    let mut desk = Desk::new(alloc);
+    desk.place("j", Bytes::from_vec(bytes), Vec::new(alloc))?;
+    all_answer(&rt, alloc, &mut desk, &TWO_STEPS)
 }
 
 // Makes a log on a device that fails a call, and looks at what that leaves.
@@ -183,14 +213,14 @@ fn fails(
     left: &[u8],
     checkpoint: &Wanted,
 ) -> Result<(), Fail> {
-    let mut room = MemRoom::new(alloc);
-    room.fail_fresh(Vec::from_slice(alloc, &[call])?);
+    let mut desk = Desk::new(alloc);
+    desk.fail_fresh(Vec::from_slice(alloc, &[call])?);
     let wanted = stops(5, b"mtc: init-log: j: Failed\n");
-    answers(rt, alloc, &mut room, INIT_LOG, &wanted)?;
-    assert_eq!(rt; room.bytes("j"), Some(left), "left by call {call}");
-    answers(rt, alloc, &mut room, &["checkpoint", "j"], checkpoint)?;
+    answers(rt, alloc, &mut desk, INIT_LOG, &wanted)?;
+    assert_eq!(rt; desk.bytes("j"), Some(left), "left by call {call}");
+    answers(rt, alloc, &mut desk, &["checkpoint", "j"], checkpoint)?;
     let wanted = stops(7, b"mtc: init-log: j: Exists\n");
-    answers(rt, alloc, &mut room, INIT_LOG, &wanted)
+    answers(rt, alloc, &mut desk, INIT_LOG, &wanted)
 }
 
 #[test]
@@ -217,11 +247,11 @@ fn looks(
 ) -> Result<(), Fail> {
     let whole = bytes_of(alloc, &[JOURNAL])?;
     let failing = Vec::from_slice(alloc, &[call])?;
-    let mut room = MemRoom::new(alloc);
-    room.place("j", journal(alloc, 36, &[])?, failing)?;
-    answers(rt, alloc, &mut room, &["checkpoint", "j"], first)?;
-    answers(rt, alloc, &mut room, &["checkpoint", "j"], second)?;
-    assert_eq!(rt; room.bytes("j"), Some(whole.as_slice()));
+    let mut desk = Desk::new(alloc);
+    desk.place("j", journal(alloc, 36, &[])?, failing)?;
+    answers(rt, alloc, &mut desk, &["checkpoint", "j"], first)?;
+    answers(rt, alloc, &mut desk, &["checkpoint", "j"], second)?;
+    assert_eq!(rt; desk.bytes("j"), Some(whole.as_slice()));
     Ok(())
 }
 

@@ -1,6 +1,6 @@
 // What `show` prints.
-use super::{CERTIFICATE, Case, MEMBER, Wanted, answers, bytes_of, certificate, outcome};
-use crate::MemRoom;
+use super::desk::Desk;
+use super::{CERTIFICATE, Case, MEMBER, answers, bytes_of, certificate, outcome, says};
 use mtc_io::Bytes;
 use std::alloc::Global;
 use std::process::Abort;
@@ -97,14 +97,9 @@ fn shows(
     certificate: Vec<u8>,
     lines: &'static [u8],
 ) -> Result<(), Fail> {
-    let mut room = MemRoom::new(alloc);
-    room.place("f", Bytes::from_vec(certificate), Vec::new(alloc))?;
-    let wanted = Wanted {
-        status: 0,
-        out: lines,
-        err: b"",
-    };
-    answers(rt, alloc, &mut room, &["show", "f"], &wanted)
+    let mut desk = Desk::new(alloc);
+    desk.place("f", Bytes::from_vec(certificate), Vec::new(alloc))?;
+    answers(rt, alloc, &mut desk, &["show", "f"], &says(0, lines))
 }
 
 #[test]

@@ -1,6 +1,6 @@
 // What `verify` answers to a certificate, a store and a moment.
+use super::desk::Desk;
 use super::{Wanted, answers, certificate, says, stops};
-use crate::MemRoom;
 use mtc_io::Bytes;
 use std::alloc::Global;
 use std::process::Abort;
@@ -34,10 +34,10 @@ fn judges(
     now: &str,
     wanted: &Wanted,
 ) -> Result<(), Fail> {
-    let mut room = MemRoom::new(alloc);
-    room.place("c", Bytes::from_vec(bytes), Vec::new(alloc))?;
-    room.place("store", joined(alloc, store)?, Vec::new(alloc))?;
-    answers(rt, alloc, &mut room, &["verify", "c", "store", now], wanted)
+    let mut desk = Desk::new(alloc);
+    desk.place("c", Bytes::from_vec(bytes), Vec::new(alloc))?;
+    desk.place("store", joined(alloc, store)?, Vec::new(alloc))?;
+    answers(rt, alloc, &mut desk, &["verify", "c", "store", now], wanted)
 }
 
 #[test]
@@ -147,19 +147,19 @@ fn bad_stores(rt: HostRuntime) -> Result<(), Fail> {
 fn without_its_files(rt: HostRuntime) -> Result<(), Fail> {
     let alloc = rt.alloc();
     let words = ["verify", "c", "store", "1767225600"];
-    let mut room = MemRoom::new(alloc);
+    let mut desk = Desk::new(alloc);
     let wanted = stops(7, b"mtc: verify: c: Absent\n");
-    answers(&rt, alloc, &mut room, &words, &wanted)?;
+    answers(&rt, alloc, &mut desk, &words, &wanted)?;
 
     let bytes = Bytes::from_vec(certificate(alloc, &[])?);
-    room.place("c", bytes, Vec::new(alloc))?;
+    desk.place("c", bytes, Vec::new(alloc))?;
     let wanted = stops(7, b"mtc: verify: store: Absent\n");
-    answers(&rt, alloc, &mut room, &words, &wanted)?;
+    answers(&rt, alloc, &mut desk, &words, &wanted)?;
 
-    room.place("store", Bytes::new(alloc), Vec::from_slice(alloc, &[0])?)?;
+    desk.place("store", Bytes::new(alloc), Vec::from_slice(alloc, &[0])?)?;
     let wanted = stops(5, b"mtc: verify: store: Failed\n");
-    answers(&rt, alloc, &mut room, &words, &wanted)?;
+    answers(&rt, alloc, &mut desk, &words, &wanted)?;
 
     let wanted = stops(1, b"mtc: verify: WrongCount 1 3\n");
-    answers(&rt, alloc, &mut room, &["verify", "c"], &wanted)
+    answers(&rt, alloc, &mut desk, &["verify", "c"], &wanted)
 }

@@ -1,0 +1,5 @@
+pub mod Answers
+pub mod Lines
+pub mod Made
+pub mod Settled
+pub mod Steps

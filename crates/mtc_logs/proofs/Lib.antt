@@ -1,0 +1,3 @@
+pub mod LogSteps
+pub mod Lengths
+pub mod Asked

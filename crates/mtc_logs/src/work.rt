@@ -1,0 +1,84 @@
+// The work of a command on a log whose journal is open: its own refusals, its text, and at most one append, which is its
+// last step.
+ghost use Rattle.std.specs.Prelude.{◌≡◌, ◌≢◌, ◌≤◌, ◌+◌, false, IfOk, IfErr, IfSome, IsOk};
+ghost use Rattle.mtc_io.specs.Counts.{Rose};
+ghost use Rattle.journal_core.specs.Format.{behind};
+ghost use Rattle.issuance_log.specs.Words.{log_disk, log_records, log_end, log_broken, state_of};
+ghost use Rattle.mtc_answers.specs.Answers.{status_of};
+ghost use Rattle.mtc_logs.specs.LogSteps.{found_log};
+ghost use Rattle.mtc_answers.specs.Made.{IsOpen, Adds};
+ghost use Rattle.mtc_logs.specs.Works.{FallenOnly, HasFallen, CanBeDone, work_says};
+
+use crate::checkpoint::{checkpoint, entries};
+use crate::issue::issue_on;
+use crate::requests::{ask_advance, ask_subtree};
+use authority_core::Request;
+use disk_core::Disk;
+use issuance_log::Log;
+use mtc_answers::Answer;
+use mtc_io::Memory;
+use std::alloc::Global;
+use tree_core::TreeHash;
+
+/// What ends the work on a journal without an answer of its own.
+#[derive(Clone, Copy, Debug, PartialEq, Eq)]
+pub enum Fallen {
+    /// The journal's device failed.
+    Device,
+    /// Memory was refused.
+    Memory,
+}
+
+impl From<Memory> for Fallen {
+    ghost use Rattle.mtc_logs.specs.declared.work.Fallen.TheVariants.{Memory as NoMemory};
+
+    ghost from_gives = { λ _ e. e ≡ NoMemory };
+
+    fn from(_refused: Memory) -> Fallen {
+        Fallen::Memory
+    }
+}
+
+/// What a command does with a log.
+#[derive(Drop)]
+pub enum Work {
+    /// The size and the tree hash.
+    Checkpoint,
+    /// So many of the first entries.
+    Entries(u64),
+    /// One entry more: that of a request.
+    Issue(Request),
+    /// The request to hold the first `.1` entries, of a cosigner that holds the first `.0`.
+    Consist(u64, u64),
+    /// The request to sign the subtree from the first number up to the second one, of so many of the first entries.
+    Subtree(u64, u64, u64),
+}
+
+/// Carries out a command on a log. The device is handed back.
+#[tactic(auto, unfolding(crate::specs::Works::work_says))]
+pub fn carry_out<H: TreeHash, D: Disk>(
+    alloc: Global,
+    log: Log<H, D>,
+    work: Work,
+) -> (D, Result<Answer, Fallen>)
+    requires possible { CanBeDone work }
+    requires sound { log_broken log ≡ false }
+    requires end { IfSome (log_records log) (λ list. log_end log ≡ behind 16 list + 1) }
+    ensures answer { IfOk result.1 (λ answer. IfSome (log_records log)
+        (λ list. answer ≡ (work_says H.hash work (found_log list (state_of log))).answer)) }
+    ensures not_words { IfOk result.1 (λ answer. status_of answer ≢ 1) }
+    ensures count { D.faults (log_disk log) ≤ D.faults result.0 }
+    ensures fault { IfErr result.1 (FallenOnly (Rose (D.faults (log_disk log)) (D.faults result.0))) }
+    ensures made { IsOk result.1 → IfSome (log_records log) (λ list. IsOpen D.Disk (log_disk log) list
+        → Adds D.Disk (work_says H.hash work (found_log list (state_of log))).journal (log_disk log) result.0) }
+    ensures fallen { IfErr result.1 (λ why. IfSome (log_records log) (λ list. IsOpen D.Disk (log_disk log) list
+        → HasFallen D.Disk why (work_says H.hash work (found_log list (state_of log))).journal (log_disk log) result.0)) }
+{
+    match work {
+        Work::Checkpoint => checkpoint(alloc, log),
+        Work::Entries(size) => entries(alloc, log, size),
+        Work::Issue(request) => issue_on(alloc, log, request),
+        Work::Consist(old, new) => ask_advance(alloc, log, old, new),
+        Work::Subtree(start, end, size) => ask_subtree(alloc, log, start, end, size),
+    }
+}

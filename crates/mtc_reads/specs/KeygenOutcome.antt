@@ -1,0 +1,35 @@
+-- The outcome of `keygen HEIGHT WIDTH SECRET`.
+use Rattle.std.specs.Prelude.{ℕ, ◌==◌, nat_lt, List, ◌++◌, length, codes, if◌then◌else◌}
+use Rattle.base64.specs.Engines.{standard}
+use Rattle.base64.specs.GeneralPurpose.{encode_of}
+use Rattle.lmots_core.specs.declared.parameters.OtsType.{OtsType}
+use Rattle.lmots_core.specs.declared.parameters.OtsType.TheVariants.{W1, W2, W4, W8}
+use Rattle.lms_core.specs.declared.heights.LmsType.{LmsType}
+use Rattle.lms_core.specs.declared.heights.LmsType.TheVariants.{H5, H10}
+use Rattle.lms_core.specs.Trees.{private_key}
+use Rattle.hss_core.specs.Hss.{hss_public}
+use Rattle.mtc_answers.specs.declared.answer.Said.TheVariants.{Done}
+use Rattle.mtc_answers.specs.declared.answer.Stopped.TheVariants.{BadForm}
+use Rattle.mtc_answers.specs.Lines.{file_line}
+use Rattle.mtc_answers.specs.Steps.{Outcome, Files, says, stops, with_bytes}
+
+-- the type of a tree by its height, 5 or 10, and of its one-time keys by their width, 1, 2, 4 or 8
+abbrev pub lms_type : ℕ → LmsType
+lms_type n = if n == 5 then H5 else H10
+
+abbrev pub ots_type : ℕ → OtsType
+ots_type n = if n == 1 then W1 else (if n == 2 then W2 else (if n == 4 then W4 else W8))
+
+-- the public key of a secret, in base64
+abbrev pub public_text : ℕ → ℕ → List ℕ → List ℕ
+public_text height width secret = encode_of standard (hss_public (private_key (lms_type height) (ots_type width) secret))
+
+-- a secret file has 48 bytes: 16 of identifier and 32 of seed
+abbrev pub keygen_says : ℕ → ℕ → List ℕ → List ℕ → Outcome
+keygen_says height width file secret =
+    if nat_lt (length secret) 48 then stops BadForm (file_line (codes "keygen") file (codes "Short 0"))
+    else (if nat_lt 48 (length secret) then stops BadForm (file_line (codes "keygen") file (codes "Trailing"))
+    else says Done (public_text height width secret ++ codes "\n"))
+
+abbrev pub keygen_outcome : ℕ → ℕ → List ℕ → Files → Outcome
+keygen_outcome height width file files = with_bytes 16777216 (codes "keygen") file (files file) (keygen_says height width file)

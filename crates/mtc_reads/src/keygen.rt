@@ -1,0 +1,131 @@
+// The command `keygen`: the public key of a secret.
+ghost use Rattle.std.specs.Prelude.{◌≡◌, ◌≢◌, ◌<◌, ◌^◌, true, ◌++◌, IfOk, IfErr, codes, string_bytes};
+ghost use Rattle.base64.specs.GeneralPurpose.{encode_of};
+ghost use Rattle.base64.specs.Engines.{standard};
+ghost use Rattle.mtc_io.specs.Counts.{Rose};
+ghost use Rattle.mtc_words.specs.Commands.{is_height, is_width};
+ghost use Rattle.mtc_answers.specs.Answers.{status_of};
+ghost use Rattle.mtc_reads.specs.KeygenOutcome.{lms_type, ots_type, public_text, keygen_says, keygen_outcome};
+ghost use Rattle.mtc_answers.specs.Lines.{file_line};
+ghost use Rattle.mtc_answers.specs.Settled.{Settled, FailedOnly};
+
+use base64::engine::general_purpose::STANDARD;
+use hss_core::{Key, LmsType, OtsType};
+use mtc_answers::{Answer, INPUT_LIMIT, Said, Stop, Stopped, line_of_file, no_input, read_input};
+use mtc_io::{Bytes, Memory};
+use mtc_room::Room;
+use std::alloc::{AllocError, Global};
+
+/// A secret file has so many bytes: 16 of identifier and 32 of seed.
+const SECRET_LENGTH: usize = 48;
+
+fn tree_of_height(height: u64) -> LmsType
+    requires { is_height height ≡ true }
+    ensures { result ≡ lms_type height }
+{
+    match height {
+        5 => LmsType::H5,
+        10 => LmsType::H10,
+        _ => unreachable!(),
+    }
+}
+
+fn chains_of_width(width: u64) -> OtsType
+    requires { is_width width ≡ true }
+    ensures { result ≡ ots_type width }
+{
+    match width {
+        1 => OtsType::W1,
+        2 => OtsType::W2,
+        4 => OtsType::W4,
+        8 => OtsType::W8,
+        _ => unreachable!(),
+    }
+}
+
+fn in_base64(alloc: Global, bytes: &[u8]) -> Result<String, AllocError>
+    ensures { IfOk result (λ text. string_bytes text ≡ encode_of standard bytes.now) }
+{
+    STANDARD.encode(alloc, bytes)
+}
+
+// The public key of a secret, in base64 and with a newline.
+fn public_answer(
+    alloc: Global,
+    height: u64,
+    width: u64,
+    secret: &[u8; SECRET_LENGTH],
+) -> Result<Answer, Memory>
+    requires height { is_height height ≡ true }
+    requires width { is_width width ≡ true }
+    ensures { IfOk result (λ answer. answer
+        ≡ Answer.Says Said.Done (public_text height width secret.now ++ codes "\n")) }
+{
+    let key = Key::make(
+        alloc,
+        tree_of_height(height),
+        chains_of_width(width),
+        secret,
+        0,
+    )?;
+    let text = in_base64(alloc, &key.public())?;
+    Ok(Answer::Says {
+        status: Said::Done,
+        text: Bytes::from_vec(format!(in alloc; "{text}\n")?.into_bytes()),
+    })
+}
+
+fn bad_secret(alloc: Global, file: &str, refusal: &str) -> Result<Answer, Memory>
+    ensures { IfOk result (λ answer. answer
+        ≡ Answer.Stops Stopped.BadForm (file_line (codes "keygen") file.now refusal.now)) }
+{
+    Ok(Answer::Stops {
+        why: Stopped::BadForm,
+        line: line_of_file(alloc, "keygen", file, refusal)?,
+    })
+}
+
+fn answer_of(
+    alloc: Global,
+    height: u64,
+    width: u64,
+    file: &str,
+    secret: &[u8],
+) -> Result<Answer, Memory>
+    requires height { is_height height ≡ true }
+    requires width { is_width width ≡ true }
+    ensures { IfOk result (λ answer. answer ≡ (keygen_says height width file.now secret.now).answer) }
+{
+    if secret.len() < SECRET_LENGTH {
+        return bad_secret(alloc, file, "Short 0");
+    }
+    match <[u8; SECRET_LENGTH]>::try_from(secret) {
+        Ok(secret) => public_answer(alloc, height, width, &secret),
+        Err(_) => bad_secret(alloc, file, "Trailing"),
+    }
+}
+
+/// The command `keygen HEIGHT WIDTH SECRET`.
+pub fn keygen<'a, R: Room>(
+    alloc: Global,
+    room: &mut R,
+    height: u64,
+    width: u64,
+    file: &'a str,
+) -> Result<Answer, Stop<'a>>
+    requires lent { R.lent room.old < 2 ^ 32 }
+    requires height { is_height height ≡ true }
+    requires width { is_width width ≡ true }
+    ensures settled { Settled (R.lent room.old) (R.lent room.new) (R.faults room.old) (R.faults room.new)
+        (R.file room.old) (R.file room.new) (R.device room.old) (R.device room.new) }
+    ensures tells { R.tells room.old → R.tells room.new }
+    ensures answer { IfOk result (λ answer. R.tells room.old
+        → answer ≡ (keygen_outcome height width file.now (R.file room.old)).answer) }
+    ensures not_words { IfOk result (λ answer. status_of answer ≢ 1) }
+    ensures fault { IfErr result (FailedOnly (Rose (R.faults room.old) (R.faults room.new))) }
+{
+    match read_input(alloc, room, file, INPUT_LIMIT)? {
+        Ok(secret) => Ok(answer_of(alloc, height, width, file, secret.as_slice())?),
+        Err(why) => Ok(no_input(alloc, "keygen", file, why)?),
+    }
+}

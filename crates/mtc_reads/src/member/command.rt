@@ -1,0 +1,88 @@
+ghost use Rattle.std.specs.Prelude.{◌≡◌, ◌≢◌, ◌<◌, ◌^◌, IfOk, IfErr, codes};
+ghost use Rattle.mtc_io.specs.Counts.{Rose};
+ghost use Rattle.mtc_answers.specs.Answers.{status_of};
+ghost use Rattle.mtc_answers.specs.Lines.{file_line};
+ghost use Rattle.mtc_reads.specs.Member.{judged, member_view};
+ghost use Rattle.mtc_reads.specs.MemberOutcome.{fault_text, judgement_says, member_says, member_outcome};
+ghost use Rattle.mtc_answers.specs.Settled.{Settled, FailedOnly};
+
+use crate::member::file::{MemberFile, read_member};
+use crate::member::judgement::{MemberError, MemberRefusal};
+use mtc_answers::{Answer, INPUT_LIMIT, Said, Stop, Stopped, line_of_file, no_input, read_input};
+use mtc_io::{Bytes, Memory};
+use mtc_room::Room;
+use std::alloc::Global;
+use tree_core::{TreeHash, evaluate, leaf};
+
+// The index of the member, or the first refusal.
+#[tactic(auto, unfolding(crate::specs::Member::judged))]
+fn judge<H: TreeHash>(member: &MemberFile) -> Result<u64, MemberRefusal>
+    ensures { result ≡ judged H.hash (member_view member.now) }
+{
+    let leaf = leaf::<H>(member.entry);
+    let hash = evaluate::<H>(&leaf, member.index, member.start, member.end, member.path)?;
+    if hash.as_slice() == member.hash {
+        Ok(member.index)
+    } else {
+        Err(MemberRefusal::HashDiffers)
+    }
+}
+
+fn judgement_answer(alloc: Global, judgement: Result<u64, MemberRefusal>) -> Result<Answer, Memory>
+    ensures { IfOk result (λ answer. answer ≡ (judgement_says judgement).answer) }
+{
+    let (status, text) = match judgement {
+        Ok(index) => (Said::Done, format!(in alloc; "member {index}\n")?),
+        Err(why) => (
+            Said::Against,
+            format!(in alloc; "refused {}\n", why.name())?,
+        ),
+    };
+    Ok(Answer::Says {
+        status,
+        text: Bytes::from_vec(text.into_bytes()),
+    })
+}
+
+fn fault_answer(alloc: Global, file: &str, why: MemberError) -> Result<Answer, Memory>
+    ensures { IfOk result (λ answer. answer ≡ Answer.Stops Stopped.BadForm (file_line (codes "member") file.now (fault_text why))) }
+{
+    let refusal = match why {
+        MemberError::Short(place) => format!(in alloc; "Short {place}")?,
+        MemberError::HashLength => String::from_str(alloc, "HashLength")?,
+    };
+    Ok(Answer::Stops {
+        why: Stopped::BadForm,
+        line: line_of_file(alloc, "member", file, refusal.as_str())?,
+    })
+}
+
+fn answer_of<H: TreeHash>(alloc: Global, file: &str, bytes: &[u8]) -> Result<Answer, Memory>
+    ensures { IfOk result (λ answer. answer ≡ (member_says H.hash file.now bytes.now).answer) }
+{
+    match read_member(bytes) {
+        Ok(member) => judgement_answer(alloc, judge::<H>(&member)),
+        Err(why) => fault_answer(alloc, file, why),
+    }
+}
+
+/// The command `member FILE`.
+pub fn member<'a, H: TreeHash, R: Room>(
+    alloc: Global,
+    room: &mut R,
+    file: &'a str,
+) -> Result<Answer, Stop<'a>>
+    requires { R.lent room.old < 2 ^ 32 }
+    ensures settled { Settled (R.lent room.old) (R.lent room.new) (R.faults room.old) (R.faults room.new)
+        (R.file room.old) (R.file room.new) (R.device room.old) (R.device room.new) }
+    ensures tells { R.tells room.old → R.tells room.new }
+    ensures answer { IfOk result (λ answer. R.tells room.old
+        → answer ≡ (member_outcome H.hash file.now (R.file room.old)).answer) }
+    ensures not_words { IfOk result (λ answer. status_of answer ≢ 1) }
+    ensures fault { IfErr result (FailedOnly (Rose (R.faults room.old) (R.faults room.new))) }
+{
+    match read_input(alloc, room, file, INPUT_LIMIT)? {
+        Ok(bytes) => Ok(answer_of::<H>(alloc, file, bytes.as_slice())?),
+        Err(why) => Ok(no_input(alloc, "member", file, why)?),
+    }
+}

@@ -1,0 +1,49 @@
+// A room in memory, and runs of the program over it.
+ghost use Rattle.std.specs.Prelude.{◌≡◌};
+
+use crate::{MemRoom, Room, run};
+use mtc_io::{Bytes, MemSink, Memory};
+use std::alloc::Global;
+use tree_core::Sha;
+
+/// A room of which nothing is out.
+#[derive(Drop)]
+pub struct Desk {
+    room: MemRoom,
+    ghost idle: { ⟦<MemRoom as Room>⟧.lent room ≡ 0 },
+}
+
+impl Desk {
+    /// A room without a file.
+    pub fn new(alloc: Global) -> Desk {
+        Desk {
+            room: MemRoom::new(alloc),
+        }
+    }
+
+    /// From here on each file that is made fails these calls.
+    pub fn fail_fresh(&mut self, failing: Vec<u64>) {
+        self.room.fail_fresh(failing);
+    }
+
+    /// Puts a file with these bytes and failing calls in its place.
+    pub fn place(&mut self, name: &str, bytes: Bytes, failing: Vec<u64>) -> Result<(), Memory> {
+        self.room.place(name, bytes, failing)
+    }
+
+    /// The bytes of a file.
+    pub fn bytes(&self, name: &str) -> Option<&[u8]> {
+        self.room.bytes(name)
+    }
+
+    /// Runs the program, and tells the status.
+    pub fn run(
+        &mut self,
+        alloc: Global,
+        words: &[String],
+        out: &mut MemSink,
+        err: &mut MemSink,
+    ) -> u8 {
+        run::<Sha, _, _, _>(alloc, words, &mut self.room, out, err)
+    }
+}
