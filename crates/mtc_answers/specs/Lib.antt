@@ -3,3 +3,4 @@ pub mod Lines
 pub mod Made
 pub mod Settled
 pub mod Steps
+pub mod Served

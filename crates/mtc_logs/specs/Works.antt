@@ -1,5 +1,11 @@
 -- Why the work on a journal ends without an answer, and what it leaves.
-use Rattle.std.specs.Prelude.{◌≡◌, ℕ, List, Option, Result, Ok, Err}
+use Rattle.std.specs.Prelude.{◌≡◌, ◌≢◌, ◌≤◌, ℕ, ◌+◌, false, List, Option, Result, Ok, Err, IfOk, IfErr, IfSome, IsOk}
+use Rattle.mtc_io.specs.Counts.{Rose}
+use Rattle.journal_core.specs.Format.{behind}
+use Rattle.issuance_log.specs.Words.{log_disk, log_records, log_end, log_broken, state_of}
+use Rattle.issuance_log.specs.declared.log.Log.{Log}
+use Rattle.tree_core.specs.declared.hashing.TreeHash.{Ghosts as Hashes}
+use Rattle.mtc_answers.specs.Answers.{status_of}
 use Rattle.disk_core.specs.declared.disk.Disk.{Ghosts}
 use Rattle.journal_core.specs.declared.error.OpenError.TheVariants as open_error
 use Rattle.issuance_log.specs.declared.error.LogOpenError.{LogOpenError}
@@ -15,8 +21,8 @@ use Rattle.mtc_logs.specs.IssueOutcome.{issue_says}
 use Rattle.mtc_logs.specs.LogOutcomes.{checkpoint_says, entries_says}
 use Rattle.mtc_logs.specs.RequestOutcomes.{consist_says, subtree_says}
 use Rattle.mtc_answers.specs.Steps.{Outcome}
-use Rattle.mtc_logs.specs.LogSteps.{no_log_says, with_log}
-use Rattle.mtc_answers.specs.Made.{Journaled, MayAdd}
+use Rattle.mtc_logs.specs.LogSteps.{found_log, no_log_says, with_log}
+use Rattle.mtc_answers.specs.Made.{Adds, IsOpen, Journaled, MayAdd}
 use Rattle.mtc_logs.specs.declared.work.Fallen.{Fallen}
 use Rattle.mtc_logs.specs.declared.work.Fallen.TheVariants.{Device, Memory}
 
@@ -35,6 +41,24 @@ FallenOnly Fault Memory = Unit {0}
 abbrev pub HasFallen : {D : Type 0} → Ghosts D → Fallen → Journaled → D → D → Type 0
 HasFallen g Device did mid new = MayAdd g did mid new
 HasFallen g Memory did mid new = new ≡ mid
+
+module _ {H D : Type 0} {hashes : Hashes H} {g : Ghosts D} where
+  -- a log that was opened just now
+  pub record IsReady (log : Log H D hashes g) : Type 0 where
+    pub sound : log_broken log ≡ false
+    pub end : IfSome (log_records log) (λ list. log_end log ≡ behind 16 list + 1)
+
+  -- The work on an open log that has to give that outcome left this device and ended so. Without a fault of the device or
+  -- want of memory it gave the outcome's answer, and did with the journal what the outcome says.
+  pub record HasWorked (says : FoundLog → Outcome) (log : Log H D hashes g) (left : D × Result Answer Fallen) : Type 0 where
+    pub answer : IfOk (left.1) (λ answer. IfSome (log_records log) (λ list. answer ≡ (says (found_log list (state_of log))).answer))
+    pub not_words : IfOk (left.1) (λ answer. status_of answer ≢ 1)
+    pub count : g.faults (log_disk log) ≤ g.faults (left.0)
+    pub fault : IfErr (left.1) (FallenOnly (Rose (g.faults (log_disk log)) (g.faults (left.0))))
+    pub made : IsOk (left.1) → IfSome (log_records log) (λ list. IsOpen g (log_disk log) list
+        → Adds g (says (found_log list (state_of log))).journal (log_disk log) (left.0))
+    pub fallen : IfErr (left.1) (λ why. IfSome (log_records log) (λ list. IsOpen g (log_disk log) list
+        → HasFallen g why (says (found_log list (state_of log))).journal (log_disk log) (left.0)))
 
 -- the answer to a file that is no log: a line, or one of the ends without an answer
 abbrev pub OfForm : List ℕ → List ℕ → LogOpenError → Result Answer Stop → Type 0

@@ -8,7 +8,7 @@ ghost use Rattle.issuance_log.specs.Words.{log_disk, log_records, log_end, log_b
 ghost use Rattle.mtc_answers.specs.Answers.{status_of};
 ghost use Rattle.mtc_logs.specs.LogSteps.{found_log};
 ghost use Rattle.mtc_answers.specs.Made.{IsOpen, Adds};
-ghost use Rattle.mtc_logs.specs.Works.{FallenOnly, HasFallen};
+ghost use Rattle.mtc_logs.specs.Works.{FallenOnly, HasFallen, HasWorked, IsReady};
 ghost use Rattle.tls_wire.specs.Spelling.{vector};
 ghost use Rattle.mtc_answers.specs.Lines.{command_line};
 ghost use Rattle.mtc_logs.specs.LogOutcomes.{checkpoint_text, checkpoint_says, items_text, entries_answer, entries_says};
@@ -38,17 +38,8 @@ pub fn checkpoint<H: TreeHash, D: Disk>(
     alloc: Global,
     log: Log<H, D>,
 ) -> (D, Result<Answer, Fallen>)
-    requires sound { log_broken log ≡ false }
-    requires end { IfSome (log_records log) (λ list. log_end log ≡ behind 16 list + 1) }
-    ensures answer { IfOk result.1 (λ answer. IfSome (log_records log)
-        (λ list. answer ≡ (checkpoint_says H.hash (found_log list (state_of log))).answer)) }
-    ensures not_words { IfOk result.1 (λ answer. status_of answer ≢ 1) }
-    ensures count { D.faults (log_disk log) ≤ D.faults result.0 }
-    ensures fault { IfErr result.1 (FallenOnly (Rose (D.faults (log_disk log)) (D.faults result.0))) }
-    ensures made { IsOk result.1 → IfSome (log_records log) (λ list. IsOpen D.Disk (log_disk log) list
-        → Adds D.Disk (checkpoint_says H.hash (found_log list (state_of log))).journal (log_disk log) result.0) }
-    ensures fallen { IfErr result.1 (λ why. IfSome (log_records log) (λ list. IsOpen D.Disk (log_disk log) list
-        → HasFallen D.Disk why (checkpoint_says H.hash (found_log list (state_of log))).journal (log_disk log) result.0)) }
+    requires { IsReady log }
+    ensures { HasWorked (checkpoint_says H.hash) log result }
 {
     match checkpoint_answer(alloc, &log) {
         Ok(answer) => (log.into_disk(), Ok(answer)),
@@ -113,17 +104,8 @@ pub fn entries<H: TreeHash, D: Disk>(
     log: Log<H, D>,
     size: u64,
 ) -> (D, Result<Answer, Fallen>)
-    requires sound { log_broken log ≡ false }
-    requires end { IfSome (log_records log) (λ list. log_end log ≡ behind 16 list + 1) }
-    ensures answer { IfOk result.1 (λ answer. IfSome (log_records log)
-        (λ list. answer ≡ (entries_says size (found_log list (state_of log))).answer)) }
-    ensures not_words { IfOk result.1 (λ answer. status_of answer ≢ 1) }
-    ensures count { D.faults (log_disk log) ≤ D.faults result.0 }
-    ensures fault { IfErr result.1 (FallenOnly (Rose (D.faults (log_disk log)) (D.faults result.0))) }
-    ensures made { IsOk result.1 → IfSome (log_records log) (λ list. IsOpen D.Disk (log_disk log) list
-        → Adds D.Disk (entries_says size (found_log list (state_of log))).journal (log_disk log) result.0) }
-    ensures fallen { IfErr result.1 (λ why. IfSome (log_records log) (λ list. IsOpen D.Disk (log_disk log) list
-        → HasFallen D.Disk why (entries_says size (found_log list (state_of log))).journal (log_disk log) result.0)) }
+    requires { IsReady log }
+    ensures { HasWorked (entries_says size) log result }
 {
     match entries_answer(alloc, size, log.entries(), log.keys()) {
         Ok(answer) => (log.into_disk(), Ok(answer)),

@@ -8,6 +8,7 @@ ghost use Rattle.mtc_answers.specs.Answers.{status_of, IsEarly};
 ghost use Rattle.mtc_answers.specs.Lines.{file_line};
 ghost use Rattle.mtc_logs.specs.LogOutcomes.{log_line, init_log_outcome};
 ghost use Rattle.mtc_answers.specs.Made.{Kept, MadeOf, untouched};
+ghost use Rattle.mtc_answers.specs.Served.{HasServed};
 ghost use Rattle.mtc_answers.specs.Settled.{SettledBut, FailedOnly, LeftOf};
 ghost use Rattle.mtc_answers.specs.Steps.{with_fresh};
 
@@ -72,22 +73,8 @@ pub fn init_log<'a, R: Room>(
     requires lent { R.lent room.old < 2 ^ 32 }
     requires active { is_active max_active ≡ true }
     requires limit { is_limit limit ≡ true }
-    ensures settled { SettledBut (R.lent room.old) (R.lent room.new) (R.faults room.old) (R.faults room.new)
-        (R.file room.old) (R.file room.new) (R.device room.old) (R.device room.new) (λ name. name ≡ journal.now) }
-    ensures tells { R.tells room.old → R.tells room.new }
-    ensures answer { IfOk result (λ answer. R.tells room.old
-        → answer ≡ (init_log_outcome journal.now id max_active limit (R.file room.old)).answer) }
-    ensures not_words { IfOk result (λ answer. status_of answer ≢ 1) }
-    ensures fault { IfErr result (FailedOnly (Rose (R.faults room.old) (R.faults room.new))) }
-    ensures made { IsOk result → R.tells room.old
-        → MadeOf R.Dsk.Disk (init_log_outcome journal.now id max_active limit (R.file room.old)).journal
-        (R.device room.old journal.now) (R.device room.new journal.now) }
-    ensures left { IfErr result (λ stop. R.tells room.old
-        → LeftOf R.Dsk.Disk stop (init_log_outcome journal.now id max_active limit (R.file room.old)).journal
-        (R.device room.old journal.now) (R.device room.new journal.now)) }
-    ensures early { IfOk result (λ answer. R.tells room.old
-        → (init_log_outcome journal.now id max_active limit (R.file room.old)).journal ≡ untouched
-        → IsEarly (status_of answer)) }
+    ensures { HasServed R.Room R.Dsk.Disk journal.now (init_log_outcome journal.now id max_active limit (R.file room.old))
+        room.old room.new result }
 {
     let settings = LogSettings {
         id,

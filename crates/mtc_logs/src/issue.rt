@@ -12,8 +12,9 @@ ghost use Rattle.mtc_answers.specs.Lines.{command_line, file_line};
 ghost use Rattle.mtc_logs.specs.LogSteps.{found_log};
 ghost use Rattle.mtc_answers.specs.Made.{IsOpen, Adds, MadeOf, untouched};
 ghost use Rattle.mtc_logs.specs.IssueCommand.{issue_outcome, request_says};
+ghost use Rattle.mtc_answers.specs.Served.{HasServed};
 ghost use Rattle.mtc_answers.specs.Settled.{SettledBut, FailedOnly, LeftOf};
-ghost use Rattle.mtc_logs.specs.Works.{FallenOnly, HasFallen};
+ghost use Rattle.mtc_logs.specs.Works.{FallenOnly, HasFallen, HasWorked, IsReady};
 
 use crate::log_command::on_journal;
 use crate::work::{Fallen, Work};
@@ -50,17 +51,8 @@ fn add<H: TreeHash, D: Disk>(
 ) -> (D, Result<Answer, Fallen>)
     requires belongs { matches H.hash entry.now key.now ≡ true }
     requires text { text ≡ issued_text (length (state_of log).entries) }
-    requires sound { log_broken log ≡ false }
-    requires end { IfSome (log_records log) (λ list. log_end log ≡ behind 16 list + 1) }
-    ensures answer { IfOk result.1 (λ answer. IfSome (log_records log)
-        (λ list. answer ≡ (item_says entry.now key.now (found_log list (state_of log))).answer)) }
-    ensures not_words { IfOk result.1 (λ answer. status_of answer ≢ 1) }
-    ensures count { D.faults (log_disk log) ≤ D.faults result.0 }
-    ensures fault { IfErr result.1 (FallenOnly (Rose (D.faults (log_disk log)) (D.faults result.0))) }
-    ensures made { IsOk result.1 → IfSome (log_records log) (λ list. IsOpen D.Disk (log_disk log) list
-        → Adds D.Disk (item_says entry.now key.now (found_log list (state_of log))).journal (log_disk log) result.0) }
-    ensures fallen { IfErr result.1 (λ why. IfSome (log_records log) (λ list. IsOpen D.Disk (log_disk log) list
-        → HasFallen D.Disk why (item_says entry.now key.now (found_log list (state_of log))).journal (log_disk log) result.0)) }
+    requires ready { IsReady log }
+    ensures { HasWorked (item_says entry.now key.now) log result }
 {
     match log.add(alloc, entry, key) {
         Ok(_index) => (
@@ -97,17 +89,8 @@ pub(crate) fn issue_on<H: TreeHash, D: Disk>(
     request: Request,
 ) -> (D, Result<Answer, Fallen>)
     requires request { CanBeIssued request }
-    requires sound { log_broken log ≡ false }
-    requires end { IfSome (log_records log) (λ list. log_end log ≡ behind 16 list + 1) }
-    ensures answer { IfOk result.1 (λ answer. IfSome (log_records log)
-        (λ list. answer ≡ (issue_says H.hash request (found_log list (state_of log))).answer)) }
-    ensures not_words { IfOk result.1 (λ answer. status_of answer ≢ 1) }
-    ensures count { D.faults (log_disk log) ≤ D.faults result.0 }
-    ensures fault { IfErr result.1 (FallenOnly (Rose (D.faults (log_disk log)) (D.faults result.0))) }
-    ensures made { IsOk result.1 → IfSome (log_records log) (λ list. IsOpen D.Disk (log_disk log) list
-        → Adds D.Disk (issue_says H.hash request (found_log list (state_of log))).journal (log_disk log) result.0) }
-    ensures fallen { IfErr result.1 (λ why. IfSome (log_records log) (λ list. IsOpen D.Disk (log_disk log) list
-        → HasFallen D.Disk why (issue_says H.hash request (found_log list (state_of log))).journal (log_disk log) result.0)) }
+    requires ready { IsReady log }
+    ensures { HasWorked (issue_says H.hash request) log result }
 {
     let Ok(text) = text_of_index(alloc, log.size()) else {
         return (log.into_disk(), Err(Fallen::Memory));
@@ -166,22 +149,8 @@ fn issue_text<'a, H: TreeHash, R: Room>(
     text: &[u8],
 ) -> Result<Answer, Stop<'a>>
     requires { R.lent room.old < 2 ^ 32 }
-    ensures settled { SettledBut (R.lent room.old) (R.lent room.new) (R.faults room.old) (R.faults room.new)
-        (R.file room.old) (R.file room.new) (R.device room.old) (R.device room.new) (λ name. name ≡ journal.now) }
-    ensures tells { R.tells room.old → R.tells room.new }
-    ensures answer { IfOk result (λ answer. R.tells room.old
-        → answer ≡ (request_says H.hash journal.now file.now (R.file room.old journal.now) text.now).answer) }
-    ensures not_words { IfOk result (λ answer. status_of answer ≢ 1) }
-    ensures fault { IfErr result (FailedOnly (Rose (R.faults room.old) (R.faults room.new))) }
-    ensures made { IsOk result → R.tells room.old
-        → MadeOf R.Dsk.Disk (request_says H.hash journal.now file.now (R.file room.old journal.now) text.now).journal
-        (R.device room.old journal.now) (R.device room.new journal.now) }
-    ensures left { IfErr result (λ stop. R.tells room.old
-        → LeftOf R.Dsk.Disk stop (request_says H.hash journal.now file.now (R.file room.old journal.now) text.now).journal
-        (R.device room.old journal.now) (R.device room.new journal.now)) }
-    ensures early { IfOk result (λ answer. R.tells room.old
-        → (request_says H.hash journal.now file.now (R.file room.old journal.now) text.now).journal ≡ untouched
-        → IsEarly (status_of answer)) }
+    ensures { HasServed R.Room R.Dsk.Disk journal.now (request_says H.hash journal.now file.now (R.file room.old journal.now) text.now)
+        room.old room.new result }
 {
     match read_request(alloc, text) {
         Ok(request) => on_journal::<H, R>(alloc, room, "issue", journal, Work::Issue(request)),
@@ -198,22 +167,8 @@ pub fn issue<'a, H: TreeHash, R: Room>(
     file: &'a str,
 ) -> Result<Answer, Stop<'a>>
     requires { R.lent room.old < 2 ^ 32 }
-    ensures settled { SettledBut (R.lent room.old) (R.lent room.new) (R.faults room.old) (R.faults room.new)
-        (R.file room.old) (R.file room.new) (R.device room.old) (R.device room.new) (λ name. name ≡ journal.now) }
-    ensures tells { R.tells room.old → R.tells room.new }
-    ensures answer { IfOk result (λ answer. R.tells room.old
-        → answer ≡ (issue_outcome H.hash journal.now file.now (R.file room.old)).answer) }
-    ensures not_words { IfOk result (λ answer. status_of answer ≢ 1) }
-    ensures fault { IfErr result (FailedOnly (Rose (R.faults room.old) (R.faults room.new))) }
-    ensures made { IsOk result → R.tells room.old
-        → MadeOf R.Dsk.Disk (issue_outcome H.hash journal.now file.now (R.file room.old)).journal
-        (R.device room.old journal.now) (R.device room.new journal.now) }
-    ensures left { IfErr result (λ stop. R.tells room.old
-        → LeftOf R.Dsk.Disk stop (issue_outcome H.hash journal.now file.now (R.file room.old)).journal
-        (R.device room.old journal.now) (R.device room.new journal.now)) }
-    ensures early { IfOk result (λ answer. R.tells room.old
-        → (issue_outcome H.hash journal.now file.now (R.file room.old)).journal ≡ untouched
-        → IsEarly (status_of answer)) }
+    ensures { HasServed R.Room R.Dsk.Disk journal.now (issue_outcome H.hash journal.now file.now (R.file room.old))
+        room.old room.new result }
 {
     match read_input(alloc, room, file, INPUT_LIMIT)? {
         Ok(text) => issue_text::<H, R>(alloc, room, journal, file, text.as_slice()),

@@ -5,6 +5,7 @@ ghost use Rattle.issuance_log.specs.Openings.{log_read};
 ghost use Rattle.mtc_answers.specs.Answers.{status_of, IsEarly};
 ghost use Rattle.mtc_logs.specs.LogSteps.{open_fault_text, on_log};
 ghost use Rattle.mtc_answers.specs.Made.{HasMade, MadeOf, untouched};
+ghost use Rattle.mtc_answers.specs.Served.{HasServed};
 ghost use Rattle.mtc_answers.specs.Settled.{SettledBut, FailedOnly, LeftBy, LeftOf};
 ghost use Rattle.mtc_logs.specs.Works.{Refuses, Names, CanBeDone, work_says, journal_outcome};
 
@@ -108,22 +109,8 @@ pub fn on_journal<'a, H: TreeHash, R: Room>(
 ) -> Result<Answer, Stop<'a>>
     requires lent { R.lent room.old < 2 ^ 32 }
     requires possible { CanBeDone work }
-    ensures settled { SettledBut (R.lent room.old) (R.lent room.new) (R.faults room.old) (R.faults room.new)
-        (R.file room.old) (R.file room.new) (R.device room.old) (R.device room.new) (λ name. name ≡ journal.now) }
-    ensures tells { R.tells room.old → R.tells room.new }
-    ensures answer { IfOk result (λ answer. R.tells room.old → answer
-        ≡ (journal_outcome H.hash command.now journal.now (R.file room.old journal.now) work).answer) }
-    ensures not_words { IfOk result (λ answer. status_of answer ≢ 1) }
-    ensures fault { IfErr result (FailedOnly (Rose (R.faults room.old) (R.faults room.new))) }
-    ensures made { IsOk result → R.tells room.old
-        → MadeOf R.Dsk.Disk (journal_outcome H.hash command.now journal.now (R.file room.old journal.now) work).journal
-        (R.device room.old journal.now) (R.device room.new journal.now) }
-    ensures left { IfErr result (λ stop. R.tells room.old
-        → LeftOf R.Dsk.Disk stop (journal_outcome H.hash command.now journal.now (R.file room.old journal.now) work).journal
-        (R.device room.old journal.now) (R.device room.new journal.now)) }
-    ensures early { IfOk result (λ answer. R.tells room.old
-        → (journal_outcome H.hash command.now journal.now (R.file room.old journal.now) work).journal ≡ untouched
-        → IsEarly (status_of answer)) }
+    ensures { HasServed R.Room R.Dsk.Disk journal.now (journal_outcome H.hash command.now journal.now (R.file room.old journal.now) work)
+        room.old room.new result }
 {
     let disk = match room.disk(journal) {
         Ok(disk) => disk,

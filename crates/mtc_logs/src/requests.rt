@@ -12,7 +12,7 @@ ghost use Rattle.mtc_answers.specs.Answers.{status_of};
 ghost use Rattle.mtc_logs.specs.LogSteps.{found_log};
 ghost use Rattle.mtc_answers.specs.Made.{IsOpen, Adds};
 ghost use Rattle.mtc_logs.specs.RequestOutcomes.{refuses, advance_of, consist_answer, consist_says, subtree_of, subtree_answer, subtree_says};
-ghost use Rattle.mtc_logs.specs.Works.{FallenOnly, HasFallen};
+ghost use Rattle.mtc_logs.specs.Works.{FallenOnly, HasFallen, HasWorked, IsReady};
 
 use crate::checkpoint::beyond;
 use crate::work::Fallen;
@@ -124,17 +124,8 @@ pub fn ask_advance<H: TreeHash, D: Disk>(
     old: u64,
     new: u64,
 ) -> (D, Result<Answer, Fallen>)
-    requires sound { log_broken log ≡ false }
-    requires end { IfSome (log_records log) (λ list. log_end log ≡ behind 16 list + 1) }
-    ensures answer { IfOk result.1 (λ answer. IfSome (log_records log)
-        (λ list. answer ≡ (consist_says H.hash old new (found_log list (state_of log))).answer)) }
-    ensures not_words { IfOk result.1 (λ answer. status_of answer ≢ 1) }
-    ensures count { D.faults (log_disk log) ≤ D.faults result.0 }
-    ensures fault { IfErr result.1 (FallenOnly (Rose (D.faults (log_disk log)) (D.faults result.0))) }
-    ensures made { IsOk result.1 → IfSome (log_records log) (λ list. IsOpen D.Disk (log_disk log) list
-        → Adds D.Disk (consist_says H.hash old new (found_log list (state_of log))).journal (log_disk log) result.0) }
-    ensures fallen { IfErr result.1 (λ why. IfSome (log_records log) (λ list. IsOpen D.Disk (log_disk log) list
-        → HasFallen D.Disk why (consist_says H.hash old new (found_log list (state_of log))).journal (log_disk log) result.0)) }
+    requires { IsReady log }
+    ensures { HasWorked (consist_says H.hash old new) log result }
 {
     let mut log = log;
     match consist_answer(alloc, &mut log, old, new) {
@@ -196,17 +187,8 @@ pub fn ask_subtree<H: TreeHash, D: Disk>(
     end: u64,
     size: u64,
 ) -> (D, Result<Answer, Fallen>)
-    requires sound { log_broken log ≡ false }
-    requires end { IfSome (log_records log) (λ list. log_end log ≡ behind 16 list + 1) }
-    ensures answer { IfOk result.1 (λ answer. IfSome (log_records log)
-        (λ list. answer ≡ (subtree_says H.hash start end size (found_log list (state_of log))).answer)) }
-    ensures not_words { IfOk result.1 (λ answer. status_of answer ≢ 1) }
-    ensures count { D.faults (log_disk log) ≤ D.faults result.0 }
-    ensures fault { IfErr result.1 (FallenOnly (Rose (D.faults (log_disk log)) (D.faults result.0))) }
-    ensures made { IsOk result.1 → IfSome (log_records log) (λ list. IsOpen D.Disk (log_disk log) list
-        → Adds D.Disk (subtree_says H.hash start end size (found_log list (state_of log))).journal (log_disk log) result.0) }
-    ensures fallen { IfErr result.1 (λ why. IfSome (log_records log) (λ list. IsOpen D.Disk (log_disk log) list
-        → HasFallen D.Disk why (subtree_says H.hash start end size (found_log list (state_of log))).journal (log_disk log) result.0)) }
+    requires { IsReady log }
+    ensures { HasWorked (subtree_says H.hash start end size) log result }
 {
     let mut log = log;
     match subtree_answer(alloc, &mut log, start, end, size) {

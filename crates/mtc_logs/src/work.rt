@@ -7,7 +7,7 @@ ghost use Rattle.issuance_log.specs.Words.{log_disk, log_records, log_end, log_b
 ghost use Rattle.mtc_answers.specs.Answers.{status_of};
 ghost use Rattle.mtc_logs.specs.LogSteps.{found_log};
 ghost use Rattle.mtc_answers.specs.Made.{IsOpen, Adds};
-ghost use Rattle.mtc_logs.specs.Works.{FallenOnly, HasFallen, CanBeDone, work_says};
+ghost use Rattle.mtc_logs.specs.Works.{CanBeDone, FallenOnly, HasFallen, HasWorked, IsReady, work_says};
 
 use crate::checkpoint::{checkpoint, entries};
 use crate::issue::issue_on;
@@ -62,17 +62,8 @@ pub fn carry_out<H: TreeHash, D: Disk>(
     work: Work,
 ) -> (D, Result<Answer, Fallen>)
     requires possible { CanBeDone work }
-    requires sound { log_broken log ≡ false }
-    requires end { IfSome (log_records log) (λ list. log_end log ≡ behind 16 list + 1) }
-    ensures answer { IfOk result.1 (λ answer. IfSome (log_records log)
-        (λ list. answer ≡ (work_says H.hash work (found_log list (state_of log))).answer)) }
-    ensures not_words { IfOk result.1 (λ answer. status_of answer ≢ 1) }
-    ensures count { D.faults (log_disk log) ≤ D.faults result.0 }
-    ensures fault { IfErr result.1 (FallenOnly (Rose (D.faults (log_disk log)) (D.faults result.0))) }
-    ensures made { IsOk result.1 → IfSome (log_records log) (λ list. IsOpen D.Disk (log_disk log) list
-        → Adds D.Disk (work_says H.hash work (found_log list (state_of log))).journal (log_disk log) result.0) }
-    ensures fallen { IfErr result.1 (λ why. IfSome (log_records log) (λ list. IsOpen D.Disk (log_disk log) list
-        → HasFallen D.Disk why (work_says H.hash work (found_log list (state_of log))).journal (log_disk log) result.0)) }
+    requires ready { IsReady log }
+    ensures { HasWorked (work_says H.hash work) log result }
 {
     match work {
         Work::Checkpoint => checkpoint(alloc, log),

@@ -7,7 +7,7 @@ ghost use Rattle.mtc_words.specs.Commands.{is_height, is_width};
 ghost use Rattle.mtc_answers.specs.Answers.{status_of};
 ghost use Rattle.mtc_reads.specs.KeygenOutcome.{lms_type, ots_type, public_text, keygen_says, keygen_outcome};
 ghost use Rattle.mtc_answers.specs.Lines.{file_line};
-ghost use Rattle.mtc_answers.specs.Settled.{Settled, FailedOnly};
+ghost use Rattle.mtc_answers.specs.Served.{HasAnswered};
 
 use base64::engine::general_purpose::STANDARD;
 use hss_core::{Key, LmsType, OtsType};
@@ -116,13 +116,7 @@ pub fn keygen<'a, R: Room>(
     requires lent { R.lent room.old < 2 ^ 32 }
     requires height { is_height height ≡ true }
     requires width { is_width width ≡ true }
-    ensures settled { Settled (R.lent room.old) (R.lent room.new) (R.faults room.old) (R.faults room.new)
-        (R.file room.old) (R.file room.new) (R.device room.old) (R.device room.new) }
-    ensures tells { R.tells room.old → R.tells room.new }
-    ensures answer { IfOk result (λ answer. R.tells room.old
-        → answer ≡ (keygen_outcome height width file.now (R.file room.old)).answer) }
-    ensures not_words { IfOk result (λ answer. status_of answer ≢ 1) }
-    ensures fault { IfErr result (FailedOnly (Rose (R.faults room.old) (R.faults room.new))) }
+    ensures { HasAnswered R.Room (keygen_outcome height width file.now (R.file room.old)) room.old room.new result }
 {
     match read_input(alloc, room, file, INPUT_LIMIT)? {
         Ok(secret) => Ok(answer_of(alloc, height, width, file, secret.as_slice())?),

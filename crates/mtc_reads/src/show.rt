@@ -12,7 +12,7 @@ ghost use Rattle.mtc_io.specs.Streams.{joined};
 ghost use Rattle.mtc_answers.specs.Answers.{status_of};
 ghost use Rattle.mtc_reads.specs.CertFaults.{cert_fault_text};
 ghost use Rattle.mtc_answers.specs.Lines.{file_line};
-ghost use Rattle.mtc_answers.specs.Settled.{Settled, FailedOnly};
+ghost use Rattle.mtc_answers.specs.Served.{HasAnswered};
 ghost use Rattle.mtc_reads.specs.ShowOutcome.{issuer_text, subject_text, is_graphic, name_line, fields_text, cosigner_text, signature_line, interval_text, proof_text, show_text, shown, show_outcome};
 
 use crate::cert_fault::cert_fault;
@@ -233,13 +233,7 @@ fn answer_of(alloc: Global, file: &str, bytes: &[u8]) -> Result<Answer, Memory>
 /// The command `show CERT`.
 pub fn show<'a, R: Room>(alloc: Global, room: &mut R, file: &'a str) -> Result<Answer, Stop<'a>>
     requires { R.lent room.old < 2 ^ 32 }
-    ensures settled { Settled (R.lent room.old) (R.lent room.new) (R.faults room.old) (R.faults room.new)
-        (R.file room.old) (R.file room.new) (R.device room.old) (R.device room.new) }
-    ensures tells { R.tells room.old → R.tells room.new }
-    ensures answer { IfOk result (λ answer. R.tells room.old
-        → answer ≡ (show_outcome file.now (R.file room.old)).answer) }
-    ensures not_words { IfOk result (λ answer. status_of answer ≢ 1) }
-    ensures fault { IfErr result (FailedOnly (Rose (R.faults room.old) (R.faults room.new))) }
+    ensures { HasAnswered R.Room (show_outcome file.now (R.file room.old)) room.old room.new result }
 {
     match read_input(alloc, room, file, INPUT_LIMIT)? {
         Ok(bytes) => Ok(answer_of(alloc, file, bytes.as_slice())?),

@@ -4,7 +4,7 @@ ghost use Rattle.mtc_io.specs.Counts.{Rose};
 ghost use Rattle.mtc_words.specs.Commands.{is_time};
 ghost use Rattle.mtc_answers.specs.Answers.{status_of};
 ghost use Rattle.mtc_answers.specs.Lines.{file_line};
-ghost use Rattle.mtc_answers.specs.Settled.{Settled, FailedOnly};
+ghost use Rattle.mtc_answers.specs.Served.{HasAnswered};
 ghost use Rattle.mtc_reads.specs.VerifyOutcome.{key_text, store_fault_text, proof_fault_text, shape_text, refused, judged, verify_says, verify_outcome};
 
 use crate::cert_fault::cert_fault;
@@ -164,13 +164,7 @@ pub fn verify<'a, H: TreeHash, R: Room>(
 ) -> Result<Answer, Stop<'a>>
     requires lent { R.lent room.old < 2 ^ 32 }
     requires time { is_time now ≡ true }
-    ensures settled { Settled (R.lent room.old) (R.lent room.new) (R.faults room.old) (R.faults room.new)
-        (R.file room.old) (R.file room.new) (R.device room.old) (R.device room.new) }
-    ensures tells { R.tells room.old → R.tells room.new }
-    ensures answer { IfOk result (λ answer. R.tells room.old
-        → answer ≡ (verify_outcome H.hash cert.now store.now now (R.file room.old)).answer) }
-    ensures not_words { IfOk result (λ answer. status_of answer ≢ 1) }
-    ensures fault { IfErr result (FailedOnly (Rose (R.faults room.old) (R.faults room.new))) }
+    ensures { HasAnswered R.Room (verify_outcome H.hash cert.now store.now now (R.file room.old)) room.old room.new result }
 {
     let bytes = match read_input(alloc, room, cert, INPUT_LIMIT)? {
         Ok(bytes) => bytes,

@@ -4,7 +4,7 @@ ghost use Rattle.mtc_answers.specs.Answers.{status_of};
 ghost use Rattle.mtc_answers.specs.Lines.{file_line};
 ghost use Rattle.mtc_reads.specs.Member.{judged, member_view};
 ghost use Rattle.mtc_reads.specs.MemberOutcome.{fault_text, judgement_says, member_says, member_outcome};
-ghost use Rattle.mtc_answers.specs.Settled.{Settled, FailedOnly};
+ghost use Rattle.mtc_answers.specs.Served.{HasAnswered};
 
 use crate::member::file::{MemberFile, read_member};
 use crate::member::judgement::{MemberError, MemberRefusal};
@@ -73,13 +73,7 @@ pub fn member<'a, H: TreeHash, R: Room>(
     file: &'a str,
 ) -> Result<Answer, Stop<'a>>
     requires { R.lent room.old < 2 ^ 32 }
-    ensures settled { Settled (R.lent room.old) (R.lent room.new) (R.faults room.old) (R.faults room.new)
-        (R.file room.old) (R.file room.new) (R.device room.old) (R.device room.new) }
-    ensures tells { R.tells room.old → R.tells room.new }
-    ensures answer { IfOk result (λ answer. R.tells room.old
-        → answer ≡ (member_outcome H.hash file.now (R.file room.old)).answer) }
-    ensures not_words { IfOk result (λ answer. status_of answer ≢ 1) }
-    ensures fault { IfErr result (FailedOnly (Rose (R.faults room.old) (R.faults room.new))) }
+    ensures { HasAnswered R.Room (member_outcome H.hash file.now (R.file room.old)) room.old room.new result }
 {
     match read_input(alloc, room, file, INPUT_LIMIT)? {
         Ok(bytes) => Ok(answer_of::<H>(alloc, file, bytes.as_slice())?),
