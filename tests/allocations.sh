@@ -1,41 +1,104 @@
 #!/bin/bash
-# Refuses each allocation of a command in turn, and tests that the command then ends with status 8 and nothing on
-# standard output, or with its outcome as if nothing had been refused. Not part of the gate: each try takes seconds.
-# Usage: tests/allocations.sh
+# Refuses each allocation of some commands in turn, and tests that a command then ends with status 8, one line that says so
+# and nothing on standard output, or with its outcome as if nothing had been refused. Not part of the gate: the program is
+# compiled anew for each allocation, some eighty times, and each time takes half a minute or more.
+# Usage: tests/allocations.sh [FIRST [LAST]]   the numbers of the allocations that are refused; without LAST up to where
+#        all commands have come to their outcome at three numbers in a row
 set -u
+first=${1:-1}
+last=${2:-300}
 root=$(cd "$(dirname "$0")/.." && pwd)
-cd "$root/crates/mtc_main" || exit 2
-wrong=0
+folder=$(mktemp -d)
+trap 'rm -rf "$folder"' EXIT
+mkdir "$folder/files" "$folder/cases"
+cd "$folder/files" || exit 2
 
-# One command: its defined status and line, and its words.
-each_refused() {
-    local status=$1 line=$2 n=1 met=0 answer log said
-    shift 2
-    # The outcome three times in a row: the command has fewer allocations than n.
-    while [ "$met" -lt 3 ]; do
-        log=$(rt try --fail-alloc "$n" -- "$@" 2>&1)
-        answer=$?
-        said=$(grep -E '^(member|refused|mtc:) ' <<< "$log")
-        if [ "$answer" -eq "$status" ] && [ "$said" = "$line" ]; then
-            met=$((met + 1))
-        elif [ "$answer" -eq 8 ] && grep -qE '^mtc: ([a-z-]+: )?Memory$' <<< "$said"; then
-            met=0
-        else
-            echo "wrong: allocation $n of '$*' refused: status $answer, '$said'"
-            wrong=1
-            met=0
-        fi
-        n=$((n + 1))
-        if [ "$n" -gt 100 ]; then
-            echo "wrong: '$*' does not come to its outcome"
-            wrong=1
-            return
-        fi
-    done
-    echo "'$*': status 8 or the outcome at each of $((n - 4)) allocations"
+# A path, a certificate, a journal of a log of one entry, stores, requests, and a secret.
+base64 -d >f <<<'AAAAAAAAAAAAAAAAAAAAAAAAAAAAAAABbjQLnP+zepicpUTmu3gKLHiQHT+zNzh2hRGjBhevoB0AAA=='
+base64 -d >c <<'CERTIFICATE'
+MIHkMIGcoAMCAQICAQEwDAYKKwYBBAGC2ksvADAZMRcwFQYKKwYBBAGC2ksvAQwHMzI0NzMuMTAeFw0yNjAxMDEwMDAwMDBaFw0yNjAxMDgwMDAwMDBa
+MAAwKjAFBgMrZXADIQAAAAAAAAAAAAAAAAAAAAAAAAAAAAAAAAAAAAAAAAAAAKMbMBkwFwYDVR0RAQH/BA0wC4IJYS5leGFtcGxlMAwGCisGAQQBgtpL
+LwADNQAAAAAAAAAAAAAAAAAAAAACACBwnoDIhIeiQR4e5N+58iqGFJLSDEdlFQwMeUq9cPgUfAAA
+CERTIFICATE
+base64 -d >j <<<'bXRjLWpvdXJuYWwvdjEKAAEAAAAOAQSB/VkBAAAAAgAAAEAA'
+store() {
+    printf '[log]\nid = "32473.1"\n[[subtree]]\nstart = 0\nend = 2\nhash = "%s"\n[[revoked]]\nstart = 5\nend = 9\n' "$1"
+}
+store 77566825cd25f263271e3fa5341db28ed2c87945ee98f731b2aa96b9e6b11cf6 >s
+store 77566825cd25f263271e3fa5341db28ed2c87945ee98f731b2aa96b9e6b11cf7 >t
+request() {
+    printf 'not_before = "2026-01-01T00:00:00Z"\nnot_after = "2026-01-08T00:00:00Z"\ndns = ["%s", "*.b.example"]\n' "$1"
+    printf 'common_name = "b"\nkey = "MCowBQYDK2VwAyEAAAAAAAAAAAAAAAAAAAAAAAAAAAAAAAAAAAAAAAAAAAA="\n'
+}
+request a.example >r
+request -a.example >u
+base64 -d >k <<<'AAECAwQFBgcICQoLDA0ODxAREhMUFRYXGBkaGxwdHh8gISIjJCUmJygpKissLS4v'
+
+# Each command's words, status and text: standard output, and then standard error, their lines ended by a bar.
+declare -A outcome met
+while IFS='|' read -r name words status text; do
+    : >"$folder/cases/$name"
+    tr ' ' '\n' <<<"$words" >"$folder/cases/$name.args"
+    outcome[$name]="$status $text|"
+    met[$name]=0
+done <<'TABLE'
+absent|member missing|7|mtc: member: missing: Absent
+checkpoint|checkpoint j|0|size 1|root 709e80c88487a2411e1ee4dfb9f22a861492d20c4765150c0c794abd70f8147c
+exists|init-log j 32473.1 2 32|7|mtc: init-log: j: Exists
+init|init-log n 32473.1 2 32|0|log 32473.1
+issue|issue j r|0|issued 1
+keygen|keygen 5 1 k|0|AAAAAQAAAAUAAAABAAECAwQFBgcICQoLDA0OD6hmQGdWCnf3wA0qC+1XtEHIN0Wu+EbC8mL4GUGzluZS
+member|member f|0|member 0
+no-request|issue j u|2|mtc: issue: u: BadValue Dns
+unknown|frob|1|mtc: UnknownCommand
+verify|verify c s 1767225600|0|accepted 1
+refused|verify c t 1767225600|3|refused LandmarkDiffers
+TABLE
+files=()
+for file in *; do
+    files+=(--data "$file=$folder/files/$file")
+done
+
+# What a try says of the commands: a line for each, with its name, its status and its text.
+answers() {
+    awk '/^== / { name = $2; text = ""; next }
+        /^case=/ { run = $2; sub("run=", "", run); status = $3; sub("status=", "", status)
+            print name, (run == "ended" ? status : run), text; next }
+        /^allocations: / { next }
+        { text = text $0 "|" }'
 }
 
-each_refused 0 'member 0' member data/first.member
-each_refused 7 'mtc: member: missing: Absent' member missing
-each_refused 1 'mtc: UnknownCommand' frob
+cd "$root/crates/mtc_main" || exit 2
+wrong=0
+number=$first
+waiting=${#outcome[@]}
+while [ "$waiting" -gt 0 ] && [ "$number" -le "$last" ]; do
+    heard=0
+    while read -r name answer; do
+        heard=$((heard + 1))
+        if [ "$answer" = "${outcome[$name]-}" ]; then
+            met[$name]=$((met[$name] + 1))
+        elif [[ "$answer" =~ ^8\ mtc:\ ([a-z-]+:\ )?Memory\|$ ]]; then
+            met[$name]=0
+        else
+            echo "wrong: $name, allocation $number refused: $answer"
+            wrong=1
+            met[$name]=0
+        fi
+        [ "${met[$name]}" -eq 3 ] && echo "$name: status 8 or the outcome up to allocation $number"
+    done < <(rt try --fail-alloc "$number" --cases "$folder/cases" "${files[@]}" 2>&1 | answers)
+    if [ "$heard" -ne "${#outcome[@]}" ]; then
+        echo "wrong: $heard answers at allocation $number"
+        wrong=1
+    fi
+    waiting=0
+    for name in "${!met[@]}"; do
+        [ "${met[$name]}" -lt 3 ] && waiting=$((waiting + 1))
+    done
+    number=$((number + 1))
+done
+if [ "$waiting" -gt 0 ] && [ $# -lt 2 ]; then
+    echo "wrong: $waiting commands do not come to their outcome"
+    wrong=1
+fi
 exit "$wrong"

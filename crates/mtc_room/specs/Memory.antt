@@ -1,8 +1,11 @@
 -- What contracts see of a room in memory.
-use Rattle.std.specs.Prelude.{ℕ, List, Option, option_map}
+use Rattle.std.specs.Prelude.{ℕ, List, Option, option_map, Result, Ok, Err}
 use Rattle.std.specs.BTreeMap.{get_by_text}
 use Rattle.disk_core.specs.Memory.{bytes_of, failing_of}
 use Rattle.disk_core.specs.declared.memory.mem_disk.MemDisk.{MemDisk}
+use Rattle.mtc_io.specs.Counts.{with_count}
+use Rattle.mtc_room.specs.declared.error.RoomError.{RoomError}
+use Rattle.mtc_room.specs.declared.error.RoomError.TheVariants.{Absent, Exists, Failed}
 use Rattle.mtc_room.specs.declared.memory.MemRoom.{MemRoom}
 
 -- a file in memory: its bytes, and the numbers of the calls that fail
@@ -40,3 +43,10 @@ state room = record {
 -- the bytes of each name's file
 abbrev pub bytes_in : MemRoom → List ℕ → Option (List ℕ)
 bytes_in room name = option_map bytes_of (disk_in room name)
+
+-- a count of faults after a call that lends: the room in memory fails for want of memory alone, and counts that once
+abbrev pub count_after : {T : Type 0} → ℕ → Result T RoomError → ℕ
+count_after count (Ok lent) = count
+count_after count (Err Absent) = count
+count_after count (Err Exists) = count
+count_after count (Err Failed) = with_count count 1

@@ -1,7 +1,7 @@
 // A room in memory.
 ghost use Rattle.std.specs.Prelude.{◌≡◌, ◌≢◌, ⊤, ℕ, ◌+◌, ◌<◌, ◌^◌, List, [], Option, Result, Ok, Some, None, IfOk, OnOk, OnErr, IsErrOf, IsSome, IfErr, IsErr, ◌≤◌, length};
 ghost use Rattle.std.specs.Option.{option_copied, IsSomeAnd};
-ghost use Rattle.mtc_io.specs.Counts.{Rose, with_count};
+ghost use Rattle.mtc_io.specs.Counts.{with_count};
 ghost use Rattle.disk_core.specs.Same.{SameDevice};
 ghost use Rattle.disk_core.specs.Memory.{bytes_of, calls_of, failing_of, made_of, faults_of, starved_of, images_of, IsFresh};
 
@@ -40,7 +40,7 @@ fn source_of(alloc: Global, disk: &MemDisk) -> Result<MemSource, Memory>
 }
 
 impl MemRoom {
-    ghost use Rattle.mtc_room.specs.Memory.{state, bytes_in, disk_in};
+    ghost use Rattle.mtc_room.specs.Memory.{state, bytes_in, disk_in, count_after};
     ghost use Rattle.mtc_room.specs.Room.{Lending};
 
     /// A room without a file. It takes no memory.
@@ -111,7 +111,8 @@ impl MemRoom {
         ensures err { IfErr result (λ why. (why ≡ RoomError.Failed) × IsErr made) }
         ensures files { self.new.files ≡ self.old.files }
         ensures fresh_failing { self.new.fresh_failing ≡ self.old.fresh_failing }
-        ensures starved { OnErr result (Rose self.old.starved self.new.starved) }
+        ensures counted { self.new.faults ≡ count_after self.old.faults result }
+        ensures starved { self.new.starved ≡ count_after self.old.starved result }
     {
         match made {
             Ok(lent) => {
@@ -132,6 +133,8 @@ impl MemRoom {
         ensures err { OnErr result (disk_in self.new name.now ≡ disk_in self.old name.now) }
         ensures made { IfOk result (λ d. IsSomeAnd (disk_in self.new name.now)
             (λ e. IsFresh [] e × SameDevice ⟦<MemDisk as Disk>⟧ e d)) }
+        ensures listed { OnOk result (IsSomeAnd (disk_in self.new name.now)
+            (λ e. failing_of e ≡ self.old.fresh_failing.items)) }
         ensures failing { IfOk result (λ d. failing_of d ≡ self.old.fresh_failing.items) }
         ensures first { IfOk result (λ d. (made_of d ≡ 0) × (faults_of d ≡ 0)) }
         ensures fresh_failing { self.new.fresh_failing ≡ self.old.fresh_failing }
@@ -149,7 +152,7 @@ impl MemRoom {
 }
 
 impl Room for MemRoom {
-    ghost use Rattle.mtc_room.specs.Memory.{state, bytes_in, disk_in};
+    ghost use Rattle.mtc_room.specs.Memory.{state, bytes_in, disk_in, count_after};
     ghost use Rattle.mtc_room.specs.MemoryLaws.{told_in};
     ghost use Rattle.mtc_room.specs.Room.{Lending, Stays, AllStay, OthersStay, LendsBytes};
 
@@ -181,7 +184,9 @@ impl Room for MemRoom {
         ensures listed { IfOk result (λ s. (state self.old).file name.now
             ≡ Some (record { bytes = s.left; failing = s.failing })) }
         ensures counted { IfOk result (λ s. s.calls ≡ 0) }
-        ensures starved { IsErrOf result RoomError.Failed → Rose (state self.old).starved (state self.new).starved }
+        ensures fresh_failing { (state self.new).fresh_failing ≡ (state self.old).fresh_failing }
+        ensures faults { (state self.new).faults ≡ count_after (state self.old).faults result }
+        ensures starved { (state self.new).starved ≡ count_after (state self.old).starved result }
     {
         let Some(disk) = self.files.get(name) else {
             return Err(RoomError::Absent);
@@ -203,7 +208,9 @@ impl Room for MemRoom {
         ensures never { IsErrOf result RoomError.Exists → ⊥ }
         ensures counted { IfOk result (λ d. IsSomeAnd (disk_in self.old name.now)
             (λ e. (failing_of d ≡ failing_of e) × (made_of d ≡ made_of e))) }
-        ensures starved { IsErrOf result RoomError.Failed → Rose (state self.old).starved (state self.new).starved }
+        ensures fresh_failing { (state self.new).fresh_failing ≡ (state self.old).fresh_failing }
+        ensures faults { (state self.new).faults ≡ count_after (state self.old).faults result }
+        ensures starved { (state self.new).starved ≡ count_after (state self.old).starved result }
     {
         let Some(disk) = self.files.get(name) else {
             return Err(RoomError::Absent);
@@ -229,7 +236,11 @@ impl Room for MemRoom {
         ensures exists { IsErrOf result RoomError.Exists → ⊤ → IsSome (bytes_in self.old name.now) }
         ensures never { IsErrOf result RoomError.Absent → ⊥ }
         ensures counted { IfOk result (λ d. (failing_of d ≡ (state self.old).fresh_failing) × (made_of d ≡ 0)) }
-        ensures starved { IsErrOf result RoomError.Failed → Rose (state self.old).starved (state self.new).starved }
+        ensures made { OnOk result ((state self.new).file name.now
+            ≡ Some (record { bytes = []; failing = (state self.old).fresh_failing })) }
+        ensures fresh_failing { (state self.new).fresh_failing ≡ (state self.old).fresh_failing }
+        ensures faults { (state self.new).faults ≡ count_after (state self.old).faults result }
+        ensures starved { (state self.new).starved ≡ count_after (state self.old).starved result }
     {
         if self.files.contains_key(name) {
             return Err(RoomError::Exists);
@@ -240,7 +251,15 @@ impl Room for MemRoom {
         }
     }
 
-    fn done(&mut self, source: MemSource) {
+    fn done(&mut self, source: MemSource)
+        requires { 0 < (state self.old).lent }
+        ensures out { (state self.new).lent + 1 ≡ (state self.old).lent }
+        ensures count { (state self.new).faults ≡ with_count (state self.old).faults source.faults }
+        ensures stay { AllStay (bytes_in self.old) (bytes_in self.new) (disk_in self.old) (disk_in self.new) }
+        ensures tells { ⊤ → ⊤ }
+        ensures fresh_failing { (state self.new).fresh_failing ≡ (state self.old).fresh_failing }
+        ensures starved { (state self.new).starved ≡ (state self.old).starved }
+    {
         self.faults = self.faults.saturating_add(source.faults());
         self.lent -= 1;
     }
@@ -256,6 +275,8 @@ impl Room for MemRoom {
         ensures device { ⊤ → IsSome (bytes_in self.old name.now)
             → IsSomeAnd (disk_in self.new name.now) (λ e. SameDevice ⟦<MemDisk as Disk>⟧ disk e) }
         ensures kept { IsSome (bytes_in self.old name.now) → disk_in self.new name.now ≡ Some disk }
+        ensures none { bytes_in self.old name.now ≡ None → disk_in self.new name.now ≡ None }
+        ensures fresh_failing { (state self.new).fresh_failing ≡ (state self.old).fresh_failing }
         ensures starved { (state self.new).starved ≡ with_count (state self.old).starved (starved_of disk) }
     {
         self.faults = self.faults.saturating_add(disk.faults());
