@@ -269,6 +269,8 @@ struct Failing {
 }
 
 impl Nodes for Failing {
+    ghost use Rattle.std.proofs.Common.{arith, ◌≤◌};
+
     type H = Toy;
 
     ghost leaves = { λ _. None };
@@ -277,7 +279,13 @@ impl Nodes for Failing {
 
     ghost faults = { λ nodes. nodes.failed };
 
+    ghost stays = { λ old new. new.calls ≤ old.calls };
+
     ghost counted = { λ _. tt };
+
+    ghost stays_before = { λ _. omega arith };
+
+    ghost stays_on = { λ _ _ _ first second. omega (arith, first, second) };
 
     fn size(&self) -> u64 {
         8
