@@ -275,7 +275,7 @@ impl Room for MemRoom {
         ensures device { ⊤ → IsSome (bytes_in self.old name.now)
             → IsSomeAnd (disk_in self.new name.now) (λ e. SameDevice ⟦<MemDisk as Disk>⟧ disk e) }
         ensures kept { IsSome (bytes_in self.old name.now) → disk_in self.new name.now ≡ Some disk }
-        ensures none { bytes_in self.old name.now ≡ None → disk_in self.new name.now ≡ None }
+        ensures none { ⊤ → bytes_in self.old name.now ≡ None → bytes_in self.new name.now ≡ None }
         ensures fresh_failing { (state self.new).fresh_failing ≡ (state self.old).fresh_failing }
         ensures starved { (state self.new).starved ≡ with_count (state self.old).starved (starved_of disk) }
     {

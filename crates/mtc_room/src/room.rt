@@ -98,6 +98,7 @@ pub trait Room {
         ensures count { faults self.new ≡ with_count (faults self.old) (Self.Dsk.faults disk) }
         ensures others { OthersStay (file self.old) (file self.new) (device self.old) (device self.new) name.now }
         ensures tells { tells self.old → tells self.new }
+        ensures none { tells self.old → file self.old name.now ≡ None → file self.new name.now ≡ None }
         ensures bytes { tells self.old → IsSome (file self.old name.now)
             → LendsBytes (file self.new name.now) (Self.Dsk.told disk) }
         ensures device { tells self.old → IsSome (file self.old name.now)
