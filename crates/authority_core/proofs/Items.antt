@@ -1,5 +1,5 @@
 -- Items of an array beside the list that they stand for.
-use Rattle.std.proofs.Common.{◌≡◌, ℕ, ◌+◌, List, [], ◌∷◌, ◌++◌, length, refl, ap, arith}
+use Rattle.std.proofs.Common.{◌≡◌, List, [], ◌∷◌, ◌++◌, length, refl, arith}
 use Rattle.std.specs.List.{AllByRecursion}
 use Rattle.toml.specs.View.{items_view}
 use Rattle.toml.specs.declared.value.Value.{Value}

@@ -1,4 +1,4 @@
-use Rattle.std.proofs.Common.{◌≡◌, ℕ, ◌+◌, ◌-◌, ◌≤◌, List, length, take, drop, arith, length-drop, sym}
+use Rattle.std.proofs.Common.{◌≡◌, ℕ, ◌+◌, ◌-◌, List, length, take, drop, arith, length-drop, sym}
 use Rattle.std.proofs.lemmas.List.{take_all}
 use Rattle.authority_core.proofs.Labels.{labels_of-dot, labels_of-last}
 use Rattle.authority_core.proofs.requests.hosts.cut.Goals as goal
