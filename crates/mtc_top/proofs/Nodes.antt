@@ -9,7 +9,7 @@ use Rattle.journal_core.specs.Format.{StandsFor, StandsForEither}
 use Rattle.journal_core.proofs.Records.{records_of-stands}
 use Rattle.mtc_answers.specs.Answers.{IsEarly}
 use Rattle.mtc_answers.specs.Made.{Journaled, untouched, reads, appended, started, images_of, Kept, WasRead, HasMade, MayHaveMade}
-use Rattle.mtc_top.specs.Nodes.{NodeState, StandsForNode, AllStandForNode, stop, begin, fresh_node, End, same, stopped, begun, has_settled, has_handed, after, IsRecord, MayEnd, IsOnOld, IsOneOf, TookSome, EndsWell}
+use Rattle.mtc_top.specs.Nodes.{NodeState, StandsForNode, AllStandForNode, stop, begin, End, same, stopped, begun, has_settled, has_handed, after, IsRecord, MayEnd, IsOnOld, IsOneOf, TookSome, EndsWell}
 
 -- what was read are the records of the node behind a stop
 record Stopped (n : NodeState) (list : List (List ℕ)) : Type 0 where
@@ -141,16 +141,3 @@ not_took : (old new : Option (List ℕ)) → Appends old new [] → TookSome old
 not_took None new none took = took
 not_took (Some old) None none took = took
 not_took (Some old) (Some new) none took = let same : length new ≡ length old + 0 = ap length none ∙ length-append old [] in omega (arith, same, took)
-
--- where a byte went out, the status isn't one of a command that failed
-pub recorded : (status : ℕ) (old new : Option (List ℕ)) (list : List (List ℕ)) (body : List ℕ) (did : Journaled) (before now since : List ℕ → Type 0)
-    → (status ≢ 0 → status ≢ 3 → status ≢ 6 → Appends old new []) → (status ≢ 5 → status ≢ 8 → HasMade did before now since)
-    → did ≡ appended list body → TookSome old new → (c : List ℕ) → now c → StandsFor c (list ++ body ∷ [])
-recorded status old new list body did before now since nothing made is took =
-    let not5 : status ≢ 5 = λ e. not_took old new (nothing (λ z. omega (arith, z, e)) (λ z. omega (arith, z, e)) (λ z. omega (arith, z, e))) took in
-    let not8 : status ≢ 8 = λ e. not_took old new (nothing (λ z. omega (arith, z, e)) (λ z. omega (arith, z, e)) (λ z. omega (arith, z, e))) took in
-    (subst (λ d. HasMade d before now since) is (made not5 not8)).now_is
-
-pub begins : (body : List ℕ) (did : Journaled) (before now since : List ℕ → Type 0) → HasMade did before now since → did ≡ started body
-    → AllStandForNode (fresh_node body) now
-begins body did before now since made is = λ c left. inl (subst (λ d. HasMade d before now since) is made c left)

@@ -124,75 +124,6 @@ fn answer<'a, H: TreeHash, R: Room>(
     }
 }
 
-// All but the clauses on the states of a node.
-fn serve<H: TreeHash, R: Room, O: Sink, E: Sink>(
-    alloc: Global,
-    words: &[String],
-    room: &mut R,
-    out: &mut O,
-    err: &mut E,
-) -> u8
-    requires { R.lent room.old ≡ 0 }
-
-    // Without a failure the status and the text are the outcome's.
-    ensures status { R.tells room.old → result ≢ 5 → result ≢ 6 → result ≢ 8
-        → result ≡ status_of (outcome H.hash (map string_bytes words.now) (R.file room.old)).answer }
-    ensures took { R.tells room.old → result ≢ 5 → result ≢ 6 → result ≢ 8
-        → Appends (O.taken out.old) (O.taken out.new)
-        (out_of (outcome H.hash (map string_bytes words.now) (R.file room.old)).answer) }
-    ensures complete { R.tells room.old → (Rose (R.faults room.old) (R.faults room.new) → ⊥)
-        → (Rose (O.faults out.old) (O.faults out.new) → ⊥) → result ≢ 8
-        → result ≡ status_of (outcome H.hash (map string_bytes words.now) (R.file room.old)).answer }
-
-    // The causes of the failures.
-    ensures room_failed { result ≡ 5 → Rose (R.faults room.old) (R.faults room.new) }
-    ensures out_failed { result ≡ 6 → Rose (O.faults out.old) (O.faults out.new) }
-    ensures prefix { R.tells room.old → result ≡ 6 → AppendsPrefix (O.taken out.old) (O.taken out.new)
-        (out_of (outcome H.hash (map string_bytes words.now) (R.file room.old)).answer) }
-
-    // Of each room, also of one that doesn't tell its files.
-    ensures bad_words { result ≡ 1 → IsErr (command_of (map string_bytes words.now)) }
-    ensures words_first { IsErr (command_of (map string_bytes words.now)) → result ≢ 8 → result ≡ 1 }
-    ensures nothing { result ≢ 0 → result ≢ 3 → result ≢ 6 → Appends (O.taken out.old) (O.taken out.new) [] }
-
-    // The line on `err`, or where `err` failed a prefix of it.
-    ensures line { R.tells room.old → result ≢ 5 → result ≢ 6 → result ≢ 8
-        → WritesLine (Rose (E.faults err.old) (E.faults err.new)) (E.taken err.old) (E.taken err.new)
-        (err_of (outcome H.hash (map string_bytes words.now) (R.file room.old)).answer) }
-    ensures room_line { result ≡ 5 → (file : List ℕ) × WritesLine (Rose (E.faults err.old) (E.faults err.new))
-        (E.taken err.old) (E.taken err.new)
-        (file_line (known_word (map string_bytes words.now)) file (codes "Failed")) }
-    ensures out_line { result ≡ 6 → WritesLine (Rose (E.faults err.old) (E.faults err.new))
-        (E.taken err.old) (E.taken err.new)
-        (command_line (known_word (map string_bytes words.now)) (codes "OutputFailed")) }
-    ensures memory_line { result ≡ 8 → WritesLine (Rose (E.faults err.old) (E.faults err.new))
-        (E.taken err.old) (E.taken err.new) (memory_line (known_word (map string_bytes words.now))) }
-
-    // What was lent is given back, and each file but the command's journal is as it was.
-    ensures given_back { R.lent room.new ≡ 0 }
-    ensures stay { (name : List ℕ) → (MayChange (command_of (map string_bytes words.now)) name → ⊥)
-        → Stays (R.file room.old) (R.file room.new) (R.device room.old) (R.device room.new) name }
-    ensures count { R.faults room.old ≤ R.faults room.new }
-    ensures tells { R.tells room.old → R.tells room.new }
-
-    // The images of the command's journal, now and since the call began: without a failure, after want of memory, and
-    // after a fault of the room.
-    ensures made { R.tells room.old → result ≢ 5 → result ≢ 8 → (j : List ℕ) → MayChange (command_of (map string_bytes words.now)) j
-        → MadeOf R.Dsk.Disk (outcome H.hash (map string_bytes words.now) (R.file room.old)).journal (R.device room.old j) (R.device room.new j) }
-    ensures no_memory { R.tells room.old → result ≡ 8 → (j : List ℕ) → MayChange (command_of (map string_bytes words.now)) j
-        → KeptOf R.Dsk.Disk (R.device room.old j) (R.device room.new j) }
-    ensures failed { R.tells room.old → result ≡ 5 → (j : List ℕ) → MayChange (command_of (map string_bytes words.now)) j
-        → MayMadeOf R.Dsk.Disk (outcome H.hash (map string_bytes words.now) (R.file room.old)).journal (R.device room.old j) (R.device room.new j) }
-    ensures early { R.tells room.old → result ≢ 5 → result ≢ 8 → (j : List ℕ) → MayChange (command_of (map string_bytes words.now)) j
-        → (outcome H.hash (map string_bytes words.now) (R.file room.old)).journal ≡ untouched → IsEarly result }
-{
-    let command = command_word(words);
-    match answer::<H, R>(alloc, words, room) {
-        Ok(answer) => conclude(command, out, err, &answer),
-        Err(stop) => fail(command, err, stop),
-    }
-}
-
 /// Does all that the program does: reads the words of a command, carries it out over a room, and writes its text
 /// to `out` or a line to `err`. Everything that the room lends is given back, and each file stays as it was.
 ///
@@ -281,5 +212,9 @@ pub fn run<H: TreeHash, R: Room, O: Sink, E: Sink>(
         → (body : List ℕ) → (outcome H.hash (map string_bytes words.now) (R.file room.old)).journal ≡ started body
         → AllStandForNode (fresh_node body) (images_of R.Dsk.Disk (R.device room.new j)) }
 {
-    serve::<H, R, O, E>(alloc, words, room, out, err)
+    let command = command_word(words);
+    match answer::<H, R>(alloc, words, room) {
+        Ok(answer) => conclude(command, out, err, &answer),
+        Err(stop) => fail(command, err, stop),
+    }
 }
