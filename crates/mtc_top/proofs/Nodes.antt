@@ -1,8 +1,6 @@
 -- How a command ends, as steps of a node.
-use Rattle.std.proofs.Common.{◌≡◌, ◌≢◌, ◌⊎◌, inl, inr, ℕ, ◌+◌, true, false, Bool, List, [], ◌∷◌, ◌++◌, length, Option, None, Some, IfSome, refl, sym, ap, subst, ◌∙◌, arith, rules}
+use Rattle.std.proofs.Common.{◌≡◌, ◌≢◌, ◌⊎◌, inl, inr, ℕ, true, false, Bool, List, [], ◌∷◌, ◌++◌, length, Option, None, Some, IfSome, refl, sym, subst, ◌∙◌, arith, rules}
 use Rattle.std.proofs.lemmas.Bool.Decides.{eqb_tells, leb_tells}
-use Rattle.std.proofs.lemmas.List.{length-append}
-use Rattle.std.specs.Io.KnownBytes.{Appends}
 use Rattle.disk_core.specs.declared.disk.Disk.{Ghosts}
 use Rattle.mtc_room.specs.Room.{TellsFile}
 use Rattle.journal_core.specs.Format.{StandsFor, StandsForEither}
@@ -136,8 +134,3 @@ pub file_stands : {D : Type 0} (g : Ghosts D) (n : NodeState) (file : Option (Li
 file_stands g n None x image tells all = tt
 file_stands g n (Some b) None image tells all = absurd (grind (rules, tells))
 file_stands g n (Some b) (Some d) image tells all = all b (image d b tells.0)
-
-not_took : (old new : Option (List ℕ)) → Appends old new [] → TookSome old new → ⊥
-not_took None new none took = took
-not_took (Some old) None none took = took
-not_took (Some old) (Some new) none took = let same : length new ≡ length old + 0 = ap length none ∙ length-append old [] in omega (arith, same, took)
