@@ -1,6 +1,7 @@
 // What `show` prints.
+use super::cases::{Case, MEMBER, outcome};
 use super::desk::Desk;
-use super::{CERTIFICATE, Case, MEMBER, answers, bytes_of, certificate, outcome, says};
+use super::{CERTIFICATE, answers, bytes_of, certificate, says};
 use mtc_io::Bytes;
 use std::alloc::Global;
 use std::process::Abort;
