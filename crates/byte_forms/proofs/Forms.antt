@@ -3,9 +3,9 @@ use Rattle.std.proofs.Common.{◌≡◌, ◌≢◌, ℕ, ◌+◌, ◌<◌, Bool,
 use Rattle.std.specs.Prelude.{if◌then◌else◌, ◌==◌}
 use Rattle.std.proofs.lemmas.List.{length-append}
 use Rattle.byte_forms.specs.Places.{At, IsBytes, begins_with}
-use Rattle.byte_forms.specs.Readings.{◌>>=◌, blamed, both_at, mapped_at, tested_at, headed_at, optional_at, or_nothing_at, last_at, some_at, refused_at, blamed_at}
+use Rattle.byte_forms.specs.Readings.{◌>>=◌, both_at, lifted_at, mapped_at, tested_at, headed_at, optional_at, or_nothing_at, last_at, some_at, refused_at, blamed_at}
 use Rattle.byte_forms.specs.Forms.{Stands, IsForm, Anything, Nothing, OtherThan, itself, both, FitsBoth, optional}
-use Rattle.byte_forms.proofs.Steps.{bind_ok, chosen, guard_ok, pass_ok, ok_is, Stands-then, Stands-none}
+use Rattle.byte_forms.proofs.Steps.{bind_ok, blamed_ok, lifted_ok, chosen, guard_ok, pass_ok, ok_is, Stands-then, Stands-none}
 
 -- ---- the same form, said otherwise
 
@@ -222,15 +222,19 @@ refused_form spell Fits Follows read test fault clear form = record {
   again = λ x p rest f q. rw (clear x rest f q) (form.again x p rest f q);
 }
 
-blamed_ok : {A E F : Type 0} (fault : F) (r : Result A E) (y : A) → blamed fault r ≡ Ok y → r ≡ Ok y
-blamed_ok fault (Ok x) y e = cc
-blamed_ok fault (Err d) y e = absurd cc
-
 -- A value, all of whose faults are one.
 pub blamed_form : {X E F : Type 0} (spell : X → List ℕ) (Fits : X → Type 0) (Follows : List ℕ → Type 0) (read : At → Result (X × At) E) (fault : F)
     → IsForm spell Fits Follows read → IsForm spell Fits Follows (blamed_at fault read)
 blamed_form spell Fits Follows read fault form = record {
   takes = λ a x b h e. form.takes a x b h (blamed_ok fault (read a) (x, b) e);
+  again = λ x p rest f q. rw (form.again x p rest f q) refl;
+}
+
+-- A value, whose fault is seen as another kind of fault.
+pub lifted_form : {X E F : Type 0} (spell : X → List ℕ) (Fits : X → Type 0) (Follows : List ℕ → Type 0) (read : At → Result (X × At) E) (fault : E → F)
+    → IsForm spell Fits Follows read → IsForm spell Fits Follows (lifted_at fault read)
+lifted_form spell Fits Follows read fault form = record {
+  takes = λ a x b h e. form.takes a x b h (lifted_ok fault (read a) (x, b) e);
   again = λ x p rest f q. rw (form.again x p rest f q) refl;
 }
 

@@ -1,10 +1,10 @@
 -- What a step of a reading that did not fail says, and what it leaves.
-use Rattle.std.proofs.Common.{◌≡◌, ℕ, suc, ◌+◌, ◌≤◌, Bool, true, false, List, [], ◌∷◌, ◌++◌, length, take, drop, Result, Ok, Err, refl, sym, ap, ◌∙◌, append_assoc, arith, inl, inr, ◌⊎◌}
+use Rattle.std.proofs.Common.{◌≡◌, ℕ, suc, ◌+◌, ◌≤◌, Bool, true, false, List, [], ◌∷◌, ◌++◌, length, take, drop, Option, Some, None, Result, Ok, Err, ◌≢◌, ◌<◌, refl, sym, ap, ◌∙◌, append_assoc, arith, inl, inr, ◌⊎◌, ne_eqb}
 use Rattle.std.specs.Prelude.{if◌then◌else◌}
 use Rattle.std.proofs.lemmas.Bool.{cases_lt}
 use Rattle.std.proofs.lemmas.List.{take-append-drop, length-append, length-take, get_or-drop, get_or-take, get_or_past, get_or_append_left, get_or-append-add}
-use Rattle.byte_forms.specs.Places.{At, IsBytes, after}
-use Rattle.byte_forms.specs.Readings.{◌>>=◌}
+use Rattle.byte_forms.specs.Places.{At, IsBytes, after, has_bytes}
+use Rattle.byte_forms.specs.Readings.{◌>>=◌, is_read, lifted, blamed, discarded, found, some_or}
 use Rattle.byte_forms.specs.Forms.{Stands}
 
 -- The value of a step that did not fail.
@@ -33,6 +33,50 @@ done E x = Ok x
 -- Equal values of equal answers.
 pub ok_is : {A : Type 0} (E : Type 0) (x y : A) → done E x ≡ done E y → x ≡ y
 ok_is E x y e = cc
+
+-- ---- answers that are no fault, seen through the words of readings
+
+-- An answer whose fault is seen as another kind is a value where the answer itself is.
+pub lifted_ok : {A E F : Type 0} (fault : E → F) (r : Result A E) (y : A) → lifted fault r ≡ Ok y → r ≡ Ok y
+lifted_ok fault (Ok x) y e = cc
+lifted_ok fault (Err d) y e = absurd cc
+
+-- The same, with one fault in place of every fault.
+pub blamed_ok : {A E F : Type 0} (fault : F) (r : Result A E) (y : A) → blamed fault r ≡ Ok y → r ≡ Ok y
+blamed_ok fault (Ok x) y e = cc
+blamed_ok fault (Err d) y e = absurd cc
+
+-- Where the place behind is known, some value was read.
+pub discarded_ok : {X E : Type 0} (r : Result (X × At) E) (b : At) → discarded r ≡ Ok b → (x : X) × (r ≡ Ok (x, b))
+discarded_ok {X} {E} (Ok x) b e = (x.0, ap (λ (c : At). Ok (x.0, c)) (ok_is E x.1 b e))
+discarded_ok (Err d) b e = absurd cc
+
+-- Where the value is known, it was read up to some place.
+pub found_ok : {X E : Type 0} (r : Result (X × At) E) (x : X) → found r ≡ Ok x → (b : At) × (r ≡ Ok (x, b))
+found_ok {X} {E} (Ok y) x e = (y.1, ap (λ (z : X). Ok (z, y.1)) (ok_is E y.0 x e))
+found_ok (Err d) x e = absurd cc
+
+-- What is read has a value.
+pub read_ok : {X E : Type 0} (r : Result X E) → is_read r ≡ true → (x : X) × (r ≡ Ok x)
+read_ok (Ok x) e = (x, refl)
+read_ok (Err d) e = absurd cc
+
+-- The value of an option that had to be there.
+pub some_or_ok : {A E : Type 0} (fault : E) (o : Option A) (x : A) → some_or fault o ≡ Ok x → o ≡ Some x
+some_or_ok fault None x e = absurd cc
+some_or_ok fault (Some y) x e = cc
+
+-- ---- bytes
+
+-- A text that has bytes, by its length.
+pub has_bytes-some : (bytes : List ℕ) → has_bytes bytes ≡ true → 0 < length bytes
+has_bytes-some [] e = absurd cc
+has_bytes-some (b ∷ bytes) e = omega arith
+
+pub some-has_bytes : (bytes : List ℕ) → 0 < length bytes → has_bytes bytes ≡ true
+some-has_bytes bytes some =
+    let long : length bytes ≢ 0 = omega arith in
+    rw (ne_eqb (length bytes) 0 long) refl
 
 -- Each byte of a part is a byte.
 pub IsBytes-drop : (n : ℕ) (bytes : List ℕ) → IsBytes bytes → IsBytes (drop n bytes)

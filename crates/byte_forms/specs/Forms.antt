@@ -1,42 +1,48 @@
 -- Forms: a spelling of values, and the reading that reads exactly the spellings.
-use Rattle.std.specs.Prelude.{◌≡◌, ◌≢◌, ℕ, ◌+◌, List, [], ◌∷◌, ◌++◌, length, Option, Some, None, Result, Ok}
+use Rattle.std.specs.Prelude.{◌≡◌, ◌≢◌, ℕ, ◌+◌, List, [], ◌∷◌, ◌++◌, length, Option, Some, None, Ok}
+use Rattle.byte_forms.specs.Types.{Text}
 use Rattle.byte_forms.specs.Places.{At, IsBytes}
+use Rattle.byte_forms.specs.Readings.{Reading}
 
 -- This text stands at a, and b is the place behind it.
-pub record Stands (a : At) (text : List ℕ) (b : At) : Type 0 where
+pub record Stands (a : At) (text : Text) (b : At) : Type 0 where
   pub parts : a.rest ≡ text ++ b.rest
   pub place : b.place ≡ a.place + length text
   pub bytes : IsBytes b.rest
 
--- What is read is spelled so, and what is spelled so is read again, before each rest that may follow it.
-pub record IsForm {X E : Type 0} (spell : X → List ℕ) (Fits : X → Type 0) (Follows : List ℕ → Type 0) (read : At → Result (X × At) E) : Type 0 where
-  pub takes : (a : At) (x : X) (b : At) → IsBytes a.rest → read a ≡ Ok (x, b) → Stands a (spell x) b × Fits x
-  pub again : (x : X) (place : ℕ) (rest : List ℕ) → Fits x → Follows rest
-      → read (record { place = place; rest = spell x ++ rest }) ≡ Ok (x, record { place = place + length (spell x); rest = rest })
+-- What is read is spelled so, and what is spelled so is read again, before each rest that may
+-- follow it.
+pub record IsForm {X E : Type 0} (spell : X → Text) (Fits : X → Type 0) (Follows : Text → Type 0)
+    (read : Reading X E) : Type 0 where
+  pub takes : (a : At) (x : X) (b : At) → IsBytes a.rest → read a ≡ Ok (x, b)
+      → Stands a (spell x) b × Fits x
+  pub again : (x : X) (place : ℕ) (rest : Text) → Fits x → Follows rest
+      → read (record { place = place; rest = spell x ++ rest })
+      ≡ Ok (x, record { place = place + length (spell x); rest = rest })
 
 -- Whatever follows: the form has its own end.
-abbrev pub Anything : List ℕ → Type 0
+abbrev pub Anything : Text → Type 0
 Anything rest = Unit {0}
 
 -- Nothing follows: the form takes all that is left.
-abbrev pub Nothing : List ℕ → Type 0
+abbrev pub Nothing : Text → Type 0
 Nothing rest = rest ≡ []
 
 -- What follows doesn't begin with this byte.
-abbrev pub OtherThan : ℕ → List ℕ → Type 0
+abbrev pub OtherThan : ℕ → Text → Type 0
 OtherThan byte [] = Unit {0}
 OtherThan byte (first ∷ rest) = first ≢ byte
 
 -- The bytes spell some value.
-abbrev pub IsSpelling : {X : Type 0} → (X → List ℕ) → (X → Type 0) → List ℕ → Type 0
+abbrev pub IsSpelling : {X : Type 0} → (X → Text) → (X → Type 0) → Text → Type 0
 IsSpelling {X} spell Fits bytes = (x : X) × Fits x × (bytes ≡ spell x)
 
 -- Bytes as their own spelling.
-abbrev pub itself : List ℕ → List ℕ
+abbrev pub itself : Text → Text
 itself bytes = bytes
 
 -- Two spellings, one behind the other.
-abbrev pub both : {X Y : Type 0} → (X → List ℕ) → (Y → List ℕ) → X × Y → List ℕ
+abbrev pub both : {X Y : Type 0} → (X → Text) → (Y → Text) → X × Y → Text
 both first second p = first p.0 ++ second p.1
 
 -- Both values have a spelling.
@@ -44,7 +50,7 @@ abbrev pub FitsBoth : {X Y : Type 0} → (X → Type 0) → (Y → Type 0) → X
 FitsBoth First Second p = First p.0 × Second p.1
 
 -- A spelling, or no bytes.
-abbrev pub optional : {X : Type 0} → (X → List ℕ) → Option X → List ℕ
+abbrev pub optional : {X : Type 0} → (X → Text) → Option X → Text
 optional spell None = []
 optional spell (Some x) = spell x
 
