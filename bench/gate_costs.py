@@ -1,0 +1,116 @@
+#!/usr/bin/env python3
+"""Runs the gate, and tells what each crate cost: the processor seconds of its proof, of its tests and of its must-fail edits.
+
+Usage: bench/gate_costs.py [COMMAND WORD..]    (rt ci where there is none; rt ci --anew proves all, also what is kept)
+
+What the command writes goes to standard error. The table goes to standard output, as docs/GATE.md has it. Every half second
+the script looks at the provers that the command has started; what a prover used in its last half second is not counted.
+"""
+import glob
+import os
+import subprocess
+import sys
+import time
+
+ROOT = os.path.dirname(os.path.dirname(os.path.abspath(__file__)))
+TICK = os.sysconf("SC_CLK_TCK")
+KINDS = ("proof", "tests", "edits")
+BUDGET = 3.5
+
+
+def text_of(path):
+    with open(path, encoding="utf-8", errors="replace") as it:
+        return it.read()
+
+
+def processes():
+    """Yields the number, the parent, the start and the processor ticks of each process."""
+    for path in glob.glob("/proc/[0-9]*/stat"):
+        try:
+            number, rest = path.split("/")[2], text_of(path).rsplit(")", 1)[1].split()
+        except (OSError, IndexError):
+            continue
+        yield int(number), int(rest[1]), int(rest[19]), int(rest[11]) + int(rest[12])
+
+
+def crate_and_kind(number):
+    """What a process proves, and for which of the three, or None if it is no prover."""
+    try:
+        words = text_of(f"/proc/{number}/cmdline").split("\0")
+        folder = os.readlink(f"/proc/{number}/cwd")
+    except OSError:
+        return None
+    if "--crate-name" not in words:
+        return None
+    crate = words[words.index("--crate-name") + 1]
+    if "/rt-edit-" in folder:
+        return crate, "edits"
+    return crate, "tests" if "--test" in words else "proof"
+
+
+def descendants(root, found):
+    """The processes below one, itself among them."""
+    below, grew = {root}, True
+    while grew:
+        more = {number for number, parent, _, _ in found if parent in below} - below
+        below |= more
+        grew = bool(more)
+    return below
+
+
+def look(root, seen):
+    """Notes the ticks of each prover that runs now."""
+    found = list(processes())
+    ours = descendants(root, found)
+    for number, _, start, ticks in found:
+        if number not in ours:
+            continue
+        what = crate_and_kind(number)
+        if what:
+            seen[number, start] = what, ticks
+
+
+def lines_of(crate):
+    """The lines of a crate's sources, definitions and proofs."""
+    files = glob.glob(f"{ROOT}/crates/{crate}/**/*", recursive=True)
+    wanted = [it for it in files if it.endswith((".rt", ".antt")) and "/out/" not in it]
+    return sum(text_of(it).count("\n") for it in wanted)
+
+
+def table(costs):
+    """The rows of the table, the dearest crate first, and at the end all together."""
+    yield "| Crate | Lines | Proof, s | Tests, s | Edits, s | All, s | Minutes for 1,000 lines |"
+    yield "|---|---|---|---|---|---|---|"
+    rows = [(crate, lines_of(crate), [by.get(kind, 0) for kind in KINDS]) for crate, by in costs.items()]
+    rows.sort(key=lambda row: -sum(row[2]))
+    whole = [sum(row[2][at] for row in rows) for at in range(3)]
+    rows.append(("all", sum(row[1] for row in rows), whole))
+    for crate, lines, seconds in rows:
+        name = crate if crate == "all" else f"`{crate}`"
+        each = sum(seconds) / 60 / lines * 1000 if lines else 0
+        cells = [name, f"{lines:,}", *(f"{it:,.0f}" for it in seconds), f"{sum(seconds):,.0f}", f"{each:.1f}"]
+        yield "| " + " | ".join(cells) + " |"
+
+
+def main(command):
+    began, seen = time.time(), {}
+    ran = subprocess.Popen(command, cwd=ROOT, stdout=sys.stderr)
+    while ran.poll() is None:
+        look(ran.pid, seen)
+        time.sleep(0.5)
+    costs = {}
+    for (crate, kind), ticks in seen.values():
+        by = costs.setdefault(crate, {})
+        by[kind] = by.get(kind, 0) + ticks / TICK
+    print("\n".join(table(costs)))
+    minutes = sum(sum(by.values()) for by in costs.values()) / 60
+    lines = sum(map(lines_of, costs))
+    print(
+        f"\n{minutes:.0f} processor minutes, {(time.time() - began) / 60:.0f} minutes by the clock on "
+        f"{len(os.sched_getaffinity(0))} processors. The budget for {lines:,} lines is {BUDGET * lines / 1000:.0f}."
+    )
+    return ran.returncode
+
+
+if __name__ == "__main__":
+    sys.exit(main(sys.argv[1:] or ["rt", "ci"]))

@@ -1,0 +1,71 @@
+#!/bin/bash
+# Makes the picture of the crates' layers in docs/PICTURES.md anew from crates.txt, and compares it with the one that stands
+# there: the crates below the program, with an arrow to each crate that one names and that stands below no other that it names.
+# Usage: tests/layers.sh [--write]
+set -u
+cd "$(dirname "$0")/.." || exit 2
+page=docs/PICTURES.md
+new=$(mktemp)
+trap 'rm -f "$new"' EXIT
+
+awk '
+    function visit(name, parts, count, part) {
+        if (name in seen || !(name in below))
+            return
+        seen[name]
+        count = split(below[name], parts, " ")
+        for (part = 1; part <= count; part++)
+            if (parts[part] in below) {
+                visit(parts[part])
+                named[name, parts[part]]
+            }
+        order[++crates] = name
+    }
+    # Whether a crate stands on another one, by a way of one arrow or more.
+    function reaches(from, to, at) {
+        if ((from, to) in named)
+            return 1
+        for (at = 1; at <= crates; at++)
+            if ((from, order[at]) in named && reaches(order[at], to))
+                return 1
+        return 0
+    }
+    function is_short_cut(from, to, at) {
+        for (at = 1; at <= crates; at++)
+            if (order[at] != to && (from, order[at]) in named && reaches(order[at], to))
+                return 1
+        return 0
+    }
+    FNR == NR {
+        sub(/#.*/, "")
+        if (/:/) {
+            split($0, sides, ":")
+            split(sides[1], words, " ")
+            below[words[1]] = sides[2]
+        }
+        next
+    }
+    /^<!-- layers: begin/ {
+        print
+        visit("mtc_main")
+        print "```mermaid\nflowchart TD"
+        for (high = crates; high >= 1; high--)
+            for (low = crates; low >= 1; low--)
+                if ((order[high], order[low]) in named && !is_short_cut(order[high], order[low]))
+                    print "    " order[high] " --> " order[low]
+        print "```"
+        is_old = 1
+        next
+    }
+    /^<!-- layers: end/ { is_old = 0; ends++ }
+    !is_old { print }
+    END { exit ends != 1 }' crates.txt "$page" >"$new" || { echo "wrong: $page has no place for the layers"; exit 1; }
+
+if [ "${1-}" = --write ]; then
+    cp "$new" "$page"
+elif ! diff -u --label "$page" --label "by crates.txt" "$page" "$new"; then
+    echo "wrong: the picture of the layers; tests/layers.sh --write mends it"
+    exit 1
+else
+    echo "the layers are those of crates.txt"
+fi
