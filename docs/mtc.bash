@@ -1,0 +1,28 @@
+# Completes the words of mtc in bash: source docs/mtc.bash. Made by tests/manual.sh from docs/COMMANDS.md.
+# shellcheck shell=bash disable=SC2207
+_mtc() {
+    local word=${COMP_WORDS[COMP_CWORD]} kinds=()
+    if [ "$COMP_CWORD" -eq 1 ]; then
+        COMPREPLY=($(compgen -W 'member show verify init-log issue checkpoint entries consist subtree keygen' -- "$word"))
+        return
+    fi
+    case ${COMP_WORDS[1]} in
+        member) kinds=(FILE) ;;
+        show) kinds=(CERT) ;;
+        verify) kinds=(CERT STORE NOW) ;;
+        init-log) kinds=(J LOGID MAXACTIVE LIMIT) ;;
+        issue) kinds=(J REQUEST) ;;
+        checkpoint) kinds=(J) ;;
+        entries) kinds=(J SIZE) ;;
+        consist) kinds=(J OLD NEW) ;;
+        subtree) kinds=(J START END SIZE) ;;
+        keygen) kinds=(HEIGHT WIDTH SECRET) ;;
+    esac
+    case ${kinds[COMP_CWORD - 2]-} in
+        J | FILE | CERT | STORE | REQUEST | SECRET) COMPREPLY=($(compgen -f -- "$word")) ;;
+        HEIGHT) COMPREPLY=($(compgen -W '5 10' -- "$word")) ;;
+        WIDTH) COMPREPLY=($(compgen -W '1 2 4 8' -- "$word")) ;;
+        *) COMPREPLY=() ;;
+    esac
+}
+complete -o filenames -F _mtc mtc
