@@ -1,0 +1,168 @@
+"""What the statement of `run` rests on: the definitions that its contract names, and those that these name.
+
+docs/BELIEFS.md has the counts in a table. Without a word it prints the table; `--write` puts it into the page; `--list`
+prints each definition with its file; `--check` says whether the page has these counts.
+Usage: tests/beliefs.py [--write | --list | --check]
+"""
+
+import re
+import sys
+from functools import cache
+
+from sources import ROOT, SourceFile, blanked, crates
+
+PAGE = ROOT / "docs" / "BELIEFS.md"
+BEGIN, END = "<!-- counted by tests/beliefs.py -->", "<!-- end -->"
+TOP = ROOT / "crates" / "mtc_top" / "src"
+
+USE = re.compile(r"^\s*(?:pub |ghost )*(?:use|open) Rattle\.([\w.]+)\.\{([^}]*)\};?", re.M)
+HEAD = re.compile(r"^( *)(?:abbrev|unfoldable|opaque|pub record|pub data|record|data)(?: pub)? +([^\s:({]+)")
+TOKEN = re.compile(r"[^\s(){}\[\].,;∷]+|∷")
+
+
+def imports_of(text):
+    """Where each name comes from: the module, and its name there."""
+    found = {}
+    for match in USE.finditer(text):
+        for item in match.group(2).split(","):
+            there, _, here = item.strip().partition(" as ")
+            if there:
+                found[(here or there).strip()] = (match.group(1), there)
+    return found
+
+
+def sign_of(name):
+    """How an operator is written where it is used."""
+    if "◌" not in name:
+        return name
+    return next((part for part in name.split("◌") if part), name)
+
+
+class Module:
+    """A file of specs/, cut into its definitions."""
+
+    def __init__(self, path):
+        self.path = path
+        self.bodies, self.owners = {}, {}
+        text = path.read_text()
+        self.imports = {sign_of(name): origin for name, origin in imports_of(text).items()}
+        name, lines = None, text.split("\n")
+        for line in lines:
+            if line.strip().startswith("--") or line.startswith(("use ", "open ", "module ", "infix", "import ")):
+                if not line.strip().startswith("--"):
+                    name = None
+                continue
+            match = HEAD.match(line)
+            if match:
+                name = match.group(2)
+                self.bodies[name] = []
+                self.owners[sign_of(name)] = name
+            if name and line.strip():
+                self.bodies[name].append(line)
+                inner = re.match(r"^ +(?:pub )?([^\s:(){}=]+) *:", line)
+                if inner and not match:
+                    self.owners.setdefault(inner.group(1), name)
+
+    def names_in(self, text):
+        """The definitions that a text names, as (module, name); the module is a file or a module of the kit."""
+        for token in set(TOKEN.findall(text)):
+            if token in self.imports:
+                yield self.imports[token]
+            elif token in self.owners:
+                yield None, self.owners[token]
+
+
+@cache
+def module_of(dotted):
+    """The file of a module of this repository, or nothing where it is the kit's."""
+    crate, _, rest = dotted.partition(".")
+    if rest.startswith("specs.") and not rest.startswith("specs.declared."):
+        path = ROOT / "crates" / crate / "specs" / (rest[len("specs."):].replace(".", "/") + ".antt")
+        if path.exists():
+            return Module(path)
+    return None
+
+
+def statement():
+    """The contract of `run`, and the imports of its file."""
+    for path in sorted(TOP.rglob("*.rt")):
+        text = path.read_text()
+        match = re.search(r"^pub fn run\b.*?^\{", text, re.M | re.S)
+        if match:
+            bare = re.sub(r"//[^\n]*", "", match.group())
+            return bare, {sign_of(name): origin for name, origin in imports_of(text).items()}
+    raise SystemExit("no function run in mtc_top")
+
+
+def reached():
+    """Definitions by (module, name), types of the code, and modules of the kit with the names that are used."""
+    own, types, kit = {}, set(), {}
+    contract, imports = statement()
+    waiting = [imports[token] for token in set(TOKEN.findall(contract)) if token in imports]
+    while waiting:
+        dotted, name = waiting.pop()
+        if ".specs.declared." in dotted:
+            types.add((dotted.split(".")[0], dotted.split(".specs.declared.")[1].removesuffix(".TheVariants").split(".")[-1]))
+            continue
+        module = module_of(dotted)
+        if module is None:
+            kit.setdefault(dotted, set()).add(name)
+            continue
+        whole = module.owners.get(sign_of(name), name)
+        if (dotted, whole) in own or whole not in module.bodies:
+            continue
+        own[(dotted, whole)] = module.bodies[whole]
+        for inner, other in module.names_in("\n".join(module.bodies[whole])):
+            waiting.append((inner or dotted, other))
+    return own, types, kit
+
+
+def table():
+    own, types, kit = reached()
+    order = [crate.name for crate in crates()]
+    rows = ["| Crate | Definitions | Lines | Files | Types of the code |", "|---|---|---|---|---|"]
+    for name in sorted({dotted.split(".")[0] for dotted, _ in own} | {crate for crate, _ in types}, key=order.index):
+        mine = {key: body for key, body in own.items() if key[0].split(".")[0] == name}
+        rows.append(f"| `{name}` | {len(mine)} | {sum(map(len, mine.values()))} | {len({key[0] for key in mine})} "
+                    f"| {len({one for crate, one in types if crate == name})} |")
+    rows.append(f"| all | {len(own)} | {sum(map(len, own.values()))} | {len({key[0] for key in own})} | {len(types)} |")
+    rows += ["", f"Modules of the kit: {len(kit)}, with {sum(map(len, kit.values()))} words.", "", "| Module | Words |", "|---|---|"]
+    for dotted in sorted(kit):
+        words = ", ".join(f"`{name}`" for name in sorted(kit[dotted]))
+        rows.append(f"| `{dotted}` | {words} |")
+    return "\n".join(rows)
+
+
+def between():
+    text = PAGE.read_text()
+    begin, end = text.index(BEGIN) + len(BEGIN), text.index(END)
+    return text[:begin], text[begin:end].strip("\n"), text[end:]
+
+
+def differences():
+    if not PAGE.exists():
+        return [f"there is no page {PAGE.name}"]
+    here = set(between()[1].split("\n"))
+    found = set(table().split("\n"))
+    return [f"docs/{PAGE.name}: {line}" for line in sorted(found - here)] and \
+        [f"docs/{PAGE.name} has other counts: run tests/beliefs.py --write"]
+
+
+def main(words):
+    if words == ["--write"]:
+        before, _, behind = between()
+        PAGE.write_text(before + "\n" + table() + "\n" + behind)
+    elif words == ["--list"]:
+        for (dotted, name), body in sorted(reached()[0].items()):
+            print(f"{dotted} {name} {len(body)}")
+    elif words == ["--check"]:
+        wrong = differences()
+        print("\n".join(wrong) or "the counts stand")
+        return bool(wrong)
+    else:
+        print(table())
+    return 0
+
+
+if __name__ == "__main__":
+    sys.exit(main(sys.argv[1:]))
