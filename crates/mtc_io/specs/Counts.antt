@@ -1,5 +1,5 @@
 -- Counts of faults. A count is a number of 64 bits that stands still at its last value.
-use Rattle.std.specs.Prelude.{ℕ, ◌+◌, ◌<◌, ◌≤◌, ◌⊎◌, min, max, Result, OnErr}
+use Rattle.std.specs.Prelude.{◌≡◌, ℕ, ◌+◌, ◌<◌, ◌≤◌, ◌⊎◌, min, max, Result, OnOk, OnErr}
 
 -- the last value of a count
 abbrev pub last_count : ℕ
@@ -9,10 +9,11 @@ last_count = 18446744073709551615
 abbrev pub Rose : ℕ → ℕ → Type 0
 Rose before after = (before < after) ⊎ (last_count ≤ after)
 
--- a call's answer has its cause: the count never falls, and an error comes only where it rose
+-- A call's answer has its cause: the count never falls, an error comes only where it rose, and Ok only where it didn't.
 pub record HasCause {T E : Type 0} (before after : ℕ) (result : Result T E) : Type 0 where
   pub later : before ≤ after
   pub failed : OnErr result (Rose before after)
+  pub fine : OnOk result (after ≡ before)
 
 -- a count to which more is added: it stops at the last value, and never falls
 abbrev pub with_count : ℕ → ℕ → ℕ

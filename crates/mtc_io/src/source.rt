@@ -65,6 +65,7 @@ pub fn read_all<S: Source>(alloc: Global, source: &mut S, limit: u64) -> Result<
         → IfSome (S.left source.old) (λ bytes. limit < length bytes) }
     ensures failed { IsErrOf result ReadError.Failed → Rose (S.faults source.old) (S.faults source.new) }
     ensures count { S.faults source.old ≤ S.faults source.new }
+    ensures fine { OnOk result (S.faults source.new ≡ S.faults source.old) }
 
     // What was read on the way to a refusal is lost, and nothing else.
     ensures rest { ConsumesSome (S.left source.old) (S.left source.new) }
