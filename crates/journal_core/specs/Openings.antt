@@ -45,6 +45,7 @@ module _ {D : Type 0} {g : Ghosts D} where
     pub place : next_place new ≡ 16
     pub goes_on : (is_ended new ≡ false) × (refusal new ≡ None)
     pub looks : Looks g old (opening_disk new)
+    pub fine : g.faults (opening_disk new) ≡ g.faults old
 
   -- one record more was read
   pub record HasRead (old new : Opening D g) : Type 0 where
@@ -81,6 +82,7 @@ module _ {D : Type 0} {g : Ghosts D} where
     pub walk : refusal old ≡ None
         → IfSome why (λ e. IfSome (g.told (opening_disk old)) (λ bytes. IfSome (read_list old) (IsWalkTo e bytes)))
     pub looks : Looks g (opening_disk old) (opening_disk new)
+    pub fine : why ≡ None → g.faults (opening_disk new) ≡ g.faults (opening_disk old)
 
   -- a step, by its answer: a record, the end, or a refusal
   abbrev pub Steps : Opening D g → Opening D g → Result Bool OpenError → Type 0

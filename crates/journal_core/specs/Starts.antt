@@ -16,7 +16,7 @@ pub record HasStarted {D : Type 0} {g : Ghosts D} (first : List ℕ) (old : D) (
   pub sound : is_broken new ≡ false
   pub end : end_of new ≡ 22 + length first
   pub all : IfSome (records new) (AllStandFor g (disk_of new))
-  pub later : g.faults old ≤ g.faults (disk_of new)
+  pub fine : g.faults (disk_of new) ≡ g.faults old
 
 -- a disk that failed
 pub record HasFailed {D : Type 0} (g : Ghosts D) (old new : D) : Type 0 where

@@ -52,6 +52,7 @@ module _ {D : Type 0} {g : Ghosts D} where
     pub was_sound : old.broken ≡ false
     pub sound : new.broken ≡ false
     pub all : IfSome (g.told new.disk) (λ bytes. AllStandFor g new.disk (records_of bytes))
+    pub fine : g.faults new.disk ≡ g.faults old.disk
 
   -- what an append leaves, by its answer
   abbrev pub Leaves : List ℕ → Journal D g → Journal D g → Result (Unit {0}) AppendError → Type 0

@@ -83,6 +83,7 @@ fn read_body<D: Disk>(
     ensures end { IfOk result (λ n. place + 5 + n ≤ size) }
     ensures reason { IfErr result (HasReason D.Disk disk.old disk.new place) }
     ensures kind { IfErr result IsOfRecord }
+    ensures fine { OnOk result (D.faults disk.new ≡ D.faults disk.old) }
     ensures known { D.known disk.new ≡ D.known disk.old }
     ensures looks { Looks D.Disk disk.old disk.new }
 {
@@ -117,6 +118,7 @@ pub(crate) fn read_record<D: Disk>(
         (λ n. (1 ≤ n) × (n ≤ 131072) × (place + 5 + n ≤ size))) }
     ensures reason { IfErr result (HasReason D.Disk disk.old disk.new place) }
     ensures kind { IfErr result IsOfRecord }
+    ensures fine { OnOk result (D.faults disk.new ≡ D.faults disk.old) }
     ensures known { D.known disk.new ≡ D.known disk.old }
     ensures looks { Looks D.Disk disk.old disk.new }
 {

@@ -42,5 +42,5 @@ returns-in-Ok-write_first-clause-ok g c = record {
       (empty (g.D.Disk.told c.args.disk) c.in-Ok.length c.if-length-ne0.false c.in-Ok.ensures.length))
       (piece_is _ _ _ c.deref.ensures.value c.pack_first.ensures.first) c.requires.some c.requires.few
       c.in-Ok-write_first.ensures.written c.in-Ok-write_first.ensures.durable;
-  later = let a = c.look_len.ensures.looks.faults in let b = c.write_first.ensures.cause.later in omega arith;
+  fine = c.in-Ok-write_first.ensures.cause.fine ∙ c.in-Ok.ensures.cause.fine;
 }

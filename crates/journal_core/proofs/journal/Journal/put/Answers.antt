@@ -28,6 +28,7 @@ returns-clause-leaves g c = record {
       (take (length c.args.body.now + 5) c.deref.result.now) c.args.self.now.end (c.args.self.now.settled c.if-self.false)
       (piece_is _ _ _ c.deref.ensures.value c.pack.ensures.tail) c.requires.some c.requires.few
       c.in_ok-write_synced.ensures.written c.in_ok-write_synced-2.ensures.written c.in_ok-write_synced-2.ensures.durable;
+  fine = c.in_ok-write_synced-2.ensures.cause.fine ∙ c.in_ok-write_synced.ensures.cause.fine;
 }
 
 pub returns-in_err-write_synced-clause-any_moment : goal.returns-in_err-write_synced-clause-any_moment

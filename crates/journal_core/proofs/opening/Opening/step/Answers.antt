@@ -1,4 +1,4 @@
-use Rattle.std.proofs.Common.{◌≡◌, ◌+◌, ◌≤◌, IfSome, Some, ℕ, List, length, take, [], ◌∷◌, ◌++◌, option_map, true, false, sym, ap, subst, ◌∙◌, refl, arith, rules}
+use Rattle.std.proofs.Common.{◌≡◌, ◌+◌, ◌≤◌, IfSome, Some, None, ℕ, List, length, take, [], ◌∷◌, ◌++◌, option_map, true, false, sym, ap, subst, ◌∙◌, refl, arith, rules}
 use Rattle.std.proofs.lemmas.List.{length-take, with_items_is}
 use Rattle.std.specs.Vec.{with_items}
 use Rattle.journal_core.specs.Format.{IsClosedAt, records_before}
@@ -58,6 +58,7 @@ returns-in-Ok-Some g c =
         whole = λ none. tt;
         walk = λ none. tt;
         looks = c.read_record.ensures.looks;
+        fine = λ none. c.in-Ok-Some.ensures.fine;
       },
     )
 
@@ -78,6 +79,7 @@ returns-in-Err g c = (
     walk = λ none. refused_walk g.D.Disk c.args.self.now.disk c.read_record.new.disk c.read_record.ensures.looks c.args.self.now.place c.args.self.now.reading
         _ c.in-Err.ensures.reason;
     looks = c.read_record.ensures.looks;
+    fine = λ none. let wrong : Some c.in-Err.why ≡ None = none in cc;
   },
 )
 
@@ -99,6 +101,7 @@ returns-then-self g c =
         whole = λ none. tt;
         walk = λ none. tt;
         looks = no_look g.D.Disk c.args.self.now.disk (g.met.D.Disk.only_now _);
+        fine = λ none. refl;
       },
     )
 
@@ -125,5 +128,6 @@ returns-in-Ok-None g c =
         whole = λ none. tt;
         walk = λ none. tt;
         looks = looks;
+        fine = λ none. c.in-Ok-None.ensures.fine;
       },
     )
