@@ -1,5 +1,5 @@
 -- the nodes tell what they told, and the proof in what is left, with the hashes so far, is the whole
-use Rattle.std.proofs.Common.{◌≡◌, ◌-◌, ◌≤◌}
+use Rattle.std.proofs.Common.{◌≡◌, ◌-◌}
 use Rattle.tree_proofs.proofs.Making.{Proves}
 use Rattle.tree_proofs.proofs.consistency.consist.Given as goal
 
@@ -11,5 +11,5 @@ invariant-halves g l =
     Proves g.N.H.TreeHash.hash (g.N.Nodes.leaves l.fn.nodes) l.start l.end l.size l.low l.high l.first l.known l.out
     × ((g.N.Nodes.leaves l.nodes ≡ g.N.Nodes.leaves l.fn.nodes)
     × ((g.N.Nodes.count l.nodes ≡ g.N.Nodes.count l.fn.nodes)
-    × ((g.N.Nodes.faults l.fn.nodes ≤ g.N.Nodes.faults l.nodes)
+    × ((g.N.Nodes.faults l.nodes ≡ g.N.Nodes.faults l.fn.nodes)
     × g.N.Nodes.stays l.fn.nodes l.nodes)))
