@@ -1,7 +1,8 @@
 #!/bin/bash
 # Makes the picture of the crates' layers in docs/PICTURES.md anew from crates.txt, and compares it with the one that stands
 # there: the crates below the program, with an arrow to each crate that one names and that stands below no other that it names.
-# Usage: tests/layers.sh [--write]
+# Then compares docs/speed.svg with the table that it is drawn from.
+# Usage: tests/pictures.sh [--write]
 set -u
 cd "$(dirname "$0")/.." || exit 2
 page=docs/PICTURES.md
@@ -63,9 +64,14 @@ awk '
 
 if [ "${1-}" = --write ]; then
     cp "$new" "$page"
-elif ! diff -u --label "$page" --label "by crates.txt" "$page" "$new"; then
-    echo "wrong: the picture of the layers; tests/layers.sh --write mends it"
-    exit 1
-else
-    echo "the layers are those of crates.txt"
+    bench/plot.sh
+    exit
 fi
+wrong=0
+if ! diff -u --label "$page" --label "by crates.txt" "$page" "$new"; then
+    echo "wrong: the picture of the layers; tests/pictures.sh --write mends it"
+    wrong=1
+fi
+bench/plot.sh --check || wrong=1
+[ "$wrong" -eq 0 ] && echo "the pictures are those of crates.txt and of docs/SPEED.md"
+exit "$wrong"
