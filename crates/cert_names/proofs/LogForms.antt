@@ -5,7 +5,7 @@ use Rattle.std.specs.Borrow.{Bor}
 use Rattle.std.proofs.lemmas.List.{length-append, nil_from_length}
 use Rattle.std.proofs.lemmas.Slice.Eq.{bytes_eq-Decides}
 use Rattle.byte_forms.specs.Places.{At, at, IsBytes}
-use Rattle.byte_forms.specs.Readings.{◌>>=◌, both_at, tested_at}
+use Rattle.byte_forms.specs.Readings.{◌>>=◌, is_read, both_at, tested_at}
 use Rattle.byte_forms.specs.Forms.{IsForm, Anything, both, FitsBoth}
 use Rattle.byte_forms.proofs.Steps.{bind_ok, pass_ok, ok_is}
 use Rattle.byte_forms.proofs.Forms.{said_form, ended_form, both_form, mapped_form, tested_form}
@@ -18,7 +18,7 @@ use Rattle.der_core.specs.declared.fault.CertError.TheVariants.{BadName}
 use Rattle.der_core.proofs.Elements.{element-longer, element-short}
 use Rattle.der_core.proofs.Fields.{tag_of, der_ok, contents_form, inside_form}
 use Rattle.tls_wire.specs.Arcs.{IsAnchorId}
-use Rattle.tls_wire.specs.Anchors.{is_read, is_anchor_text, text_of}
+use Rattle.tls_wire.specs.Anchors.{is_anchor_text, text_of}
 use Rattle.tls_wire.proofs.AnchorForm.{text_again}
 use Rattle.tls_wire.proofs.AnchorTexts.{text-short}
 use Rattle.cert_names.specs.LogNames.{log_id, attribute_parts, set_parts, name_parts, name_with, IsLogName, is_log_id, second, parts_at, attribute_at, set_at, name_at, id_only, log_in}

@@ -8,7 +8,7 @@ use Rattle.byte_forms.specs.Places.{At, at, IsBytes}
 use Rattle.byte_forms.specs.Readings.{◌>>=◌, discarded}
 use Rattle.byte_forms.specs.Lists.{up_to_end}
 use Rattle.byte_forms.specs.Forms.{Anything}
-use Rattle.byte_forms.proofs.Steps.{bind_ok, guard_ok, ok_is}
+use Rattle.byte_forms.proofs.Steps.{bind_ok, discarded_ok, guard_ok, ok_is}
 use Rattle.byte_forms.proofs.Lists.{up_to_end_drains}
 use Rattle.tls_wire.specs.declared.fault.AnchorError.{AnchorError}
 use Rattle.tls_wire.specs.declared.fault.AnchorError.TheVariants as text_faults
@@ -18,10 +18,6 @@ use Rattle.tls_wire.specs.Arcs.{arc, IsArc, dot_decimal, dotted, IsAnchorId}
 use Rattle.tls_wire.specs.Anchors.{arc_at, arcs_only, anchor_of, decimals_at, arcs_in, anchor_text, text_in, text_of}
 use Rattle.tls_wire.proofs.ArcForm.{arc_form, arc_some, arcs_form}
 use Rattle.tls_wire.proofs.DecimalForm.{AreNumbers, dotted_takes, dotted_again}
-
-discarded_ok : {X : Type 0} (r : Result (X × At) AnchorBytesError) (b : At) → discarded r ≡ Ok b → (x : X) × (r ≡ Ok (x, b))
-discarded_ok (Ok x) b e = (x.0, ap (λ (c : At). Ok (x.0, c)) (ok_is AnchorBytesError x.1 b e))
-discarded_ok (Err d) b e = absurd cc
 
 -- ---- bytes
 

@@ -6,11 +6,11 @@ use Rattle.std.proofs.lemmas.Bool.{cases_lt}
 use Rattle.std.proofs.lemmas.List.{length-append}
 use Rattle.std.proofs.lemmas.Fmt.{length-decimal-le}
 use Rattle.byte_forms.specs.Places.{at}
-use Rattle.byte_forms.specs.Readings.{◌>>=◌}
+use Rattle.byte_forms.specs.Readings.{◌>>=◌, is_read}
 use Rattle.tls_wire.specs.declared.fault.AnchorError.{AnchorError}
 use Rattle.tls_wire.specs.declared.fault.AnchorError.TheVariants.{TooLong}
 use Rattle.tls_wire.specs.Arcs.{high_digits, arc, IsArc, dot_decimal, dotted, IsAnchorId}
-use Rattle.tls_wire.specs.Anchors.{decimal_at, decimals_at, arcs_in, anchor_text, is_read, is_anchor_text, text_of}
+use Rattle.tls_wire.specs.Anchors.{decimal_at, decimals_at, arcs_in, anchor_text, is_anchor_text, text_of}
 use Rattle.tls_wire.proofs.ArcForm.{high_digits_more, arc_some}
 use Rattle.tls_wire.proofs.AnchorForm.{text_of_id}
 use Rattle.tls_wire.proofs.TextLoops.{NumbersLeft, with_bytes, numbers_from, numbers_fail, numbers_done, numbers_more}

@@ -1,5 +1,5 @@
 -- Vectors of hashes as a form.
-use Rattle.std.proofs.Common.{◌≡◌, ℕ, zero, suc, ◌+◌, ◌*◌, ◌/◌, ◌%◌, ◌==◌, ◌^◌, ◌<◌, ◌≤◌, true, List, [], ◌∷◌, ◌++◌, length, take, drop, Result, Ok, Err, refl, sym, ap, subst, ◌∙◌, arith, rules, if◌then◌else◌}
+use Rattle.std.proofs.Common.{◌≡◌, ℕ, zero, suc, ◌+◌, ◌*◌, ◌/◌, ◌%◌, ◌==◌, ◌^◌, ◌<◌, ◌≤◌, true, List, [], ◌∷◌, ◌++◌, length, take, drop, get_or, Ok, Err, refl, sym, ap, subst, ◌∙◌, arith, rules, if◌then◌else◌}
 use Rattle.std.specs.List.{AllByRecursion, concat}
 use Rattle.std.specs.Simd.{first_chunks}
 use Rattle.std.specs.Int.{w16}
@@ -8,7 +8,7 @@ use Rattle.std.proofs.lemmas.List.{length-append, length-take-le, length-drop, t
 use Rattle.byte_forms.specs.Places.{At}
 use Rattle.byte_forms.specs.Readings.{lifted}
 use Rattle.byte_forms.specs.Forms.{Stands, IsForm, Anything}
-use Rattle.byte_forms.proofs.Steps.{bind_ok, pass_ok, ok_is}
+use Rattle.byte_forms.proofs.Steps.{bind_ok, lifted_ok, pass_ok, ok_is}
 use Rattle.tls_wire.specs.declared.cursor.HashesError.{HashesError}
 use Rattle.tls_wire.specs.declared.cursor.HashesError.TheVariants.{HashLength, Short as NotFitting}
 use Rattle.tls_wire.specs.Reading.{vector_at, hashes_in, hashes_at}
@@ -19,14 +19,14 @@ use Rattle.tls_wire.proofs.Vectors.{vector_form}
 abbrev Are32 : List (List ℕ) → Type 0
 Are32 items = AllByRecursion (λ hash. length hash ≡ 32) items
 
--- so many chunks, one behind the other, are the front
+-- So many chunks, one behind the other, are the front.
 chunks_joined : (k : ℕ) (bytes : List ℕ) → concat (first_chunks 32 k bytes) ≡ take (k * 32) bytes
 chunks_joined zero bytes = refl
 chunks_joined (suc k) bytes =
     let more : suc k * 32 ≡ 32 + k * 32 = omega arith in
     ap (λ rest. take 32 bytes ++ rest) (chunks_joined k (drop 32 bytes)) ∙ sym (ap (λ n. take n bytes) more ∙ take-add 32 (k * 32) bytes)
 
--- they are whole where there are bytes enough
+-- They are whole where there are bytes enough.
 chunks_whole : (k : ℕ) (bytes : List ℕ) → k * 32 ≤ length bytes → Are32 (first_chunks 32 k bytes) × (length (first_chunks 32 k bytes) ≡ k)
 chunks_whole zero bytes long = (tt, refl)
 chunks_whole (suc k) bytes long =
@@ -34,24 +34,26 @@ chunks_whole (suc k) bytes long =
     let rest = chunks_whole k (drop 32 bytes) (omega (arith, long, more, length-drop 32 bytes)) in
     ((length-take-le 32 bytes (omega (arith, long, more)), rest.0), ap suc rest.1)
 
--- hashes one behind the other have 32 bytes each
-joined_length : (items : List (List ℕ)) → Are32 items → length (concat items) ≡ length items * 32
+-- Hashes one behind the other have 32 bytes each.
+pub joined_length : (items : List (List ℕ)) → Are32 items → length (concat items) ≡ length items * 32
 joined_length [] all = refl
 joined_length (item ∷ items) all =
     let more : suc (length items) * 32 ≡ 32 + length items * 32 = omega arith in
     omega (arith, length-append item (concat items), all.0, joined_length items all.1, more)
 
--- and are cut into themselves
+-- Items of 32 bytes by their index are hashes of 32 bytes.
+pub each_hash : (items : List (List ℕ)) → ((i : ℕ) → i < length items → length (get_or items i []) ≡ 32)
+    → AllByRecursion (λ hash. length hash ≡ 32) items
+each_hash [] sized = tt
+each_hash (item ∷ items) sized = (sized 0 (omega arith), each_hash items (λ i here. sized (suc i) (omega arith)))
+
+-- And are cut into themselves.
 joined_chunks : (items : List (List ℕ)) → Are32 items → first_chunks 32 (length items) (concat items) ≡ items
 joined_chunks [] all = refl
 joined_chunks (item ∷ items) all =
     let tail : first_chunks 32 (length items) (drop 32 (item ++ concat items)) ≡ items =
     ap (first_chunks 32 (length items)) (drop_at item (concat items) 32 all.0) ∙ joined_chunks items all.1 in
     ap (λ front. front ∷ first_chunks 32 (length items) (drop 32 (item ++ concat items))) (take_at item (concat items) 32 all.0) ∙ ap (λ rest. item ∷ rest) tail
-
-lifted_ok : {A E F : Type 0} (fault : E → F) (r : Result A E) (y : A) → lifted fault r ≡ Ok y → r ≡ Ok y
-lifted_ok {A} {E} {F} fault (Ok x) y e = ap Ok (ok_is F x y e)
-lifted_ok fault (Err d) y e = absurd (grind (rules, e))
 
 in_whole : (bytes : List ℕ) → length bytes % 32 ≡ 0 → length bytes < 2 ^ 16 → (concat (hashes_in bytes) ≡ bytes) × AreHashes (hashes_in bytes)
 in_whole bytes even small =

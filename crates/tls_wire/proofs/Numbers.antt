@@ -83,3 +83,7 @@ number_form w limit wide = record {
       let long : ltb (length (number w n ++ rest)) (byte_len w) ≡ false = le-ltb _ _ (omega (arith, length-append (number w n) rest)) in
       rw (long, take_at (number w n) rest (byte_len w) len, drop_at (number w n) rest (byte_len w) len, wide.again n f, len) refl;
 }
+
+-- Numbers of eight bytes.
+pub word_form : IsForm (number w64) (λ n. n < 2 ^ 64) Anything (number_at w64)
+word_form = number_form w64 (2 ^ 64) wide64

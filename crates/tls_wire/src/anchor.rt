@@ -12,8 +12,8 @@ use mtc_io::{Bytes, Memory};
 use std::alloc::Global;
 use std::marker::Model;
 
-/// The name of a trust anchor: the contents of a relative object identifier, 1 to 255 bytes, each arc below 2 ^ 64.
-/// Contracts see it as its bytes.
+/// The name of a trust anchor: the contents of a relative object identifier, 1 to 255 bytes, each
+/// arc below 2 ^ 64. Contracts see it as its bytes.
 #[derive(Debug, Drop)]
 pub struct AnchorId {
     bytes: Bytes,
@@ -33,7 +33,8 @@ impl Model for AnchorId {
 }
 
 impl AnchorId {
-    /// The anchor id with this text, in dotted decimal without leading zeros. The first fault from the left is answered.
+    /// The anchor id with this text, in dotted decimal without leading zeros. The first fault from
+    /// the left is answered.
     #[tactic(auto, unfolding(crate::specs::Anchors::anchor_text))]
     pub fn from_text(alloc: Global, text: &str) -> Result<AnchorId, AnchorError>
         ensures { Answers AnchorError.Memory (anchor_text text.now) result }
@@ -49,7 +50,8 @@ impl AnchorId {
         Ok(AnchorId { bytes, alloc })
     }
 
-    /// The text is one from which [`from_text`](AnchorId::from_text) makes an anchor id. It takes no memory.
+    /// The text is one from which [`from_text`](AnchorId::from_text) makes an anchor id. It takes
+    /// no memory.
     pub fn is_text(text: &[u8]) -> bool
         ensures { result ≡ is_anchor_text text.now }
     {

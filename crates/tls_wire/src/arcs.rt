@@ -1,5 +1,5 @@
-//! Arcs of an anchor id: numbers below 2 ^ 64 in base 128, in the fewest bytes, with the highest bit set in all but the
-//! last.
+//! Arcs of an anchor id: numbers below 2 ^ 64 in base 128, in the fewest bytes, with the highest
+//! bit set in all but the last.
 
 ghost use Rattle.std.specs.Prelude.{◌≡◌, ◌^◌, ◌<◌, ◌≤◌, ◌++◌, length, drop, IfOk, OnOk};
 ghost use Rattle.byte_forms.specs.Places.{at};
@@ -10,7 +10,7 @@ ghost use Rattle.tls_wire.specs.Anchors.{arc_from, arc_at, arcs_only};
 use crate::fault::AnchorBytesError;
 use mtc_io::{Bytes, Memory};
 
-/// The arc at this offset, and the offset behind it.
+// The arc at this offset, and the offset behind it.
 #[tactic(auto, unfolding(crate::specs::Anchors::arc_at))]
 pub(crate) fn read_arc(bytes: &[u8], start: usize) -> Result<(u64, usize), AnchorBytesError>
     requires { start < length bytes.now }
@@ -24,7 +24,7 @@ pub(crate) fn read_arc(bytes: &[u8], start: usize) -> Result<(u64, usize), Ancho
     }
 }
 
-/// The digits of the arc at this offset.
+// The digits of the arc at this offset.
 fn digits(bytes: &[u8], start: usize) -> Result<(u64, usize), AnchorBytesError>
     requires { start < length bytes.now }
     ensures exact { Gives (λ x. (x.0, at bytes.now x.1)) result (arc_from start 0 start (drop start bytes.now)) }
@@ -44,7 +44,7 @@ fn digits(bytes: &[u8], start: usize) -> Result<(u64, usize), AnchorBytesError>
     Err(AnchorBytesError::Unfinished)
 }
 
-/// Reads arcs up to the end of the bytes.
+// Reads arcs up to the end of the bytes.
 pub(crate) fn read_arcs(bytes: &[u8]) -> Result<(), AnchorBytesError>
     ensures { Gives (λ x. x) result (arcs_only bytes.now) }
 {
@@ -55,7 +55,7 @@ pub(crate) fn read_arcs(bytes: &[u8]) -> Result<(), AnchorBytesError>
     Ok(())
 }
 
-/// The number of bytes of an arc.
+// The number of bytes of an arc.
 pub(crate) fn arc_length(value: u64) -> usize
     ensures exact { result ≡ length (arc value) }
     ensures small { result ≤ 2 ^ 58 }
@@ -69,7 +69,7 @@ pub(crate) fn arc_length(value: u64) -> usize
     count
 }
 
-/// Puts an arc behind the bytes. Where memory is refused, a part of it may stand there.
+// Puts an arc behind the bytes. Where memory is refused, a part of it may stand there.
 #[tactic(auto, unfolding(crate::specs::Arcs::arc))]
 pub(crate) fn put_arc(out: &mut Bytes, value: u64) -> Result<(), Memory>
     ensures { OnOk result (out.new ≡ out.old ++ arc value) }
@@ -78,7 +78,7 @@ pub(crate) fn put_arc(out: &mut Bytes, value: u64) -> Result<(), Memory>
     out.append(&[(value % 128) as u8])
 }
 
-/// Puts the digits in front of the last one behind the bytes.
+// Puts the digits in front of the last one behind the bytes.
 fn put_high_digits(out: &mut Bytes, value: u64) -> Result<(), Memory>
     ensures { OnOk result (out.new ≡ out.old ++ high_digits value) }
 {

@@ -1,10 +1,10 @@
 //! Reading from left to right.
 
-ghost use Rattle.std.specs.Prelude.{◌≡◌, length};
+ghost use Rattle.std.specs.Prelude.{◌≡◌, ◌≤◌, length};
 ghost use Rattle.std.specs.Int.{w8, w16, w32, w64};
 ghost use Rattle.byte_forms.specs.Places.{at};
-ghost use Rattle.byte_forms.specs.Readings.{Reads, blamed};
-ghost use Rattle.tls_wire.specs.Reading.{short, bytes_at, number_at, vector_at, hashes_at};
+ghost use Rattle.byte_forms.specs.Readings.{Reads};
+ghost use Rattle.tls_wire.specs.Reading.{bytes_at, ahead_at, number_at, vector_at, inner_at, hashes_at};
 
 use std::marker::Model;
 
@@ -34,8 +34,8 @@ impl From<Short> for HashesError {
     }
 }
 
-/// A place in an input, from which forms are read one behind the other. What it lends is part of the input.
-/// After a refusal it stands where it stood.
+/// A place in an input, from which forms are read one behind the other. What it lends is part of
+/// the input. After a refusal it stands where it stood.
 #[derive(Drop)]
 pub struct Cursor<'a> {
     place: usize,
@@ -64,6 +64,17 @@ impl<'a> Cursor<'a> {
         }
     }
 
+    /// This offset of the input, which may be its end.
+    pub fn at(input: &'a [u8], place: usize) -> Cursor<'a>
+        requires { place ≤ length input.now }
+        ensures { result ≡ at input.now place }
+    {
+        Cursor {
+            place,
+            rest: &input[place..],
+        }
+    }
+
     /// How many bytes of the input stand before this place.
     pub fn place(&self) -> usize
         ensures { result ≡ self.now.place }
@@ -89,56 +100,28 @@ impl<'a> Cursor<'a> {
     pub fn u8(&mut self) -> Result<u8, Short>
         ensures { Reads (λ n. n) (number_at w8) self.old result self.new }
     {
-        match self.rest.split_first_chunk() {
-            Some((bytes, rest)) => {
-                self.place += 1;
-                self.rest = rest;
-                Ok(u8::from_be_bytes(*bytes))
-            }
-            None => Err(Short { place: self.place }),
-        }
+        Ok(u8::from_be_bytes(*self.array()?))
     }
 
     /// A number of two bytes.
     pub fn u16(&mut self) -> Result<u16, Short>
         ensures { Reads (λ n. n) (number_at w16) self.old result self.new }
     {
-        match self.rest.split_first_chunk() {
-            Some((bytes, rest)) => {
-                self.place += 2;
-                self.rest = rest;
-                Ok(u16::from_be_bytes(*bytes))
-            }
-            None => Err(Short { place: self.place }),
-        }
+        Ok(u16::from_be_bytes(*self.array()?))
     }
 
     /// A number of four bytes.
     pub fn u32(&mut self) -> Result<u32, Short>
         ensures { Reads (λ n. n) (number_at w32) self.old result self.new }
     {
-        match self.rest.split_first_chunk() {
-            Some((bytes, rest)) => {
-                self.place += 4;
-                self.rest = rest;
-                Ok(u32::from_be_bytes(*bytes))
-            }
-            None => Err(Short { place: self.place }),
-        }
+        Ok(u32::from_be_bytes(*self.array()?))
     }
 
     /// A number of eight bytes.
     pub fn u64(&mut self) -> Result<u64, Short>
         ensures { Reads (λ n. n) (number_at w64) self.old result self.new }
     {
-        match self.rest.split_first_chunk() {
-            Some((bytes, rest)) => {
-                self.place += 8;
-                self.rest = rest;
-                Ok(u64::from_be_bytes(*bytes))
-            }
-            None => Err(Short { place: self.place }),
-        }
+        Ok(u64::from_be_bytes(*self.array()?))
     }
 
     /// So many bytes of the input.
@@ -152,6 +135,13 @@ impl<'a> Cursor<'a> {
         self.place += count;
         self.rest = rest;
         Ok(bytes)
+    }
+
+    /// A hash of 32 bytes.
+    pub fn hash(&mut self) -> Result<&'a [u8; 32], Short>
+        ensures { Reads (λ hash. hash.now) (bytes_at 32) self.old result self.new }
+    {
+        self.array()
     }
 
     /// A length of one byte, and so many bytes. A vector that doesn't fit begins at its length.
@@ -174,8 +164,22 @@ impl<'a> Cursor<'a> {
         self.bytes_from(ahead, count as usize)
     }
 
-    /// A length in bytes, of two bytes, and so many bytes of hashes, 32 bytes each. Refuses with `Short` where the
-    /// vector doesn't fit, and then with `HashLength` where its length is no multiple of 32.
+    /// The same, as a cursor over the bytes of the vector alone, which counts its places in the
+    /// whole input.
+    #[tactic(auto, unfolding(crate::specs::Reading::vector_at))]
+    pub fn inner16(&mut self) -> Result<Cursor<'a>, Short>
+        ensures { Reads (λ inner. inner) (inner_at w16) self.old result self.new }
+    {
+        let mut ahead = self.ahead();
+        let count = ahead.u16()?;
+        let place = ahead.place;
+        let rest = self.bytes_from(ahead, count as usize)?;
+        Ok(Cursor { place, rest })
+    }
+
+    /// A length in bytes, of two bytes, and so many bytes of hashes, 32 bytes each. Refuses with
+    /// `Short` where the vector doesn't fit, and then with `HashLength` where its length is no
+    /// multiple of 32.
     #[tactic(auto, unfolding(crate::specs::Reading::hashes_at))]
     pub fn hashes(&mut self) -> Result<&'a [[u8; 32]], HashesError>
         ensures { Reads (λ hashes. hashes.now) hashes_at self.old result self.new }
@@ -190,7 +194,21 @@ impl<'a> Cursor<'a> {
         Ok(hashes)
     }
 
-    /// A second cursor at this place.
+    // So many bytes of the input, as an array.
+    fn array<const N: usize>(&mut self) -> Result<&'a [u8; N], Short>
+        ensures { Reads (λ bytes. bytes.now) (bytes_at N) self.old result self.new }
+    {
+        match self.rest.split_first_chunk() {
+            Some((bytes, rest)) => {
+                self.place += N;
+                self.rest = rest;
+                Ok(bytes)
+            }
+            None => Err(Short { place: self.place }),
+        }
+    }
+
+    // A second cursor at this place.
     fn ahead(&self) -> Cursor<'a>
         ensures { result ≡ self.now }
     {
@@ -200,9 +218,9 @@ impl<'a> Cursor<'a> {
         }
     }
 
-    /// So many bytes from a place ahead. They are part of the form that begins here.
+    // So many bytes from a place ahead. They are part of the form that begins here.
     fn bytes_from(&mut self, mut ahead: Cursor<'a>, count: usize) -> Result<&'a [u8], Short>
-        ensures { Reads (λ bytes. bytes.now) (λ a. blamed (short a) (bytes_at count ahead.entry)) self.old result self.new }
+        ensures { Reads (λ bytes. bytes.now) (ahead_at count ahead.entry) self.old result self.new }
     {
         match ahead.bytes(count) {
             Ok(bytes) => {

@@ -11,7 +11,7 @@ use crate::fault::AnchorError;
 use mtc_io::{Bytes, Memory};
 use std::alloc::Global;
 
-/// The numbers of a text, as arcs one behind the other.
+// The numbers of a text, as arcs one behind the other.
 #[tactic(auto, unfolding(crate::specs::Anchors::arcs_in))]
 pub(crate) fn arcs_of_text(alloc: Global, text: &[u8]) -> Result<Bytes, AnchorError>
     ensures { Answers AnchorError.Memory (arcs_in text.now) result }
@@ -28,7 +28,7 @@ pub(crate) fn arcs_of_text(alloc: Global, text: &[u8]) -> Result<Bytes, AnchorEr
     }
 }
 
-/// The text is numbers whose arcs have 1 to 255 bytes together.
+// The text is numbers whose arcs have 1 to 255 bytes together.
 pub(crate) fn is_dotted(text: &[u8]) -> bool
     ensures { result ≡ is_anchor_text text.now }
 {
@@ -51,7 +51,7 @@ pub(crate) fn is_dotted(text: &[u8]) -> bool
     }
 }
 
-/// The arcs of an anchor id in dotted decimal.
+// The arcs of an anchor id in dotted decimal.
 pub(crate) fn text_of_arcs(alloc: Global, bytes: &[u8]) -> Result<Bytes, Memory>
     requires { IsAnchorId bytes.now }
     ensures { IfOk result (λ text. text ≡ text_of bytes.now) }
@@ -70,7 +70,7 @@ pub(crate) fn text_of_arcs(alloc: Global, bytes: &[u8]) -> Result<Bytes, Memory>
     Ok(Bytes::from_vec(text.into_bytes()))
 }
 
-/// Puts a number behind the text, and a dot before it where there is a number already.
+// Puts a number behind the text, and a dot before it where there is a number already.
 fn put_number(text: &mut String, dot: bool, n: u64) -> Result<(), Memory>
     ensures { OnOk result (string_bytes text.new ≡ string_bytes text.old ++ (if dot then dot_decimal n else decimal n)) }
 {
@@ -81,7 +81,8 @@ fn put_number(text: &mut String, dot: bool, n: u64) -> Result<(), Memory>
     Ok(())
 }
 
-/// The number at this offset, without a leading zero, up to a dot or the end; and the offset behind it.
+// The number at this offset, without a leading zero, up to a dot or the end; and the offset behind
+// it.
 #[tactic(auto, unfolding(crate::specs::Anchors::decimal_at))]
 pub(crate) fn read_decimal(text: &[u8], start: usize) -> Result<(u64, usize), AnchorError>
     requires { start ≤ length text.now }
@@ -94,7 +95,7 @@ pub(crate) fn read_decimal(text: &[u8], start: usize) -> Result<(u64, usize), An
     }
 }
 
-/// The number at this offset, which begins with this digit.
+// The number at this offset, which begins with this digit.
 fn digits(text: &[u8], start: usize, first: u8) -> Result<(u64, usize), AnchorError>
     requires { start < length text.now }
     ensures exact { Gives (λ x. (x.0, at text.now x.1)) result (decimal_from start first (start + 1) (drop (start + 1) text.now)) }

@@ -1,17 +1,19 @@
 //! Laws of the forms: the clauses are the laws, and the functions do nothing.
 
-ghost use Rattle.std.specs.Prelude.{◌≡◌, ◌<◌, ◌^◌, ℕ, List, length, flat_map, Ok, Result};
+ghost use Rattle.std.specs.Prelude.{◌≡◌, ◌<◌, ◌^◌, ℕ, flat_map, Ok, Result};
 ghost use Rattle.std.specs.List.{AllByRecursion};
 ghost use Rattle.std.specs.Int.{w8, w16, w32, w64};
+ghost use Rattle.byte_forms.specs.Types.{Text};
 ghost use Rattle.byte_forms.specs.Places.{IsBytes};
 ghost use Rattle.byte_forms.specs.Lists.{up_to_end};
 ghost use Rattle.byte_forms.specs.Forms.{IsForm, Anything, Nothing, itself};
 ghost use Rattle.tls_wire.specs.Reading.{bytes_at, number_at, vector_at, hashes_at};
-ghost use Rattle.tls_wire.specs.Spelling.{number, vector, hashes, AreHashes};
+ghost use Rattle.tls_wire.specs.Spelling.{number, vector, HasLength, IsShorter, hashes, AreHashes};
 ghost use Rattle.tls_wire.specs.Arcs.{arc, IsArc, IsAnchorId};
 ghost use Rattle.tls_wire.specs.Anchors.{arc_at, anchor_of, anchor_text, text_of};
 
-/// A number that is read is spelled so, and a number that is spelled so is read again, whatever follows it.
+/// A number that is read is spelled so, and a number that is spelled so is read again, whatever
+/// follows it.
 pub fn numbers_are_read_as_spelled()
     ensures one_byte { IsForm (number w8) (λ n. n < 2 ^ 8) Anything (number_at w8) }
     ensures two_bytes { IsForm (number w16) (λ n. n < 2 ^ 16) Anything (number_at w16) }
@@ -21,9 +23,9 @@ pub fn numbers_are_read_as_spelled()
 
 /// The same for so many bytes, and for vectors with a length of one or two bytes.
 pub fn vectors_are_read_as_spelled()
-    ensures bytes { (count : ℕ) → IsForm itself (λ bytes. length bytes ≡ count) Anything (bytes_at count) }
-    ensures short_vectors { IsForm (vector w8) (λ bytes. length bytes < 2 ^ 8) Anything (vector_at w8) }
-    ensures long_vectors { IsForm (vector w16) (λ bytes. length bytes < 2 ^ 16) Anything (vector_at w16) }
+    ensures bytes { (count : ℕ) → IsForm itself (HasLength count) Anything (bytes_at count) }
+    ensures short_vectors { IsForm (vector w8) (IsShorter (2 ^ 8)) Anything (vector_at w8) }
+    ensures long_vectors { IsForm (vector w16) (IsShorter (2 ^ 16)) Anything (vector_at w16) }
 {}
 
 /// Hashes of 32 bytes each, in a vector with a length of two bytes, are read as spelled.
@@ -31,15 +33,17 @@ pub fn hashes_are_read_as_spelled()
     ensures { IsForm hashes AreHashes Anything hashes_at }
 {}
 
-/// The bytes of anchor ids are read exactly where they are arcs one behind the other, 1 to 255 bytes.
+/// The bytes of anchor ids are read exactly where they are arcs one behind the other, 1 to 255
+/// bytes.
 pub fn anchor_ids_are_read_as_spelled()
     ensures arcs { IsForm (flat_map arc) (AllByRecursion IsArc) Nothing (up_to_end arc_at) }
-    ensures read { (bytes id : List ℕ) → IsBytes bytes → anchor_of bytes ≡ Ok id → (id ≡ bytes) × IsAnchorId bytes }
-    ensures again { (bytes : List ℕ) → IsAnchorId bytes → anchor_of bytes ≡ Ok bytes }
+    ensures read { (bytes id : Text) → IsBytes bytes → anchor_of bytes ≡ Ok id → (id ≡ bytes) × IsAnchorId bytes }
+    ensures again { (bytes : Text) → IsAnchorId bytes → anchor_of bytes ≡ Ok bytes }
 {}
 
-/// The text of each anchor id is read as that anchor id, and a text that is read is the text of what was read.
+/// The text of each anchor id is read as that anchor id, and a text that is read is the text of
+/// what was read.
 pub fn anchor_texts_are_read_as_written()
-    ensures again { (id : List ℕ) → IsAnchorId id → anchor_text (text_of id) ≡ Ok id }
-    ensures read { (text id : List ℕ) → IsBytes text → anchor_text text ≡ Ok id → IsAnchorId id × (text_of id ≡ text) }
+    ensures again { (id : Text) → IsAnchorId id → anchor_text (text_of id) ≡ Ok id }
+    ensures read { (text id : Text) → IsBytes text → anchor_text text ≡ Ok id → IsAnchorId id × (text_of id ≡ text) }
 {}

@@ -1,6 +1,6 @@
-//! Bytes in the presentation language of TLS (RFC 8446, section 3): a cursor that reads numbers, strings of
-//! bytes and vectors from a slice, and calls that write them. Beside them anchor ids, the names of trust anchors,
-//! as bytes and as text.
+//! Bytes in the presentation language of TLS (RFC 8446, section 3): a cursor that reads numbers,
+//! strings of bytes and vectors from a slice, and calls that write them. Beside them anchor ids,
+//! the names of trust anchors, as bytes and as text.
 #![tactic(auto)]
 
 mod anchor;
@@ -17,7 +17,7 @@ pub use anchor::AnchorId;
 pub use cursor::{Cursor, HashesError, Short};
 pub use fault::{AnchorBytesError, AnchorError};
 pub use laws::{
-    anchor_ids_are_read_as_spelled, anchor_texts_are_read_as_written, numbers_are_read_as_spelled,
-    vectors_are_read_as_spelled,
+    anchor_ids_are_read_as_spelled, anchor_texts_are_read_as_written, hashes_are_read_as_spelled,
+    numbers_are_read_as_spelled, vectors_are_read_as_spelled,
 };
-pub use writing::{put_bytes, put_u8, put_u16, put_u32, put_u64, put_vec8, put_vec16};
+pub use writing::{put_bytes, put_hashes, put_u8, put_u16, put_u32, put_u64, put_vec8, put_vec16};

@@ -1,8 +1,9 @@
-//! Writing forms behind the bytes that are there. Where memory is refused, these bytes stay as they were.
+//! Writing forms behind the bytes that are there. Where memory is refused, these bytes stay as
+//! they were.
 
-ghost use Rattle.std.specs.Prelude.{◌≡◌, ◌++◌, ◌^◌, ◌<◌, length, OnOk, OnErr};
+ghost use Rattle.std.specs.Prelude.{◌≡◌, ◌++◌, ◌*◌, ◌^◌, ◌<◌, length, OnOk, OnErr};
 ghost use Rattle.std.specs.Int.{w8, w16, w32, w64};
-ghost use Rattle.tls_wire.specs.Spelling.{number, vector};
+ghost use Rattle.tls_wire.specs.Spelling.{number, vector, hashes};
 
 use mtc_io::{Bytes, Memory};
 
@@ -62,4 +63,13 @@ pub fn put_vec16(out: &mut Bytes, value: &[u8]) -> Result<(), Memory>
     ensures err { OnErr result (out.new ≡ out.old) }
 {
     out.append_both(&(value.len() as u16).to_be_bytes(), value)
+}
+
+/// Puts hashes one behind the other behind the bytes, behind their length in bytes, of two bytes.
+pub fn put_hashes(out: &mut Bytes, items: &[[u8; 32]]) -> Result<(), Memory>
+    requires { length items.now * 32 < 2 ^ 16 }
+    ensures ok { OnOk result (out.new ≡ out.old ++ hashes items.now) }
+    ensures err { OnErr result (out.new ≡ out.old) }
+{
+    put_vec16(out, items.as_flattened())
 }
