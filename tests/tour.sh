@@ -1,6 +1,7 @@
 #!/bin/bash
 # Runs the blocks of docs/TOUR.md in their order, in one shell, and compares each line that is printed with the block that
-# shows it. A block that names openssl is left out where there is no OpenSSL 3, and that is said.
+# shows it. A block that names openssl is left out where there is no OpenSSL 3, and that is said. Then compares the certificate
+# that README shows, less what stands behind its arrows.
 # Usage: tests/tour.sh [PAGE]
 set -u
 root=$(cd "$(dirname "$0")/.." && pwd)
@@ -44,5 +45,19 @@ awk -v has_openssl="$has_openssl" -v commands="$folder/commands" -v shown="$fold
 (cd "$folder/clone" && bash "$folder/commands" >"$folder/printed" 2>&1 </dev/null)
 if ! diff -u --label "the tour shows" --label "the program prints" "$folder/shown" "$folder/printed"; then
     echo "wrong: the tour"
+    exit 1
+fi
+
+awk '/^    \$ \.\/mtc show/ { is_in = 1; next }
+    is_in && /^$/ { exit }
+    is_in { sub(/^    /, ""); sub(/ *<- .*/, ""); print }' "$root/README.md" >"$folder/shown"
+"$root/mtc" show "$root/examples/www.cert" | while IFS= read -r line; do
+    IFS= read -r wanted <&3 || wanted="no line"
+    # A line that ends with two dots is cut there.
+    [[ "$line" == "$wanted" || "$wanted" == *.. && "$line" == "${wanted%..}"* ]] || echo "wrong: README shows: $wanted, in place of: $line"
+done 3<"$folder/shown" >"$folder/printed"
+if [ -s "$folder/printed" ] || [ "$("$root/mtc" show "$root/examples/www.cert" | wc -l)" != "$(wc -l <"$folder/shown")" ]; then
+    cat "$folder/printed"
+    echo "wrong: the certificate in README"
     exit 1
 fi
