@@ -27,6 +27,9 @@ WIDE = set()
 # Crates that import names which they don't use. None may be added.
 UNTIDY = set()
 
+# Words of the language, of its tools and of the kit that a page may put in code marks.
+PLAIN = {"Ok", "Err", "None", "Some", "Drop", "ensures", "requires", "limit", "out", "sync_all", "put_"}
+
 MOST_LINES = 500
 MOST_COLUMNS = 100
 MOST_FUNCTION_LINES = 40
@@ -38,9 +41,13 @@ def shown(path, line=None):
     return f"{where}:{line}" if line else where
 
 
+@cache
 def tracked():
-    listed = subprocess.run(["git", "-C", str(ROOT), "ls-files", "-z"], capture_output=True, check=True).stdout
-    return [ROOT / name for name in listed.decode().split("\0") if name and (ROOT / name).is_file()]
+    """The files that git keeps; in a copy without git, all but what is made."""
+    listed = subprocess.run(["git", "-C", str(ROOT), "ls-files", "-z"], capture_output=True).stdout.decode()
+    if not listed:
+        return [path for path in sorted(ROOT.rglob("*")) if path.is_file() and not {"out", "tour"} & set(path.parts)]
+    return [ROOT / name for name in listed.split("\0") if name and (ROOT / name).is_file()]
 
 
 @cache
@@ -227,7 +234,8 @@ def words_of(name):
 
 def is_known(span, names):
     parts = [part for part in re.split(r"::|\.|/", span) if part]
-    some = set().union(*(words_of(name) for name in names)) | set(CRATES)
+    needs = [need for name in names for need in CRATES[name].needs]
+    some = set().union(PLAIN, CRATES, needs, commands(), *(words_of(name) for name in names))
     return all(part in some for part in parts) or any(call_of(part, names) for part in expanded(span))
 
 
@@ -247,7 +255,7 @@ def check_promises():
                 owners = {call for call in group if span in all_labels(call)}
                 if not owners and not is_known(span, below):
                     yield f"docs/PROMISES.md:{line}: `{span}` is no clause of {', '.join(key for _, key in group)}"
-            elif re.fullmatch(r"[\w:]+", span) and re.search(r"[a-z]", span) and "::" in span and not is_known(span, below):
+            elif re.fullmatch(r"[\w:]+", span) and re.search(r"[a-z]", span) and not is_known(span, below):
                 yield f"docs/PROMISES.md:{line}: there is no `{span}`"
         for name in names:
             for key in CRATES[name].calls:
@@ -257,6 +265,17 @@ def check_promises():
     for name in CRATES:
         if CRATES[name].calls and name not in listed:
             yield f"docs/PROMISES.md: no section for {name}"
+
+
+def check_names():
+    """what a page cites as crate::name is there"""
+    for path in pages():
+        for number, line in enumerate(path.read_text().split("\n"), 1):
+            for span in SPAN.findall(line):
+                for part in expanded(span):
+                    match = re.fullmatch(r"(\w+)::([\w:]+)", part)
+                    if match and match.group(1) in CRATES and not is_known(part, [match.group(1)]):
+                        yield f"{shown(path, number)}: there is no `{part}`"
 
 
 def words_in_first_cell(cell):
@@ -354,10 +373,15 @@ def check_architecture():
             yield f"docs/ARCHITECTURE.md: {name} has {found.count(name)} rows"
 
 
+@cache
+def commands():
+    source = (CRATES["mtc_words"].folder / "src" / "name.rt").read_text()
+    return set(re.findall(r'^\s*"([a-z-]+)" =>', source, re.M))
+
+
 def check_commands():
     """COMMANDS has the commands that the words can name, each once"""
-    source = (CRATES["mtc_words"].folder / "src" / "name.rt").read_text()
-    built = set(re.findall(r'^\s*"([a-z-]+)" =>', source, re.M))
+    built = commands()
     rows = re.findall(r"^\| `([a-z-]+)[ A-Z`]", (DOCS / "COMMANDS.md").read_text().split("\n## ")[0], re.M)
     for name in sorted(built ^ set(rows)):
         yield f"docs/COMMANDS.md: {name} is {'not in the table' if name in built else 'no command'}"
@@ -483,7 +507,7 @@ def check_beliefs():
     yield from beliefs.differences()
 
 
-CHECKS = [check_sentences, check_links, check_quotations, check_promises, check_definitions, check_architecture, check_commands,
+CHECKS = [check_sentences, check_links, check_quotations, check_names, check_promises, check_definitions, check_architecture, check_commands,
           check_order, check_lengths, check_columns, check_imports, check_paths, check_beliefs]
 
 
