@@ -4,7 +4,8 @@ Prints a line for each check, and what is wrong below it. Nothing is proved or b
 Usage: tests/documents.py [CHECK ..]        the checks of these names alone
        tests/documents.py --missing         rows for definitions that DEFINITIONS doesn't name
        tests/documents.py --order           the lines of crates.txt, each behind the crates that it stands on
-       tests/documents.py --unused          names of `ghost use` that occur nowhere else in their file
+       tests/documents.py --list CHECK      what tests/limits.txt lets through
+       tests/documents.py --limits          lowers the numbers of tests/limits.txt to what there is
 """
 
 import re
@@ -18,14 +19,7 @@ from sources import ROOT, crates
 CRATES = {crate.name: crate for crate in crates()}
 DOCS = ROOT / "docs"
 
-# Crates of which DEFINITIONS doesn't name each definition yet.
-INCOMPLETE = set()
-
-# Crates with lines of more than 100 columns. None may be added.
-WIDE = set()
-
-# Crates that import names which they don't use. None may be added.
-UNTIDY = set()
+LIMITS = ROOT / "tests" / "limits.txt"
 
 # Words of the language, of its tools and of the kit that a page may put in code marks.
 PLAIN = {"Ok", "Err", "None", "Some", "Drop", "ensures", "requires", "limit", "out", "sync_all", "put_"}
@@ -311,10 +305,8 @@ def check_definitions():
             yield f"docs/DEFINITIONS.md:{lines[-1]}: `{word}` of {name} stands {len(lines)} times"
     for name, crate in CRATES.items():
         missing = [one for one in crate.definitions if (name, one.name) not in listed]
-        if missing and name not in INCOMPLETE:
+        if missing:
             yield f"docs/DEFINITIONS.md: {len(missing)} of {name} aren't named: {', '.join(one.name for one in missing[:8])}"
-        if not missing and name in INCOMPLETE:
-            yield f"tests/documents.py: {name} is complete, and stands in INCOMPLETE"
 
 
 def missing_rows():
@@ -442,51 +434,78 @@ def is_import(line):
     return re.match(r"\s*(pub |ghost )*(use|open|import) ", line)
 
 
-def check_columns():
-    """lines of src and specs have at most 100 columns, imports left out"""
-    wide = {}
+def wide_lines():
+    """(crate, what) for each line of src and specs that is too long."""
     for name, folder, path in code_files():
-        if folder == "proofs":
-            continue
-        for number, line in enumerate(path.read_text().split("\n"), 1):
-            if len(line) > MOST_COLUMNS and not is_import(line):
-                wide.setdefault(name, []).append(f"{shown(path, number)}: {len(line)} columns")
-    for name, lines in wide.items():
-        if name not in WIDE:
-            yield from lines
-    for name in sorted(WIDE - set(wide)):
-        yield f"tests/documents.py: {name} keeps the columns, and stands in WIDE"
+        if folder != "proofs":
+            for number, line in enumerate(path.read_text().split("\n"), 1):
+                if len(line) > MOST_COLUMNS and not is_import(line):
+                    yield name, f"{shown(path, number)}: {len(line)} columns"
 
 
 def unused_names():
-    """(crate, file, line, name) for each name of a `ghost use` that occurs nowhere else in its file."""
+    """(crate, what) for each name of a `ghost use` that occurs nowhere else in its file."""
+    use = re.compile(r"^\s*ghost use ([\w.]+)\.\{([^}]*)\};", re.M)
     for name, crate in CRATES.items():
         for file in crate.files:
-            uses = list(re.finditer(r"^\s*ghost use ([\w.]+)\.\{([^}]*)\};", file.text, re.M))
-            rest = file.text
-            for use in reversed(uses):
-                rest = rest[:use.start()] + rest[use.end():]
-            for use in uses:
-                for item in use.group(2).split(","):
+            rest = use.sub("", file.text)
+            for match in use.finditer(file.text):
+                for item in match.group(2).split(","):
                     one = item.strip().split(" as ")[-1].strip()
-                    sign = one.replace("◌", "").replace("if", "").replace("then", "").replace("else", "")
-                    if one in ("if◌then◌else◌",):
-                        sign = "if"
-                    wanted = rf"(?<![\w-]){re.escape(one)}(?![\w-])" if re.fullmatch(r"[\w-]+", one) else re.escape(sign or one)
+                    sign = "if" if one.startswith("if◌") else one.replace("◌", "")
+                    wanted = rf"(?<![\w-]){re.escape(sign)}(?![\w-])" if re.fullmatch(r"[\w-]+", sign) else re.escape(sign)
                     if one and not re.search(wanted, rest):
-                        yield name, file.path, file.text.count("\n", 0, use.start()) + 1, one
+                        yield name, f"{shown(file.path, file.text.count(chr(10), 0, match.start()) + 1)}: {one}"
+
+
+# What is let through as yet, by crate: these numbers may not grow.
+LIMITED = {"columns": wide_lines, "imports": unused_names}
+
+
+def by_crate(check):
+    found = {}
+    for name, what in LIMITED[check]():
+        found.setdefault(name, []).append(what)
+    return found
+
+
+def limits():
+    found = {}
+    for line in LIMITS.read_text().split("\n"):
+        if line and not line.startswith("#"):
+            check, name, count = line.split()
+            found[check, name] = int(count)
+    return found
+
+
+def over_limit(check):
+    for name, lines in by_crate(check).items():
+        limit = limits().get((check, name), 0)
+        if len(lines) > limit:
+            yield f"{name} has {len(lines)}, and tests/limits.txt lets {limit} through"
+            yield from (lines if limit == 0 else [])
+
+
+def check_columns():
+    """lines of src and specs have at most 100 columns, imports left out"""
+    yield from over_limit("columns")
 
 
 def check_imports():
     """names that are imported for contracts are used"""
-    found = {}
-    for name, path, line, one in unused_names():
-        found.setdefault(name, []).append(f"{shown(path, line)}: {one}")
-    for name, lines in found.items():
-        if name not in UNTIDY:
-            yield from lines
-    for name in sorted(UNTIDY - set(found)):
-        yield f"tests/documents.py: {name} uses what it imports, and stands in UNTIDY"
+    yield from over_limit("imports")
+
+
+def lower_limits():
+    """Lowers each number to what there is; one that has to grow is left as it was."""
+    old = limits()
+    head = [line for line in LIMITS.read_text().split("\n") if line.startswith("#")]
+    rows = []
+    for check in LIMITED:
+        for name, lines in sorted(by_crate(check).items()):
+            count = min(len(lines), old.get((check, name), len(lines) if not old else 0))
+            rows += [f"{check} {name} {count}"] if count else []
+    LIMITS.write_text("\n".join(head + rows) + "\n")
 
 
 def check_paths():
@@ -520,9 +539,12 @@ def main(words):
                  if line and not line.startswith("#")}
         print("\n".join(lines[name] for name in ordered()))
         return 0
-    if words == ["--unused"]:
-        for _, path, line, one in unused_names():
-            print(f"{shown(path, line)}: {one}")
+    if words[:1] == ["--list"]:
+        for name, lines in by_crate(words[1]).items():
+            print(f"{name}: {len(lines)}", *lines, sep="\n    ")
+        return 0
+    if words == ["--limits"]:
+        lower_limits()
         return 0
     status = 0
     for check in CHECKS:
