@@ -172,11 +172,11 @@ def call_of(span, names):
         names, parts = [parts[0]], parts[1:]
     key = "::".join(parts)
     for name in names:
-        calls = CRATES[name].calls
-        if key in calls:
+        if key in CRATES[name].calls:
             return name, key
     ends = [(name, one) for name in names for one in CRATES[name].calls if one.split("::")[-1] == key]
-    return ends[0] if ends else None
+    methods = [(name, key) for name in names if "::" in key and key in CRATES[name].methods]
+    return (ends + methods + [None])[0]
 
 
 def expanded(span):
@@ -187,30 +187,50 @@ def expanded(span):
     return [span]
 
 
+BEHIND_A_CALL = re.compile(r"(: |'s? |,)? ?(\(|clauses? |its clauses? |(now and as read: ))?$")
+
+
 def cited_in(names, lines, begin):
-    """What a section cites, in its order: ("call", line, [calls]) and ("clause", line, label, [calls])."""
-    group, behind = [], 0
+    """What a section cites, in its order: ("call", line, [calls]), ("clause", line, label, [calls]), ("word", line, span)."""
+    group, behind, was = [], 0, "word"
     text = "\n".join(lines)
     for match in SPAN.finditer(text):
-        between = text[behind:match.start()]
+        between, span = text[behind:match.start()], match.group(1)
         line = begin + text.count("\n", 0, match.start())
         behind = match.end()
-        calls = [call_of(part, names) for part in expanded(match.group(1))]
-        labels = {label for call in group for label in all_labels(call)}
-        is_clause = match.group(1) in labels and not re.search(r"\n|\|", between)
-        if all(calls) and not (is_clause and not re.search(r"[;.]", between)):
-            group = group + calls if re.fullmatch(r"[\s,]*(and )?", between) else calls
-            yield "call", line, calls
+        listed = re.fullmatch(r", | and |, and ", between)
+        is_clause = (was == "call" and not listed and BEHIND_A_CALL.fullmatch(between)) or (was == "clause" and listed)
+        calls = [call_of(part, names) for part in expanded(span)]
+        if is_clause and re.fullmatch(r"[a-z_0-9]+", span) and (not all(calls) or is_label(span, group)):
+            was = "clause"
+            yield was, line, span, list(group)
+        elif all(calls):
+            group = group + calls if was == "call" and listed else calls
+            was = "call"
+            yield was, line, calls
         else:
-            strict = re.search(r"(: |clauses? |\()$", between) or re.fullmatch(r"(, | and |, and )", between)
-            yield ("clause" if strict else "word"), line, match.group(1), list(group)
+            was = "word" if not (was == "clause" and listed) else was
+            yield "word", line, span
+
+
+def is_label(span, group):
+    """A clause of one of these calls; a call of a trait has also those of its impls."""
+    return any(span in all_labels(crate, key.split("::")[-1]) for crate, key in group)
 
 
 @cache
-def all_labels(call):
-    crate, key = call
-    return frozenset(label for one in CRATES[crate].functions for label in one.labels
-                     if (f"{one.owner}::{one.name}" if one.owner else one.name) == key)
+def all_labels(crate, name):
+    return frozenset(label for one in CRATES[crate].functions if one.name == name for label in one.labels)
+
+
+@cache
+def said_in_specs(name):
+    """The definitions of a crate, and the fields of its records; the meanings and laws of its traits."""
+    crate = CRATES[name]
+    words = {one.name for one in crate.definitions} | crate.members
+    for path in (crate.folder / "specs").rglob("*.antt"):
+        words |= set(re.findall(r"^ +(?:pub )?(\w+) *:", path.read_text(), re.M))
+    return words
 
 
 @cache
@@ -239,18 +259,16 @@ def check_promises():
     for names, begin, lines in sections_of("PROMISES.md"):
         listed |= set(names)
         cited, inner = set(), "\n".join(lines)
+        below = list(dict.fromkeys(names + [need for name in names for need in CRATES[name].needs if need in CRATES]))
         for kind, line, *rest in cited_in(names, lines, begin):
             if kind == "call":
                 cited |= set(rest[0])
-                continue
-            span, group = rest
-            below = list(dict.fromkeys(names + [need for name in names for need in CRATES[name].needs if need in CRATES]))
-            if kind == "clause" and group and re.fullmatch(r"[a-z_0-9]+", span):
-                owners = {call for call in group if span in all_labels(call)}
-                if not owners and not is_known(span, below):
+            elif kind == "clause":
+                span, group = rest
+                if span not in PLAIN and not is_label(span, group) and not any(span in said_in_specs(name) for name in below):
                     yield f"docs/PROMISES.md:{line}: `{span}` is no clause of {', '.join(key for _, key in group)}"
-            elif re.fullmatch(r"[\w:]+", span) and re.search(r"[a-z]", span) and not is_known(span, below):
-                yield f"docs/PROMISES.md:{line}: there is no `{span}`"
+            elif re.fullmatch(r"[\w:]+", rest[0]) and re.search(r"[a-z]", rest[0]) and not is_known(rest[0], below):
+                yield f"docs/PROMISES.md:{line}: there is no `{rest[0]}`"
         for name in names:
             for key in CRATES[name].calls:
                 short = key.split("::")[-1]

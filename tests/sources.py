@@ -236,6 +236,11 @@ class Crate:
         return found
 
     @cached_property
+    def methods(self):
+        """Type::name of each function that stands in an impl or a trait."""
+        return {f"{one.owner}::{one.name}" for one in self.functions if one.owner and not one.is_test}
+
+    @cached_property
     def labels(self):
         return {label for one in self.functions for label in one.labels if label}
 
