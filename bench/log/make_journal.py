@@ -1,0 +1,16 @@
+import hashlib, struct, sys
+
+count, path = int(sys.argv[1]), sys.argv[2]
+name = bytes.fromhex("301931173015060a2b0601040182da4b2f010c0733323437332e31")
+fields = bytes.fromhex("301e170d3236303130313030303030305a170d3236303130383030303030305a3000")
+names = bytes.fromhex("a31b301930170603551d110101ff040d300b8209612e6578616d706c65")
+with open(path, "wb") as journal:
+    def record(body):
+        journal.write(b"\1" + struct.pack(">I", len(body)) + body)
+    journal.write(b"mtc-journal/v1\n\0")
+    record(bytes.fromhex("010481fd5901") + struct.pack(">II", 2, 1048576))
+    for number in range(1, count):
+        key = bytes.fromhex("302a300506032b6570032100") + number.to_bytes(32, "big")
+        entry = b"\0\1" + bytes.fromhex("a003020102") + name + fields + b"\4\x20" + hashlib.sha256(key).digest() + names
+        record(b"\2" + struct.pack(">H", len(entry)) + entry + struct.pack(">H", len(key)) + key)
+    journal.write(b"\0")

@@ -1,0 +1,36 @@
+# shellcheck shell=bash disable=SC2154
+# Read by the scripts beside it, which have set root and work.
+
+# Proves, builds and runs bench/NAME/main.rattle as a program over some libraries: build_and_run NAME LIBRARY..
+# It stands in a copy of the repository's crates below it. What it printed is in $work/printed.
+build_and_run() {
+    local name=$1 crate
+    shift
+    awk -v wanted="$*" '
+        function visit(name, parts, count, part) {
+            if (name in seen || !(name in below))
+                return
+            seen[name]
+            count = split(below[name], parts, " ")
+            for (part = 1; part <= count; part++)
+                visit(parts[part])
+            print name ":" below[name]
+        }
+        { sub(/#.*/, "") }
+        /:/ { split($0, sides, ":"); split(sides[1], words, " "); below[words[1]] = sides[2] }
+        END { count = split(wanted, libraries, " "); for (at = 1; at <= count; at++) visit(libraries[at]) }
+    ' "$root/crates.txt" >"$work/crates.txt"
+    while IFS=: read -r crate _; do
+        mkdir -p "$work/crates/$crate"
+        (cd "$root/crates/$crate" && tar -c --exclude=./out .) | tar -x -C "$work/crates/$crate"
+    done <"$work/crates.txt"
+    echo "bench_$name: $*" >>"$work/crates.txt"
+    cp "$root/HANDLES" "$work/"
+    mkdir -p "$work/crates/bench_$name/src"
+    cp "$root/bench/$name/main.rattle" "$work/crates/bench_$name/src/main.rt"
+    : >"$work/crates/bench_$name/stdin"
+    if ! (cd "$work/crates/bench_$name" && rt run) >"$work/printed" 2>"$work/said"; then
+        cat "$work/said" "$work/printed"
+        exit 1
+    fi
+}
