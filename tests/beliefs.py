@@ -1,15 +1,16 @@
 """What the statement of `run` rests on: the definitions that its contract names, and those that these name.
 
-docs/BELIEFS.md has the counts in a table. Without a word it prints the table; `--write` puts it into the page; `--list`
-prints each definition with its file; `--check` says whether the page has these counts.
-Usage: tests/beliefs.py [--write | --list | --check]
+docs/BELIEFS.md has the counts in a table.
+Usage: tests/beliefs.py            prints the table
+       tests/beliefs.py --write    puts it into the page
+       tests/beliefs.py --list     prints each definition, with its file and its number of lines
 """
 
 import re
 import sys
 from functools import cache
 
-from sources import ROOT, SourceFile, blanked, crates
+from checks.sources import ROOT, crates
 
 PAGE = ROOT / "docs" / "BELIEFS.md"
 BEGIN, END = "<!-- counted by tests/beliefs.py -->", "<!-- end -->"
@@ -94,15 +95,21 @@ def statement():
     raise SystemExit("no function run in mtc_top")
 
 
+def declared(dotted):
+    """The crate and the name of a type of the code, from the module in which contracts see it."""
+    crate, _, place = dotted.partition(".specs.declared.")
+    return crate, place.removesuffix(".TheVariants").split(".")[-1]
+
+
 def reached():
-    """Definitions by (module, name), types of the code, and modules of the kit with the names that are used."""
+    """Definitions by (module, name); types of the code; modules of the kit with their words."""
     own, types, kit = {}, set(), {}
     contract, imports = statement()
     waiting = [imports[token] for token in set(TOKEN.findall(contract)) if token in imports]
     while waiting:
         dotted, name = waiting.pop()
         if ".specs.declared." in dotted:
-            types.add((dotted.split(".")[0], dotted.split(".specs.declared.")[1].removesuffix(".TheVariants").split(".")[-1]))
+            types.add(declared(dotted))
             continue
         module = module_of(dotted)
         if module is None:
@@ -111,25 +118,31 @@ def reached():
         whole = module.owners.get(sign_of(name), name)
         if (dotted, whole) in own or whole not in module.bodies:
             continue
-        own[(dotted, whole)] = module.bodies[whole]
+        own[dotted, whole] = module.bodies[whole]
         for inner, other in module.names_in("\n".join(module.bodies[whole])):
             waiting.append((inner or dotted, other))
     return own, types, kit
 
 
+def row(name, own, types):
+    lines = sum(map(len, own.values()))
+    files = len({dotted for dotted, _ in own})
+    return f"| {name} | {len(own)} | {lines} | {files} | {len(types)} |"
+
+
 def table():
     own, types, kit = reached()
     order = [crate.name for crate in crates()]
+    used = {dotted.split(".")[0] for dotted, _ in own} | {crate for crate, _ in types}
     rows = ["| Crate | Definitions | Lines | Files | Types of the code |", "|---|---|---|---|---|"]
-    for name in sorted({dotted.split(".")[0] for dotted, _ in own} | {crate for crate, _ in types}, key=order.index):
+    for name in sorted(used, key=order.index):
         mine = {key: body for key, body in own.items() if key[0].split(".")[0] == name}
-        rows.append(f"| `{name}` | {len(mine)} | {sum(map(len, mine.values()))} | {len({key[0] for key in mine})} "
-                    f"| {len({one for crate, one in types if crate == name})} |")
-    rows.append(f"| all | {len(own)} | {sum(map(len, own.values()))} | {len({key[0] for key in own})} | {len(types)} |")
-    rows += ["", f"Modules of the kit: {len(kit)}, with {sum(map(len, kit.values()))} words.", "", "| Module | Words |", "|---|---|"]
+        rows.append(row(f"`{name}`", mine, {one for crate, one in types if crate == name}))
+    rows.append(row("all", own, types))
+    words = sum(map(len, kit.values()))
+    rows += ["", f"Modules of the kit: {len(kit)}, with {words} words.", "", "| Module | Words |", "|---|---|"]
     for dotted in sorted(kit):
-        words = ", ".join(f"`{name}`" for name in sorted(kit[dotted]))
-        rows.append(f"| `{dotted}` | {words} |")
+        rows.append(f"| `{dotted}` | {', '.join(f'`{name}`' for name in sorted(kit[dotted]))} |")
     return "\n".join(rows)
 
 
@@ -140,12 +153,8 @@ def between():
 
 
 def differences():
-    if not PAGE.exists():
-        return [f"there is no page {PAGE.name}"]
-    here = set(between()[1].split("\n"))
-    found = set(table().split("\n"))
-    return [f"docs/{PAGE.name}: {line}" for line in sorted(found - here)] and \
-        [f"docs/{PAGE.name} has other counts: run tests/beliefs.py --write"]
+    if between()[1] != table():
+        yield f"docs/{PAGE.name} has other counts (tests/beliefs.py --write)"
 
 
 def main(words):
@@ -155,14 +164,9 @@ def main(words):
     elif words == ["--list"]:
         for (dotted, name), body in sorted(reached()[0].items()):
             print(f"{dotted} {name} {len(body)}")
-    elif words == ["--check"]:
-        wrong = differences()
-        print("\n".join(wrong) or "the counts stand")
-        return bool(wrong)
     else:
         print(table())
-    return 0
 
 
 if __name__ == "__main__":
-    sys.exit(main(sys.argv[1:]))
+    main(sys.argv[1:])

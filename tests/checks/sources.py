@@ -5,7 +5,7 @@ from dataclasses import dataclass, field
 from functools import cached_property
 from pathlib import Path
 
-ROOT = Path(__file__).resolve().parent.parent
+ROOT = Path(__file__).resolve().parents[2]
 NAME = r"[A-Za-z_][A-Za-z0-9_]*"
 
 
@@ -203,7 +203,7 @@ class Crate:
     def functions(self):
         return [one for file in self.files for one in file.functions]
 
-    def offered_by(self, path, seen=None):
+    def offered_by(self, path):
         """The names that a file and the modules that it opens offer."""
         text = blanked(path.read_text())
         names = set(re.findall(rf"^pub +(?:const +)?fn +({NAME})", text, re.M))
@@ -225,7 +225,7 @@ class Crate:
 
     @cached_property
     def calls(self):
-        """The functions that others can call: Type::name or name, with the labels of all of that name."""
+        """The functions that others can call, by Type::name or name."""
         found = {}
         for one in self.functions:
             shown = one.owner or one.name
@@ -245,12 +245,16 @@ class Crate:
         return {label for one in self.functions for label in one.labels if label}
 
     @cached_property
+    def text(self):
+        return "".join(file.bare for file in self.files)
+
+    @cached_property
     def types(self):
-        return set(re.findall(rf"\b(?:struct|enum|trait|type) +({NAME})", "".join(f.bare for f in self.files)))
+        return set(re.findall(rf"\b(?:struct|enum|trait|type) +({NAME})", self.text))
 
     @cached_property
     def variants(self):
-        return set(re.findall(rf"^ +([A-Z]\w*)(?:\([^)]*\)|\s*\{{[^}}]*\}})?,", "".join(f.bare for f in self.files), re.M))
+        return set(re.findall(r"^ +([A-Z]\w*)(?:\([^)]*\)|\s*\{[^}]*\})?,", self.text, re.M))
 
 
 def crates():

@@ -1,0 +1,110 @@
+"""Checks of the sources: lengths, columns, names that are imported and not used."""
+
+import re
+
+from .citations import CRATES
+from .pages import shown
+from .sources import ROOT
+
+LIMITS = ROOT / "tests" / "limits.txt"
+MOST_LINES = 500
+MOST_COLUMNS = 100
+MOST_FUNCTION_LINES = 40
+
+
+def code_files(*folders):
+    for name, crate in CRATES.items():
+        for folder in folders:
+            for path in sorted((crate.folder / folder).rglob("*")):
+                if path.suffix in (".rt", ".antt"):
+                    yield name, path
+
+
+def check_lengths():
+    """files have at most 500 lines, functions 40 without their contract"""
+    for _, path in code_files("src", "specs", "proofs"):
+        count = path.read_text().count("\n")
+        if count > MOST_LINES:
+            yield f"{shown(path)}: {count} lines"
+    for crate in CRATES.values():
+        for one in crate.functions:
+            if one.length > MOST_FUNCTION_LINES and not one.is_test:
+                yield f"{shown(one.path, one.line)}: {one.name} has {one.length} lines"
+
+
+# ---- what is let through as yet: its numbers may not grow
+
+
+def wide_lines():
+    """(crate, what) for each line of src and specs that is too long, imports left out."""
+    for name, path in code_files("src", "specs"):
+        for number, line in enumerate(path.read_text().split("\n"), 1):
+            is_import = re.match(r"\s*(pub |ghost )*(use|open|import) ", line)
+            if len(line) > MOST_COLUMNS and not is_import:
+                yield name, f"{shown(path, number)}: {len(line)} columns"
+
+
+def unused_names():
+    """(crate, what) for each name of a `ghost use` that occurs nowhere else in its file."""
+    use = re.compile(r"^\s*ghost use ([\w.]+)\.\{([^}]*)\};", re.M)
+    for name, crate in CRATES.items():
+        for file in crate.files:
+            rest = use.sub("", file.text)
+            for match in use.finditer(file.text):
+                line = file.text.count("\n", 0, match.start()) + 1
+                for item in filter(str.strip, match.group(2).split(",")):
+                    one = item.strip().split(" as ")[-1].strip()
+                    if not re.search(occurrence(one), rest):
+                        yield name, f"{shown(file.path, line)}: {one}"
+
+
+def occurrence(name):
+    """A pattern for a name where it is used; an operator stands there without its gaps."""
+    sign = "if" if name.startswith("if◌") else name.replace("◌", "")
+    escaped = re.escape(sign)
+    return rf"(?<![\w-]){escaped}(?![\w-])" if re.fullmatch(r"[\w-]+", sign) else escaped
+
+
+LIMITED = {"columns": wide_lines, "imports": unused_names}
+
+
+def by_crate(check):
+    found = {}
+    for name, what in LIMITED[check]():
+        found.setdefault(name, []).append(what)
+    return found
+
+
+def limits():
+    rows = [line.split() for line in LIMITS.read_text().split("\n") if line and not line.startswith("#")]
+    return {(check, name): int(count) for check, name, count in rows}
+
+
+def over_limit(check):
+    for name, lines in by_crate(check).items():
+        limit = limits().get((check, name), 0)
+        if len(lines) > limit:
+            yield f"{name} has {len(lines)}, and tests/limits.txt lets {limit} through"
+            yield from (lines if limit == 0 else [])
+
+
+def check_columns():
+    """lines of src and specs have at most 100 columns, imports left out"""
+    yield from over_limit("columns")
+
+
+def check_imports():
+    """names that are imported for contracts are used"""
+    yield from over_limit("imports")
+
+
+def lower_limits():
+    """Lowers each number to what there is. A file without numbers takes what there is."""
+    old = limits()
+    rows = [line for line in LIMITS.read_text().split("\n") if line.startswith("#")]
+    for check in LIMITED:
+        for name, lines in sorted(by_crate(check).items()):
+            most = old.get((check, name), 0) if old else len(lines)
+            if most:
+                rows.append(f"{check} {name} {min(len(lines), most)}")
+    LIMITS.write_text("\n".join(rows) + "\n")

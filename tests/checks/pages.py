@@ -1,0 +1,148 @@
+"""Checks of the pages by themselves: sentences, links, quotations, places of a machine, an example."""
+
+import base64
+import re
+import subprocess
+from functools import cache
+from hashlib import sha256
+
+from .sources import ROOT
+
+DOCS = ROOT / "docs"
+MOST_WORDS = 40
+
+
+def shown(path, line=None):
+    where = str(path.relative_to(ROOT))
+    return f"{where}:{line}" if line else where
+
+
+@cache
+def tracked():
+    """The files that git keeps; in a copy without git, all but what is made."""
+    listed = subprocess.run(["git", "-C", str(ROOT), "ls-files", "-z"], capture_output=True)
+    names = [name for name in listed.stdout.decode().split("\0") if name]
+    if names:
+        return [ROOT / name for name in names if (ROOT / name).is_file()]
+    made = {"out", "tour"}
+    return [path for path in sorted(ROOT.rglob("*")) if path.is_file() and not made & set(path.parts)]
+
+
+@cache
+def pages():
+    return [path for path in tracked() if path.suffix == ".md"]
+
+
+def cells_of(row):
+    return [cell.strip() for cell in re.split(r"(?<!\\)\|", row.strip())[1:-1]]
+
+
+def blocks_of(path):
+    """The prose of a page: (line, text) for each paragraph, item and cell. Code is left out."""
+    fenced, text, begin = False, [], 0
+    for number, line in enumerate(path.read_text().split("\n") + [""], 1):
+        is_fence = line.startswith("```")
+        fenced ^= is_fence
+        is_code = fenced or is_fence or (line.startswith("    ") and not text)
+        if is_code or re.match(r"\s*$|#|[-*] |\d+\. |\|", line):
+            if text:
+                yield begin, " ".join(text)
+            text = []
+        if is_code:
+            continue
+        if line.startswith("|"):
+            cells = [] if re.fullmatch(r"[|\-: ]+", line) else cells_of(line)
+            yield from ((number, cell) for cell in cells)
+            continue
+        line = re.sub(r"^(#+|[-*]|\d+\.) +(\[.\] )?", "", line).strip()
+        if line:
+            begin = begin if text else number
+            text.append(line)
+
+
+def sentences_of(text):
+    """The sentences of a text. What stands in code marks counts as one word, so does a list of it."""
+    text = re.sub(r"`[^`]*`(?:(?:, | and |, and |; )`[^`]*`)*", "Code", text)
+    text = re.sub(r"\[([^\]]*)\]\([^)]*\)", r"\1", text)
+    return re.split(r"(?<=[.!?])[\"')*]*\s+(?=[\"'(*]*[A-Z0-9])", text)
+
+
+def check_sentences():
+    """no sentence of a page has more than 40 words"""
+    for path in pages():
+        for line, text in blocks_of(path):
+            for sentence in sentences_of(text):
+                count = len(re.findall(r"[\w'.,/^+:-]*\w", sentence))
+                if count > MOST_WORDS:
+                    yield f"{shown(path, line)}: {count} words: {sentence[:60]} .."
+
+
+def check_links():
+    """what pages link to is there"""
+    for path in pages():
+        for number, line in enumerate(path.read_text().split("\n"), 1):
+            for target in re.findall(r"\]\(([^)#]+)(?:#[^)]*)?\)", line):
+                if not re.match(r"[a-z]+://", target) and not (path.parent / target).exists():
+                    yield f"{shown(path, number)}: nothing at {target}"
+            for target in re.findall(r"`((?:docs|tests|examples|bench)/[\w./-]+)`", line):
+                if not (ROOT / target).exists():
+                    yield f"{shown(path, number)}: no file {target}"
+
+
+def squeezed(text):
+    return " ".join(text.split())
+
+
+def check_quotations():
+    """what ONE_PROMISE quotes stands in the file that is named before it"""
+    page = DOCS / "ONE_PROMISE.md"
+    file, block, quotes = None, None, 0
+    for number, line in enumerate(page.read_text().split("\n"), 1):
+        if line.startswith("```") and block is None:
+            block = []
+        elif line.startswith("```"):
+            quotes += 1
+            if not file or not file.exists():
+                yield f"{shown(page, number)}: the file of this quotation isn't there"
+            elif squeezed("\n".join(block)) not in squeezed(file.read_text()):
+                yield f"{shown(page, number)}: what ends here doesn't stand in {shown(file)}"
+            block = None
+        elif block is not None:
+            block.append(line)
+        elif not line.startswith("|"):
+            for path in re.findall(r"`(crates/[\w./-]+)`", line):
+                file = ROOT / path
+    if quotes < 1:
+        yield f"{shown(page)}: it quotes nothing"
+
+
+def check_example():
+    """the certificate that FORMATS spells byte by byte is one that the program accepts"""
+    page = (DOCS / "FORMATS.md").read_text()
+    section = page.split("\n## A certificate byte by byte\n")[1].split("\n## ")[0]
+    lines = re.findall(r"^ {4} *((?:[0-9A-F]{2} ?)+)(?: |$)", section, re.M)
+    spelled = bytes.fromhex("".join(lines))
+    script = (ROOT / "tests" / "allocations.sh").read_text()
+    coded = re.search(r"<<'CERTIFICATE'\n(.*?)\nCERTIFICATE\n", script, re.S)[1]
+    accepted = base64.b64decode("".join(coded.split()))
+    if spelled != accepted or f"It has {len(spelled)} bytes." not in section:
+        yield f"docs/FORMATS.md: {len(spelled)} bytes are spelled, others are accepted"
+    version, names, key, extensions = spelled[6:11], spelled[28:89], spelled[89:133], spelled[133:162]
+    entry = b"\0\1" + version + names + b"\4\x20" + sha256(key).digest() + extensions
+    null, leaf = (sha256(b"\0" + item).digest() for item in (b"\0\0", entry))
+    root = sha256(b"\1" + null + leaf).hexdigest()
+    if f"Its entry has {len(entry)} bytes" not in section or page.count(root) != 2:
+        yield f"docs/FORMATS.md: its entry has {len(entry)} bytes, the tree hash is {root}"
+
+
+def check_paths():
+    """no file names a place of a machine"""
+    machine = re.compile(r"(?<![\w.$}/-])/(?:home|root|work|opt|Users|mnt)/\w")
+    for path in tracked():
+        try:
+            text = path.read_text()
+        except UnicodeDecodeError:
+            continue
+        for number, line in enumerate(text.split("\n"), 1):
+            if machine.search(line):
+                yield f"{shown(path, number)}: {line.strip()[:80]}"
