@@ -1,10 +1,12 @@
 #!/usr/bin/env python3
 """Runs the gate, and tells what each crate cost: the processor seconds of its proof, of its tests and of its must-fail edits.
 
-Usage: bench/gate_costs.py [COMMAND WORD..]    (rt ci where there is none; rt ci --anew proves all, also what is kept)
+Usage: bench/gate_costs.py [--write] [COMMAND WORD..]
+The command is rt ci where there is none; rt ci --anew proves all, also what is kept.
 
-What the command writes goes to standard error. The table goes to standard output, as docs/GATE.md has it. Every half second
-the script looks at the provers that the command has started; what a prover used in its last half second is not counted.
+What the command writes goes to standard error. The table goes to standard output, and with --write into docs/GATE.md, if the
+command passed. Every half second the script looks at the provers that the command has started; what a prover used in its last
+half second is not counted.
 """
 import glob
 import os
@@ -16,6 +18,8 @@ ROOT = os.path.dirname(os.path.dirname(os.path.abspath(__file__)))
 TICK = os.sysconf("SC_CLK_TCK")
 KINDS = ("proof", "tests", "edits")
 BUDGET = 3.5
+PAGE = f"{ROOT}/docs/GATE.md"
+BEGIN, END = "<!-- costs: begin -->\n", "<!-- costs: end -->"
 
 
 def text_of(path):
@@ -92,7 +96,26 @@ def table(costs):
         yield "| " + " | ".join(cells) + " |"
 
 
-def main(command):
+def summary(costs, seconds):
+    """The sentences below the table."""
+    minutes = sum(sum(by.values()) for by in costs.values()) / 60
+    lines = sum(map(lines_of, costs))
+    return (
+        f"{minutes:.0f} processor minutes, and {seconds / 60:.0f} minutes by the clock on {len(os.sched_getaffinity(0))} processors. "
+        f"The budget for these {lines:,} lines is {BUDGET * lines / 1000:.0f} processor minutes."
+    )
+
+
+def write(told):
+    """Puts the table in its place in the page."""
+    page = text_of(PAGE)
+    before, rest = page.split(BEGIN, 1)
+    _, after = rest.split(END, 1)
+    with open(PAGE, "w", encoding="utf-8") as it:
+        it.write(f"{before}{BEGIN}{told}\n{END}{after}")
+
+
+def main(command, writes):
     began, seen = time.time(), {}
     ran = subprocess.Popen(command, cwd=ROOT, stdout=sys.stderr)
     while ran.poll() is None:
@@ -102,15 +125,14 @@ def main(command):
     for (crate, kind), ticks in seen.values():
         by = costs.setdefault(crate, {})
         by[kind] = by.get(kind, 0) + ticks / TICK
-    print("\n".join(table(costs)))
-    minutes = sum(sum(by.values()) for by in costs.values()) / 60
-    lines = sum(map(lines_of, costs))
-    print(
-        f"\n{minutes:.0f} processor minutes, {(time.time() - began) / 60:.0f} minutes by the clock on "
-        f"{len(os.sched_getaffinity(0))} processors. The budget for {lines:,} lines is {BUDGET * lines / 1000:.0f}."
-    )
+    told = "\n".join([*table(costs), "", summary(costs, time.time() - began)])
+    print(told)
+    if writes and ran.returncode == 0:
+        write(told)
     return ran.returncode
 
 
 if __name__ == "__main__":
-    sys.exit(main(sys.argv[1:] or ["rt", "ci"]))
+    given = sys.argv[1:]
+    has_flag = given[:1] == ["--write"]
+    sys.exit(main(given[has_flag:] or ["rt", "ci"], has_flag))
