@@ -1,5 +1,5 @@
--- LM-OTS, the one-time signatures of RFC 8554, with SHA-256. id is the identifier I of 16 bytes, q the
--- number of the one-time key under it, seed the secret of 32 bytes.
+-- LM-OTS, the one-time signatures of RFC 8554, with SHA-256. id is the identifier I of 16 bytes, q
+-- the number of the one-time key under it, seed the secret of 32 bytes.
 use Rattle.std.specs.Prelude.{◌≡◌, ℕ, zero, suc, ◌+◌, ◌-◌, ◌*◌, ◌/◌, ◌%◌, ◌^◌, ◌==◌, if◌then◌else◌, nat_lt, List, [], ◌∷◌, ◌++◌, length, slice_index, Option, Some, None}
 use Rattle.std.specs.Int.{w16, w32, to_be_bytes}
 use Rattle.sha2.specs.Sha256.{sha256}
@@ -9,75 +9,76 @@ use Rattle.lmots_core.specs.Strings.{bytes_at, word_at, joined}
 
 -- ---- chains (4.3)
 
--- what every hash along chain i of a one-time key begins with: I, q and i
+-- What every hash along chain i of a one-time key begins with: I, q and i.
 abbrev pub chain_prefix : List ℕ → ℕ → ℕ → List ℕ
 chain_prefix id q i = id ++ to_be_bytes w32 q ++ to_be_bytes w16 i
 
--- one step of a chain, from place j to place j + 1
+-- One step of a chain, from place j to place j + 1.
 unfoldable pub chain_step : List ℕ → ℕ → List ℕ → List ℕ
 chain_step prefix j x = sha256 (prefix ++ j ∷ [] ++ x)
 
--- n steps of a chain from place a on, beginning with x
+-- n steps of a chain from place a on, beginning with x.
 unfoldable pub chain : List ℕ → ℕ → ℕ → List ℕ → List ℕ
 chain prefix a zero x = x
 chain prefix a (suc n) x = chain_step prefix (a + n) (chain prefix a n x)
 
--- the secret start of chain i, derived from the seed (appendix A)
+-- The secret start of chain i, derived from the seed (appendix A).
 unfoldable pub secret_start : List ℕ → ℕ → List ℕ → ℕ → List ℕ
 secret_start id q seed i = sha256 (chain_prefix id q i ++ 0xFF ∷ [] ++ seed)
 
--- the public end of chain i: all its steps behind its start
+-- The public end of chain i: all its steps behind its start.
 abbrev pub chain_end : OtsType → List ℕ → ℕ → List ℕ → ℕ → List ℕ
 chain_end t id q seed i = chain (chain_prefix id q i) 0 (steps t) (secret_start id q seed i)
 
 -- ---- public keys (4.3)
 
--- the key K of which these, one behind the other, are the chains' ends
+-- The key K of which these, one behind the other, are the chains' ends.
 unfoldable pub key_of_ends : List ℕ → ℕ → List ℕ → List ℕ
 key_of_ends id q ends = sha256 (id ++ to_be_bytes w32 q ++ 0x80 ∷ 0x80 ∷ [] ++ ends)
 
--- the one-time public key K
+-- The one-time public key K.
 unfoldable pub public_key : OtsType → List ℕ → ℕ → List ℕ → List ℕ
 public_key t id q seed = key_of_ends id q (joined (chain_end t id q seed) (chains t))
 
 -- ---- digits and checksum
 
--- digit i of width w, the highest bits first (3.1.3)
+-- Digit i of width w, the highest bits first (3.1.3).
 abbrev pub coef : List ℕ → ℕ → ℕ → ℕ
 coef s i w = slice_index s (i * w / 8) / 2 ^ (8 - (w * (i % (8 / w)) + w)) % 2 ^ w
 
--- what the first n digits lack of the largest digit, in all (4.4)
+-- What the first n digits lack of the largest digit, in all (4.4).
 unfoldable pub checksum_sum : List ℕ → ℕ → ℕ → ℕ
 checksum_sum s w zero = 0
 checksum_sum s w (suc n) = checksum_sum s w n + (2 ^ w - 1 - coef s n w)
 
--- Cksm, over the digits of a hash (4.4)
+-- Cksm, over the digits of a hash (4.4).
 abbrev pub checksum : OtsType → List ℕ → ℕ
 checksum t s = checksum_sum s (width t) (256 / width t) * 2 ^ shift t
 
--- Q || Cksm(Q), whose digits say how far each chain goes (4.5)
+-- Q || Cksm(Q), whose digits say how far each chain goes (4.5).
 unfoldable pub coded_hash : OtsType → List ℕ → List ℕ
 coded_hash t s = s ++ to_be_bytes w16 (checksum t s)
 
--- how far chain i goes
+-- How far chain i goes.
 abbrev pub digit : OtsType → List ℕ → ℕ → ℕ
 digit t coded i = coef coded i (width t)
 
 -- ---- signatures (4.5)
 
--- Q, the hash of the message under the randomizer C
+-- Q, the hash of the message under the randomizer C.
 unfoldable pub message_hash : List ℕ → ℕ → List ℕ → List ℕ → List ℕ
 message_hash id q c message = sha256 (id ++ to_be_bytes w32 q ++ 0x81 ∷ 0x81 ∷ [] ++ c ++ message)
 
--- C is derived from the seed, at a place where no chain is: one key and message have one signature
+-- C is derived from the seed, at a place where no chain is: one key and message have one signature.
 abbrev pub randomizer : List ℕ → ℕ → List ℕ → List ℕ
 randomizer id q seed = secret_start id q seed 65533
 
--- what the signature tells of chain i: its value after as many steps as the digit says
+-- What the signature tells of chain i: its value after as many steps as the digit says.
 abbrev pub signed_link : OtsType → List ℕ → ℕ → List ℕ → List ℕ → ℕ → List ℕ
-signed_link t id q seed coded i = chain (chain_prefix id q i) 0 (digit t coded i) (secret_start id q seed i)
+signed_link t id q seed coded i =
+    chain (chain_prefix id q i) 0 (digit t coded i) (secret_start id q seed i)
 
--- the signature of a message by one-time key q
+-- The signature of a message by one-time key q.
 unfoldable pub signature : OtsType → List ℕ → ℕ → List ℕ → List ℕ → List ℕ
 signature t id q seed message =
     let c = randomizer id q seed in
@@ -86,25 +87,25 @@ signature t id q seed message =
 
 -- ---- verification (4.6)
 
--- the end of chain i, reached from what the signature s tells of it
+-- The end of chain i, reached from what the signature s tells of it.
 abbrev pub finished_link : OtsType → List ℕ → ℕ → List ℕ → List ℕ → ℕ → List ℕ
 finished_link t id q coded s i =
     chain (chain_prefix id q i) (digit t coded i) (steps t - digit t coded i) (bytes_at s (36 + 32 * i))
 
--- Kc, the candidate key of a whole signature
+-- Kc, the candidate key of a whole signature.
 unfoldable pub candidate_of : OtsType → List ℕ → ℕ → List ℕ → List ℕ → List ℕ
 candidate_of t id q message s =
     let coded = coded_hash t (message_hash id q (bytes_at s 4) message) in
     key_of_ends id q (joined (finished_link t id q coded s) (chains t))
 
--- the candidate key, where the signature's length is that of its type
+-- The candidate key, where the signature's length is that of its type.
 abbrev pub candidate_for : Option OtsType → List ℕ → ℕ → List ℕ → List ℕ → Option (List ℕ)
 candidate_for None id q message s = None
 candidate_for (Some t) id q message s =
     if length s == signature_length t then Some (candidate_of t id q message s) else None
 
--- the candidate key of a message and a signature (algorithm 4b): none where the signature has fewer
--- than 4 bytes, an unknown typecode, or another length than that of its typecode
+-- The candidate key of a message and a signature (algorithm 4b): none where the signature has fewer
+-- than 4 bytes, an unknown typecode, or another length than that of its typecode.
 unfoldable pub candidate_key : List ℕ → ℕ → List ℕ → List ℕ → Option (List ℕ)
 candidate_key id q message s =
     if nat_lt (length s) 4 then None else candidate_for (type_of_code (word_at s 0)) id q message s

@@ -1,3 +1,4 @@
+//! The chains of hashes of a one-time key.
 ghost use Rattle.std.specs.Prelude.{◌≡◌, ◌+◌, ◌≤◌};
 ghost use Rattle.lmots_core.specs.Ots.{chain, chain_prefix, chain_step, secret_start};
 
@@ -8,8 +9,9 @@ use std::marker::Model;
 // The place that stands in a secret start where a step has its number (RFC 8554, appendix A).
 const SECRET: u8 = 0xFF;
 
-// One chain of one one-time key, as the 55 bytes that each of its steps hashes: the identifier, q and
-// the chain's number, which stay, and then a step's number and value, which each step writes anew.
+// One chain of one one-time key, as the 55 bytes that each of its steps hashes: the identifier, q
+// and the chain's number, which stay, and then a step's number and value, which each step writes
+// anew.
 #[derive(Drop)]
 pub struct Chain {
     bytes: [u8; 55],
@@ -34,6 +36,14 @@ impl Chain {
         put(&mut bytes, 16, &q.to_be_bytes());
         put(&mut bytes, 20, &i.to_be_bytes());
         Chain { bytes }
+    }
+
+    // The secret that it starts with.
+    pub fn start(&mut self, secret: &[u8; 32]) -> [u8; 32]
+        ensures same { self.new ≡ self.old }
+        ensures hash { result ≡ chain_step self.old 0xFF secret.now }
+    {
+        self.step(SECRET, secret)
     }
 
     // One step from place `j`.
@@ -62,11 +72,11 @@ impl Chain {
     }
 }
 
-/// What the secret starts chain `i` of key `q` with. Places above the chains give other secrets of the
-/// key: the randomizer of its signature is that of place 65533 (RFC 8554, appendix A).
+/// What the secret starts chain `i` of key `q` with. Places above the chains give other secrets of
+/// the key: the randomizer of its signature is that of place 65533 (RFC 8554, appendix A).
 #[tactic(auto, unfolding(crate::specs::Ots::chain_step, crate::specs::Ots::secret_start))]
 pub fn secret_start(id: &[u8; 16], q: u32, secret: &[u8; 32], i: u16) -> [u8; 32]
     ensures { result ≡ secret_start id.now q secret.now i }
 {
-    Chain::new(id, q, i).step(SECRET, secret)
+    Chain::new(id, q, i).start(secret)
 }

@@ -1,3 +1,4 @@
+//! The key that a signature leads to.
 ghost use Rattle.std.specs.Prelude.{◌≡◌, ◌<◌, length};
 ghost use Rattle.lmots_core.specs.Parameters.{chains, signature_length};
 ghost use Rattle.lmots_core.specs.Strings.{joined};
@@ -6,9 +7,9 @@ ghost use Rattle.lmots_core.specs.Ots.{key_of_ends, candidate_key, candidate_of,
 use crate::chains::Chain;
 use crate::digits::{coef, message_hash, with_checksum};
 use crate::fields::{read_32, read_u32};
-use crate::parameters::OtsType;
-use crate::signing::KEY_MARK;
-use sha2::{Digest, Sha256};
+use crate::marks::{KEY_MARK, marked_hasher};
+use crate::parameters::{LINKS, OtsType};
+use sha2::Digest;
 
 // The end of chain i, from what the signature tells of it.
 fn finished_link(
@@ -24,7 +25,7 @@ fn finished_link(
     ensures { result ≡ finished_link ots id.now q coded.now signature.now i }
 {
     let digit = coef(coded, i as usize, ots);
-    let value = read_32(signature, 36 + 32 * i as usize);
+    let value = read_32(signature, LINKS + 32 * i as usize);
     Chain::new(id, q, i).run(digit, ots.steps() - digit, value)
 }
 
@@ -32,12 +33,10 @@ fn finished_link(
 #[tactic(auto, unfolding(crate::specs::Ots::key_of_ends, crate::specs::Strings::joined))]
 fn key_of_links(ots: OtsType, id: &[u8; 16], q: u32, coded: &[u8; 34], signature: &[u8]) -> [u8; 32]
     requires { length signature.now ≡ signature_length ots }
-    ensures { result ≡ key_of_ends id.now q (joined (finished_link ots id.now q coded.now signature.now) (chains ots)) }
+    ensures { let link = finished_link ots id.now q coded.now signature.now in
+        result ≡ key_of_ends id.now q (joined link (chains ots)) }
 {
-    let mut hasher = Sha256::new();
-    hasher.update(id);
-    hasher.update(&q.to_be_bytes());
-    hasher.update(&KEY_MARK);
+    let mut hasher = marked_hasher(id, q, &KEY_MARK);
     for i in 0..ots.chains() {
         hasher.update(&finished_link(ots, id, q, coded, signature, i));
     }

@@ -1,23 +1,19 @@
+//! The digits of a message's hash and their checksum.
 ghost use Rattle.std.specs.Prelude.{◌≡◌, ◌<◌, ◌≤◌, ◌*◌, ◌/◌, length};
 ghost use Rattle.lmots_core.specs.Parameters.{chains, steps, width};
 ghost use Rattle.lmots_core.specs.Ots.{checksum, coded_hash, coef, message_hash};
 
 use crate::fields::put;
+use crate::marks::{MESSAGE_MARK, marked_hasher};
 use crate::parameters::OtsType;
-use sha2::{Digest, Sha256};
-
-// D_MESG: the hash of a message begins with these two bytes (RFC 8554, section 4.5).
-const MESSAGE_MARK: [u8; 2] = [0x81, 0x81];
+use sha2::Digest;
 
 // Q: what of a message is signed.
 #[tactic(auto, unfolding(crate::specs::Ots::message_hash))]
 pub fn message_hash(id: &[u8; 16], q: u32, randomizer: &[u8; 32], message: &[u8]) -> [u8; 32]
     ensures { result ≡ message_hash id.now q randomizer.now message.now }
 {
-    let mut hasher = Sha256::new();
-    hasher.update(id);
-    hasher.update(&q.to_be_bytes());
-    hasher.update(&MESSAGE_MARK);
+    let mut hasher = marked_hasher(id, q, &MESSAGE_MARK);
     hasher.update(randomizer);
     hasher.update(message);
     hasher.finalize()

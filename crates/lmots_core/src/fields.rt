@@ -1,4 +1,5 @@
-ghost use Rattle.std.specs.Prelude.{◌≡◌, ◌+◌, ◌≤◌, ◌++◌, length, take};
+//! Numbers and values at their places in byte strings.
+ghost use Rattle.std.specs.Prelude.{◌≡◌, ◌+◌, ◌≤◌, ◌++◌, length, take, drop};
 ghost use Rattle.lmots_core.specs.Strings.{bytes_at, word_at};
 
 /// The number of 4 bytes from place `at` on, the highest byte first (RFC 8554, section 3.1.1).
@@ -22,10 +23,11 @@ pub fn read_32(bytes: &[u8], at: usize) -> [u8; 32]
     value
 }
 
-/// Writes a piece at place `at`. What stands before it stays, and nothing is said of what is behind it.
+/// Writes a piece at place `at`. What stands before it and behind it stays.
 pub fn put(out: &mut [u8], at: usize, piece: &[u8])
     requires { at + length piece.now ≤ length out.old }
-    ensures { take (at + length piece.now) out.new ≡ take at out.old ++ piece.now }
+    ensures front { take (at + length piece.now) out.new ≡ take at out.old ++ piece.now }
+    ensures rest { drop (at + length piece.now) out.new ≡ drop (at + length piece.now) out.old }
 {
     out[at..at + piece.len()].copy_from_slice(piece);
 }

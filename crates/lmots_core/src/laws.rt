@@ -1,3 +1,4 @@
+//! What follows of every one-time key.
 ghost use Rattle.std.specs.Prelude.{ℕ, List};
 ghost use Rattle.lmots_core.specs.Ots.{SignatureYieldsKey};
 

@@ -1,5 +1,9 @@
+//! The four parameter sets.
 ghost use Rattle.std.specs.Prelude.{◌≡◌, ◌/◌};
 ghost use Rattle.lmots_core.specs.Parameters.{chains, shift, signature_length, steps, type_of_code, typecode, width};
+
+// Where the chains' values begin in a signature: behind its typecode and its randomizer.
+pub const LINKS: usize = 36;
 
 /// The parameter set of a one-time key: the width of its digits in bits (RFC 8554, section 4.1).
 #[derive(Clone, Copy, Debug, PartialEq, Eq)]
@@ -92,6 +96,6 @@ impl OtsType {
     pub fn signature_len(self) -> usize
         ensures { result ≡ signature_length self }
     {
-        36 + 32 * self.chains() as usize
+        LINKS + 32 * self.chains() as usize
     }
 }

@@ -1,12 +1,16 @@
+//! The buffer that a signature is made in.
 ghost use Rattle.std.specs.Prelude.{◌≡◌, ◌+◌, ◌≤◌, [], ◌++◌, length};
 
 use std::marker::Model;
+
+// The bytes of the longest signature of two levels of trees of height 10.
+const CAPACITY: usize = 17_748;
 
 /// A signature in the making: up to 17,748 bytes, which is the longest signature of two levels of
 /// trees of height 10. It lies where it is declared and takes no memory of its own.
 #[derive(Drop)]
 pub struct SigBuf {
-    bytes: [u8; 17_748],
+    bytes: [u8; CAPACITY],
     length: usize,
 }
 
@@ -26,7 +30,7 @@ impl SigBuf {
         ensures { result ≡ [] }
     {
         SigBuf {
-            bytes: [0; 17_748],
+            bytes: [0; CAPACITY],
             length: 0,
         }
     }

@@ -1,3 +1,4 @@
+//! Public keys and signatures.
 ghost use Rattle.std.specs.Prelude.{◌≡◌, ◌+◌, ◌<◌, ◌≤◌, ◌*◌, ◌++◌, length};
 ghost use Rattle.lmots_core.specs.Parameters.{chains, signature_length};
 ghost use Rattle.lmots_core.specs.Strings.{joined};
@@ -5,22 +6,22 @@ ghost use Rattle.lmots_core.specs.Ots.{chain_end, coded_hash, public_key, signat
 
 use crate::chains::{Chain, secret_start};
 use crate::digits::{coef, message_hash, with_checksum};
+use crate::marks::{KEY_MARK, marked_hasher};
 use crate::parameters::OtsType;
 use crate::signature_buffer::SigBuf;
-use sha2::{Digest, Sha256};
-
-// D_PBLC: the hash that is a public key begins with these two bytes (RFC 8554, section 4.3).
-pub const KEY_MARK: [u8; 2] = [0x80, 0x80];
+use sha2::Digest;
 
 // The place of the randomizer in the derivation of secrets.
 const RANDOMIZER: u16 = 65533;
 
 // The end of chain i.
+#[tactic(auto, unfolding(crate::specs::Ots::chain_step, crate::specs::Ots::secret_start))]
 fn chain_end(ots: OtsType, id: &[u8; 16], q: u32, secret: &[u8; 32], i: u16) -> [u8; 32]
     ensures { result ≡ chain_end ots id.now q secret.now i }
 {
-    let start = secret_start(id, q, secret, i);
-    Chain::new(id, q, i).run(0, ots.steps(), start)
+    let mut chain = Chain::new(id, q, i);
+    let start = chain.start(secret);
+    chain.run(0, ots.steps(), start)
 }
 
 /// The public key of one-time key `q`, 32 bytes (RFC 8554, section 4.3).
@@ -28,10 +29,7 @@ fn chain_end(ots: OtsType, id: &[u8; 16], q: u32, secret: &[u8; 32], i: u16) -> 
 pub fn public(ots: OtsType, id: &[u8; 16], q: u32, secret: &[u8; 32]) -> [u8; 32]
     ensures { result ≡ public_key ots id.now q secret.now }
 {
-    let mut hasher = Sha256::new();
-    hasher.update(id);
-    hasher.update(&q.to_be_bytes());
-    hasher.update(&KEY_MARK);
+    let mut hasher = marked_hasher(id, q, &KEY_MARK);
     for i in 0..ots.chains() {
         hasher.update(&chain_end(ots, id, q, secret, i));
     }
@@ -39,6 +37,7 @@ pub fn public(ots: OtsType, id: &[u8; 16], q: u32, secret: &[u8; 32]) -> [u8; 32
 }
 
 // Chain i after as many steps as its digit says.
+#[tactic(auto, unfolding(crate::specs::Ots::chain_step, crate::specs::Ots::secret_start))]
 fn signed_link(
     ots: OtsType,
     id: &[u8; 16],
@@ -51,8 +50,9 @@ fn signed_link(
     ensures { result ≡ signed_link ots id.now q secret.now coded.now i }
 {
     let digit = coef(coded, i as usize, ots);
-    let start = secret_start(id, q, secret, i);
-    Chain::new(id, q, i).run(0, digit, start)
+    let mut chain = Chain::new(id, q, i);
+    let start = chain.start(secret);
+    chain.run(0, digit, start)
 }
 
 // Puts each chain, as far as its digit says, behind what `out` holds.
@@ -66,7 +66,8 @@ fn put_links(
     out: &mut SigBuf,
 )
     requires { length out.old + 32 * chains ots ≤ 17748 }
-    ensures bytes { out.new ≡ out.old ++ joined (signed_link ots id.now q secret.now coded.now) (chains ots) }
+    ensures bytes { let link = signed_link ots id.now q secret.now coded.now in
+        out.new ≡ out.old ++ joined link (chains ots) }
     ensures size { length out.new ≡ length out.old + 32 * chains ots }
 {
     for i in 0..ots.chains() {
