@@ -5,7 +5,7 @@ use Rattle.lmots_core.specs.Parameters.{signature_length}
 use Rattle.lms_core.specs.declared.heights.LmsType.{LmsType}
 use Rattle.lms_core.specs.declared.heights.LmsType.TheVariants.{H5, H10, H15, H20, H25}
 
--- h, the levels above the leaves: the tree has 2^h one-time keys
+-- h, the levels above the leaves: the tree has 2^h one-time keys.
 abbrev pub height : LmsType → ℕ
 height H5 = 5
 height H10 = 10
@@ -13,7 +13,7 @@ height H15 = 15
 height H20 = 20
 height H25 = 25
 
--- the number by which keys and signatures name the height
+-- The number by which keys and signatures name the height.
 abbrev pub lms_code : LmsType → ℕ
 lms_code H5 = 5
 lms_code H10 = 6
@@ -21,13 +21,14 @@ lms_code H15 = 7
 lms_code H20 = 8
 lms_code H25 = 9
 
--- the height of a typecode
+-- The height of a typecode.
 abbrev pub lms_type_of_code : ℕ → Option LmsType
 lms_type_of_code n =
     if n == 5 then Some H5
     else (if n == 6 then Some H10
-    else (if n == 7 then Some H15 else (if n == 8 then Some H20 else (if n == 9 then Some H25 else None))))
+    else (if n == 7 then Some H15
+    else (if n == 8 then Some H20 else (if n == 9 then Some H25 else None))))
 
--- the bytes of a signature: two numbers, a one-time signature and the path (5.4)
+-- The bytes of a signature: two numbers, a one-time signature and the path (5.4).
 abbrev pub lms_signature_length : LmsType → OtsType → ℕ
 lms_signature_length l t = 8 + signature_length t + 32 * height l

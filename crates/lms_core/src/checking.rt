@@ -1,3 +1,4 @@
+//! What a signature is answered.
 ghost use Rattle.std.specs.Prelude.{◌≡◌, ◌+◌, ◌*◌, ◌<◌, ◌≤◌, ◌^◌, length, take, drop};
 ghost use Rattle.lmots_core.specs.Strings.{word_at};
 ghost use Rattle.lms_core.specs.Heights.{height, lms_signature_length};
@@ -10,12 +11,15 @@ use crate::refusals::SigError;
 use crate::whole::front;
 use lmots_core::{OtsType, candidate, read_32, read_u32};
 
-/// The types of a public key; `None` where it has not 56 bytes or a typecode is not known (RFC 8554,
-/// section 5.3).
+/// The bytes of a public key (RFC 8554, section 5.3): two typecodes, the identifier and the root.
+pub const PUBLIC_KEY_LEN: usize = 56;
+
+/// The types of a public key; `None` where it has not 56 bytes or a typecode is not known (RFC
+/// 8554, section 5.3).
 pub fn read_key(public: &[u8]) -> Option<(LmsType, OtsType)>
     ensures { result ≡ key_types public.now }
 {
-    if public.len() != 56 {
+    if public.len() != PUBLIC_KEY_LEN {
         return None;
     }
     match LmsType::from_typecode(read_u32(public, 0)) {
@@ -136,8 +140,8 @@ pub fn check(key: &[u8], message: &[u8], signature: &[u8]) -> Result<(), SigErro
     }
 }
 
-/// Verifies a signature of one tree (RFC 8554, section 5.4.2, algorithm 6). It takes all heights and
-/// widths, and no memory.
+/// Verifies a signature of one tree (RFC 8554, section 5.4.2, algorithm 6). It takes all heights
+/// and widths, and no memory.
 ///
 /// # Errors
 /// The first that holds: `BadKey` where `read_key` gives nothing, `BadLength`, `TypeDiffers`,

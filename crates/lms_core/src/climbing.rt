@@ -1,3 +1,4 @@
+//! The path of a leaf, and the way up along it.
 ghost use Rattle.std.specs.Prelude.{◌≡◌, ◌+◌, ◌*◌, ◌<◌, ◌≤◌, ◌^◌, ◌++◌, length};
 ghost use Rattle.lmots_core.specs.Strings.{joined};
 ghost use Rattle.lms_core.specs.Heights.{height};
@@ -24,7 +25,8 @@ pub fn put_path(key: &PrivateKey, nodes: &[[u8; 32]], q: u32, out: &mut SigBuf)
     }
 }
 
-// The node so many levels above a place, from the value there and the path (RFC 8554, algorithm 6a).
+// The node so many levels above a place, from the value there and the path (RFC 8554, algorithm
+// 6a).
 #[tactic(auto, unfolding(crate::specs::Trees::climbed))]
 pub fn climb(id: &[u8; 16], place: u32, path: &[u8], value: [u8; 32], levels: u32) -> [u8; 32]
     requires { length path.now ≡ 32 * levels }

@@ -1,7 +1,9 @@
+//! A tree with its nodes, which signs.
 ghost use Rattle.std.specs.Prelude.{◌≡◌, ℕ, ◌+◌, ◌*◌, ◌<◌, ◌≤◌, ◌^◌, ◌++◌, [], length, slice_index_or, IfOk};
 ghost use Rattle.lms_core.specs.Heights.{height, lms_signature_length};
 ghost use Rattle.lms_core.specs.Trees.{lms_public, lms_signature, private_key};
 
+use crate::checking::PUBLIC_KEY_LEN;
 use crate::climbing::put_path;
 use crate::growing::{fill_inner, fill_leaves};
 use crate::heights::LmsType;
@@ -11,8 +13,8 @@ use mtc_io::Memory;
 use std::alloc::Global;
 use std::marker::Model;
 
-/// A tree of one-time keys with all its nodes: 2 kilobytes at height 5, 64 at height 10. Contracts see
-/// its private key.
+/// A tree of one-time keys with all its nodes: 2 kilobytes at height 5, 64 at height 10. Contracts
+/// see its private key.
 #[derive(Drop)]
 pub struct Tree {
     key: PrivateKey,
@@ -34,8 +36,8 @@ impl Model for Tree {
 }
 
 impl Tree {
-    /// Makes the tree of a secret: 16 bytes of identifier and 32 of seed, at height 5 or 10. It hashes
-    /// every chain of every one-time key.
+    /// Makes the tree of a secret: 16 bytes of identifier and 32 of seed, at height 5 or 10. It
+    /// hashes every chain of every one-time key.
     ///
     /// # Errors
     /// `Memory`, where there is no room for the nodes.
@@ -48,12 +50,29 @@ impl Tree {
         requires { height lms ≤ 10 }
         ensures { IfOk result (λ t. t ≡ private_key lms ots secret.now) }
     {
-        let key = PrivateKey::of_secret(lms, ots, secret);
-        let leaves = lms.leaves();
+        Tree::of_key(alloc, PrivateKey::of_secret(lms, ots, secret))
+    }
+
+    /// Makes the tree of a private key, at height 5 or 10, as `make` does of a secret.
+    ///
+    /// # Errors
+    /// `Memory`, where there is no room for the nodes.
+    pub fn of_key(alloc: Global, key: PrivateKey) -> Result<Tree, Memory>
+        requires { height key.lms ≤ 10 }
+        ensures { IfOk result (λ t. t ≡ key) }
+    {
+        let leaves = key.lms.leaves();
         let mut nodes = vec![in alloc; [0u8; 32]; 2 * leaves as usize]?;
         fill_leaves(&key, leaves, &mut nodes);
         fill_inner(&key, leaves, &mut nodes);
         Ok(Tree { key, nodes })
+    }
+
+    /// Its private key.
+    pub fn key(&self) -> PrivateKey
+        ensures { result ≡ self.now }
+    {
+        self.key
     }
 
     /// The number of its one-time keys.
@@ -65,10 +84,10 @@ impl Tree {
 
     /// The public key: both typecodes, the identifier and the root (RFC 8554, section 5.3).
     #[tactic(auto, unfolding(crate::specs::Trees::lms_public))]
-    pub fn public(&self) -> [u8; 56]
+    pub fn public(&self) -> [u8; PUBLIC_KEY_LEN]
         ensures { result ≡ lms_public self.now }
     {
-        let mut public = [0; 56];
+        let mut public = [0; PUBLIC_KEY_LEN];
         put(&mut public, 0, &self.key.lms.typecode().to_be_bytes());
         put(&mut public, 4, &self.key.ots.typecode().to_be_bytes());
         put(&mut public, 8, &self.key.id);
@@ -76,9 +95,9 @@ impl Tree {
         public
     }
 
-    /// Puts the signature of a message by one-time key `q` behind what `out` holds (RFC 8554, section
-    /// 5.4.1). It is the same each time, and no two messages may be signed with one `q`: the caller
-    /// counts.
+    /// Puts the signature of a message by one-time key `q` behind what `out` holds (RFC 8554,
+    /// section 5.4.1). It is the same each time, and no two messages may be signed with one `q`:
+    /// the caller counts.
     #[tactic(auto, unfolding(crate::specs::Trees::lms_signature))]
     pub fn sign(&self, q: u32, message: &[u8], out: &mut SigBuf)
         requires index { q < 2 ^ height self.now.lms }

@@ -1,3 +1,4 @@
+//! What follows of every tree.
 ghost use Rattle.std.specs.Prelude.{◌≡◌, ℕ, List, ◌<◌, ◌^◌, length};
 ghost use Rattle.lms_core.specs.Heights.{height};
 ghost use Rattle.lms_core.specs.Refusals.{SignatureVerifies};

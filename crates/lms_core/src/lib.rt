@@ -1,8 +1,9 @@
 //! LMS, the hash trees of one-time keys of RFC 8554, with SHA-256 and 32-byte values.
 //!
-//! A `Tree` of height 5 or 10 is made from a secret of 48 bytes: an identifier of 16 bytes and a seed
-//! of 32. It keeps all its nodes and signs with any of its one-time keys; that no number signs twice is
-//! what its owner counts (`hss_core`). `verify` takes signatures of all five heights and four widths.
+//! A `Tree` of height 5 or 10 is made from a secret of 48 bytes: an identifier of 16 bytes and a
+//! seed of 32. It keeps all its nodes and signs with any of its one-time keys; that no number signs
+//! twice is what its owner counts (`hss_core`). `verify` takes signatures of all five heights and
+//! four widths.
 #![tactic(auto)]
 
 mod checking;
@@ -16,7 +17,7 @@ mod private_key;
 mod refusals;
 mod whole;
 
-pub use checking::{check, read_key, verify};
+pub use checking::{PUBLIC_KEY_LEN, check, read_key, verify};
 pub use heights::LmsType;
 pub use key_tree::Tree;
 pub use laws::signature_verifies;

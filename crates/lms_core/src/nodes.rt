@@ -1,11 +1,12 @@
+//! The values of single nodes.
 ghost use Rattle.std.specs.Prelude.{◌≡◌, ◌+◌, ◌<◌, ◌≤◌, ◌^◌};
 ghost use Rattle.lms_core.specs.Heights.{height};
 ghost use Rattle.lms_core.specs.Trees.{inner_node, leaf_node, parent, private_key, sibling, tree_value};
 
 use crate::heights::LmsType;
 use crate::private_key::PrivateKey;
-use lmots_core::{OtsType, public, read_32};
-use sha2::{Digest, Sha256};
+use lmots_core::{OtsType, marked_hasher, public, read_32};
+use sha2::Digest;
 
 // D_LEAF: the hash that is a leaf goes on with these two bytes (RFC 8554, section 5.3).
 const LEAF_MARK: [u8; 2] = [0x82, 0x82];
@@ -18,10 +19,7 @@ const INNER_MARK: [u8; 2] = [0x83, 0x83];
 pub fn leaf_node(id: &[u8; 16], place: u32, key: &[u8; 32]) -> [u8; 32]
     ensures { result ≡ leaf_node id.now place key.now }
 {
-    let mut hasher = Sha256::new();
-    hasher.update(id);
-    hasher.update(&place.to_be_bytes());
-    hasher.update(&LEAF_MARK);
+    let mut hasher = marked_hasher(id, place, &LEAF_MARK);
     hasher.update(key);
     hasher.finalize()
 }
@@ -31,10 +29,7 @@ pub fn leaf_node(id: &[u8; 16], place: u32, key: &[u8; 32]) -> [u8; 32]
 pub fn inner_node(id: &[u8; 16], place: u32, left: &[u8; 32], right: &[u8; 32]) -> [u8; 32]
     ensures { result ≡ inner_node id.now place left.now right.now }
 {
-    let mut hasher = Sha256::new();
-    hasher.update(id);
-    hasher.update(&place.to_be_bytes());
-    hasher.update(&INNER_MARK);
+    let mut hasher = marked_hasher(id, place, &INNER_MARK);
     hasher.update(left);
     hasher.update(right);
     hasher.finalize()
@@ -76,7 +71,7 @@ impl PrivateKey {
 
     // The leaf of one-time key q.
     #[tactic(auto, unfolding(crate::specs::Trees::tree_value))]
-    pub fn leaf(&self, q: u32) -> [u8; 32]
+    pub(crate) fn leaf(&self, q: u32) -> [u8; 32]
         requires { q < 2 ^ height self.now.lms }
         ensures { result ≡ tree_value self.now 0 (2 ^ height self.now.lms + q) }
     {

@@ -1,3 +1,4 @@
+//! The private key of a tree.
 use crate::heights::LmsType;
 use lmots_core::OtsType;
 

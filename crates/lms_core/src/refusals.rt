@@ -1,5 +1,6 @@
-/// Why a signature is refused, in the order of the tests. With several levels of trees the first two
-/// are tested once, and then each level from the top for the other three.
+//! Why a signature is refused.
+/// Why a signature is refused, in the order of the tests. With several levels of trees the first
+/// two are tested once, and then each level from the top for the other three.
 #[derive(Clone, Copy, Debug, PartialEq, Eq)]
 pub enum SigError {
     /// The public key has another length than its grammar's, or names an unknown type or number of

@@ -1,3 +1,4 @@
+//! The signature that bytes begin with.
 ghost use Rattle.std.specs.Prelude.{◌≡◌, ◌≤◌, length, IfSome, Some};
 ghost use Rattle.lms_core.specs.Heights.{lms_signature_length};
 ghost use Rattle.lms_core.specs.Refusals.{front_types, front_with};
@@ -26,8 +27,8 @@ fn front_with(ots: OtsType, bytes: &[u8]) -> Option<(LmsType, OtsType)>
     }
 }
 
-/// The types of the signature that the bytes begin with, by its own typecodes; `None` where they begin
-/// with no whole signature. What stands behind it is not looked at.
+/// The types of the signature that the bytes begin with, by its own typecodes; `None` where they
+/// begin with no whole signature. What stands behind it is not looked at.
 #[tactic(auto, unfolding(crate::specs::Refusals::front_types))]
 pub fn front(bytes: &[u8]) -> Option<(LmsType, OtsType)>
     ensures types { result ≡ front_types bytes.now }
