@@ -1,3 +1,4 @@
+//! What a key, a message and a signature are answered.
 ghost use Rattle.std.specs.Prelude.{◌≡◌, ◌≤◌, length, IfSome};
 ghost use Rattle.lms_core.specs.Refusals.{answer_of};
 ghost use Rattle.hss_core.specs.Hss.{hss_key_types, hss_refusal};
@@ -6,6 +7,9 @@ use crate::levels::{check_levels, parts_fit};
 use lmots_core::{OtsType, read_u32};
 use lms_core::{LmsType, SigError};
 
+/// The bytes of a public key (RFC 8554, section 6.1): the number of levels and the top tree's key.
+pub const PUBLIC_KEY_LEN: usize = 60;
+
 /// The number of levels and the types of the top tree of a public key; `None` where it has not 60
 /// bytes, not 1 to 8 levels, or an unknown typecode (RFC 8554, section 6.1).
 #[tactic(auto, unfolding(crate::specs::Hss::hss_key_types))]
@@ -13,7 +17,7 @@ pub fn read_key(public: &[u8]) -> Option<(u32, LmsType, OtsType)>
     ensures types { result ≡ hss_key_types public.now }
     ensures within { IfSome result (λ k. (length public.now ≡ 60) × (1 ≤ k.0) × (k.0 ≤ 8)) }
 {
-    if public.len() != 60 {
+    if public.len() != PUBLIC_KEY_LEN {
         return None;
     }
     let levels = read_u32(public, 0);
@@ -29,10 +33,10 @@ pub fn read_key(public: &[u8]) -> Option<(u32, LmsType, OtsType)>
 /// Verifies a signature of 1 to 8 levels (RFC 8554, section 6.3). It takes no memory.
 ///
 /// # Errors
-/// The first that holds: `BadKey` where `read_key` gives nothing; `BadLength` where the signature is
-/// not made of whole parts, by the number of levels and the types that it names itself; `TypeDiffers`
-/// where that number is not the key's. Then each level from the top: `TypeDiffers`, `BadIndex`,
-/// `WrongRoot`.
+/// The first that holds: `BadKey` where `read_key` gives nothing; `BadLength` where the signature
+/// is not made of whole parts, by the number of levels and the types that it names itself;
+/// `TypeDiffers` where that number is not the key's. Then each level from the top: `TypeDiffers`,
+/// `BadIndex`, `WrongRoot`.
 #[tactic(auto, unfolding(crate::specs::Hss::hss_refusal))]
 pub fn verify(public: &[u8], message: &[u8], signature: &[u8]) -> Result<(), SigError>
     ensures { result ≡ answer_of (hss_refusal public.now message.now signature.now) }

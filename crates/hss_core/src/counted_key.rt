@@ -1,16 +1,18 @@
+//! A key of one level that counts its one-time keys.
 ghost use Rattle.std.specs.Prelude.{◌≡◌, ◌+◌, ◌-◌, ◌<◌, ◌≤◌, ◌^◌, length, IfOk, None};
 ghost use Rattle.lms_core.specs.Heights.{height, lms_signature_length};
 ghost use Rattle.lms_core.specs.Trees.{private_key};
-ghost use Rattle.hss_core.specs.Hss.{hss_public, hss_signature, Verifies};
+ghost use Rattle.hss_core.specs.Hss.{one_level_public, one_level_signature, Verifies};
 
+use crate::checking::PUBLIC_KEY_LEN;
 use lmots_core::{OtsType, SigBuf, put};
 use lms_core::{LmsType, Tree};
 use mtc_io::Memory;
 use std::alloc::Global;
 use std::marker::Model;
 
-/// A key of one level that counts: it uses each of its one-time keys once, in their order. Contracts
-/// see the private key of its tree and the next number.
+/// A key of one level that counts: it uses each of its one-time keys once, in their order.
+/// Contracts see the private key of its tree and the next number.
 #[derive(Drop)]
 pub struct Key {
     tree: Tree,
@@ -30,8 +32,8 @@ impl Model for Key {
 }
 
 impl Key {
-    /// Makes the key of a secret, 16 bytes of identifier and 32 of seed, at height 5 or 10, of which
-    /// the one-time keys below `next` are used.
+    /// Makes the key of a secret, 16 bytes of identifier and 32 of seed, at height 5 or 10, of
+    /// which the one-time keys below `next` are used.
     ///
     /// # Errors
     /// `Memory`, where there is no room for the tree.
@@ -44,7 +46,8 @@ impl Key {
     ) -> Result<Key, Memory>
         requires height { height lms ≤ 10 }
         requires index { next ≤ 2 ^ height lms }
-        ensures { IfOk result (λ k. k ≡ record { key = private_key lms ots secret.now; next = next }) }
+        ensures { let key = private_key lms ots secret.now in
+            IfOk result (λ k. k ≡ record { key = key; next = next }) }
     {
         let tree = Tree::make(alloc, lms, ots, secret)?;
         Ok(Key { tree, next })
@@ -65,24 +68,24 @@ impl Key {
     }
 
     /// The public key: the number of levels, 1, and that of the tree (RFC 8554, section 6.1).
-    #[tactic(auto, unfolding(crate::specs::Hss::hss_public))]
-    pub fn public(&self) -> [u8; 60]
-        ensures { result ≡ hss_public self.now.key }
+    #[tactic(auto, unfolding(crate::specs::Hss::one_level_public))]
+    pub fn public(&self) -> [u8; PUBLIC_KEY_LEN]
+        ensures { result ≡ one_level_public self.now.key }
     {
-        let mut public = [0; 60];
+        let mut public = [0; PUBLIC_KEY_LEN];
         put(&mut public, 0, &1u32.to_be_bytes());
         put(&mut public, 4, &self.tree.public());
         public
     }
 
-    /// Makes the signature of a message by the next one-time key the whole of `out`, and counts that
-    /// key as used (RFC 8554, section 6.2). The caller sees to it that one is left.
-    #[tactic(auto, unfolding(crate::specs::Hss::hss_signature))]
+    /// Makes the signature of a message by the next one-time key the whole of `out`, and counts
+    /// that key as used (RFC 8554, section 6.2). The caller sees to it that one is left.
+    #[tactic(auto, unfolding(crate::specs::Hss::one_level_signature))]
     pub fn sign(&mut self, message: &[u8], out: &mut SigBuf)
         requires { self.old.next < 2 ^ height self.old.key.lms }
-        ensures signature { out.new ≡ hss_signature self.old.key self.old.next message.now }
+        ensures signature { out.new ≡ one_level_signature self.old.key self.old.next message.now }
         ensures counted { self.new ≡ record self.old { next = self.old.next + 1 } }
-        ensures verifies { Verifies (hss_public self.old.key) message.now out.new }
+        ensures verifies { Verifies (one_level_public self.old.key) message.now out.new }
         ensures size { length out.new ≡ 4 + lms_signature_length self.old.key.lms self.old.key.ots }
     {
         out.clear();

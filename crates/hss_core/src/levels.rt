@@ -1,17 +1,18 @@
-ghost use Rattle.std.specs.Prelude.{◌≡◌, ◌≤◌, true, length};
+//! The parts of a signature of several levels, and their checks from the top down.
+ghost use Rattle.std.specs.Prelude.{◌≡◌, ◌≤◌, true, length, IfSome};
 ghost use Rattle.lms_core.specs.Refusals.{answer_of};
 ghost use Rattle.hss_core.specs.Hss.{front_length, levels_refusal, parts_fit};
 
-use lms_core::{SigError, check, front};
+use lms_core::{PUBLIC_KEY_LEN, SigError, check, front};
 
-// The bytes of the LMS signature that these begin with; 0 where they begin with none.
-fn front_len(bytes: &[u8]) -> usize
+// The bytes of the LMS signature that these begin with, where they begin with one.
+fn front_len(bytes: &[u8]) -> Option<usize>
     ensures value { result ≡ front_length bytes.now }
-    ensures within { result ≤ length bytes.now }
+    ensures within { IfSome result (λ n. n ≤ length bytes.now) }
 {
     match front(bytes) {
-        None => 0,
-        Some((lms, ots)) => lms.signature_len(ots),
+        None => None,
+        Some((lms, ots)) => Some(lms.signature_len(ots)),
     }
 }
 
@@ -22,15 +23,19 @@ pub fn parts_fit(count: u32, bytes: &[u8]) -> bool
 {
     let mut rest = bytes;
     for done in 0..count {
-        let length = front_len(rest);
-        if length == 0 || rest.len() - length < 56 {
+        let Some(length) = front_len(rest) else {
+            return false;
+        };
+        if rest.len() - length < PUBLIC_KEY_LEN {
             return false;
         }
-        let (_, behind) = rest.split_at(length + 56);
+        let (_, behind) = rest.split_at(length + PUBLIC_KEY_LEN);
         rest = behind;
     }
-    let length = front_len(rest);
-    length != 0 && length == rest.len()
+    match front_len(rest) {
+        None => false,
+        Some(length) => length == rest.len(),
+    }
 }
 
 // Checks the levels from the top: each signed key by the key above it, and the message by the last.
@@ -43,8 +48,11 @@ pub fn check_levels(count: u32, key: &[u8], message: &[u8], bytes: &[u8]) -> Res
     let mut key = key;
     let mut rest = bytes;
     for done in 0..count {
-        let (signature, behind) = rest.split_at(front_len(rest));
-        let (next, behind) = behind.split_at(56);
+        let Some(length) = front_len(rest) else {
+            return Err(SigError::BadLength);
+        };
+        let (signature, behind) = rest.split_at(length);
+        let (next, behind) = behind.split_at(PUBLIC_KEY_LEN);
         match check(key, next, signature) {
             Err(refusal) => return Err(refusal),
             Ok(()) => {}

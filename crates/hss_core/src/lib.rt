@@ -1,8 +1,9 @@
 //! HSS, levels of LMS trees after RFC 8554, with SHA-256: the signatures of cosigners.
 //!
-//! A `Key` has one level, of height 5 or 10, and counts: each signature uses the next one-time key of
-//! its tree. It keeps its count in memory alone, so its owner writes down that a number is used before
-//! the signature goes out. `verify` takes 1 to 8 levels of all heights and widths, and no memory.
+//! A `Key` has one level, of height 5 or 10, and counts: each signature uses the next one-time key
+//! of its tree. It keeps its count in memory alone, so its owner writes down that a number is used
+//! before the signature goes out. `verify` takes 1 to 8 levels of all heights and widths, and no
+//! memory.
 #![tactic(auto)]
 
 mod checking;
@@ -10,8 +11,8 @@ mod counted_key;
 mod laws;
 mod levels;
 
-pub use checking::{read_key, verify};
+pub use checking::{PUBLIC_KEY_LEN, read_key, verify};
 pub use counted_key::Key;
-pub use laws::signature_verifies;
+pub use laws::{signature_verifies, signed_key_verifies};
 pub use lmots_core::{OtsType, SigBuf};
 pub use lms_core::{LmsType, SigError};

@@ -7,7 +7,7 @@ use Rattle.lmots_core.specs.declared.parameters.OtsType.TheVariants.{W1, W2, W4,
 use Rattle.lms_core.specs.declared.heights.LmsType.{LmsType}
 use Rattle.lms_core.specs.declared.heights.LmsType.TheVariants.{H5, H10}
 use Rattle.lms_core.specs.Trees.{private_key}
-use Rattle.hss_core.specs.Hss.{hss_public}
+use Rattle.hss_core.specs.Hss.{one_level_public}
 use Rattle.mtc_answers.specs.declared.answer.Said.TheVariants.{Done}
 use Rattle.mtc_answers.specs.declared.answer.Stopped.TheVariants.{BadForm}
 use Rattle.mtc_answers.specs.Lines.{file_line}
@@ -22,7 +22,7 @@ ots_type n = if n == 1 then W1 else (if n == 2 then W2 else (if n == 4 then W4 e
 
 -- the public key of a secret, in base64
 abbrev pub public_text : ℕ → ℕ → List ℕ → List ℕ
-public_text height width secret = encode_of standard (hss_public (private_key (lms_type height) (ots_type width) secret))
+public_text height width secret = encode_of standard (one_level_public (private_key (lms_type height) (ots_type width) secret))
 
 -- a secret file has 48 bytes: 16 of identifier and 32 of seed
 abbrev pub keygen_says : ℕ → ℕ → List ℕ → List ℕ → Outcome
