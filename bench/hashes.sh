@@ -13,7 +13,7 @@ build_and_run hashes tree_core anyhow
 grep -E '^(1048576|64) [0-9]+ [0-9]+$' "$work/printed" > "$work/ours.txt"
 
 peer="OpenSSL in C"
-if ! gcc -O2 -o "$work/peer" "$root/bench/hashes/peer.c" -lcrypto 2> "$work/peer.err" || ! "$work/peer" > "$work/theirs.txt"; then
+if ! gcc -O2 -Wno-deprecated-declarations -o "$work/peer" "$root/bench/hashes/peer.c" -lcrypto 2> "$work/peer.err" || ! "$work/peer" > "$work/theirs.txt"; then
     peer="openssl speed"
     for length in 1048576 64; do
         openssl speed -seconds 1 -bytes "$length" -evp sha256 2>/dev/null | awk -v length_in="$length" \

@@ -1,18 +1,20 @@
-#include <openssl/evp.h>
+#include <openssl/sha.h>
 #include <stdio.h>
 #include <stdlib.h>
 #include <string.h>
 #include <time.h>
 
+/* The calls for SHA-256 alone: those for any digest look the algorithm up for each message, which takes some three times
+   as long as to hash 64 bytes. */
 static void measured(unsigned char *message, size_t length, long count) {
     struct timespec a, b;
     unsigned char digest[32];
-    EVP_MD_CTX *running = EVP_MD_CTX_new();
+    SHA256_CTX running;
     clock_gettime(CLOCK_THREAD_CPUTIME_ID, &a);
     for (long i = 0; i < count; i++) {
-        EVP_DigestInit_ex(running, EVP_sha256(), NULL);
-        EVP_DigestUpdate(running, message, length);
-        EVP_DigestFinal_ex(running, digest, NULL);
+        SHA256_Init(&running);
+        SHA256_Update(&running, message, length);
+        SHA256_Final(digest, &running);
         message[0] = digest[0];
     }
     clock_gettime(CLOCK_THREAD_CPUTIME_ID, &b);
