@@ -1,9 +1,9 @@
 -- Evaluation from the leaf up, one level after another, is the definition's recursion from the
 -- root down.
-use Rattle.std.proofs.Common.{◌≡◌, ℕ, ◌+◌, ◌*◌, ◌-◌, ◌/◌, ◌%◌, ◌<◌, ◌≤◌, ◌⊎◌, ⊎_elim, true, false, ◌&&◌, eqb, ltb, leb, List, [], ◌∷◌, ◌++◌, length, drop, get_or, Some, None, Err, sym, ◌∙◌, ap, refl, arith}
-use Rattle.std.specs.Prelude.{option_map, reverse}
+use Rattle.std.proofs.Common.{◌≡◌, ℕ, ◌+◌, ◌*◌, ◌-◌, ◌/◌, ◌%◌, ◌<◌, ◌≤◌, ◌⊎◌, ⊎_elim, Bool, true, false, ◌&&◌, cond, eqb, ltb, leb, List, [], ◌∷◌, ◌++◌, length, drop, get_or, Some, None, Ok, Err, sym, ◌∙◌, ap, refl, arith}
+use Rattle.std.specs.Prelude.{Option, not, option_map, reverse}
 use Rattle.std.specs.Option.{ok_or}
-use Rattle.std.proofs.lemmas.Bool.{and_from, and_left, and_right, cond-true, cond-false, eq-eqb, ne_eqb, le-leb, lt-leb, le-ltb, lt-ltb, cases_lt, cases_eq, not_from_true, not_from_false}
+use Rattle.std.proofs.lemmas.Bool.{and_from, and_left, and_parts, and_right, leb-true, ltb-true, cond-true, cond-false, eq-eqb, ne_eqb, le-leb, lt-leb, le-ltb, lt-ltb, cases_lt, cases_eq, not_from_true, not_from_false}
 use Rattle.std.proofs.lemmas.List.{drop_more, drop_all, reverse-append}
 use Rattle.tree_core.proofs.Powers.{split_bounds, split_half, split_unique}
 use Rattle.tree_core.specs.declared.error.EvalError.TheVariants.{BadSubtree, Outside, WrongLength}
@@ -312,3 +312,41 @@ evaluation-value h leaf index start end path ok from below =
     let inside : (leb start index && ltb index end) ≡ true = and_from _ _ (le-leb start index from)
     (lt-ltb index end below) in
     cond-false _ _ _ (not_from_true _ ok) ∙ cond-false _ _ _ (not_from_true _ inside)
+
+-- a value is answered exactly for an index in a subtree, where the definition has it
+pub record HasValue (h : List ℕ → List ℕ) (leaf : List ℕ) (index start end : ℕ) (path : List (List ℕ))
+    (value : List ℕ) : Type 0 where
+  pub valid : is_subtree start end ≡ true
+  pub from : start ≤ index
+  pub below : index < end
+  pub gives : eval_of h (index - start) (end - start) leaf path ≡ Some value
+
+pub evaluation-ok : (h : List ℕ → List ℕ) (leaf : List ℕ) (index start end : ℕ) (path : List (List ℕ))
+    (value : List ℕ) → HasValue h leaf index start end path value
+    → evaluation h leaf index start end path ≡ Ok value
+evaluation-ok h leaf index start end path value has =
+    evaluation-value h leaf index start end path has.valid has.from has.below
+    ∙ ap (λ o. ok_or o WrongLength) has.gives
+
+pub ok-evaluation : (h : List ℕ → List ℕ) (leaf : List ℕ) (index start end : ℕ) (path : List (List ℕ))
+    (value : List ℕ) → evaluation h leaf index start end path ≡ Ok value
+    → HasValue h leaf index start end path value
+unfolding evaluation
+ok-evaluation h leaf index start end path value answer =
+    let tests = passed (is_subtree start end) (leb start index && ltb index end)
+    (eval_of h (index - start) (end - start) leaf path) answer in
+    let inside = and_parts (leb start index) (ltb index end) tests.1.0 in
+    record {
+      valid = tests.0;
+      from = leb-true start index inside.0;
+      below = ltb-true index end inside.1;
+      gives = tests.1.1;
+    }
+  where
+    passed : (valid inside : Bool) (o : Option (List ℕ))
+        → cond (not valid) (Err BadSubtree) (cond (not inside) (Err Outside) (ok_or o WrongLength)) ≡ Ok value
+        → (valid ≡ true) × ((inside ≡ true) × (o ≡ Some value))
+    passed true true (Some x) answer = let same : Some x ≡ Some value = cc in (refl, (refl, same))
+    passed true true None answer = cc
+    passed true false o answer = cc
+    passed false inside o answer = cc

@@ -1,19 +1,21 @@
 -- The inclusion path evaluates to the root, and only paths of its length have a value.
-use Rattle.std.proofs.Common.{◌≡◌, ℕ, zero, suc, ◌+◌, ◌-◌, ◌<◌, ◌≤◌, ⊎_elim, Bool, true, false, ◌&&◌, cond, eqb, List, [], ◌∷◌, ◌++◌, length, take, drop, get_or, Some, None, Err, sym, ◌∙◌, ap, refl, arith}
+use Rattle.std.proofs.Common.{◌≡◌, ℕ, zero, suc, ◌+◌, ◌-◌, ◌^◌, ◌<◌, ◌≤◌, ⊎_elim, Bool, true, false, ◌&&◌, cond, eqb, List, [], ◌∷◌, ◌++◌, length, take, drop, get_or, Some, None, Err, sym, ◌∙◌, ap, refl, arith}
 use Rattle.std.specs.Prelude.{Option, is_some, map, option_map, reverse}
 use Rattle.std.specs.Option.{ok_or}
 use Rattle.std.proofs.lemmas.Bool.{and_parts, eqb-true, false≢true, cases_lt, cond-false, cond-true, le-leb, le-ltb, lt-leb, lt-ltb}
-use Rattle.std.proofs.lemmas.List.{get_or-drop, get_or-map, get_or-take, length-drop, length-map, length-reverse, length-take, reverse-append}
+use Rattle.std.proofs.lemmas.List.{drop-map, get_or-drop, get_or-map, get_or-take, length-drop, length-map, length-reverse, length-take, reverse-append, take-map}
+use Rattle.std.proofs.lemmas.Nat.{pow_pos}
 use Rattle.tree_core.proofs.Evaluates.{eval-leaf, eval-left, eval-long, eval-right, evaluation-value}
-use Rattle.tree_core.proofs.Powers.{split_bounds}
+use Rattle.tree_core.proofs.Powers.{half_within, largest_unique, split_bounds}
 use Rattle.tree_core.proofs.Roots.{root_of-one, root_of-split}
 use Rattle.tree_core.proofs.Subtrees.{is_subtree-from}
 use Rattle.tree_core.specs.declared.error.EvalError.TheVariants.{WrongLength}
 use Rattle.tree_core.specs.Evaluation.{eval_from_root, eval_of}
-use Rattle.tree_core.specs.Path.{part_of, path_of, path_within}
-use Rattle.tree_core.specs.PathLaws.{PathsByLength, PathsEvaluate, SubtreePathsEvaluate, WrongLengthByPath}
+use Rattle.tree_core.specs.Path.{inclusion_path, part_of, path_of, path_within}
+use Rattle.tree_core.specs.Laws.{IsLargestPowerBelow}
+use Rattle.tree_core.specs.PathLaws.{IsPath, PathsByLength, PathsEvaluate, SubtreePathsEvaluate, WrongLengthByPath}
 use Rattle.tree_core.specs.Split.{split_of}
-use Rattle.tree_core.specs.Tree.{leaf_hash, pair_hash, root_of}
+use Rattle.tree_core.specs.Tree.{leaf_hash, pair_hash, root_of, tree_hash}
 
 -- The cases of the definition of a path.
 
@@ -40,6 +42,103 @@ path_within-right : (depth : ℕ) (h : List ℕ → List ℕ) (m : ℕ) (leaves 
 unfolding path_within
 path_within-right depth h m leaves more right =
     cond-false _ _ _ (lt-leb (length leaves) 1 more) ∙ cond-false _ _ _ (le-ltb m (split_of (length leaves)) right)
+
+-- a bound on the depth that is not below the number of leaves changes nothing
+path_within_more : (d e : ℕ) (h : List ℕ → List ℕ) (m : ℕ) (leaves : List (List ℕ))
+    → length leaves ≤ d → length leaves ≤ e → path_within d h m leaves ≡ path_within e h m leaves
+unfolding path_within
+path_within_more zero zero h m leaves small same = refl
+path_within_more zero (suc e) h m leaves small same = sym (path_within-one e h m leaves (omega arith))
+path_within_more (suc d) zero h m leaves small same = path_within-one d h m leaves (omega arith)
+path_within_more (suc d) (suc e) h m leaves small same =
+    let k = split_of (length leaves) in
+    let bounds = split_bounds (length leaves) in
+    let positive = bounds.positive in
+    let below = bounds.below in
+    let front = length-take (split_of (length leaves)) leaves in
+    let back = length-drop (split_of (length leaves)) leaves in
+    ⊎_elim
+    (λ (more : 1 < length leaves).
+    ⊎_elim
+    (λ (left : m < split_of (length leaves)).
+    path_within-left d h m leaves more left
+    ∙ ap (λ p. p ++ root_of h (drop k leaves) ∷ [])
+    (path_within_more d e h m (take (split_of (length leaves)) leaves) (omega arith) (omega arith))
+    ∙ sym (path_within-left e h m leaves more left))
+    (λ (right : split_of (length leaves) ≤ m).
+    path_within-right d h m leaves more right
+    ∙ ap (λ p. p ++ root_of h (take k leaves) ∷ [])
+    (path_within_more d e h (m - k) (drop (split_of (length leaves)) leaves) (omega arith) (omega arith))
+    ∙ sym (path_within-right e h m leaves more right))
+    (cases_lt m (split_of (length leaves))))
+    (λ (one : length leaves ≤ 1).
+    path_within-one d h m leaves one ∙ sym (path_within-one e h m leaves one))
+    (cases_lt 1 (length leaves))
+
+-- The cases of the whole definition, which has no bound on the depth.
+
+pub path_of-one : (h : List ℕ → List ℕ) (m : ℕ) (leaves : List (List ℕ)) → length leaves ≤ 1
+    → path_of h m leaves ≡ []
+unfolding path_of path_within
+path_of-one h m [] one = refl
+path_of-one h m (x ∷ rest) one = path_within-one (length rest) h m (x ∷ rest) one
+
+pub path_of-left : (h : List ℕ → List ℕ) (m k : ℕ) (leaves : List (List ℕ)) → 1 < length leaves
+    → split_of (length leaves) ≡ k → m < k
+    → path_of h m leaves ≡ path_of h m (take k leaves) ++ root_of h (drop k leaves) ∷ []
+unfolding path_of
+path_of-left h m k [] more is left = let none : ⊥ = omega arith in absurd none
+path_of-left h m k (x ∷ rest) more is left =
+    let leaves : List (List ℕ) = x ∷ rest in
+    let bounds = split_bounds (length (x ∷ rest)) in
+    let below = bounds.below in
+    let front = length-take (split_of (length (x ∷ rest))) (x ∷ rest) in
+    path_within-left (length rest) h m (x ∷ rest) more (omega arith)
+    ∙ ap (λ p. p ++ root_of h (drop (split_of (length leaves)) leaves) ∷ [])
+    (path_within_more (length rest) (length (take (split_of (length leaves)) leaves)) h m
+    (take (split_of (length leaves)) leaves) (omega arith) (omega arith))
+    ∙ ap (λ k. path_of h m (take k leaves) ++ root_of h (drop k leaves) ∷ []) is
+
+pub path_of-right : (h : List ℕ → List ℕ) (m k : ℕ) (leaves : List (List ℕ)) → 1 < length leaves
+    → split_of (length leaves) ≡ k → k ≤ m
+    → path_of h m leaves ≡ path_of h (m - k) (drop k leaves) ++ root_of h (take k leaves) ∷ []
+unfolding path_of
+path_of-right h m k [] more is right = let none : ⊥ = omega arith in absurd none
+path_of-right h m k (x ∷ rest) more is right =
+    let leaves : List (List ℕ) = x ∷ rest in
+    let bounds = split_bounds (length (x ∷ rest)) in
+    let positive = bounds.positive in
+    let back = length-drop (split_of (length (x ∷ rest))) (x ∷ rest) in
+    path_within-right (length rest) h m (x ∷ rest) more (omega arith)
+    ∙ ap (λ p. p ++ root_of h (take (split_of (length leaves)) leaves) ∷ [])
+    (path_within_more (length rest) (length (drop (split_of (length leaves)) leaves)) h
+    (m - split_of (length leaves)) (drop (split_of (length leaves)) leaves) (omega arith) (omega arith))
+    ∙ ap (λ k. path_of h (m - k) (drop k leaves) ++ root_of h (take k leaves) ∷ []) is
+
+-- the same over entries, with the split in the standard's words
+pub IsPath_always : (h : List ℕ → List ℕ) → IsPath h
+IsPath_always h = record {
+  one = λ entry. path_of-one h 0 (map (leaf_hash h) (entry ∷ [])) (omega arith);
+  left = λ entries m k is left.
+      let split = is_split entries k is in
+      path_of-left h m k (map (leaf_hash h) entries) split.0 split.1 left
+      ∙ ap (λ l. path_of h m l ++ root_of h (drop k (map (leaf_hash h) entries)) ∷ []) (take-map (leaf_hash h) k entries)
+      ∙ ap (λ r. inclusion_path h m (take k entries) ++ root_of h r ∷ []) (drop-map (leaf_hash h) k entries);
+  right = λ entries m k is right within.
+      let split = is_split entries k is in
+      path_of-right h m k (map (leaf_hash h) entries) split.0 split.1 right
+      ∙ ap (λ l. path_of h (m - k) l ++ root_of h (take k (map (leaf_hash h) entries)) ∷ []) (drop-map (leaf_hash h) k entries)
+      ∙ ap (λ r. inclusion_path h (m - k) (drop k entries) ++ root_of h r ∷ []) (take-map (leaf_hash h) k entries);
+}
+  where
+    is_split : (entries : List (List ℕ)) (k : ℕ) → IsLargestPowerBelow (length entries) k
+        → (1 < length (map (leaf_hash h) entries)) × (split_of (length (map (leaf_hash h) entries)) ≡ k)
+    is_split entries k is =
+        let size = length-map entries (leaf_hash h) in
+        let positive = pow_pos is.power.0 in
+        let power = is.power.1 in
+        let below = is.below in
+        (omega arith, ap split_of size ∙ sym (largest_unique (length entries) k is))
 
 -- the path of one leaf
 path_evaluates-one : (h : List ℕ → List ℕ) (m : ℕ) (leaves : List (List ℕ)) → length leaves ≤ 1
@@ -147,6 +246,39 @@ value-right h m n leaf z q more right =
     ap is_some (eval-right h m n (split_of n) (m - split_of n) (n - split_of n) leaf z q more refl
     (omega arith) (omega arith))
     ∙ is_some-option_map (λ a. pair_hash h z a) (eval_from_root h (m - split_of n) (n - split_of n) leaf q)
+
+-- A path that has a value has no more hashes than the tree has levels.
+
+eval-height : (h : List ℕ → List ℕ) (q : List (List ℕ)) (m n height : ℕ) (leaf : List ℕ)
+    → n ≤ 2 ^ height → is_some (eval_from_root h m n leaf q) ≡ true → length q ≤ height
+eval-height h [] m n height leaf near some = omega arith
+eval-height h (z ∷ q) m n height leaf near some =
+    ⊎_elim
+    (λ (more : 1 < n).
+    let half = half_within n height more near in
+    let high = half.some in
+    let near_left = half.half in
+    let bounds = split_bounds n in
+    let near_right = bounds.half in
+    ⊎_elim
+    (λ (left : m < split_of n).
+    let rest = eval-height h q m (split_of n) (height - 1) leaf near_left (sym (value-left h m n leaf z q more left) ∙ some) in
+    omega arith)
+    (λ (right : split_of n ≤ m).
+    let rest = eval-height h q (m - split_of n) (n - split_of n) (height - 1) leaf (omega arith)
+    (sym (value-right h m n leaf z q more right) ∙ some) in
+    omega arith)
+    (cases_lt m (split_of n)))
+    (λ (one : n ≤ 1). absurd (false≢true (sym (value-long h m n leaf z q one) ∙ some)))
+    (cases_lt 1 n)
+
+pub eval_of-height : (h : List ℕ → List ℕ) (m n height : ℕ) (leaf value : List ℕ) (path : List (List ℕ))
+    → n ≤ 2 ^ height → eval_of h m n leaf path ≡ Some value → length path ≤ height
+unfolding eval_of
+eval_of-height h m n height leaf value path near is =
+    let size = length-reverse path in
+    let short = eval-height h (reverse path) m n height leaf near (ap is_some is) in
+    omega arith
 
 value_by_length : (h : List ℕ → List ℕ) (q r : List (List ℕ)) (m n : ℕ) (leaf other : List ℕ)
     → length q ≡ length r

@@ -1,6 +1,6 @@
 -- The split of a number and the power of two over it: bounds, and that these bounds determine
 -- them.
-use Rattle.std.proofs.Common.{◌≡◌, ℕ, zero, suc, ◌+◌, ◌*◌, ◌/◌, ◌^◌, ◌<◌, ◌≤◌, ⊎_elim, ltb, leb, max, sym, ◌∙◌, ap, refl, subst, arith}
+use Rattle.std.proofs.Common.{◌≡◌, ℕ, zero, suc, ◌+◌, ◌*◌, ◌-◌, ◌/◌, ◌^◌, ◌<◌, ◌≤◌, ⊎_elim, ltb, leb, max, sym, ◌∙◌, ap, refl, subst, arith}
 use Rattle.std.proofs.Math.Nat.{pow-succ'}
 use Rattle.std.proofs.Math.Pow.{pow_mono}
 use Rattle.std.proofs.lemmas.Bool.{cond_both, cond-true, cond-false, ltb-true, ltb-false, le-leb, lt-leb, cases_lt}
@@ -120,13 +120,32 @@ largest_unique n k is =
     let down = is.largest (split_of n) split.power split.below in
     omega arith
 
+-- the exponent of a power that lies below another is smaller
+pub exponent_below : (e f : ℕ) → 2 ^ e < 2 ^ f → e < f
+exponent_below e f lt =
+    ⊎_elim
+    (λ (less : e < f). less)
+    (λ (le : f ≤ e). let more : 2 ^ f ≤ 2 ^ e = pow_mono {i = f} {j = e} le in let no : ⊥ = omega arith in absurd no)
+    (cases_lt e f)
+
+-- each half of what a power of two bounds is bounded by the power below it
+pub record HasHalf (n e : ℕ) : Type 0 where
+  pub some : 1 ≤ e
+  pub half : split_of n ≤ 2 ^ (e - 1)
+
+pub half_within : (n e : ℕ) → 1 < n → n ≤ 2 ^ e → HasHalf n e
+half_within n e more within =
+    let power = split_power n in
+    let is = power.1 in
+    let bounds = split_bounds n in
+    let below = bounds.below in
+    let less : power.0 < e = exponent_below power.0 e (omega arith) in
+    let up : 2 ^ power.0 ≤ 2 ^ (e - 1) = pow_mono {i = power.0} {j = e - 1} (omega arith) in
+    record { some = omega arith; half = omega arith }
+
 -- a power of two above another is at least twice as large
 reach : (e f : ℕ) → 2 ^ e < 2 ^ f → 2 ^ suc e ≤ 2 ^ f
-reach e f h =
-    ⊎_elim
-    (λ (lt : e < f). pow_mono {i = suc e} {j = f} (omega arith))
-    (λ (le : f ≤ e). let down : 2 ^ f ≤ 2 ^ e = pow_mono {i = f} {j = e} le in omega arith)
-    (cases_lt e f)
+reach e f h = let lt = exponent_below e f h in pow_mono {i = suc e} {j = f} (omega arith)
 
 pub power_over_least : (n : ℕ) → IsLeastPowerFrom n (power_over n)
 power_over_least n =

@@ -1,10 +1,22 @@
 -- What holds of inclusion paths and their evaluation, for a hash function h.
-use Rattle.std.specs.Prelude.{◌≡◌, ◌≢◌, ℕ, ◌-◌, ◌<◌, ◌≤◌, ◌↔◌, List, [], length, map, slice_index_or, IsSome, Some, Ok, Err}
+use Rattle.std.specs.Prelude.{◌≡◌, ◌≢◌, ℕ, ◌-◌, ◌<◌, ◌≤◌, ◌↔◌, List, [], ◌∷◌, ◌++◌, length, take, drop, slice_index_or, IsSome, Some, Ok, Err}
 use Rattle.tree_core.specs.declared.error.EvalError.TheVariants.{WrongLength}
 use Rattle.tree_core.specs.Evaluation.{eval_of, evaluation}
-use Rattle.tree_core.specs.Laws.{IsSubtree}
-use Rattle.tree_core.specs.Path.{part_of, path_of}
+use Rattle.tree_core.specs.Laws.{IsLargestPowerBelow, IsSubtree}
+use Rattle.tree_core.specs.Path.{inclusion_path, part_of, path_of}
 use Rattle.tree_core.specs.Tree.{leaf_hash, root_of, tree_hash}
+
+-- the inclusion path of the one entry of a list has no hash; that of entry m of more is, for k the
+-- largest power of two below their number, the path in the first k and then the tree hash of the
+-- rest where m is below k, and else the path in the rest and then the tree hash of the first k
+pub record IsPath (h : List ℕ → List ℕ) : Type 0 where
+  pub one : (entry : List ℕ) → inclusion_path h 0 (entry ∷ []) ≡ []
+  pub left : (entries : List (List ℕ)) (m k : ℕ) → IsLargestPowerBelow (length entries) k → m < k
+      → inclusion_path h m entries ≡ inclusion_path h m (take k entries) ++ tree_hash h (drop k entries) ∷ []
+  pub right : (entries : List (List ℕ)) (m k : ℕ) → IsLargestPowerBelow (length entries) k
+      → k ≤ m → m < length entries
+      → inclusion_path h m entries
+      ≡ inclusion_path h (m - k) (drop k entries) ++ tree_hash h (take k entries) ∷ []
 
 -- the inclusion path of a leaf evaluates to the root
 abbrev pub PathsEvaluate : (List ℕ → List ℕ) → Type 0
@@ -24,7 +36,7 @@ SubtreePathsEvaluate h = (entries : List (List ℕ)) (index start end : ℕ)
     → IsSubtree start end → end ≤ length entries → start ≤ index → index < end
     → let part = part_of entries start end in
     let entry = slice_index_or entries index [] in
-    let path = path_of h (index - start) (map (leaf_hash h) part) in
+    let path = inclusion_path h (index - start) part in
     evaluation h (leaf_hash h entry) index start end path ≡ Ok (tree_hash h part)
 
 -- in a subtree and for an index in it, the answer is WrongLength exactly where the path is not as

@@ -1,4 +1,4 @@
-ghost use Rattle.std.specs.Prelude.{◌≡◌};
+ghost use Rattle.std.specs.Prelude.{◌≡◌, ◌≤◌, length, OnOk};
 ghost use Rattle.tree_core.specs.Evaluation.{evaluation, parent_hash};
 
 use crate::{EvalError, TreeHash, pair, subtree_ok};
@@ -20,7 +20,7 @@ fn parent<H: TreeHash>(place: u64, node: &[u8; 32], sibling: &[u8; 32]) -> [u8; 
 ///
 /// Refuses, the first that holds: `BadSubtree` where the interval is no subtree, `Outside` where
 /// the index is not in it, `WrongLength` where the path is not as long as the inclusion path of
-/// that index.
+/// that index, which has at most 64 hashes.
 pub fn evaluate<H: TreeHash>(
     leaf: &[u8; 32],
     index: u64,
@@ -28,7 +28,8 @@ pub fn evaluate<H: TreeHash>(
     end: u64,
     path: &[[u8; 32]],
 ) -> Result<[u8; 32], EvalError>
-    ensures { result ≡ evaluation H.hash leaf.now index start end path.now }
+    ensures exact { result ≡ evaluation H.hash leaf.now index start end path.now }
+    ensures short { OnOk result (length path.now ≤ 64) }
 {
     if !subtree_ok(start, end) {
         return Err(EvalError::BadSubtree);

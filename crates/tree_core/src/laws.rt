@@ -1,6 +1,6 @@
 ghost use Rattle.std.specs.Prelude.{ℕ, List};
 ghost use Rattle.tree_core.specs.Laws.{IsTreeHash, SplitsAtLargestPower, SubtreesByPower};
-ghost use Rattle.tree_core.specs.PathLaws.{PathsByLength, PathsEvaluate, SubtreePathsEvaluate};
+ghost use Rattle.tree_core.specs.PathLaws.{IsPath, PathsByLength, PathsEvaluate, SubtreePathsEvaluate};
 ghost use Rattle.tree_core.specs.PathLaws.{WrongLengthByPath};
 
 /// The law of the tree hash, for every hash function: the hash of no entries, of one, and of more
@@ -16,10 +16,11 @@ pub fn subtrees_by_power()
     ensures { SubtreesByPower }
 {}
 
-/// The law of inclusion paths, for every hash function: the inclusion path of an entry, as RFC
-/// 9162 (section 2.1.3.1) makes it, evaluates to the tree hash, and a path has a value exactly
-/// where it is as long as that one.
+/// The law of inclusion paths, for every hash function: the path of the only entry, and of one of
+/// more by their split at the largest power of two below their number (RFC 9162, section 2.1.3.1);
+/// it evaluates to the tree hash, and a path has a value exactly where it is as long as that one.
 pub fn inclusion_paths_evaluate()
+    ensures path { (h : List ℕ → List ℕ) → IsPath h }
     ensures evaluates { (h : List ℕ → List ℕ) → PathsEvaluate h }
     ensures lengths { (h : List ℕ → List ℕ) → PathsByLength h }
     ensures in_subtrees { (h : List ℕ → List ℕ) → SubtreePathsEvaluate h }
