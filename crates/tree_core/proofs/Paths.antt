@@ -13,7 +13,7 @@ use Rattle.tree_core.specs.declared.error.EvalError.TheVariants.{WrongLength}
 use Rattle.tree_core.specs.Evaluation.{eval_from_root, eval_of}
 use Rattle.tree_core.specs.Path.{inclusion_path, part_of, path_of, path_within}
 use Rattle.tree_core.specs.Laws.{IsLargestPowerBelow}
-use Rattle.tree_core.specs.PathLaws.{IsPath, PathsByLength, PathsEvaluate, SubtreePathsEvaluate, WrongLengthByPath}
+use Rattle.tree_core.specs.PathLaws.{IsInclusionPath, PathsByLength, PathsEvaluate, SubtreePathsEvaluate, WrongLengthByPath}
 use Rattle.tree_core.specs.Split.{split_of}
 use Rattle.tree_core.specs.Tree.{leaf_hash, pair_hash, root_of, tree_hash}
 
@@ -115,30 +115,32 @@ path_of-right h m k (x ∷ rest) more is right =
     (m - split_of (length leaves)) (drop (split_of (length leaves)) leaves) (omega arith) (omega arith))
     ∙ ap (λ k. path_of h (m - k) (drop k leaves) ++ root_of h (take k leaves) ∷ []) is
 
+-- the leaves of entries are split where the standard splits the entries
+pub split_of-entries : (h : List ℕ → List ℕ) (entries : List (List ℕ)) (k : ℕ)
+    → IsLargestPowerBelow (length entries) k
+    → (1 < length (map (leaf_hash h) entries)) × (split_of (length (map (leaf_hash h) entries)) ≡ k)
+split_of-entries h entries k is =
+    let size = length-map entries (leaf_hash h) in
+    let positive = pow_pos is.power.0 in
+    let power = is.power.1 in
+    let below = is.below in
+    (omega arith, ap split_of size ∙ sym (largest_unique (length entries) k is))
+
 -- the same over entries, with the split in the standard's words
-pub IsPath_always : (h : List ℕ → List ℕ) → IsPath h
-IsPath_always h = record {
+pub IsInclusionPath_always : (h : List ℕ → List ℕ) → IsInclusionPath h
+IsInclusionPath_always h = record {
   one = λ entry. path_of-one h 0 (map (leaf_hash h) (entry ∷ [])) (omega arith);
   left = λ entries m k is left.
-      let split = is_split entries k is in
+      let split = split_of-entries h entries k is in
       path_of-left h m k (map (leaf_hash h) entries) split.0 split.1 left
       ∙ ap (λ l. path_of h m l ++ root_of h (drop k (map (leaf_hash h) entries)) ∷ []) (take-map (leaf_hash h) k entries)
       ∙ ap (λ r. inclusion_path h m (take k entries) ++ root_of h r ∷ []) (drop-map (leaf_hash h) k entries);
   right = λ entries m k is right within.
-      let split = is_split entries k is in
+      let split = split_of-entries h entries k is in
       path_of-right h m k (map (leaf_hash h) entries) split.0 split.1 right
       ∙ ap (λ l. path_of h (m - k) l ++ root_of h (take k (map (leaf_hash h) entries)) ∷ []) (drop-map (leaf_hash h) k entries)
       ∙ ap (λ r. inclusion_path h (m - k) (drop k entries) ++ root_of h r ∷ []) (take-map (leaf_hash h) k entries);
 }
-  where
-    is_split : (entries : List (List ℕ)) (k : ℕ) → IsLargestPowerBelow (length entries) k
-        → (1 < length (map (leaf_hash h) entries)) × (split_of (length (map (leaf_hash h) entries)) ≡ k)
-    is_split entries k is =
-        let size = length-map entries (leaf_hash h) in
-        let positive = pow_pos is.power.0 in
-        let power = is.power.1 in
-        let below = is.below in
-        (omega arith, ap split_of size ∙ sym (largest_unique (length entries) k is))
 
 -- the path of one leaf
 path_evaluates-one : (h : List ℕ → List ℕ) (m : ℕ) (leaves : List (List ℕ)) → length leaves ≤ 1

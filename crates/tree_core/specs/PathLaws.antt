@@ -9,7 +9,7 @@ use Rattle.tree_core.specs.Tree.{leaf_hash, root_of, tree_hash}
 -- the inclusion path of the one entry of a list has no hash; that of entry m of more is, for k the
 -- largest power of two below their number, the path in the first k and then the tree hash of the
 -- rest where m is below k, and else the path in the rest and then the tree hash of the first k
-pub record IsPath (h : List ℕ → List ℕ) : Type 0 where
+pub record IsInclusionPath (h : List ℕ → List ℕ) : Type 0 where
   pub one : (entry : List ℕ) → inclusion_path h 0 (entry ∷ []) ≡ []
   pub left : (entries : List (List ℕ)) (m k : ℕ) → IsLargestPowerBelow (length entries) k → m < k
       → inclusion_path h m entries ≡ inclusion_path h m (take k entries) ++ tree_hash h (drop k entries) ∷ []

@@ -1,6 +1,6 @@
 ghost use Rattle.std.specs.Prelude.{ℕ, List};
 ghost use Rattle.tree_core.specs.Laws.{IsTreeHash, SplitsAtLargestPower, SubtreesByPower};
-ghost use Rattle.tree_core.specs.PathLaws.{IsPath, PathsByLength, PathsEvaluate, SubtreePathsEvaluate};
+ghost use Rattle.tree_core.specs.PathLaws.{IsInclusionPath, PathsByLength, PathsEvaluate, SubtreePathsEvaluate};
 ghost use Rattle.tree_core.specs.PathLaws.{WrongLengthByPath};
 
 /// The law of the tree hash, for every hash function: the hash of no entries, of one, and of more
@@ -20,7 +20,7 @@ pub fn subtrees_by_power()
 /// more by their split at the largest power of two below their number (RFC 9162, section 2.1.3.1);
 /// it evaluates to the tree hash, and a path has a value exactly where it is as long as that one.
 pub fn inclusion_paths_evaluate()
-    ensures path { (h : List ℕ → List ℕ) → IsPath h }
+    ensures path { (h : List ℕ → List ℕ) → IsInclusionPath h }
     ensures evaluates { (h : List ℕ → List ℕ) → PathsEvaluate h }
     ensures lengths { (h : List ℕ → List ℕ) → PathsByLength h }
     ensures in_subtrees { (h : List ℕ → List ℕ) → SubtreePathsEvaluate h }

@@ -6,12 +6,20 @@ use Rattle.std.proofs.Math.Pow.{pow_mono}
 use Rattle.std.proofs.lemmas.Bool.{cases_lt}
 use Rattle.std.proofs.lemmas.Nat.{div-add-mod', pow-add, pow_pos}
 use Rattle.tree_core.proofs.Covers.{IsSubtree_multiple}
-use Rattle.tree_core.proofs.Powers.{split_bounds, split_power}
+use Rattle.tree_core.proofs.Powers.{exponent_below, split_bounds, split_power}
 use Rattle.tree_core.proofs.Subtrees.{is_subtree-from, is_subtree_iff}
 use Rattle.tree_core.specs.Laws.{IsSubtree}
 use Rattle.tree_core.specs.Split.{split_of}
 use Rattle.tree_core.specs.Subtree.{is_subtree}
-use Rattle.tree_proofs.specs.Levels.{IsAligned}
+use Rattle.tree_proofs.specs.Full.{HasHalves}
+
+-- an interval that begins at a multiple of a power of two and is not longer than that power
+pub record IsAligned (start end : ℕ) : Type 0 where
+  pub inhabited : start < end
+  pub exponent : ℕ
+  pub multiple : ℕ
+  pub begins : start ≡ multiple * 2 ^ exponent
+  pub within : end ≤ start + 2 ^ exponent
 
 pub IsAligned-from_words : (start end : ℕ) → IsSubtree start end → IsAligned start end
 IsAligned-from_words start end is =
@@ -62,21 +70,13 @@ IsAligned-first end some =
 pub power_parts : (e f : ℕ) → e ≤ f → 2 ^ f ≡ 2 ^ (f - e) * 2 ^ e
 power_parts e f le = ap (λ k. 2 ^ k) (omega arith) ∙ pow-add 2 (f - e) e
 
--- the exponent of a power that lies below another is smaller
-pub exponent_below : (e f : ℕ) → 2 ^ e < 2 ^ f → e < f
-exponent_below e f lt =
-    ⊎_elim
-    (λ (less : e < f). less)
-    (λ (le : f ≤ e). let more : 2 ^ f ≤ 2 ^ e = pow_mono {i = f} {j = e} le in let no : ⊥ = omega arith in absurd no)
-    (cases_lt e f)
-
-pub record HasHalves (low middle high : ℕ) : Type 0 where
+pub record IsHalved (low middle high : ℕ) : Type 0 where
   pub left : IsAligned low middle
   pub right : IsAligned middle high
 
 -- an aligned interval of more than one entry is split into two
 pub IsAligned-halves : (low high : ℕ) → IsAligned low high → low + 1 < high
-    → HasHalves low (low + split_of (high - low)) high
+    → IsHalved low (low + split_of (high - low)) high
 IsAligned-halves low high is more =
     let power = split_power (high - low) in
     let e = power.0 in
@@ -187,28 +187,22 @@ IsAligned-over start end n e is inside half before behind =
         let none : ⊥ = omega arith in absurd none)
         (cases_lt q r)
 
--- The nodes of an aligned interval, on the level above.
+-- so a subtree is split into two
+pub halves_valid : (start middle end : ℕ) → is_subtree start end ≡ true → start + 1 < end
+    → middle ≡ start + split_of (end - start) → HasHalves start middle end
+halves_valid start middle end valid more is =
+    let halves = IsAligned-halves start end (IsAligned-from start end valid) more in
+    let left = halves.left in
+    let right = halves.right in
+    let from = left.inhabited in
+    let below = right.inhabited in
+    record {
+      split = is;
+      from = omega arith;
+      below = omega arith;
+      left = ap (is_subtree start) is ∙ IsAligned-is start _ halves.left;
+      right = ap (λ m. is_subtree m end) is ∙ IsAligned-is _ end halves.right;
+    }
 
-pub record IsAbove (start last : ℕ) : Type 0 where
-  pub even : start % 2 ≡ 0
-  pub above : IsAligned (start / 2) (last / 2 + 1)
-
-pub IsAligned-above : (start last : ℕ) → IsAligned start (last + 1) → start < last → IsAbove start last
-IsAligned-above start last is more =
-    above is.exponent is.multiple is.begins is.within
-  where
-    above : (i q : ℕ) → start ≡ q * 2 ^ i → last + 1 ≤ start + 2 ^ i → IsAbove start last
-    above zero q begins within = let none : ⊥ = omega arith in absurd none
-    above (suc i) q begins within =
-        let double = pow-succ' 2 i in
-        let twice : q * 2 ^ suc i ≡ q * (2 * 2 ^ i) = ap (λ p. q * p) double in
-        record {
-          even = omega arith;
-          above = record {
-            inhabited = omega arith;
-            exponent = i;
-            multiple = q;
-            begins = omega arith;
-            within = omega arith;
-          };
-        }
+pub first_valid : (size : ℕ) → 0 < size → is_subtree 0 size ≡ true
+first_valid size some = IsAligned-is 0 size (IsAligned-first size some)

@@ -1,8 +1,8 @@
 -- Made consistency proofs check, and only proofs of their length have a value.
-use Rattle.std.proofs.Common.{◌≡◌, ℕ, zero, suc, ◌+◌, ◌-◌, ◌^◌, ◌<◌, ◌≤◌, ⊎_elim, Bool, true, false, ◌&&◌, cond, eqb, leb, List, [], ◌∷◌, length, take, drop, Some, None, Ok, Err, sym, ◌∙◌, ap, refl, subst, arith}
+use Rattle.std.proofs.Common.{◌≡◌, ℕ, zero, suc, ◌+◌, ◌-◌, ◌^◌, ◌<◌, ◌≤◌, ⊎_elim, inl, inr, Bool, true, false, ◌&&◌, cond, eqb, leb, List, [], ◌∷◌, ◌++◌, length, take, drop, Some, None, Ok, Err, sym, ◌∙◌, ap, refl, subst, arith}
 use Rattle.std.specs.Prelude.{Option, Result, is_some, map, not, option_map, reverse, bytes_eq}
-use Rattle.std.proofs.lemmas.Bool.{cond-false, false≢true, leb-true, not_from_true}
-use Rattle.std.proofs.lemmas.List.{drop-drop, drop-map, drop-take, length-drop, length-map, length-reverse, length-take, reverse-append, take-map, take-take}
+use Rattle.std.proofs.lemmas.Bool.{cases_eq, eq-eqb, eqb-true, ne_eqb, cond-false, cond-true, false≢true, le-leb, leb-true, lt-leb, not_from_false, not_from_true}
+use Rattle.std.proofs.lemmas.List.{drop-drop, drop-map, drop-take, length-drop, length-map, length-reverse, length-take, length_push, reverse-append, take-map, take-take}
 use Rattle.std.proofs.lemmas.Slice.Eq.{bytes_eq-Decides}
 use Rattle.tree_core.proofs.Powers.{split_bounds, split_power, split_unique}
 use Rattle.tree_core.proofs.Roots.{root_of-split}
@@ -11,17 +11,15 @@ use Rattle.tree_core.specs.Path.{part_of}
 use Rattle.tree_core.specs.Split.{split_of}
 use Rattle.tree_core.specs.Subtree.{is_subtree}
 use Rattle.tree_core.specs.Tree.{leaf_hash, pair_hash, root_of, tree_hash}
-use Rattle.tree_proofs.proofs.Aligned.{IsAligned-first, IsAligned-from_words, IsAligned-over, IsAligned-right}
-use Rattle.tree_proofs.proofs.Climbing.{consistency-opened}
+use Rattle.tree_proofs.proofs.Aligned.{IsAligned, IsAligned-first, IsAligned-from_words, IsAligned-over, IsAligned-right}
 use Rattle.tree_proofs.proofs.Made.{cases_place, proof_of-left, proof_of-over, proof_of-right, proof_of-whole}
-use Rattle.tree_proofs.proofs.Opens.{open-left, open-over, open-right, open-whole}
-use Rattle.tree_proofs.proofs.Parts.{part-root, part-whole}
+use Rattle.tree_proofs.proofs.Opens.{is_some-map, open-left, open-over, open-right, open-short, open-whole}
+use Rattle.tree_proofs.proofs.Parts.{part-root, part-whole, part_of-drop, part_of-take, part_of-zero}
 use Rattle.tree_proofs.specs.Consistency.{compared, consistency}
 use Rattle.tree_proofs.specs.declared.error.ConsistError.{ConsistError}
 use Rattle.tree_proofs.specs.declared.error.ConsistError.TheVariants.{BadSubtree, Beyond, WrongLength, WrongNode, WrongRoot}
-use Rattle.tree_proofs.specs.declared.opened.Opened.{Opened}
-use Rattle.tree_proofs.specs.Levels.{IsAligned, opened_at}
-use Rattle.tree_proofs.specs.Open.{both_right_of, open_from_root, open_of, open_whole, root_left_of, root_right_of}
+use Rattle.tree_proofs.specs.declared.outcome.Opened.{Opened}
+use Rattle.tree_proofs.specs.Open.{both_right_of, open_from_root, open_of, open_whole, opened_at, root_left_of, root_right_of}
 use Rattle.tree_proofs.specs.Proof.{proof_of}
 use Rattle.tree_proofs.specs.ProofLaws.{PassesWhereChecks, ProofsCheck, WrongLengthByProof}
 
@@ -53,23 +51,6 @@ split_same e n within behind =
     let bounds = split_bounds n in
     let half = bounds.half in
     split_unique e power.0 (omega arith) (omega arith) ∙ sym is
-
-part_of-take : (xs : List (List ℕ)) (s e k : ℕ) → s ≤ e → e ≤ k → part_of (take k xs) s e ≡ part_of xs s e
-part_of-take xs s e k from to =
-    let size : k ≡ s + (k - s) = omega arith in
-    ap (λ n. take (e - s) (drop s (take n xs))) size
-    ∙ ap (take (e - s)) (drop-take s (k - s) xs)
-    ∙ take-take (e - s) (k - s) (drop s xs) (omega arith)
-
-part_of-drop : (xs : List (List ℕ)) (s e k : ℕ) → k ≤ s → part_of (drop k xs) (s - k) (e - k) ≡ part_of xs s e
-part_of-drop xs s e k behind =
-    let size : (e - k) - (s - k) ≡ e - s = omega arith in
-    let place : k + (s - k) ≡ s = omega arith in
-    ap (λ n. take n (drop (s - k) (drop k xs))) size
-    ∙ ap (take (e - s)) (drop-drop (s - k) k xs ∙ ap (λ n. drop n xs) place)
-
-part_of-zero : (xs : List (List ℕ)) (k : ℕ) → part_of xs 0 k ≡ take k xs
-part_of-zero xs k = let size : k - 0 ≡ k = omega arith in ap (λ n. take n xs) size
 
 whole_opens : (known : Bool) (node root : List ℕ) → (known ≡ true → node ≡ root)
     → open_whole known node (reverse (cond known [] (root ∷ []))) ≡ Some (opened_at root root)
@@ -110,7 +91,7 @@ proof_opens (suc depth) h s e known node leaves bound aligned within is =
     let part = part_of-take leaves s e (split_of (length leaves)) (omega arith) le in
     let rest = proof_opens depth h s e known node (take (split_of (length leaves)) leaves) (omega arith) aligned
     (omega arith) (λ yes_known. is yes_known ∙ ap (root_of h) (sym part)) in
-    ap (λ q. open_from_root h s e n known node (reverse q)) (proof_of-left h s e known leaves more some le)
+    ap (λ q. open_from_root h s e n known node (reverse q)) (proof_of-left h s e k known leaves more refl some le)
     ∙ ap (open_from_root h s e n known node) (reverse-append p (z ∷ []))
     ∙ open-left h s e n k known node z (reverse p) more refl le
     ∙ ap (λ i. option_map (root_left_of h z) (open_from_root h s e i known node (reverse p))) (sym size)
@@ -125,7 +106,7 @@ proof_opens (suc depth) h s e known node leaves bound aligned within is =
     (drop (split_of (length leaves)) leaves) (omega arith)
     (aligned_right s e (length leaves) aligned within le)
     (omega arith) (λ yes_known. is yes_known ∙ ap (root_of h) (sym part)) in
-    ap (λ q. open_from_root h s e n known node (reverse q)) (proof_of-right h s e known leaves some within le)
+    ap (λ q. open_from_root h s e n known node (reverse q)) (proof_of-right h s e k known leaves refl some within le)
     ∙ ap (open_from_root h s e n known node) (reverse-append p (z ∷ []))
     ∙ open-right h s e n k (s - k) (e - k) (n - k) known node z (reverse p) more refl
     (omega arith) (omega arith) (omega arith) (omega arith)
@@ -155,7 +136,7 @@ proof_opens (suc depth) h s e known node leaves bound aligned within is =
     ∙ ap (λ x. pair_hash h (root_of h x) (root_of h (part_of leaves k e))) (sym (part_of-zero leaves k))
     ∙ sym (part-root h leaves 0 k e within (omega arith) split)
     ∙ ap (λ i. root_of h (part_of leaves i e)) (sym zeroth) in
-    ap (λ q. open_from_root h s e n known node (reverse q)) (proof_of-over h s e known leaves within inner before behind)
+    ap (λ q. open_from_root h s e n known node (reverse q)) (proof_of-over h s e k known leaves refl within inner before behind)
     ∙ ap (open_from_root h s e n known node) (reverse-append p (z ∷ []))
     ∙ open-over h s e n k (e - k) (n - k) known node z (reverse p) more refl zeroth
     (omega arith) (omega arith) (omega arith) part_is
@@ -188,6 +169,31 @@ ProofsCheck_always h entries start end is within =
         ap (λ n. open_from_root h start end n true node (reverse (proof_of h start end true leaves))) (sym size_is)
         ∙ proof_opens (length leaves) h start end true node leaves (omega arith) aligned within (λ known. node_is)
         ∙ ap (λ u. Some (opened_at u (root_of h leaves))) (sym node_is)
+
+-- The whole answer.
+
+pub consistency-no_subtree : (h : List ℕ → List ℕ) (start end size : ℕ) (node root : List ℕ)
+    (proof : List (List ℕ)) → is_subtree start end ≡ false
+    → consistency h start end size node root proof ≡ Err BadSubtree
+unfolding consistency
+consistency-no_subtree h start end size node root proof bad = cond-true _ _ _ (not_from_false _ bad)
+
+pub consistency-beyond : (h : List ℕ → List ℕ) (start end size : ℕ) (node root : List ℕ)
+    (proof : List (List ℕ)) → is_subtree start end ≡ true → size < end
+    → consistency h start end size node root proof ≡ Err Beyond
+unfolding consistency
+consistency-beyond h start end size node root proof ok beyond =
+    cond-false _ _ _ (not_from_true _ ok)
+    ∙ cond-true _ _ _ (not_from_false _ (lt-leb end size beyond))
+
+pub consistency-opened : (h : List ℕ → List ℕ) (start end size : ℕ) (node root : List ℕ)
+    (proof : List (List ℕ)) → is_subtree start end ≡ true → end ≤ size
+    → consistency h start end size node root proof
+    ≡ compared node root (open_of h start end size true node proof)
+unfolding consistency
+consistency-opened h start end size node root proof ok within =
+    cond-false _ _ _ (not_from_true _ ok)
+    ∙ cond-false _ _ _ (not_from_true _ (le-leb end size within))
 
 -- A proof passes where it checks.
 
@@ -237,140 +243,109 @@ PassesWhereChecks_always h start end size node root proof = (
       ∙ cond-false _ _ _ (not_from_true _ (top.1 refl)),
 )
 
--- Two proofs of one length have both a value, or none, and two that have one have one length.
+-- A proof has a value exactly where it is as long as the made one.
 
-has-cond : (b : Bool) (x y : Option Opened) (u v : Bool) → is_some x ≡ u → is_some y ≡ v
-    → is_some (cond b x y) ≡ cond b u v
-has-cond true x y u v one two = one
-has-cond false x y u v one two = two
+whole_has : (known : Bool) (node root : List ℕ) (w : List (List ℕ))
+    → is_some (open_whole known node w) ≡ eqb (length w) (length (cond known [] (root ∷ [])))
+whole_has true node root [] = refl
+whole_has true node root (x ∷ w) = sym (ne_eqb (length (x ∷ w)) 0 (λ none. omega arith))
+whole_has false node root [] = refl
+whole_has false node root (x ∷ []) = refl
+whole_has false node root (x ∷ y ∷ w) = sym (ne_eqb (length (x ∷ y ∷ w)) 1 (λ one. omega arith))
 
-has-option_map : (f : Opened → Opened) (o : Option Opened) → is_some (option_map f o) ≡ is_some o
-has-option_map f None = refl
-has-option_map f (Some x) = refl
+eqb_suc : (a b : ℕ) → eqb a b ≡ eqb (suc a) (suc b)
+eqb_suc a b =
+    ⊎_elim
+    (λ (same : a ≡ b). eq-eqb a b same ∙ sym (eq-eqb (suc a) (suc b) (ap suc same)))
+    (λ (other : a ≡ b → ⊥). ne_eqb a b other ∙ sym (ne_eqb (suc a) (suc b) (λ same. other (omega arith))))
+    (cases_eq a b)
 
--- whether there is a value, by the tests of the definition
-value_nil : (h : List ℕ → List ℕ) (s e n : ℕ) (known : Bool) (node : List ℕ)
-    → is_some (open_from_root h s e n known node [])
-    ≡ cond (eqb s 0 && eqb e n) (is_some (open_whole known node [])) false
-unfolding open_from_root
-value_nil h s e n known node = has-cond (eqb s 0 && eqb e n) (open_whole known node []) None _ _ refl refl
+-- with one hash behind the made ones, a proof of no hash is too short, and one more is as long
+-- where the rest is
+one_more : (made rest : List (List ℕ)) (z : List ℕ) (o : Option Opened) → made ≡ rest ++ z ∷ []
+    → (q : List (List ℕ)) → is_some o ≡ eqb (length q) (length rest)
+    → is_some o ≡ eqb (suc (length q)) (length made)
+one_more made rest z o is q has =
+    let size : length made ≡ suc (length rest) = ap length is ∙ length_push rest z ∙ omega arith in
+    has ∙ eqb_suc (length q) (length rest) ∙ ap (eqb (suc (length q))) (sym size)
 
-value_more : (h : List ℕ → List ℕ) (s e n : ℕ) (known : Bool) (node z : List ℕ) (q : List (List ℕ))
-    → is_some (open_from_root h s e n known node (z ∷ q))
-    ≡ cond (eqb s 0 && eqb e n) (is_some (open_whole known node (z ∷ q)))
-    (cond (leb n 1) false
-    (cond (leb e (split_of n)) (is_some (open_from_root h s e (split_of n) known node q))
-    (cond (leb (split_of n) s)
-    (is_some (open_from_root h (s - split_of n) (e - split_of n) (n - split_of n) known node q))
-    (cond (eqb s 0) (is_some (open_from_root h 0 (e - split_of n) (n - split_of n) false node q)) false))))
-unfolding open_from_root
-value_more h s e n known node z q =
-    let k = split_of n in
-    let whole = open_whole known node (z ∷ q) in
-    let left = open_from_root h s e k known node q in
-    let right = open_from_root h (s - k) (e - k) (n - k) known node q in
-    let over = open_from_root h 0 (e - k) (n - k) false node q in
-    has-cond (eqb s 0 && eqb e n) whole _ _ _ refl
-    (has-cond (leb n 1) None _ _ _ refl
-    (has-cond (leb e k) (option_map (root_left_of h z) left) _ _ _ (has-option_map (root_left_of h z) left)
-    (has-cond (leb k s) (option_map (root_right_of h z) right) _ _ _ (has-option_map (root_right_of h z) right)
-    (has-cond (eqb s 0) (option_map (both_right_of h z) over) None _ _ (has-option_map (both_right_of h z) over) refl))))
+none_more : (made rest : List (List ℕ)) (z : List ℕ) → made ≡ rest ++ z ∷ [] → false ≡ eqb 0 (length made)
+none_more made rest z is =
+    let size : length made ≡ suc (length rest) = ap length is ∙ length_push rest z ∙ omega arith in
+    sym (ne_eqb 0 (length made) (λ none. omega arith))
 
-same_cond : (t : Bool) (a b c d : Bool) → a ≡ c → b ≡ d → cond t a b ≡ cond t c d
-same_cond true a b c d one two = one
-same_cond false a b c d one two = two
-
-whole_by_length : (known : Bool) (a b : List ℕ) (q r : List (List ℕ)) → length q ≡ length r
-    → is_some (open_whole known a q) ≡ is_some (open_whole known b r)
-whole_by_length true a b [] [] same = refl
-whole_by_length true a b (x ∷ q) (y ∷ r) same = refl
-whole_by_length false a b [] [] same = refl
-whole_by_length false a b (x ∷ []) (y ∷ []) same = refl
-whole_by_length false a b (x ∷ z ∷ q) (y ∷ w ∷ r) same = refl
-whole_by_length known a b [] (y ∷ r) same = let none : ⊥ = omega arith in absurd none
-whole_by_length known a b (x ∷ q) [] same = let none : ⊥ = omega arith in absurd none
-whole_by_length false a b (x ∷ []) (y ∷ w ∷ r) same = let none : ⊥ = omega arith in absurd none
-whole_by_length false a b (x ∷ z ∷ q) (y ∷ []) same = let none : ⊥ = omega arith in absurd none
-
-value_by_length : (h : List ℕ → List ℕ) (q r : List (List ℕ)) (s e n : ℕ) (known : Bool) (a b : List ℕ)
-    → length q ≡ length r
-    → is_some (open_from_root h s e n known a q) ≡ is_some (open_from_root h s e n known b r)
-value_by_length h [] [] s e n known a b same =
-    value_nil h s e n known a
-    ∙ ap (λ x. cond (eqb s 0 && eqb e n) x false) (whole_by_length known a b [] [] refl)
-    ∙ sym (value_nil h s e n known b)
-value_by_length h [] (y ∷ r) s e n known a b same = let none : ⊥ = omega arith in absurd none
-value_by_length h (x ∷ q) [] s e n known a b same = let none : ⊥ = omega arith in absurd none
-value_by_length h (x ∷ q) (y ∷ r) s e n known a b same =
-    let k = split_of n in
-    let rest : length q ≡ length r = omega arith in
-    let whole = whole_by_length known a b (x ∷ q) (y ∷ r) same in
-    let left = value_by_length h q r s e (split_of n) known a b rest in
-    let right = value_by_length h q r (s - split_of n) (e - split_of n) (n - split_of n) known a b rest in
-    let over = value_by_length h q r 0 (e - split_of n) (n - split_of n) false a b rest in
-    value_more h s e n known a x q
-    ∙ same_cond (eqb s 0 && eqb e n) _ _ _ _ whole
-    (same_cond (leb n 1) _ _ _ _ refl
-    (same_cond (leb e k) _ _ _ _ left
-    (same_cond (leb k s) _ _ _ _ right
-    (same_cond (eqb s 0) _ _ _ _ over refl))))
-    ∙ sym (value_more h s e n known b y r)
-
--- two values by one test: both by its first case, or both by its second
-by_test : {P : Type 0} (t : Bool) (a b c d : Bool) → (a ≡ true → c ≡ true → P) → (b ≡ true → d ≡ true → P)
-    → cond t a b ≡ true → cond t c d ≡ true → P
-by_test true a b c d yes_case no_case one two = yes_case one two
-by_test false a b c d yes_case no_case one two = no_case one two
-
-whole_length : (known : Bool) (a b : List ℕ) (q r : List (List ℕ))
-    → is_some (open_whole known a q) ≡ true → is_some (open_whole known b r) ≡ true → length q ≡ length r
-whole_length true a b [] [] one two = refl
-whole_length true a b (x ∷ q) r one two = absurd (false≢true one)
-whole_length true a b [] (y ∷ r) one two = absurd (false≢true two)
-whole_length false a b [] r one two = absurd (false≢true one)
-whole_length false a b (x ∷ z ∷ q) r one two = absurd (false≢true one)
-whole_length false a b (x ∷ []) [] one two = absurd (false≢true two)
-whole_length false a b (x ∷ []) (y ∷ []) one two = refl
-whole_length false a b (x ∷ []) (y ∷ w ∷ r) one two = absurd (false≢true two)
-
-length_by_value : (h : List ℕ → List ℕ) (q r : List (List ℕ)) (s e n : ℕ) (known : Bool) (a b : List ℕ)
-    → is_some (open_from_root h s e n known a q) ≡ true → is_some (open_from_root h s e n known b r) ≡ true
-    → length q ≡ length r
-length_by_value h [] [] s e n known a b one two = refl
-length_by_value h [] (y ∷ r) s e n known a b one two =
-    by_test (eqb s 0 && eqb e n) _ _ _ _
-    (λ x y. whole_length known a b [] _ x y)
-    (λ x y. absurd (false≢true x))
-    (sym (value_nil h s e n known a) ∙ one)
-    (sym (value_more h s e n known b y r) ∙ two)
-length_by_value h (x ∷ q) [] s e n known a b one two =
-    by_test (eqb s 0 && eqb e n) _ _ _ _
-    (λ u v. whole_length known a b _ [] u v)
-    (λ u v. absurd (false≢true v))
-    (sym (value_more h s e n known a x q) ∙ one)
-    (sym (value_nil h s e n known b) ∙ two)
-length_by_value h (x ∷ q) (y ∷ r) s e n known a b one two =
-    by_test (eqb s 0 && eqb e n) _ _ _ _
-    (λ u v. whole_length known a b (x ∷ q) (y ∷ r) u v)
-    (λ u v.
-    by_test (leb n 1) _ _ _ _
-    (λ u v. absurd (false≢true u))
-    (λ u v.
-    by_test (leb e (split_of n)) _ _ _ _
-    (λ u v. ap suc (length_by_value h q r s e (split_of n) known a b u v))
-    (λ u v.
-    by_test (leb (split_of n) s) _ _ _ _
-    (λ u v. ap suc (length_by_value h q r (s - split_of n) (e - split_of n) (n - split_of n) known a b u v))
-    (λ u v.
-    by_test (eqb s 0) _ _ _ _
-    (λ u v. ap suc (length_by_value h q r 0 (e - split_of n) (n - split_of n) false a b u v))
-    (λ u v. absurd (false≢true u))
-    u v)
-    u v)
-    u v)
-    u v)
-    (sym (value_more h s e n known a x q) ∙ one)
-    (sym (value_more h s e n known b y r) ∙ two)
+has_value : (depth : ℕ) (h : List ℕ → List ℕ) (s e : ℕ) (known : Bool) (node : List ℕ)
+    (leaves w : List (List ℕ)) → length leaves ≤ depth → IsAligned s e → e ≤ length leaves
+    → is_some (open_from_root h s e (length leaves) known node w)
+    ≡ eqb (length w) (length (proof_of h s e known leaves))
+has_value zero h s e known node leaves w bound aligned within =
+    let some = aligned.inhabited in
+    let none : ⊥ = omega arith in absurd none
+has_value (suc depth) h s e known node leaves [] bound aligned within =
+    let some = aligned.inhabited in
+    cases_place s e (length leaves) some within
+    (λ first last.
+    ap is_some (open-whole h s e (length leaves) known node [] first last)
+    ∙ whole_has known node (root_of h leaves) []
+    ∙ ap (λ p. eqb 0 (length p)) (sym (proof_of-whole h s e known leaves first last (omega arith))))
+    (λ more le.
+    let bounds = split_bounds (length leaves) in
+    let below = bounds.below in
+    ap is_some (open-short h s e (length leaves) known node (inr (omega arith)))
+    ∙ none_more _ _ _ (proof_of-left h s e (split_of (length leaves)) known leaves more refl some le))
+    (λ more le.
+    let bounds = split_bounds (length leaves) in
+    let positive = bounds.positive in
+    ap is_some (open-short h s e (length leaves) known node (inl (omega arith)))
+    ∙ none_more _ _ _ (proof_of-right h s e (split_of (length leaves)) known leaves refl some within le))
+    (λ more inner before behind.
+    ap is_some (open-short h s e (length leaves) known node inner)
+    ∙ none_more _ _ _ (proof_of-over h s e (split_of (length leaves)) known leaves refl within inner before behind))
+has_value (suc depth) h s e known node leaves (z ∷ q) bound aligned within =
+    let n = length leaves in
+    let k = split_of (length leaves) in
+    let some = aligned.inhabited in
+    let bounds = split_bounds (length leaves) in
+    let positive = bounds.positive in
+    let below = bounds.below in
+    let front = length-take (split_of (length leaves)) leaves in
+    let back = length-drop (split_of (length leaves)) leaves in
+    cases_place s e (length leaves) some within
+    (λ first last.
+    ap is_some (open-whole h s e n known node (z ∷ q) first last)
+    ∙ whole_has known node (root_of h leaves) (z ∷ q)
+    ∙ ap (λ p. eqb (suc (length q)) (length p)) (sym (proof_of-whole h s e known leaves first last (omega arith))))
+    (λ more le.
+    let size : length (take (split_of (length leaves)) leaves) ≡ split_of (length leaves) = omega arith in
+    let rest = has_value depth h s e known node (take (split_of (length leaves)) leaves) q (omega arith) aligned (omega arith) in
+    ap is_some (open-left h s e n k known node z q more refl le)
+    ∙ is_some-map (root_left_of h z) (open_from_root h s e k known node q)
+    ∙ one_more _ _ _ (open_from_root h s e k known node q) (proof_of-left h s e k known leaves more refl some le) q
+    (ap (λ i. is_some (open_from_root h s e i known node q)) (sym size) ∙ rest))
+    (λ more le.
+    let rest = has_value depth h (s - k) (e - k) known node (drop (split_of (length leaves)) leaves) q (omega arith)
+    (aligned_right s e (length leaves) aligned within le) (omega arith) in
+    ap is_some (open-right h s e n k (s - k) (e - k) (n - k) known node z q more refl
+    (omega arith) (omega arith) (omega arith) (omega arith))
+    ∙ is_some-map (root_right_of h z) (open_from_root h (s - k) (e - k) (n - k) known node q)
+    ∙ one_more _ _ _ (open_from_root h (s - k) (e - k) (n - k) known node q)
+    (proof_of-right h s e k known leaves refl some within le) q
+    (ap (λ i. is_some (open_from_root h (s - k) (e - k) i known node q)) (sym back) ∙ rest))
+    (λ more inner before behind.
+    let zeroth = aligned_over s e (length leaves) aligned within before behind in
+    let part : e < length leaves =
+    ⊎_elim
+    (λ (later : 0 < s). let none : ⊥ = omega arith in absurd none)
+    (λ (less : e < length leaves). less)
+    inner in
+    let rest = has_value depth h 0 (e - k) false node (drop (split_of (length leaves)) leaves) q (omega arith)
+    (IsAligned-first (e - split_of (length leaves)) (omega arith)) (omega arith) in
+    ap is_some (open-over h s e n k (e - k) (n - k) known node z q more refl zeroth
+    (omega arith) (omega arith) (omega arith) part)
+    ∙ is_some-map (both_right_of h z) (open_from_root h 0 (e - k) (n - k) false node q)
+    ∙ one_more _ _ _ (open_from_root h 0 (e - k) (n - k) false node q)
+    (proof_of-over h s e k known leaves refl within inner before behind) q
+    (ap (λ i. is_some (open_from_root h 0 (e - k) i false node q)) (sym back) ∙ rest))
 
 -- the answer of a value or none
 not_length : (node root : List ℕ) (o : Opened) → compared node root (Some o) ≡ Err WrongLength → ⊥
@@ -395,19 +370,13 @@ pub WrongLengthByProof_always : (h : List ℕ → List ℕ) → WrongLengthByPro
 unfolding open_of
 WrongLengthByProof_always h leaves proof start end node root is within =
     let made = proof_of h start end true leaves in
-    let whole = root_of h (part_of leaves start end) in
-    let opened = ap is_some (proof_opens (length leaves) h start end true whole leaves (omega arith)
-    (IsAligned-from_words start end is) within (λ known. refl)) in
     let size = length-reverse proof in
-    let made_size = length-reverse (proof_of h start end true leaves) in
     let answer = consistency-opened h start end (length leaves) node root proof (is_subtree-from start end is) within in
-    let o = open_from_root h start end (length leaves) true node (reverse proof) in (
-      λ wrong same.
-          wrong_length-none node root o (sym answer ∙ wrong)
-          (value_by_length h (reverse proof) (reverse made) start end (length leaves) true node whole
-          (size ∙ same ∙ sym made_size) ∙ opened),
+    let o = open_from_root h start end (length leaves) true node (reverse proof) in
+    let has : is_some o ≡ eqb (length proof) (length made) =
+    has_value (length leaves) h start end true node leaves (reverse proof) (omega arith)
+    (IsAligned-from_words start end is) within ∙ ap (λ l. eqb l (length made)) size in (
+      λ wrong same. wrong_length-none node root o (sym answer ∙ wrong) (has ∙ eq-eqb (length proof) (length made) same),
       λ other.
-          answer ∙ none-wrong_length node root o (λ some.
-          other (sym size ∙ length_by_value h (reverse proof) (reverse made) start end (length leaves) true node whole
-          some opened ∙ made_size)),
+          answer ∙ none-wrong_length node root o (λ some. other (eqb-true (length proof) (length made) (sym has ∙ some))),
     )

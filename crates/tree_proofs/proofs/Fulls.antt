@@ -10,9 +10,9 @@ use Rattle.tree_core.specs.Path.{part_of}
 use Rattle.tree_core.specs.Split.{split_of}
 use Rattle.tree_core.specs.Subtree.{is_subtree}
 use Rattle.tree_core.specs.Tree.{pair_hash, root_of}
-use Rattle.tree_proofs.proofs.Aligned.{IsAligned-from, IsAligned-halves, IsAligned-is, power_parts}
+use Rattle.tree_proofs.proofs.Aligned.{IsAligned, IsAligned-from, IsAligned-halves, IsAligned-is, power_parts}
 use Rattle.tree_proofs.proofs.Parts.{part-root}
-use Rattle.tree_proofs.specs.Levels.{BeginsFull, IsAligned}
+use Rattle.tree_proofs.specs.Full.{BeginsFull}
 use Rattle.tree_proofs.specs.Told.{IsRootOf}
 
 -- a subtree has entries

@@ -4,7 +4,5 @@ pub mod Parts
 pub mod Made
 pub mod Making
 pub mod Opens
-pub mod Pairs
 pub mod Fulls
-pub mod Climbing
 pub mod Checked

@@ -1,14 +1,19 @@
 -- The cases of the definition of a consistency proof, at any depth that is not below the number of
 -- leaves, and in a part of a list.
-use Rattle.std.proofs.Common.{◌≡◌, ℕ, zero, suc, ◌+◌, ◌-◌, ◌<◌, ◌≤◌, ◌⊎◌, ⊎_elim, inl, inr, Bool, false, ◌&&◌, cond, eqb, List, [], ◌∷◌, ◌++◌, length, take, drop, sym, ◌∙◌, ap, arith}
+use Rattle.std.proofs.Common.{◌≡◌, ℕ, zero, suc, ◌+◌, ◌-◌, ◌<◌, ◌≤◌, ◌⊎◌, ⊎_elim, inl, inr, Bool, true, false, ◌&&◌, cond, eqb, List, [], ◌∷◌, ◌++◌, length, take, drop, sym, ◌∙◌, ap, refl, arith}
 use Rattle.std.proofs.lemmas.Bool.{and_from, and_left, and_right, cond-false, cond-true, eq-eqb, ne_eqb, le-leb, lt-leb, cases_lt}
-use Rattle.std.proofs.lemmas.List.{length-drop, length-take}
+use Rattle.std.specs.Prelude.{map}
+use Rattle.std.proofs.lemmas.List.{drop-map, length-drop, length-map, length-take, take-map}
+use Rattle.std.proofs.lemmas.Nat.{pow_pos}
+use Rattle.tree_core.proofs.Paths.{split_of-entries}
 use Rattle.tree_core.proofs.Powers.{split_bounds}
+use Rattle.tree_core.specs.Laws.{IsLargestPowerBelow}
 use Rattle.tree_core.specs.Path.{part_of}
 use Rattle.tree_core.specs.Split.{split_of}
-use Rattle.tree_core.specs.Tree.{root_of}
+use Rattle.tree_core.specs.Tree.{leaf_hash, root_of, tree_hash}
 use Rattle.tree_proofs.proofs.Parts.{part-drop, part-length, part-take}
-use Rattle.tree_proofs.specs.Proof.{proof_of, proof_within}
+use Rattle.tree_proofs.specs.Proof.{consistency_proof, proof_of, proof_within}
+use Rattle.tree_proofs.specs.ProofLaws.{IsConsistencyProof}
 
 -- an interval that is not the whole of n entries
 pub other-whole : (start end n : ℕ) → (0 < start) ⊎ (end < n) → (eqb start 0 && eqb end n) ≡ false
@@ -130,7 +135,7 @@ proof_within_more (suc d) (suc f) h s e known leaves small same some within =
     (omega arith) (omega arith) (omega arith) (omega arith))
     ∙ sym (proof_within-over f h s e known leaves part before behind))
 
--- The whole definition.
+-- The whole definition, which has no bound on the depth.
 
 pub proof_of-whole : (h : List ℕ → List ℕ) (s e : ℕ) (known : Bool) (leaves : List (List ℕ))
     → s ≡ 0 → e ≡ length leaves → 0 < length leaves
@@ -140,62 +145,108 @@ proof_of-whole h s e known [] first last some = let none : ⊥ = omega arith in 
 proof_of-whole h s e known (x ∷ rest) first last some =
     proof_within-whole (length rest) h s e known (x ∷ rest) first last
 
-pub proof_of-left : (h : List ℕ → List ℕ) (s e : ℕ) (known : Bool) (leaves : List (List ℕ))
-    → 1 < length leaves → s < e → e ≤ split_of (length leaves)
-    → proof_of h s e known leaves
-    ≡ proof_of h s e known (take (split_of (length leaves)) leaves)
-    ++ root_of h (drop (split_of (length leaves)) leaves) ∷ []
+pub proof_of-left : (h : List ℕ → List ℕ) (s e k : ℕ) (known : Bool) (leaves : List (List ℕ))
+    → 1 < length leaves → split_of (length leaves) ≡ k → s < e → e ≤ k
+    → proof_of h s e known leaves ≡ proof_of h s e known (take k leaves) ++ root_of h (drop k leaves) ∷ []
 unfolding proof_of
-proof_of-left h s e known [] more some left = let none : ⊥ = omega arith in absurd none
-proof_of-left h s e known (x ∷ rest) more some left =
+proof_of-left h s e k known [] more is some left = let none : ⊥ = omega arith in absurd none
+proof_of-left h s e k known (x ∷ rest) more is some left =
     let leaves : List (List ℕ) = x ∷ rest in
     let bounds = split_bounds (length (x ∷ rest)) in
     let below = bounds.below in
     let size = length-take (split_of (length (x ∷ rest))) (x ∷ rest) in
-    proof_within-left (length rest) h s e known (x ∷ rest) more left
+    proof_within-left (length rest) h s e known (x ∷ rest) more (omega arith)
     ∙ ap (λ p. p ++ root_of h (drop (split_of (length leaves)) leaves) ∷ [])
     (proof_within_more (length rest) (length (take (split_of (length leaves)) leaves)) h s e known
     (take (split_of (length leaves)) leaves) (omega arith) (omega arith) some (omega arith))
+    ∙ ap (λ k. proof_of h s e known (take k leaves) ++ root_of h (drop k leaves) ∷ []) is
 
-pub proof_of-right : (h : List ℕ → List ℕ) (s e : ℕ) (known : Bool) (leaves : List (List ℕ))
-    → s < e → e ≤ length leaves → split_of (length leaves) ≤ s
+pub proof_of-right : (h : List ℕ → List ℕ) (s e k : ℕ) (known : Bool) (leaves : List (List ℕ))
+    → split_of (length leaves) ≡ k → s < e → e ≤ length leaves → k ≤ s
     → proof_of h s e known leaves
-    ≡ proof_of h (s - split_of (length leaves)) (e - split_of (length leaves)) known
-    (drop (split_of (length leaves)) leaves)
-    ++ root_of h (take (split_of (length leaves)) leaves) ∷ []
+    ≡ proof_of h (s - k) (e - k) known (drop k leaves) ++ root_of h (take k leaves) ∷ []
 unfolding proof_of
-proof_of-right h s e known [] some within right = let none : ⊥ = omega arith in absurd none
-proof_of-right h s e known (x ∷ rest) some within right =
+proof_of-right h s e k known [] is some within right = let none : ⊥ = omega arith in absurd none
+proof_of-right h s e k known (x ∷ rest) is some within right =
     let leaves : List (List ℕ) = x ∷ rest in
     let bounds = split_bounds (length (x ∷ rest)) in
     let positive = bounds.positive in
     let size = length-drop (split_of (length (x ∷ rest))) (x ∷ rest) in
-    proof_within-right (length rest) h s e known (x ∷ rest) some right
+    proof_within-right (length rest) h s e known (x ∷ rest) some (omega arith)
     ∙ ap (λ p. p ++ root_of h (take (split_of (length leaves)) leaves) ∷ [])
     (proof_within_more (length rest) (length (drop (split_of (length leaves)) leaves)) h
     (s - split_of (length leaves)) (e - split_of (length leaves)) known
     (drop (split_of (length leaves)) leaves) (omega arith) (omega arith) (omega arith) (omega arith))
+    ∙ ap (λ k. proof_of h (s - k) (e - k) known (drop k leaves) ++ root_of h (take k leaves) ∷ []) is
 
-pub proof_of-over : (h : List ℕ → List ℕ) (s e : ℕ) (known : Bool) (leaves : List (List ℕ))
-    → e ≤ length leaves → (0 < s) ⊎ (e < length leaves) → s < split_of (length leaves)
-    → split_of (length leaves) < e
+pub proof_of-over : (h : List ℕ → List ℕ) (s e k : ℕ) (known : Bool) (leaves : List (List ℕ))
+    → split_of (length leaves) ≡ k → e ≤ length leaves → (0 < s) ⊎ (e < length leaves) → s < k → k < e
     → proof_of h s e known leaves
-    ≡ proof_of h 0 (e - split_of (length leaves)) false (drop (split_of (length leaves)) leaves)
-    ++ root_of h (take (split_of (length leaves)) leaves) ∷ []
+    ≡ proof_of h 0 (e - k) false (drop k leaves) ++ root_of h (take k leaves) ∷ []
 unfolding proof_of
-proof_of-over h s e known [] within part before behind = let none : ⊥ = omega arith in absurd none
-proof_of-over h s e known (x ∷ rest) within part before behind =
+proof_of-over h s e k known [] is within part before behind = let none : ⊥ = omega arith in absurd none
+proof_of-over h s e k known (x ∷ rest) is within part before behind =
     let leaves : List (List ℕ) = x ∷ rest in
     let bounds = split_bounds (length (x ∷ rest)) in
     let positive = bounds.positive in
     let size = length-drop (split_of (length (x ∷ rest))) (x ∷ rest) in
-    proof_within-over (length rest) h s e known (x ∷ rest) part before behind
+    proof_within-over (length rest) h s e known (x ∷ rest) part (omega arith) (omega arith)
     ∙ ap (λ p. p ++ root_of h (take (split_of (length leaves)) leaves) ∷ [])
     (proof_within_more (length rest) (length (drop (split_of (length leaves)) leaves)) h
     0 (e - split_of (length leaves)) false
     (drop (split_of (length leaves)) leaves) (omega arith) (omega arith) (omega arith) (omega arith))
+    ∙ ap (λ k. proof_of h 0 (e - k) false (drop k leaves) ++ root_of h (take k leaves) ∷ []) is
+
+-- Over entries, with the split in the standard's words.
+pub IsConsistencyProof_always : (h : List ℕ → List ℕ) → IsConsistencyProof h
+IsConsistencyProof_always h = record {
+  known = λ entries some. whole entries true some;
+  whole = λ entries some. whole entries false some;
+  left = λ entries start end k known is some within.
+      let split = split_of-entries h entries k is in
+      proof_of-left h start end k known (map (leaf_hash h) entries) split.0 split.1 some within
+      ∙ ap (λ l. proof_of h start end known l ++ root_of h (drop k (map (leaf_hash h) entries)) ∷ []) (take-map (leaf_hash h) k entries)
+      ∙ ap (λ r. consistency_proof h start end known (take k entries) ++ root_of h r ∷ []) (drop-map (leaf_hash h) k entries);
+  right = λ entries start end k known is some within behind.
+      let split = split_of-entries h entries k is in
+      let size = length-map entries (leaf_hash h) in
+      proof_of-right h start end k known (map (leaf_hash h) entries) split.1 some (omega arith) behind
+      ∙ ap (λ l. proof_of h (start - k) (end - k) known l ++ root_of h (take k (map (leaf_hash h) entries)) ∷ []) (drop-map (leaf_hash h) k entries)
+      ∙ ap (λ r. consistency_proof h (start - k) (end - k) known (drop k entries) ++ root_of h r ∷ []) (take-map (leaf_hash h) k entries);
+  over = λ entries end k known is behind part.
+      let split = split_of-entries h entries k is in
+      let size = length-map entries (leaf_hash h) in
+      proof_of-over h 0 end k known (map (leaf_hash h) entries) split.1 (omega arith) (inr (omega arith)) (let below = is.below in positive k is) behind
+      ∙ ap (λ l. proof_of h 0 (end - k) false l ++ root_of h (take k (map (leaf_hash h) entries)) ∷ []) (drop-map (leaf_hash h) k entries)
+      ∙ ap (λ r. consistency_proof h 0 (end - k) false (drop k entries) ++ root_of h r ∷ []) (take-map (leaf_hash h) k entries);
+}
+  where
+    whole : (entries : List (List ℕ)) (known : Bool) → 0 < length entries
+        → consistency_proof h 0 (length entries) known entries ≡ cond known [] (tree_hash h entries ∷ [])
+    whole entries known some =
+        let size = length-map entries (leaf_hash h) in
+        proof_of-whole h 0 (length entries) known (map (leaf_hash h) entries) refl (sym size) (omega arith)
+
+    positive : {n : ℕ} (k : ℕ) → IsLargestPowerBelow n k → 0 < k
+    positive k is = let some = pow_pos is.power.0 in let power = is.power.1 in omega arith
 
 -- The proof in a part of a list, by the halves of its interval.
+
+-- the right half, with other words for where the interval lies in it, and the root of the left half
+in_halves : (h : List ℕ → List ℕ) (xs : List (List ℕ)) (low middle high s e first end : ℕ) (known : Bool)
+    → low ≤ middle → middle ≤ high → s ≡ first → e ≡ end
+    → proof_of h s e known (drop (middle - low) (part_of xs low high))
+    ++ root_of h (take (middle - low) (part_of xs low high)) ∷ []
+    ≡ proof_of h first end known (part_of xs middle high) ++ root_of h (part_of xs low middle) ∷ []
+in_halves h xs low middle high s e first end known from to begin stop =
+    ap (λ i. proof_of h i e known (drop (middle - low) (part_of xs low high))
+    ++ root_of h (take (middle - low) (part_of xs low high)) ∷ []) begin
+    ∙ ap (λ i. proof_of h first i known (drop (middle - low) (part_of xs low high))
+    ++ root_of h (take (middle - low) (part_of xs low high)) ∷ []) stop
+    ∙ ap (λ l. proof_of h first end known (drop (middle - low) (part_of xs low high)) ++ root_of h l ∷ [])
+    (part-take xs low middle high from to)
+    ∙ ap (λ r. proof_of h first end known r ++ root_of h (part_of xs low middle) ∷ [])
+    (part-drop xs low middle high from to)
 
 pub part_proof-left : (h : List ℕ → List ℕ) (xs : List (List ℕ)) (first end low middle high : ℕ) (known : Bool)
     → high ≤ length xs → low + 1 < high → middle ≡ low + split_of (high - low)
@@ -206,12 +257,9 @@ part_proof-left h xs first end low middle high known within more is from some le
     let bounds = split_bounds (high - low) in
     let below = bounds.below in
     let size = part-length xs low high within in
-    let split : split_of (length (part_of xs low high)) ≡ middle - low = ap split_of size ∙ omega arith in
-    proof_of-left h (first - low) (end - low) known (part_of xs low high) (omega arith) (omega arith) (omega arith)
-    ∙ ap (λ k. proof_of h (first - low) (end - low) known (take k (part_of xs low high))
-    ++ root_of h (drop k (part_of xs low high)) ∷ []) split
-    ∙ ap (λ l. proof_of h (first - low) (end - low) known l
-    ++ root_of h (drop (middle - low) (part_of xs low high)) ∷ [])
+    proof_of-left h (first - low) (end - low) (middle - low) known (part_of xs low high)
+    (omega arith) (ap split_of size ∙ omega arith) (omega arith) (omega arith)
+    ∙ ap (λ l. proof_of h (first - low) (end - low) known l ++ root_of h (drop (middle - low) (part_of xs low high)) ∷ [])
     (part-take xs low middle high (omega arith) (omega arith))
     ∙ ap (λ r. proof_of h (first - low) (end - low) known (part_of xs low middle) ++ root_of h r ∷ [])
     (part-drop xs low middle high (omega arith) (omega arith))
@@ -225,21 +273,11 @@ part_proof-right h xs first end low middle high known within more is right some 
     let bounds = split_bounds (high - low) in
     let below = bounds.below in
     let size = part-length xs low high within in
-    let split : split_of (length (part_of xs low high)) ≡ middle - low = ap split_of size ∙ omega arith in
     let begin : (first - low) - (middle - low) ≡ first - middle = omega arith in
     let stop : (end - low) - (middle - low) ≡ end - middle = omega arith in
-    proof_of-right h (first - low) (end - low) known (part_of xs low high) (omega arith) (omega arith) (omega arith)
-    ∙ ap (λ k. proof_of h ((first - low) - k) ((end - low) - k) known (drop k (part_of xs low high))
-    ++ root_of h (take k (part_of xs low high)) ∷ []) split
-    ∙ ap (λ s. proof_of h s ((end - low) - (middle - low)) known (drop (middle - low) (part_of xs low high))
-    ++ root_of h (take (middle - low) (part_of xs low high)) ∷ []) begin
-    ∙ ap (λ e. proof_of h (first - middle) e known (drop (middle - low) (part_of xs low high))
-    ++ root_of h (take (middle - low) (part_of xs low high)) ∷ []) stop
-    ∙ ap (λ l. proof_of h (first - middle) (end - middle) known (drop (middle - low) (part_of xs low high))
-    ++ root_of h l ∷ [])
-    (part-take xs low middle high (omega arith) (omega arith))
-    ∙ ap (λ r. proof_of h (first - middle) (end - middle) known r ++ root_of h (part_of xs low middle) ∷ [])
-    (part-drop xs low middle high (omega arith) (omega arith))
+    proof_of-right h (first - low) (end - low) (middle - low) known (part_of xs low high)
+    (ap split_of size ∙ omega arith) (omega arith) (omega arith) (omega arith)
+    ∙ in_halves h xs low middle high _ _ (first - middle) (end - middle) known (omega arith) (omega arith) begin stop
 
 pub part_proof-over : (h : List ℕ → List ℕ) (xs : List (List ℕ)) (first end low middle high : ℕ) (known : Bool)
     → high ≤ length xs → low + 1 < high → middle ≡ low + split_of (high - low)
@@ -250,7 +288,6 @@ part_proof-over h xs first end low middle high known within more is from part be
     let bounds = split_bounds (high - low) in
     let below = bounds.below in
     let size = part-length xs low high within in
-    let split : split_of (length (part_of xs low high)) ≡ middle - low = ap split_of size ∙ omega arith in
     let begin : 0 ≡ middle - middle = omega arith in
     let stop : (end - low) - (middle - low) ≡ end - middle = omega arith in
     let inner : (0 < first - low) ⊎ (end - low < length (part_of xs low high)) =
@@ -258,18 +295,9 @@ part_proof-over h xs first end low middle high known within more is from part be
     (λ (later : low < first). inl (omega arith))
     (λ (before : end < high). inr (omega arith))
     part in
-    proof_of-over h (first - low) (end - low) known (part_of xs low high) (omega arith) inner (omega arith) (omega arith)
-    ∙ ap (λ k. proof_of h 0 ((end - low) - k) false (drop k (part_of xs low high))
-    ++ root_of h (take k (part_of xs low high)) ∷ []) split
-    ∙ ap (λ s. proof_of h s ((end - low) - (middle - low)) false (drop (middle - low) (part_of xs low high))
-    ++ root_of h (take (middle - low) (part_of xs low high)) ∷ []) begin
-    ∙ ap (λ e. proof_of h (middle - middle) e false (drop (middle - low) (part_of xs low high))
-    ++ root_of h (take (middle - low) (part_of xs low high)) ∷ []) stop
-    ∙ ap (λ l. proof_of h (middle - middle) (end - middle) false (drop (middle - low) (part_of xs low high))
-    ++ root_of h l ∷ [])
-    (part-take xs low middle high (omega arith) (omega arith))
-    ∙ ap (λ r. proof_of h (middle - middle) (end - middle) false r ++ root_of h (part_of xs low middle) ∷ [])
-    (part-drop xs low middle high (omega arith) (omega arith))
+    proof_of-over h (first - low) (end - low) (middle - low) known (part_of xs low high)
+    (ap split_of size ∙ omega arith) (omega arith) inner (omega arith) (omega arith)
+    ∙ in_halves h xs low middle high _ _ (middle - middle) (end - middle) false (omega arith) (omega arith) begin stop
 
 pub part_proof-whole : (h : List ℕ → List ℕ) (xs : List (List ℕ)) (first end low high : ℕ) (known : Bool)
     → high ≤ length xs → first ≡ low → end ≡ high → low < high

@@ -1,15 +1,13 @@
--- What a consistency proof gives from the root down, and the same one level of the tree higher.
-use Rattle.std.proofs.Common.{◌≡◌, ℕ, ◌+◌, ◌*◌, ◌-◌, ◌<◌, ◌≤◌, ◌⊎◌, ⊎_elim, inl, inr, Bool, true, false, eqb, List, [], ◌∷◌, Some, None, sym, ◌∙◌, ap, refl, arith}
-use Rattle.std.specs.Prelude.{Option, option_map}
-use Rattle.std.proofs.lemmas.Bool.{and_from, cond-true, cond-false, eq-eqb, ne_eqb, le-leb, lt-leb, cases_lt}
-use Rattle.tree_core.proofs.Evaluates.{eval-leaf, eval-left, eval-long, eval-right, eval-short}
-use Rattle.tree_core.proofs.Powers.{split_bounds, split_half}
-use Rattle.tree_core.specs.Evaluation.{eval_from_root}
+-- What a consistency proof gives, case by case.
+use Rattle.std.proofs.Common.{◌≡◌, ℕ, ◌+◌, ◌-◌, ◌^◌, ◌<◌, ◌≤◌, ◌⊎◌, ⊎_elim, inl, inr, Bool, true, false, eqb, List, [], ◌∷◌, ◌++◌, length, Some, None, sym, ◌∙◌, ap, refl, arith}
+use Rattle.std.specs.Prelude.{Option, is_some, option_map, reverse}
+use Rattle.std.proofs.lemmas.Bool.{and_from, cond-true, cond-false, eq-eqb, false≢true, ne_eqb, le-leb, lt-leb, cases_lt}
+use Rattle.std.proofs.lemmas.List.{length-reverse, reverse-append}
+use Rattle.tree_core.proofs.Powers.{half_within, split_bounds}
 use Rattle.tree_core.specs.Split.{split_of}
-use Rattle.tree_core.specs.Tree.{pair_hash}
 use Rattle.tree_proofs.proofs.Made.{cases_place, other-whole}
-use Rattle.tree_proofs.specs.Levels.{opened_at}
-use Rattle.tree_proofs.specs.Open.{both_right_of, open_from_root, open_whole, root_left_of, root_right_of}
+use Rattle.tree_proofs.specs.Open.{both_right_of, open_from_root, open_of, open_whole, root_left_of, root_right_of}
+use Rattle.tree_proofs.specs.declared.outcome.Opened.{Opened}
 
 -- The cases of the definition, with the numbers of the recursion as variables.
 
@@ -89,170 +87,138 @@ open-none h s e n k known node z q more is later before behind =
     ∙ cond-false _ _ _ (lt-leb (split_of n) s (omega arith))
     ∙ cond-false _ _ _ (ne_eqb s 0 (λ first. omega arith))
 
--- One level up: where the subtree starts at an even place, and ends at one or with the list, its
--- interval and the size are halved. c is half of n rounded up, and j is 1 where n is even; so for
--- the others.
+-- The same for a proof, by its last hash.
 
-pub open-lifted : (h : List ℕ → List ℕ) (node : List ℕ) (w : List (List ℕ)) (known : Bool)
-    (s e n a b c i j : ℕ)
-    → s ≡ 2 * a → e + 1 ≡ 2 * b + i → n + 1 ≡ 2 * c + j → i ≤ 1 → j ≤ 1 → (1 ≤ i) ⊎ (e ≡ n)
-    → s < e → e ≤ n
-    → open_from_root h s e n known node w ≡ open_from_root h a b c known node w
-open-lifted h node [] known s e n a b c i j s_is e_is n_is i_bit j_bit end some within =
-    let bounds = split_bounds n in
-    let below = bounds.below in
-    let positive = bounds.positive in
-    cases_place s e n some within
-    (λ first last.
-    open-whole h s e n known node [] first last
-    ∙ sym (open-whole h a b c known node [] (omega arith) (omega arith)))
-    (λ more le. part (inr (omega arith)))
-    (λ more le. part (inl (omega arith)))
-    (λ more inner before behind. part inner)
-  where
-    part : (0 < s) ⊎ (e < n) → open_from_root h s e n known node [] ≡ open_from_root h a b c known node []
-    part inner =
-        let above : (0 < a) ⊎ (b < c) =
-        ⊎_elim
-        (λ (later : 0 < s). inl (omega arith))
-        (λ (before : e < n).
-        ⊎_elim
-        (λ (even : 1 ≤ i). inr (omega arith))
-        (λ (last : e ≡ n). let none : ⊥ = omega arith in absurd none)
-        end)
-        inner in
-        open-short h s e n known node inner ∙ sym (open-short h a b c known node above)
-open-lifted h node (z ∷ q) known s e n a b c i j s_is e_is n_is i_bit j_bit end some within =
-    cases_place s e n some within
-    (λ first last.
-    open-whole h s e n known node (z ∷ q) first last
-    ∙ sym (open-whole h a b c known node (z ∷ q) (omega arith) (omega arith)))
-    (λ more le.
-    let bounds = split_bounds n in
-    let below = bounds.below in
-    let large = larger (inr (omega arith)) in
-    let split = split_half n c j n_is j_bit large in
-    let bit = even (omega arith) in
-    open-left h s e n (2 * split_of c) known node z q more split (omega arith)
-    ∙ ap (option_map (root_left_of h z))
-    (open-lifted h node q known s e (2 * split_of c) a b (split_of c) i 1
-    s_is e_is (omega arith) i_bit (omega arith) (inl (omega arith)) some (omega arith))
-    ∙ sym (open-left h a b c (split_of c) known node z q large refl (omega arith)))
-    (λ more le.
-    let bounds = split_bounds n in
-    let positive = bounds.positive in
-    let large = larger (inl (omega arith)) in
-    let split = split_half n c j n_is j_bit large in
-    let ends : (1 ≤ i) ⊎ (e - 2 * split_of c ≡ n - 2 * split_of c) =
+-- the subtree is not the whole list, as the code tests it
+pub part_from : (s e n : ℕ) → e ≤ n → ((s ≡ 0) × (e ≡ n → ⊥)) ⊎ (s ≡ 0 → ⊥) → (0 < s) ⊎ (e < n)
+part_from s e n within other =
     ⊎_elim
-    (λ (even : 1 ≤ i). inl even)
-    (λ (last : e ≡ n). inr (omega arith))
-    end in
-    open-right h s e n (2 * split_of c) (s - 2 * split_of c) (e - 2 * split_of c) (n - 2 * split_of c)
-    known node z q more split (omega arith) (omega arith) (omega arith) (omega arith)
-    ∙ ap (option_map (root_right_of h z))
-    (open-lifted h node q known (s - 2 * split_of c) (e - 2 * split_of c) (n - 2 * split_of c)
-    (a - split_of c) (b - split_of c) (c - split_of c) i j
-    (omega arith) (omega arith) (omega arith) i_bit j_bit ends (omega arith) (omega arith))
-    ∙ sym (open-right h a b c (split_of c) (a - split_of c) (b - split_of c) (c - split_of c)
-    known node z q large refl (omega arith) (omega arith) (omega arith) (omega arith)))
+    (λ (ends : (s ≡ 0) × (e ≡ n → ⊥)). let before = ends.1 in inr (omega arith))
+    (λ (later : s ≡ 0 → ⊥). inl (omega arith))
+    other
+
+-- and it has more than one entry
+pub part_more : (s e n : ℕ) → s < e → e ≤ n → (0 < s) ⊎ (e < n) → 1 < n
+part_more s e n some within part =
+    ⊎_elim (λ (later : 0 < s). omega arith) (λ (before : e < n). omega arith) part
+
+pub open_of-whole : (h : List ℕ → List ℕ) (s e n : ℕ) (known : Bool) (node : List ℕ) (proof : List (List ℕ))
+    → s ≡ 0 → e ≡ n → open_of h s e n known node proof ≡ open_whole known node proof
+unfolding open_of
+open_of-whole h s e n known node proof first last =
+    open-whole h s e n known node (reverse proof) first last ∙ turned known proof
+  where
+    many : (known : Bool) (w : List (List ℕ)) → 2 ≤ length w → open_whole known node w ≡ None
+    many known [] more = let none : ⊥ = omega arith in absurd none
+    many known (x ∷ []) more = let none : ⊥ = omega arith in absurd none
+    many true (x ∷ y ∷ rest) more = refl
+    many false (x ∷ y ∷ rest) more = refl
+
+    turned : (known : Bool) (w : List (List ℕ)) → open_whole known node (reverse w) ≡ open_whole known node w
+    turned known [] = refl
+    turned known (x ∷ []) = refl
+    turned known (x ∷ y ∷ rest) = many known (reverse (x ∷ y ∷ rest)) (let size = length-reverse (x ∷ y ∷ rest) in omega arith) ∙ sym (many known (x ∷ y ∷ rest) (omega arith))
+
+pub open_of-short : (h : List ℕ → List ℕ) (s e n : ℕ) (known : Bool) (node : List ℕ) (proof : List (List ℕ))
+    → (0 < s) ⊎ (e < n) → length proof ≡ 0 → open_of h s e n known node proof ≡ None
+unfolding open_of
+open_of-short h s e n known node [] part none = open-short h s e n known node part
+open_of-short h s e n known node (x ∷ rest) part none = let no : ⊥ = omega arith in absurd no
+
+pub open_of-left : (h : List ℕ → List ℕ) (s e n k : ℕ) (known : Bool) (node z : List ℕ) (p : List (List ℕ))
+    → 1 < n → split_of n ≡ k → e ≤ k
+    → open_of h s e n known node (p ++ z ∷ [])
+    ≡ option_map (root_left_of h z) (open_of h s e k known node p)
+unfolding open_of
+open_of-left h s e n k known node z p more is within =
+    ap (open_from_root h s e n known node) (reverse-append p (z ∷ []))
+    ∙ open-left h s e n k known node z (reverse p) more is within
+
+pub open_of-right : (h : List ℕ → List ℕ) (s e n k a b c : ℕ) (known : Bool) (node z : List ℕ)
+    (p : List (List ℕ)) → 1 < n → split_of n ≡ k → s ≡ k + a → e ≡ k + b → n ≡ k + c → 0 < b
+    → open_of h s e n known node (p ++ z ∷ [])
+    ≡ option_map (root_right_of h z) (open_of h a b c known node p)
+unfolding open_of
+open_of-right h s e n k a b c known node z p more is s_is e_is n_is some =
+    ap (open_from_root h s e n known node) (reverse-append p (z ∷ []))
+    ∙ open-right h s e n k a b c known node z (reverse p) more is s_is e_is n_is some
+
+pub open_of-over : (h : List ℕ → List ℕ) (s e n k b c : ℕ) (known : Bool) (node z : List ℕ)
+    (p : List (List ℕ)) → 1 < n → split_of n ≡ k → s ≡ 0 → e ≡ k + b → n ≡ k + c → 0 < b → e < n
+    → open_of h s e n known node (p ++ z ∷ [])
+    ≡ option_map (both_right_of h z) (open_of h 0 b c false node p)
+unfolding open_of
+open_of-over h s e n k b c known node z p more is s_is e_is n_is some part =
+    ap (open_from_root h s e n known node) (reverse-append p (z ∷ []))
+    ∙ open-over h s e n k b c known node z (reverse p) more is s_is e_is n_is some part
+
+pub open_of-none : (h : List ℕ → List ℕ) (s e n k : ℕ) (known : Bool) (node z : List ℕ)
+    (p : List (List ℕ)) → 1 < n → split_of n ≡ k → 0 < s → s < k → k < e
+    → open_of h s e n known node (p ++ z ∷ []) ≡ None
+unfolding open_of
+open_of-none h s e n k known node z p more is later before behind =
+    ap (open_from_root h s e n known node) (reverse-append p (z ∷ []))
+    ∙ open-none h s e n k known node z (reverse p) more is later before behind
+
+-- A proof that gives hashes has at most one more than the tree has levels.
+
+pub is_some-map : (f : Opened → Opened) (o : Option Opened) → is_some (option_map f o) ≡ is_some o
+is_some-map f None = refl
+is_some-map f (Some x) = refl
+
+open-height : (h : List ℕ → List ℕ) (q : List (List ℕ)) (s e n height : ℕ) (known : Bool) (node : List ℕ)
+    → s < e → e ≤ n → n ≤ 2 ^ height
+    → is_some (open_from_root h s e n known node q) ≡ true → length q ≤ height + 1
+open-height h [] s e n height known node some within near gives = omega arith
+open-height h (z ∷ q) s e n height known node some within near gives =
+    let k = split_of n in
+    let bounds = split_bounds n in
+    let positive = bounds.positive in
+    let rest_near = bounds.half in
+    let below = bounds.below in
+    cases_place s e n some within
+    (λ first last. whole known q (ap is_some (sym (open-whole h s e n known node (z ∷ q) first last)) ∙ gives))
+    (λ more le.
+    let half = half_within n height more near in
+    let high = half.some in
+    let short = open-height h q s e (split_of n) (height - 1) known node some le half.half
+    (sym (is_some-map (root_left_of h z) _) ∙ ap is_some (sym (open-left h s e n k known node z q more refl le)) ∙ gives) in
+    omega arith)
+    (λ more le.
+    let half = half_within n height more near in
+    let high = half.some in
+    let near_half = half.half in
+    let short = open-height h q (s - k) (e - k) (n - split_of n) (height - 1) known node (omega arith) (omega arith) (omega arith)
+    (sym (is_some-map (root_right_of h z) _) ∙ ap is_some (sym (open-right h s e n k (s - k) (e - k) (n - k) known node z q more refl
+    (omega arith) (omega arith) (omega arith) (omega arith))) ∙ gives) in
+    omega arith)
     (λ more inner before behind.
-    let large = larger inner in
-    let split = split_half n c j n_is j_bit large in
+    let half = half_within n height more near in
+    let high = half.some in
+    let near_half = half.half in
     ⊎_elim
     (λ (later : 0 < s).
-    open-none h s e n (2 * split_of c) known node z q more split later (omega arith) (omega arith)
-    ∙ sym (open-none h a b c (split_of c) known node z q large refl (omega arith) (omega arith) (omega arith)))
+    absurd (false≢true (ap is_some (sym (open-none h s e n k known node z q more refl later before behind)) ∙ gives)))
     (λ (first : s ≤ 0).
     let inside : e < n =
-    ⊎_elim
-    (λ (later : 0 < s). let none : ⊥ = omega arith in absurd none)
-    (λ (lt : e < n). lt)
-    inner in
-    let bit = even inside in
-    open-over h s e n (2 * split_of c) (e - 2 * split_of c) (n - 2 * split_of c)
-    known node z q more split (omega arith) (omega arith) (omega arith) (omega arith) inside
-    ∙ ap (option_map (both_right_of h z))
-    (open-lifted h node q false 0 (e - 2 * split_of c) (n - 2 * split_of c)
-    0 (b - split_of c) (c - split_of c) i j
-    (omega arith) (omega arith) (omega arith) i_bit j_bit (inl (omega arith)) (omega arith) (omega arith))
-    ∙ sym (open-over h a b c (split_of c) (b - split_of c) (c - split_of c)
-    known node z q large refl (omega arith) (omega arith) (omega arith) (omega arith) (omega arith)))
+    ⊎_elim (λ (later : 0 < s). let none : ⊥ = omega arith in absurd none) (λ (lt : e < n). lt) inner in
+    let short = open-height h q 0 (e - k) (n - split_of n) (height - 1) false node (omega arith) (omega arith) (omega arith)
+    (sym (is_some-map (both_right_of h z) _) ∙ ap is_some (sym (open-over h s e n k (e - k) (n - k) known node z q more refl
+    (omega arith) (omega arith) (omega arith) (omega arith) inside)) ∙ gives) in
+    omega arith)
     (cases_lt 0 s))
   where
-    -- the part of a list of two nodes or more, of which the next level has two or more
-    larger : (0 < s) ⊎ (e < n) → 1 < c
-    larger inner =
-        ⊎_elim
-        (λ (later : 0 < s). omega arith)
-        (λ (before : e < n).
-        ⊎_elim
-        (λ (even : 1 ≤ i). omega arith)
-        (λ (last : e ≡ n). let none : ⊥ = omega arith in absurd none)
-        end)
-        inner
+    whole : (known : Bool) (q : List (List ℕ)) → is_some (open_whole known node (z ∷ q)) ≡ true
+        → length (z ∷ q) ≤ height + 1
+    whole true q gives = absurd (false≢true gives)
+    whole false [] gives = omega arith
+    whole false (y ∷ q) gives = absurd (false≢true gives)
 
-    even : e < n → i ≡ 1
-    even before =
-        ⊎_elim
-        (λ (even : 1 ≤ i). omega arith)
-        (λ (last : e ≡ n). let none : ⊥ = omega arith in absurd none)
-        end
-
--- A subtree of one node: the root is what the proof gives as an inclusion path.
-
-opened-left : (h : List ℕ → List ℕ) (node z : List ℕ) (o : Option (List ℕ))
-    → option_map (root_left_of h z) (option_map (opened_at node) o)
-    ≡ option_map (opened_at node) (option_map (λ r. pair_hash h r z) o)
-opened-left h node z None = refl
-opened-left h node z (Some r) = refl
-
-opened-right : (h : List ℕ → List ℕ) (node z : List ℕ) (o : Option (List ℕ))
-    → option_map (root_right_of h z) (option_map (opened_at node) o)
-    ≡ option_map (opened_at node) (option_map (λ r. pair_hash h z r) o)
-opened-right h node z None = refl
-opened-right h node z (Some r) = refl
-
-pub open-one : (h : List ℕ → List ℕ) (node : List ℕ) (w : List (List ℕ)) (s e n : ℕ) → e ≡ s + 1 → s < n
-    → open_from_root h s e n true node w
-    ≡ option_map (opened_at node) (eval_from_root h s n node w)
-open-one h node [] s e n e_is here =
-    ⊎_elim
-    (λ (more : 1 < n).
-    let part : (0 < s) ⊎ (e < n) =
-    ⊎_elim
-    (λ (later : 0 < s). inl later)
-    (λ (first : s ≤ 0). inr (omega arith))
-    (cases_lt 0 s) in
-    open-short h s e n true node part
-    ∙ ap (option_map (opened_at node)) (sym (eval-short h s n node (omega arith))))
-    (λ (one : n ≤ 1).
-    open-whole h s e n true node [] (omega arith) (omega arith)
-    ∙ ap (option_map (opened_at node)) (sym (eval-leaf h s n node (omega arith) (omega arith))))
-    (cases_lt 1 n)
-open-one h node (z ∷ q) s e n e_is here =
-    let bounds = split_bounds n in
-    let below = bounds.below in
-    ⊎_elim
-    (λ (more : 1 < n).
-    ⊎_elim
-    (λ (first : s < split_of n).
-    open-left h s e n (split_of n) true node z q more refl (omega arith)
-    ∙ ap (option_map (root_left_of h z)) (open-one h node q s e (split_of n) e_is first)
-    ∙ opened-left h node z (eval_from_root h s (split_of n) node q)
-    ∙ ap (option_map (opened_at node))
-    (sym (eval-left h s n (split_of n) node z q more refl first)))
-    (λ (second : split_of n ≤ s).
-    open-right h s e n (split_of n) (s - split_of n) (e - split_of n) (n - split_of n) true node z q more refl
-    (omega arith) (omega arith) (omega arith) (omega arith)
-    ∙ ap (option_map (root_right_of h z))
-    (open-one h node q (s - split_of n) (e - split_of n) (n - split_of n) (omega arith) (omega arith))
-    ∙ opened-right h node z (eval_from_root h (s - split_of n) (n - split_of n) node q)
-    ∙ ap (option_map (opened_at node))
-    (sym (eval-right h s n (split_of n) (s - split_of n) (n - split_of n) node z q more refl
-    (omega arith) (omega arith))))
-    (cases_lt s (split_of n)))
-    (λ (one : n ≤ 1).
-    open-whole h s e n true node (z ∷ q) (omega arith) (omega arith)
-    ∙ ap (option_map (opened_at node)) (sym (eval-long h s n node z q one)))
-    (cases_lt 1 n)
+pub open_of-height : (h : List ℕ → List ℕ) (s e n height : ℕ) (known : Bool) (node : List ℕ)
+    (proof : List (List ℕ)) (o : Opened) → s < e → e ≤ n → n ≤ 2 ^ height
+    → open_of h s e n known node proof ≡ Some o → length proof ≤ height + 1
+unfolding open_of
+open_of-height h s e n height known node proof o some within near gives =
+    let size = length-reverse proof in
+    let short = open-height h (reverse proof) s e n height known node some within near (ap is_some gives) in
+    omega arith

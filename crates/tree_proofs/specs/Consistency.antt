@@ -3,7 +3,7 @@ use Rattle.std.specs.Prelude.{◌≡◌, ℕ, ◌≤◌, true, nat_le, not, if�
 use Rattle.tree_core.specs.Subtree.{is_subtree}
 use Rattle.tree_proofs.specs.declared.error.ConsistError.{ConsistError}
 use Rattle.tree_proofs.specs.declared.error.ConsistError.TheVariants.{BadSubtree, Beyond, WrongLength, WrongNode, WrongRoot}
-use Rattle.tree_proofs.specs.declared.opened.Opened.{Opened}
+use Rattle.tree_proofs.specs.declared.outcome.Opened.{Opened}
 use Rattle.tree_proofs.specs.Open.{open_of}
 
 -- what a proof gave, against the hash of the subtree and the root

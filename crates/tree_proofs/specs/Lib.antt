@@ -4,4 +4,4 @@ pub mod Consistency
 pub mod Told
 pub mod Listed
 pub mod ProofLaws
-pub mod Levels
+pub mod Full

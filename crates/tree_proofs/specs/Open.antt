@@ -3,24 +3,28 @@
 use Rattle.std.specs.Prelude.{ℕ, ◌-◌, ◌&&◌, ◌==◌, Bool, true, false, nat_le, if◌then◌else◌, List, [], ◌∷◌, reverse, Option, Some, None, option_map}
 use Rattle.tree_core.specs.Split.{split_of}
 use Rattle.tree_core.specs.Tree.{pair_hash}
-use Rattle.tree_proofs.specs.declared.opened.Opened.{Opened}
+use Rattle.tree_proofs.specs.declared.outcome.Opened.{Opened}
+
+-- these two hashes
+abbrev pub opened_at : List ℕ → List ℕ → Opened
+opened_at subtree root = record { subtree = subtree; root = root }
 
 -- the left part of a list was opened, and z is the root of its right part
 abbrev pub root_left_of : (List ℕ → List ℕ) → List ℕ → Opened → Opened
-root_left_of h z o = record { subtree = o.subtree; root = pair_hash h o.root z }
+root_left_of h z o = opened_at o.subtree (pair_hash h o.root z)
 
 -- the right part of a list was opened, and z is the root of its left part
 abbrev pub root_right_of : (List ℕ → List ℕ) → List ℕ → Opened → Opened
-root_right_of h z o = record { subtree = o.subtree; root = pair_hash h z o.root }
+root_right_of h z o = opened_at o.subtree (pair_hash h z o.root)
 
 -- the same where the subtree holds the left part too
 abbrev pub both_right_of : (List ℕ → List ℕ) → List ℕ → Opened → Opened
-both_right_of h z o = record { subtree = pair_hash h z o.subtree; root = pair_hash h z o.root }
+both_right_of h z o = opened_at (pair_hash h z o.subtree) (pair_hash h z o.root)
 
 -- the subtree is the whole list: its hash is known, or it is the one hash that is left
 abbrev pub open_whole : Bool → List ℕ → List (List ℕ) → Option Opened
-open_whole true node [] = Some (record { subtree = node; root = node })
-open_whole false node (x ∷ []) = Some (record { subtree = x; root = x })
+open_whole true node [] = Some (opened_at node node)
+open_whole false node (x ∷ []) = Some (opened_at x x)
 open_whole _ _ _ = None
 
 -- the hash of the subtree [start, end) and the root of a list of n leaves, by the subtree's own

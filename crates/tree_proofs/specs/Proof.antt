@@ -1,8 +1,8 @@
 -- The consistency proof of a subtree (the draft on Merkle Tree Certificates, where it makes subtree
 -- consistency proofs).
-use Rattle.std.specs.Prelude.{ℕ, zero, suc, ◌-◌, ◌&&◌, ◌==◌, Bool, false, nat_le, if◌then◌else◌, List, [], ◌∷◌, ◌++◌, length, take, drop}
+use Rattle.std.specs.Prelude.{ℕ, zero, suc, ◌-◌, ◌&&◌, ◌==◌, Bool, false, nat_le, if◌then◌else◌, List, [], ◌∷◌, ◌++◌, length, take, drop, map}
 use Rattle.tree_core.specs.Split.{split_of}
-use Rattle.tree_core.specs.Tree.{root_of}
+use Rattle.tree_core.specs.Tree.{leaf_hash, root_of}
 
 -- the nodes beside the subtree [start, end) of these leaf hashes, from the lowest level up. Of the
 -- whole list there are none where the reader knows its root, and else that root. Of more: where
@@ -24,3 +24,7 @@ proof_within (suc depth) h start end known leaves =
 -- the consistency proof of the subtree [start, end) in a list with these leaf hashes
 unfoldable pub proof_of : (List ℕ → List ℕ) → ℕ → ℕ → Bool → List (List ℕ) → List (List ℕ)
 proof_of h start end known leaves = proof_within (length leaves) h start end known leaves
+
+-- the consistency proof of the part [start, end) of a list, P of the standard
+abbrev pub consistency_proof : (List ℕ → List ℕ) → ℕ → ℕ → Bool → List (List ℕ) → List (List ℕ)
+consistency_proof h start end known entries = proof_of h start end known (map (leaf_hash h) entries)

@@ -1,18 +1,42 @@
 -- What holds of consistency proofs, for a hash function h.
-use Rattle.std.specs.Prelude.{◌≡◌, ◌≢◌, ℕ, ◌≤◌, ◌↔◌, true, List, length, map, Ok, Err}
-use Rattle.tree_core.specs.Laws.{IsSubtree}
+use Rattle.std.specs.Prelude.{◌≡◌, ◌≢◌, ℕ, ◌-◌, ◌<◌, ◌≤◌, ◌↔◌, Bool, true, false, List, [], ◌∷◌, ◌++◌, length, take, drop, Ok, Err}
+use Rattle.tree_core.specs.Laws.{IsLargestPowerBelow, IsSubtree}
 use Rattle.tree_core.specs.Path.{part_of}
-use Rattle.tree_core.specs.Tree.{leaf_hash, tree_hash}
+use Rattle.tree_core.specs.Tree.{tree_hash}
 use Rattle.tree_proofs.specs.declared.error.ConsistError.TheVariants.{WrongLength}
 use Rattle.tree_proofs.specs.Consistency.{Checks, consistency}
-use Rattle.tree_proofs.specs.Proof.{proof_of}
+use Rattle.tree_proofs.specs.Proof.{consistency_proof, proof_of}
+
+-- the consistency proof of the whole list has no hash where the reader knows its tree hash, and else
+-- that one. Of more entries, for k the largest power of two below their number: where the interval
+-- ends by k, it is the proof in the first k and then the tree hash of the rest; where it starts from
+-- k on, the proof in the rest and then the tree hash of the first k; and where it starts with the
+-- list, ends above k and is not the whole, the proof of its part in the rest, whose hash the reader
+-- doesn't know, and then the tree hash of the first k
+pub record IsConsistencyProof (h : List ℕ → List ℕ) : Type 0 where
+  pub known : (entries : List (List ℕ)) → 0 < length entries
+      → consistency_proof h 0 (length entries) true entries ≡ []
+  pub whole : (entries : List (List ℕ)) → 0 < length entries
+      → consistency_proof h 0 (length entries) false entries ≡ tree_hash h entries ∷ []
+  pub left : (entries : List (List ℕ)) (start end k : ℕ) (known : Bool)
+      → IsLargestPowerBelow (length entries) k → start < end → end ≤ k
+      → consistency_proof h start end known entries
+      ≡ consistency_proof h start end known (take k entries) ++ tree_hash h (drop k entries) ∷ []
+  pub right : (entries : List (List ℕ)) (start end k : ℕ) (known : Bool)
+      → IsLargestPowerBelow (length entries) k → start < end → end ≤ length entries → k ≤ start
+      → consistency_proof h start end known entries
+      ≡ consistency_proof h (start - k) (end - k) known (drop k entries) ++ tree_hash h (take k entries) ∷ []
+  pub over : (entries : List (List ℕ)) (end k : ℕ) (known : Bool)
+      → IsLargestPowerBelow (length entries) k → k < end → end < length entries
+      → consistency_proof h 0 end known entries
+      ≡ consistency_proof h 0 (end - k) false (drop k entries) ++ tree_hash h (take k entries) ∷ []
 
 -- in a list of entries, for each subtree in it: its consistency proof checks for the tree hash of
 -- the subtree and the one of the list
 abbrev pub ProofsCheck : (List ℕ → List ℕ) → Type 0
 ProofsCheck h = (entries : List (List ℕ)) (start end : ℕ)
     → IsSubtree start end → end ≤ length entries
-    → let proof = proof_of h start end true (map (leaf_hash h) entries) in
+    → let proof = consistency_proof h start end true entries in
     Checks h start end (length entries) (tree_hash h (part_of entries start end)) (tree_hash h entries) proof
 
 -- a proof passes exactly where it checks

@@ -1,5 +1,5 @@
 -- What a call over nodes gives, where they tell their leaf hashes.
-use Rattle.std.specs.Prelude.{◌≡◌, ℕ, ◌-◌, true, List, take, Option, IfSome}
+use Rattle.std.specs.Prelude.{◌≡◌, ℕ, ◌-◌, Bool, true, List, take, Option, IfSome}
 use Rattle.tree_core.specs.Path.{part_of, path_of}
 use Rattle.tree_core.specs.Tree.{root_of}
 use Rattle.tree_proofs.specs.Proof.{proof_of}
@@ -12,6 +12,11 @@ IsRootOf h told start end node = IfSome told (λ leaves. node ≡ root_of h (par
 abbrev pub IsPathOf : (List ℕ → List ℕ) → Option (List (List ℕ)) → ℕ → ℕ → ℕ → List (List ℕ) → Type 0
 IsPathOf h told index start end path =
     IfSome told (λ leaves. path ≡ path_of h (index - start) (part_of leaves start end))
+
+-- the consistency proof of the part [start, end) of the leaves from low up to high
+abbrev pub IsProofIn : (List ℕ → List ℕ) → Option (List (List ℕ)) → ℕ → ℕ → ℕ → ℕ → Bool → List (List ℕ) → Type 0
+IsProofIn h told low high start end known proof =
+    IfSome told (λ leaves. proof ≡ proof_of h (start - low) (end - low) known (part_of leaves low high))
 
 -- the consistency proof of the subtree [start, end) in the first size leaves
 abbrev pub IsProofOf : (List ℕ → List ℕ) → Option (List (List ℕ)) → ℕ → ℕ → ℕ → List (List ℕ) → Type 0

@@ -1,4 +1,6 @@
-ghost use Rattle.std.specs.Prelude.{◌≡◌, ◌<◌, ◌≤◌, true, OnOk};
+//! Making inclusion paths.
+
+ghost use Rattle.std.specs.Prelude.{◌≡◌, ℕ, ◌-◌, ◌^◌, ◌<◌, ◌≤◌, true, length, OnOk};
 ghost use Rattle.mtc_io.specs.Counts.{HasCause};
 ghost use Rattle.tree_core.specs.Subtree.{is_subtree};
 ghost use Rattle.tree_proofs.specs.Told.{IsPathOf};
@@ -8,8 +10,9 @@ use crate::{Nodes, Path, node_of};
 use mtc_io::Failed;
 
 /// Puts into `out`, in place of what it held, the inclusion path of the entry at `index` in the
-/// subtree `[start, end)` (RFC 9162, section 2.1.3.1), the sibling of the leaf first. Where the
-/// nodes failed, `out` has hashes that mean nothing.
+/// subtree `[start, end)` (RFC 9162, section 2.1.3.1), the sibling of the leaf first. It has no
+/// more hashes than the subtree has levels. Where the nodes failed, `out` has hashes that mean
+/// nothing.
 pub fn include<N: Nodes>(
     nodes: &mut N,
     index: u64,
@@ -22,24 +25,23 @@ pub fn include<N: Nodes>(
     requires below { index < end }
     requires within { end ≤ N.count nodes.old }
     ensures path { OnOk result (IsPathOf N.H.hash (N.leaves nodes.old) index start end out.new) }
+    ensures short { OnOk result ((height : ℕ) → end - start ≤ 2 ^ height → length out.new ≤ height) }
     ensures list { N.leaves nodes.new ≡ N.leaves nodes.old }
     ensures count { N.count nodes.new ≡ N.count nodes.old }
     ensures stays { N.stays nodes.old nodes.new }
     ensures cause { HasCause (N.faults nodes.old) (N.faults nodes.new) result }
 {
-    out.clear();
-    let mut low = start;
-    let mut high = end;
-    'halves: while high - low > 1 {
-        let middle = split_between(low, high);
-        if index < middle {
-            out.push(&node_of(nodes, middle, high)?);
-            high = middle;
-        } else {
-            out.push(&node_of(nodes, low, middle)?);
-            low = middle;
-        }
+    if end - start == 1 {
+        out.clear();
+        return Ok(());
     }
-    out.reverse();
+    let middle = split_between(start, end);
+    if index < middle {
+        include(nodes, index, start, middle, out)?;
+        out.push(&node_of(nodes, middle, end)?);
+    } else {
+        include(nodes, index, middle, end, out)?;
+        out.push(&node_of(nodes, start, middle)?);
+    }
     Ok(())
 }

@@ -38,12 +38,13 @@ impl<H: TreeHash> Listed<H> {
         }
     }
 
-    /// Makes room for at least `count` more leaves. The list stays as it was, also where memory is
-    /// refused.
+    /// Makes room for at least `count` more leaves. It is refused only where fewer are spare. The list
+    /// stays as it was, also then.
     pub fn reserve(&mut self, count: usize) -> Result<(), Memory>
         ensures list { self.new.leaves ≡ self.old.leaves }
         ensures spare { OnOk result (count ≤ self.new.spare) }
         ensures kept { self.old.spare ≤ self.new.spare }
+        ensures full { OnErr result (self.old.spare < count) }
     {
         self.items.reserve(count)?;
         Ok(())

@@ -1,7 +1,7 @@
 ghost use Rattle.std.specs.Prelude.{◌≡◌, ℕ, ◌+◌, ◌*◌, ◌^◌, ◌≤◌, true, List, length, Option, IfSome, IfOk};
 ghost use Rattle.mtc_io.specs.Counts.{HasCause};
 ghost use Rattle.tree_core.specs.Subtree.{is_subtree};
-ghost use Rattle.tree_proofs.specs.Levels.{BeginsFull};
+ghost use Rattle.tree_proofs.specs.Full.{BeginsFull};
 ghost use Rattle.tree_proofs.specs.Told.{IsRootOf};
 
 use mtc_io::Failed;

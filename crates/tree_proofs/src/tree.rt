@@ -1,13 +1,15 @@
-ghost use Rattle.std.specs.Prelude.{◌≡◌, ℕ, ◌+◌, ◌-◌, ◌<◌, List};
+ghost use Rattle.std.specs.Prelude.{◌≡◌, ◌+◌, ◌<◌, true};
 ghost use Rattle.tree_core.specs.Split.{split_of};
+ghost use Rattle.tree_core.specs.Subtree.{is_subtree};
 ghost use Rattle.tree_core.specs.Tree.{root_of, tree_hash};
+ghost use Rattle.tree_proofs.specs.Full.{HasHalves};
 
 use mtc_io::Bytes;
 use tree_core::{TreeHash, leaf, pair};
 
-// Where a list of more than one entry is split: the largest power of two below their number (RFC
+// The largest power of two below the number, which is where a list of so many entries is split (RFC
 // 9162, section 2.1.1).
-fn split_place(count: usize) -> usize
+pub(crate) fn split(count: u64) -> u64
     requires { 1 < count }
     ensures value { result ≡ split_of count }
     ensures inside { (0 < result) × (result < count) }
@@ -15,13 +17,13 @@ fn split_place(count: usize) -> usize
     1 << (count - 1).ilog2()
 }
 
-// Where the interval of more than one entry is split.
-pub(crate) fn split_between(low: u64, high: u64) -> u64
-    requires { low + 1 < high }
-    ensures value { result ≡ low + split_of (high - low) }
-    ensures inside { (low < result) × (result < high) }
+// Where a subtree of more than one entry is split.
+pub(crate) fn split_between(start: u64, end: u64) -> u64
+    requires valid { is_subtree start end ≡ true }
+    requires more { start + 1 < end }
+    ensures { HasHalves start result end }
 {
-    low + (1 << (high - low - 1).ilog2())
+    start + split(end - start)
 }
 
 /// The tree hash of a list of entries (RFC 9162, section 2.1.1). It takes no memory.
@@ -32,7 +34,7 @@ pub fn root<H: TreeHash>(entries: &[Bytes]) -> [u8; 32]
         [] => H::begin().end(),
         [only] => leaf::<H>(only.as_slice()),
         _ => {
-            let (left, right) = entries.split_at(split_place(entries.len()));
+            let (left, right) = entries.split_at(split(entries.len() as u64) as usize);
             pair::<H>(&root::<H>(left), &root::<H>(right))
         }
     }
@@ -46,7 +48,7 @@ pub(crate) fn root_over<H: TreeHash>(leaves: &[[u8; 32]]) -> [u8; 32]
         [] => H::begin().end(),
         [only] => *only,
         _ => {
-            let (left, right) = leaves.split_at(split_place(leaves.len()));
+            let (left, right) = leaves.split_at(split(leaves.len() as u64) as usize);
             pair::<H>(&root_over::<H>(left), &root_over::<H>(right))
         }
     }

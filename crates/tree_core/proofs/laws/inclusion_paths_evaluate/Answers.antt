@@ -1,8 +1,8 @@
-use Rattle.tree_core.proofs.Paths.{IsPath_always, PathsByLength_always, PathsEvaluate_always, SubtreePathsEvaluate_always, WrongLengthByPath_always}
+use Rattle.tree_core.proofs.Paths.{IsInclusionPath_always, PathsByLength_always, PathsEvaluate_always, SubtreePathsEvaluate_always, WrongLengthByPath_always}
 use Rattle.tree_core.proofs.laws.inclusion_paths_evaluate.Goals as goal
 
 pub returns-clause-path : goal.returns-clause-path
-returns-clause-path c = IsPath_always
+returns-clause-path c = IsInclusionPath_always
 
 pub returns-clause-evaluates : goal.returns-clause-evaluates
 returns-clause-evaluates c = PathsEvaluate_always

@@ -19,5 +19,5 @@ returns-in_default g t c =
     c.pair.ensures
     ∙ ap (λ l. pair_hash g.H.TreeHash.hash l c.root-in_default.result) c.root.ensures
     ∙ ap (pair_hash g.H.TreeHash.hash (tree_hash g.H.TreeHash.hash c.split_at.result.0.now)) c.root-in_default.ensures
-    ∙ tree-more g.H.TreeHash.hash c.args.entries.now _ _ _ c.in_default.len_at_least c.split_place.ensures.value
+    ∙ tree-more g.H.TreeHash.hash c.args.entries.now _ _ _ c.in_default.len_at_least c.split.ensures.value
     c.split_at.ensures.front c.split_at.ensures.back

@@ -16,5 +16,5 @@ returns-in_default g t c =
     c.pair.ensures
     ∙ ap (λ l. pair_hash g.H.TreeHash.hash l c.root_over-in_default.result) c.root_over.ensures
     ∙ ap (pair_hash g.H.TreeHash.hash (root_of g.H.TreeHash.hash c.split_at.result.0.now)) c.root_over-in_default.ensures
-    ∙ root-more g.H.TreeHash.hash c.args.leaves.now _ _ _ c.in_default.len_at_least c.split_place.ensures.value
+    ∙ root-more g.H.TreeHash.hash c.args.leaves.now _ _ _ c.in_default.len_at_least c.split.ensures.value
     c.split_at.ensures.front c.split_at.ensures.back

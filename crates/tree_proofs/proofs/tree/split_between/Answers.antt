@@ -1,10 +1,8 @@
-use Rattle.std.proofs.Common.{◌+◌, ◌-◌, ◌<◌, ap, arith}
-use Rattle.tree_proofs.proofs.Splits.{shifted}
+use Rattle.std.proofs.Common.{◌+◌, ap}
+use Rattle.tree_proofs.proofs.Aligned.{halves_valid}
 use Rattle.tree_proofs.proofs.tree.split_between.Goals as goal
 
-pub returns-clause-value : goal.returns-clause-value
-returns-clause-value c =
-    let more : 1 < c.args.high - c.args.low = omega arith in
-    ap (λ k. c.args.low + k)
-    (shifted (c.args.high - c.args.low) c.ilog2.result more c.ilog2.ensures.bound c.ilog2.ensures.power_le
-    c.ilog2.ensures.next_power_gt)
+pub returns : goal.returns
+returns c =
+    halves_valid c.args.start _ c.args.end c.requires.valid c.requires.more
+    (ap (λ k. c.args.start + k) c.split.ensures.value)

@@ -1,6 +1,6 @@
 use Rattle.std.proofs.Common.{arith}
 use Rattle.tree_proofs.proofs.Splits.{shifted, split_inside}
-use Rattle.tree_proofs.proofs.tree.split_place.Goals as goal
+use Rattle.tree_proofs.proofs.tree.split.Goals as goal
 
 pub returns-clause-value : goal.returns-clause-value
 returns-clause-value c =

@@ -1,9 +1,11 @@
-ghost use Rattle.std.specs.Prelude.{◌≡◌, ℕ, List, [], ◌∷◌, ◌++◌, ◌<◌, ◌≤◌, length, reverse, take};
+//! The hashes of a path or a proof.
+
+ghost use Rattle.std.specs.Prelude.{◌≡◌, ℕ, List, [], ◌∷◌, ◌++◌, ◌<◌, ◌≤◌, length, take};
 
 use std::marker::Model;
 
-/// The hashes of a proof, in an array of a fixed size: of 128 hashes, where a proof in a tree of 64
-/// levels has 65 at most. Contracts see it as the list of its hashes.
+/// The hashes of a path or a proof, in an array of a fixed size. It has 128 hashes, and a proof in a
+/// tree of 64 levels at most 65. Contracts see it as the list of its hashes.
 #[derive(Drop)]
 pub struct Path {
     hashes: [[u8; 32]; 128],
@@ -50,12 +52,5 @@ impl Path {
     {
         self.hashes[self.length] = *hash;
         self.length += 1;
-    }
-
-    // Turns the order of the hashes round.
-    pub(crate) fn reverse(&mut self)
-        ensures { self.new ≡ reverse self.old }
-    {
-        self.hashes[..self.length].reverse();
     }
 }
