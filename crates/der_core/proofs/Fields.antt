@@ -1,26 +1,27 @@
 -- The readings of fields are forms.
-use Rattle.std.proofs.Common.{◌≡◌, ℕ, ◌+◌, ◌-◌, ◌%◌, ◌^◌, ◌<◌, false, List, [], ◌++◌, length, Option, Some, None, Result, Ok, Err, refl, sym, ap, subst, ◌∙◌, append-nil, arith, eq-eqb, eqb-true, true≢false}
+use Rattle.std.proofs.Common.{◌≡◌, ℕ, ◌+◌, ◌-◌, ◌%◌, ◌^◌, ◌<◌, false, List, [], ◌++◌, length, Option, Result, Ok, Err, refl, sym, ap, subst, ◌∙◌, append-nil, arith, eq-eqb, eqb-true, true≢false}
 use Rattle.std.specs.Prelude.{if◌then◌else◌, ◌==◌}
 use Rattle.std.specs.List.{flat_map}
 use Rattle.std.specs.Ordering.{nat_cmp, is_gt}
 use Rattle.std.specs.Cmp.Lexicographic.{slice_cmp}
 use Rattle.std.proofs.lemmas.List.{nil_from_length}
-use Rattle.byte_forms.specs.Places.{At, IsBytes}
+use Rattle.byte_forms.specs.Places.{At, IsBytes, at}
 use Rattle.byte_forms.specs.Readings.{◌>>=◌, discarded, some_or}
 use Rattle.byte_forms.specs.Forms.{Stands, IsForm, Anything, Nothing, IsSpelling, itself, FitsEach}
-use Rattle.byte_forms.proofs.Steps.{bind_ok, guard_ok, pass_ok, ok_is}
+use Rattle.byte_forms.proofs.Steps.{bind_ok, discarded_ok, guard_ok, lifted_ok, pass_ok, ok_is, some_or_ok}
 use Rattle.byte_forms.proofs.Forms.{said_form}
 use Rattle.byte_forms.proofs.Lists.{each_form}
 use Rattle.der_core.specs.declared.fault.DerError.{DerError}
 use Rattle.der_core.specs.declared.fault.DerError.TheVariants.{Trailing, SetOrder}
 use Rattle.der_core.specs.declared.fault.CertError.{CertError}
+use Rattle.der_core.specs.declared.fault.CertError.TheVariants.{Der}
 use Rattle.der_core.specs.Elements.{element, IsTag}
 use Rattle.der_core.specs.Items.{Item, inside}
 use Rattle.der_core.specs.Integers.{integer}
 use Rattle.der_core.specs.Reading.{element_at, wanted_at, end_at}
 use Rattle.der_core.specs.Contents.{unsigned_of}
 use Rattle.der_core.specs.Sets.{risen_at, last_of, rising_at}
-use Rattle.der_core.specs.Fields.{der, inside_at, whole_at, noted_at, decoded_at, contents_at, element_with_at, any_at, unsigned_at}
+use Rattle.der_core.specs.Fields.{der, inside_at, whole_at, noted_at, decoded_at, contents_at, element_with_at, any_at, unsigned_at, all_of}
 use Rattle.der_core.specs.Forms.{IsRead, IsElement, IsContents, IsNext}
 use Rattle.der_core.proofs.Elements.{element_takes, wanted_takes, element_again, wanted_again, element-longer}
 use Rattle.der_core.proofs.Integers.{unsigned_takes, unsigned_again, length-integer}
@@ -31,15 +32,10 @@ tag_of tag byte low = record { byte = byte; low = λ high. true≢false (sym (eq
 
 -- An answer that isn't a fault is the element's own.
 pub der_ok : {A : Type 0} (r : Result A DerError) (y : A) → der r ≡ Ok y → r ≡ Ok y
-der_ok (Ok x) y e = cc
-der_ok (Err d) y e = absurd cc
-
-discarded_ok : {X : Type 0} (r : Result (X × At) CertError) (b : At) → discarded r ≡ Ok b → (x : X) × (r ≡ Ok (x, b))
-discarded_ok (Ok x) b e = (x.0, ap (λ (c : At). Ok (x.0, c)) (ok_is CertError x.1 b e))
-discarded_ok (Err d) b e = absurd cc
+der_ok r y e = lifted_ok Der r y e
 
 -- Nothing stands behind the last field.
-end_ok : (a : At) (done : Unit {0}) → end_at a ≡ Ok done → a.rest ≡ []
+pub end_ok : (a : At) (done : Unit {0}) → end_at a ≡ Ok done → a.rest ≡ []
 end_ok a done e =
     let p = pass_ok (length a.rest == 0) (Ok tt) (Trailing a.place) done e in
     nil_from_length a.rest (eqb-true (length a.rest) 0 p.0)
@@ -122,7 +118,7 @@ number_form fault = record {
       let t = bind_ok (der (unsigned_of s.0.0.place s.0.0.contents)) (λ (o : Option ℕ). some_or fault o >>= λ (m : ℕ). Ok (m, s.0.1)) (n, b) s.2 in
       let u = bind_ok (some_or fault t.0) (λ (m : ℕ). Ok (m, s.0.1)) (n, b) t.2 in
       let read = contents_takes 2 a s.0.0 s.0.1 h s.1 in
-      let some = some_is fault t.0 u.0 u.1 in
+      let some = some_or_ok fault t.0 u.0 u.1 in
       let number = der_ok (unsigned_of s.0.0.place s.0.0.contents) t.0 t.1 ∙ ap (λ (o : Option ℕ). Ok o) some in
       let known = unsigned_takes s.0.0.place s.0.0.contents u.0 read.0.bytes number in
       let P : ℕ × At → Type 0 = λ v. Stands a (element 2 (integer v.0)) v.1 × ((v.0 < 2 ^ 64) × (length (integer v.0) < 2 ^ 24)) in
@@ -133,10 +129,6 @@ number_form fault = record {
       let is_tag = tag_of 2 (omega arith) refl in
       rw (wanted_again 2 (integer n) p rest (record { is_tag = is_tag; short = f.1 }), unsigned_again p n f.0) refl;
 }
-  where
-    some_is : (fault : CertError) (o : Option ℕ) (n : ℕ) → some_or fault o ≡ Ok n → o ≡ Some n
-    some_is fault None n e = absurd cc
-    some_is fault (Some m) n e = cc
 
 -- A number below 2 ^ 64.
 pub unsigned_form : (fault : CertError) → IsForm (λ n. element 2 (integer n)) (λ n. n < 2 ^ 64) Anything (unsigned_at fault)
@@ -240,9 +232,31 @@ risen_form place seen = record {
       subst P (sym f.is_element.spelled) (λ low. rw (element_again f.is_element.tag f.is_element.contents p rest f.is_element.fits, low) refl) f.risen;
 }
 
-next_some : (seen : List (List ℕ)) (bytes : List ℕ) → IsNext seen bytes → 0 < length bytes
+-- An element of a set has bytes.
+pub next_some : (seen : List (List ℕ)) (bytes : List ℕ) → IsNext seen bytes → 0 < length bytes
 next_some seen bytes f = omega (arith, ap length f.is_element.spelled, element-longer f.is_element.tag f.is_element.contents)
 
 -- The elements of a set, in rising order.
 pub rising_form : (place : ℕ) → IsForm (flat_map itself) (FitsEach itself IsNext []) Nothing (rising_at place)
 rising_form place = each_form itself itself IsNext (λ seen. risen_at place (last_of seen)) [] next_some (risen_form place)
+
+-- ---- whole inputs
+
+-- Bytes that read up to their end are the spelling of what was read.
+pub all_takes : {X : Type 0} (spell : X → List ℕ) (Fits : X → Type 0) (read : At → Result (X × At) CertError) → IsForm spell Fits Anything read
+    → (bytes : List ℕ) (x : X) → IsBytes bytes → all_of read bytes ≡ Ok x → (bytes ≡ spell x) × Fits x
+all_takes {X} spell Fits read form bytes x h e =
+    let s = bind_ok (read (at bytes 0)) (λ (v : X × At). der (end_at v.1) >>= λ (done : Unit {0}). Ok v.0) x e in
+    let t = bind_ok (der (end_at s.0.1)) (λ (done : Unit {0}). Ok s.0.0) x s.2 in
+    let known = form.takes (at bytes 0) s.0.0 s.0.1 h s.1 in
+    let nothing = end_ok s.0.1 t.0 (der_ok (end_at s.0.1) t.0 t.1) in
+    let P : X → Type 0 = λ v. (bytes ≡ spell v) × Fits v in
+    subst P (ok_is CertError s.0.0 x t.2) (known.0.parts ∙ (ap (λ (c : List ℕ). spell s.0.0 ++ c) nothing ∙ append-nil (spell s.0.0)), known.1)
+
+-- A spelling reads up to its end.
+pub all_again : {X : Type 0} (spell : X → List ℕ) (Fits : X → Type 0) (read : At → Result (X × At) CertError) → IsForm spell Fits Anything read
+    → (x : X) → Fits x → all_of read (spell x) ≡ Ok x
+all_again spell Fits read form x f =
+    let step : read (at (spell x) 0) ≡ Ok (x, record { place = 0 + length (spell x); rest = [] }) =
+    ap (λ (c : List ℕ). read (record { place = 0; rest = c })) (sym (append-nil (spell x))) ∙ form.again x 0 [] f tt in
+    rw step refl

@@ -3,6 +3,7 @@ use Rattle.std.specs.Prelude.{slice_index, flat_map, ◌≡◌, ◌≢◌, ℕ, 
 use Rattle.std.specs.List.{AllByRecursion}
 use Rattle.std.specs.Ordering.{nat_cmp, is_gt}
 use Rattle.std.specs.Cmp.Lexicographic.{slice_cmp}
+use Rattle.byte_forms.specs.Types.{Text}
 use Rattle.byte_forms.specs.Places.{At, IsBytes}
 use Rattle.byte_forms.specs.Forms.{Stands, itself}
 use Rattle.der_core.specs.Elements.{element, FitsElement}
@@ -20,57 +21,64 @@ pub record IsRead (a : At) (e : Item) (b : At) : Type 0 where
   pub bytes : IsBytes e.contents
 
 -- The element with this tag and these contents, at this offset.
-abbrev pub element_item : ℕ → List ℕ → ℕ → Item
-element_item tag contents place = record { tag = tag; place = place; whole = element tag contents; contents = contents }
+abbrev pub element_item : ℕ → Text → ℕ → Item
+element_item tag contents place = record {
+  tag = tag;
+  place = place;
+  whole = element tag contents;
+  contents = contents;
+}
 
 -- The bytes are one element.
-pub record IsElement (bytes : List ℕ) : Type 0 where
+pub record IsElement (bytes : Text) : Type 0 where
   pub tag : ℕ
-  pub contents : List ℕ
+  pub contents : Text
   pub fits : FitsElement tag contents
   pub spelled : bytes ≡ element tag contents
 
 -- A rule for contents reads exactly the spellings of its values.
-pub record IsContents {X : Type 0} (spell : X → List ℕ) (Fits : X → Type 0) (decode : ℕ → List ℕ → Result X DerError) : Type 0 where
-  pub takes : (place : ℕ) (contents : List ℕ) (x : X) → IsBytes contents → decode place contents ≡ Ok x → (contents ≡ spell x) × Fits x
+pub record IsContents {X : Type 0} (spell : X → Text) (Fits : X → Type 0)
+    (decode : ℕ → Text → Result X DerError) : Type 0 where
+  pub takes : (place : ℕ) (contents : Text) (x : X) → IsBytes contents
+      → decode place contents ≡ Ok x → (contents ≡ spell x) × Fits x
   pub again : (place : ℕ) (x : X) → Fits x → decode place (spell x) ≡ Ok x
 
 -- The contents of a BOOLEAN (X.690, 11.1).
-abbrev pub boolean : Bool → List ℕ
-boolean false = 0 ∷ []
-boolean true = 255 ∷ []
+abbrev pub boolean : Bool → Text
+boolean false = 0x00 ∷ []
+boolean true = 0xFF ∷ []
 
 -- Any truth value has contents.
 abbrev pub FitsBoolean : Bool → Type 0
 FitsBoolean b = Unit {0}
 
 -- Bytes of which the last alone has a highest bit of 0.
-abbrev pub EndsOnce : List ℕ → Type 0
+abbrev pub EndsOnce : Text → Type 0
 EndsOnce [] = ⊥
-EndsOnce (b ∷ []) = b < 128
-EndsOnce (b ∷ c ∷ bytes) = (128 ≤ b) × EndsOnce (c ∷ bytes)
+EndsOnce (b ∷ []) = b < 0x80
+EndsOnce (b ∷ c ∷ bytes) = (0x80 ≤ b) × EndsOnce (c ∷ bytes)
 
 -- The bytes of one arc, in the fewest: the first digit in base 128 isn't 0 (X.690, 8.19.2).
-pub record IsArc (bytes : List ℕ) : Type 0 where
+pub record IsArc (bytes : Text) : Type 0 where
   pub ends : EndsOnce bytes
-  pub fewest : slice_index bytes 0 ≢ 128
+  pub fewest : slice_index bytes 0 ≢ 0x80
 
 -- The contents of an OBJECT IDENTIFIER: arcs one behind the other, at least one.
-pub record IsOid (contents : List ℕ) : Type 0 where
-  pub arcs : List (List ℕ)
+pub record IsOid (contents : Text) : Type 0 where
+  pub arcs : List Text
   pub are_arcs : AllByRecursion IsArc arcs
   pub spelled : contents ≡ flat_map itself arcs
   pub some : 0 < length contents
 
 -- The contents of a BIT STRING: the number of unused bits and the bytes.
-abbrev pub bit_string : ℕ × List ℕ → List ℕ
+abbrev pub bit_string : ℕ × Text → Text
 bit_string (unused, bytes) = unused ∷ bytes
 
-pub record IsBitString (b : ℕ × List ℕ) : Type 0 where
+pub record IsBitString (b : ℕ × Text) : Type 0 where
   pub few : b.0 ≤ 7
   pub zero : are_unused b.0 b.1 ≡ true
 
 -- One more element of a set: it isn't below the last one.
-pub record IsNext (seen : List (List ℕ)) (bytes : List ℕ) : Type 0 where
+pub record IsNext (seen : List Text) (bytes : Text) : Type 0 where
   pub is_element : IsElement bytes
   pub risen : is_gt (slice_cmp nat_cmp (last_of seen) bytes) ≡ false

@@ -1,14 +1,16 @@
 -- Elements as contracts see them.
-use Rattle.std.specs.Prelude.{ℕ, ◌+◌, ◌-◌, ◌^◌, ◌<◌, ◌≤◌, List, length}
+use Rattle.std.specs.Prelude.{ℕ, ◌+◌, ◌-◌, length}
+use Rattle.byte_forms.specs.Types.{Text}
 use Rattle.byte_forms.specs.Places.{At}
 use Rattle.der_core.specs.declared.element.Element.{Element}
 
--- An element without where it lies in memory: its tag, its offset in the input, all of its bytes, its contents.
+-- An element without where it lies in memory: its tag, its offset in the input, all of its bytes,
+-- its contents.
 pub record Item : Type 0 where
   pub tag : ℕ
   pub place : ℕ
-  pub whole : List ℕ
-  pub contents : List ℕ
+  pub whole : Text
+  pub contents : Text
 
 abbrev pub item : Element → Item
 item e = record { tag = e.tag; place = e.place; whole = e.whole.now; contents = e.contents.now }
@@ -16,7 +18,3 @@ item e = record { tag = e.tag; place = e.place; whole = e.whole.now; contents = 
 -- The place of the contents.
 abbrev pub inside : Item → At
 inside e = record { place = e.place + (length e.whole - length e.contents); rest = e.contents }
-
--- The element lies in an input.
-abbrev pub IsWithin : Element → Type 0
-IsWithin e = (length e.contents.now ≤ length e.whole.now) × (e.place + length e.whole.now < 2 ^ 64)

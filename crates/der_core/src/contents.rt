@@ -8,8 +8,8 @@ ghost use Rattle.der_core.specs.Contents.{is_padded, if_small, unsigned_of, bool
 use crate::element::Element;
 use crate::fault::DerError;
 
-/// The number of an INTEGER. `None` where it is below 0 or above 2 ^ 64 - 1. `BadInteger` where the contents are empty or
-/// aren't in the fewest bytes.
+/// The number of an INTEGER. `None` where it is below 0 or above 2 ^ 64 - 1. `BadInteger` where
+/// the contents are empty or aren't in the fewest bytes.
 #[tactic(auto, unfolding(crate::specs::Contents::unsigned_of))]
 pub fn unsigned(e: &Element) -> Result<Option<u64>, DerError>
     ensures { Gives (λ n. n) result (unsigned_of e.now.place e.now.contents.now) }
@@ -22,7 +22,7 @@ pub fn unsigned(e: &Element) -> Result<Option<u64>, DerError>
     }
 }
 
-/// The first nine bits are all alike.
+// The first nine bits are all alike.
 fn padded(contents: &[u8]) -> bool
     ensures { result ≡ is_padded contents.now }
 {
@@ -33,7 +33,7 @@ fn padded(contents: &[u8]) -> bool
     }
 }
 
-/// The number that these bytes stand for, where it fits.
+// The number that these bytes stand for, where it fits.
 fn number(bytes: &[u8]) -> Option<u64>
     ensures { result ≡ if_small (value 256 bytes.now) }
 {
@@ -59,7 +59,8 @@ pub fn boolean(e: &Element) -> Result<bool, DerError>
     }
 }
 
-/// The contents of an OBJECT IDENTIFIER. `BadOid` where they are empty, unfinished, or an arc isn't in the fewest bytes.
+/// The contents of an OBJECT IDENTIFIER. `BadOid` where they are empty, unfinished, or an arc
+/// isn't in the fewest bytes.
 #[tactic(auto, unfolding(crate::specs::Contents::oid_of))]
 pub fn oid<'a>(e: &Element<'a>) -> Result<&'a [u8], DerError>
     ensures { Gives (λ bytes. bytes.now) result (oid_of e.now.place e.now.contents.now) }
@@ -71,7 +72,7 @@ pub fn oid<'a>(e: &Element<'a>) -> Result<&'a [u8], DerError>
     }
 }
 
-/// Arcs one behind the other, each finished and in the fewest bytes.
+// Arcs one behind the other, each finished and in the fewest bytes.
 fn arcs(bytes: &[u8]) -> bool
     ensures { result ≡ are_arcs true bytes.now }
 {
@@ -85,8 +86,8 @@ fn arcs(bytes: &[u8]) -> bool
     begins
 }
 
-/// The number of unused bits and the bytes of a BIT STRING. `BadBits` where there are more than seven unused bits, one of
-/// them isn't zero, or there is one behind no bytes.
+/// The number of unused bits and the bytes of a BIT STRING. `BadBits` where there are more than
+/// seven unused bits, one of them isn't zero, or there is one behind no bytes.
 #[tactic(auto, unfolding(crate::specs::Contents::bits_of))]
 pub fn bits<'a>(e: &Element<'a>) -> Result<(u8, &'a [u8]), DerError>
     ensures { Gives (λ b. (b.0, b.1.now)) result (bits_of e.now.place e.now.contents.now) }
@@ -97,7 +98,7 @@ pub fn bits<'a>(e: &Element<'a>) -> Result<(u8, &'a [u8]), DerError>
     }
 }
 
-/// The last byte has so many low bits of zero, and no bytes have none.
+// The last byte has so many low bits of zero, and no bytes have none.
 fn unused_bits(unused: u8, bytes: &[u8]) -> bool
     requires { unused < 8 }
     ensures { result ≡ are_unused unused bytes.now }

@@ -1,6 +1,9 @@
 //! One element of an input.
 
-/// An element that was read.
+ghost use Rattle.std.specs.Prelude.{◌+◌, ◌^◌, ◌<◌, ◌≤◌, length};
+
+/// An element that was read. It lies in an input: its contents are no longer than the whole, and it
+/// ends below 2 ^ 64.
 #[derive(Clone, Copy, Debug, PartialEq, Eq)]
 pub struct Element<'a> {
     /// Class, form and number in one byte.
@@ -11,4 +14,6 @@ pub struct Element<'a> {
     pub whole: &'a [u8],
     /// The bytes behind the length.
     pub contents: &'a [u8],
+    pub ghost shorter: { length contents.now ≤ length whole.now },
+    pub ghost within: { place + length whole.now < 2 ^ 64 },
 }

@@ -1,11 +1,14 @@
 //! What can be wrong with an element, and with a certificate.
 
-/// A fault of one element. The number is the offset of that element in the input. The faults of one element are
-/// looked for in the order `WrongTag` where it is missing, `HighTag`, `WrongTag`, `Truncated` where the length is
-/// missing, `LongForm`, `Truncated`, and then those of its contents.
+/// A fault of one element. The number is the offset of that element in the input. The faults of
+/// one element are looked for in this order: of its tag `WrongTag` where nothing is left,
+/// `HighTag`, `WrongTag` where another tag stands; of its length `Truncated` where it is missing,
+/// `LongForm` for a first byte of 80 or above 83 in hexadecimal, `Truncated` where further bytes
+/// are missing, `LongForm` where they aren't the fewest; `Truncated` where the contents end past
+/// what surrounds the element; and then those of its contents.
 #[derive(Clone, Copy, Debug, PartialEq, Eq)]
 pub enum DerError {
-    /// The element ends past what surrounds it.
+    /// The element, or its length, ends past what surrounds it.
     Truncated(usize),
     /// The length isn't definite, isn't in the fewest bytes, or has more than three.
     LongForm(usize),
@@ -17,7 +20,8 @@ pub enum DerError {
     BadInteger(usize),
     /// A truth value other than one byte of 00 or FF.
     BadBool(usize),
-    /// An object identifier that is empty, unfinished, or has an arc that isn't in the fewest bytes.
+    /// An object identifier that is empty, unfinished, or has an arc that isn't in the fewest
+    /// bytes.
     BadOid(usize),
     /// A string of bits whose unused bits are more than seven or aren't zero.
     BadBits(usize),

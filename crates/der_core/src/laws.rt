@@ -1,7 +1,8 @@
 //! Laws of the encoding: the clauses are the laws, and the functions do nothing.
 
-ghost use Rattle.std.specs.Prelude.{◌≡◌, ℕ, ◌+◌, ◌^◌, ◌<◌, List, [], ◌++◌, length, Some, Result, Ok};
+ghost use Rattle.std.specs.Prelude.{◌≡◌, ℕ, ◌+◌, ◌^◌, ◌<◌, [], ◌++◌, length, Some, Result, Ok};
 ghost use Rattle.std.specs.List.{flat_map};
+ghost use Rattle.byte_forms.specs.Types.{Text};
 ghost use Rattle.byte_forms.specs.Places.{At, IsBytes};
 ghost use Rattle.byte_forms.specs.Forms.{IsForm, Anything, Nothing, FitsEach, itself};
 ghost use Rattle.der_core.specs.Elements.{element, FitsElement};
@@ -12,27 +13,35 @@ ghost use Rattle.der_core.specs.Contents.{unsigned_of, boolean_of, oid_of, bits_
 ghost use Rattle.der_core.specs.Sets.{rising_at};
 ghost use Rattle.der_core.specs.Forms.{IsRead, element_item, IsContents, boolean, FitsBoolean, IsOid, bit_string, IsBitString, IsNext};
 
-/// What is read is spelled so, and an element that is spelled so is read again, whatever follows it.
+/// What is read is spelled so, and an element that is spelled so is read again, whatever follows
+/// it.
 pub fn elements_are_read_as_spelled()
-    ensures read { (a : At) (e : Item) (b : At) → IsBytes a.rest → element_at a ≡ Ok (e, b) → IsRead a e b }
-    ensures again { (tag : ℕ) (contents : List ℕ) (place : ℕ) (rest : List ℕ) → FitsElement tag contents
-        → element_at (record { place = place; rest = element tag contents ++ rest })
-        ≡ Ok (element_item tag contents place, record { place = place + length (element tag contents); rest = rest }) }
-    ensures wanted { (tag : ℕ) (contents : List ℕ) (place : ℕ) (rest : List ℕ) → FitsElement tag contents
-        → wanted_at tag (record { place = place; rest = element tag contents ++ rest })
-        ≡ Ok (element_item tag contents place, record { place = place + length (element tag contents); rest = rest }) }
+    ensures read { (a : At) (e : Item) (b : At) → IsBytes a.rest → element_at a ≡ Ok (e, b)
+        → IsRead a e b }
+    ensures again { (tag : ℕ) (contents : Text) (place : ℕ) (rest : Text)
+        → FitsElement tag contents → element_at (record { place = place; rest = element tag contents ++ rest })
+        ≡ Ok (
+          element_item tag contents place,
+          record { place = place + length (element tag contents); rest = rest },
+        ) }
+    ensures wanted { (tag : ℕ) (contents : Text) (place : ℕ) (rest : Text)
+        → FitsElement tag contents → wanted_at tag (record { place = place; rest = element tag contents ++ rest })
+        ≡ Ok (
+          element_item tag contents place,
+          record { place = place + length (element tag contents); rest = rest },
+        ) }
 {}
 
 /// An element has one spelling, and no spelling of an element begins another one.
 pub fn elements_have_one_spelling()
-    ensures { (s t : ℕ) (c d a b : List ℕ) → FitsElement s c → FitsElement t d → element s c ++ a ≡ element t d ++ b
-        → (s ≡ t) × (c ≡ d) × (a ≡ b) }
+    ensures { (s t : ℕ) (c d a b : Text) → FitsElement s c → FitsElement t d
+        → element s c ++ a ≡ element t d ++ b → (s ≡ t) × (c ≡ d) × (a ≡ b) }
 {}
 
 /// A number below 2 ^ 64 has one encoding, which is read as that number.
 pub fn numbers_are_read_as_spelled()
-    ensures read { (place : ℕ) (contents : List ℕ) (n : ℕ) → IsBytes contents → unsigned_of place contents ≡ Ok (Some n)
-        → (contents ≡ integer n) × (n < 2 ^ 64) }
+    ensures read { (place : ℕ) (contents : Text) (n : ℕ) → IsBytes contents
+        → unsigned_of place contents ≡ Ok (Some n) → (contents ≡ integer n) × (n < 2 ^ 64) }
     ensures again { (place n : ℕ) → n < 2 ^ 64 → unsigned_of place (integer n) ≡ Ok (Some n) }
 {}
 
@@ -43,7 +52,9 @@ pub fn contents_are_read_as_spelled()
     ensures bit_strings { IsContents bit_string IsBitString bits_of }
 {}
 
-/// The contents that are in order are the encodings of elements, one behind the other, each not below the one before it.
+/// The contents that are in order are the encodings of elements, one behind the other, each not
+/// below the one before it.
 pub fn sets_are_read_as_spelled()
-    ensures { (place : ℕ) → IsForm (flat_map itself) (FitsEach itself IsNext []) Nothing (rising_at place) }
+    ensures { (place : ℕ)
+        → IsForm (flat_map itself) (FitsEach itself IsNext []) Nothing (rising_at place) }
 {}

@@ -1,7 +1,9 @@
-//! Elements in the distinguished encoding rules (X.690): reading them from left to right, the rules for their
-//! contents, and writing them. Each value has one spelling, and the first fault from the left is answered.
+//! Elements in the distinguished encoding rules (X.690): reading them from left to right, the
+//! rules for their contents, and writing them. Each value has one spelling, and the first fault
+//! from the left is answered.
 //!
-//! Tags have one byte, and contents fewer than 2 ^ 24 bytes; lengths are definite and in the fewest bytes.
+//! Tags have one byte, and contents fewer than 2 ^ 24 bytes; lengths are definite and in the
+//! fewest bytes.
 #![tactic(auto)]
 
 mod contents;
@@ -10,6 +12,7 @@ mod fault;
 mod laws;
 mod reader;
 mod set;
+pub mod tags;
 #[cfg(test)]
 mod tests;
 mod writing;
@@ -23,4 +26,4 @@ pub use laws::{
 };
 pub use reader::{Reader, expect, read};
 pub use set::set_in_order;
-pub use writing::{put, put_unsigned};
+pub use writing::{element_of, put, put_unsigned};

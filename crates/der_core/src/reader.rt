@@ -3,15 +3,15 @@
 ghost use Rattle.std.specs.Prelude.{◌≡◌, ◌+◌, ◌^◌, ◌<◌, ◌≤◌, ◌==◌, length, OnOk, IfOk};
 ghost use Rattle.byte_forms.specs.Places.{At, at, begins_with};
 ghost use Rattle.byte_forms.specs.Readings.{Reads, Gives, found};
-ghost use Rattle.der_core.specs.Items.{item, inside, IsWithin};
+ghost use Rattle.der_core.specs.Items.{item, inside};
 ghost use Rattle.der_core.specs.Reading.{length_at, one_at, two_at, three_at, behind_tag, element_at, wanted_at, end_at};
 
 use crate::element::Element;
 use crate::fault::DerError;
 use std::marker::Model;
 
-/// A place in an input, from which elements are read one behind the other, up to the end of what surrounds them.
-/// After a refusal it stands where it stood.
+/// A place in an input, from which elements are read one behind the other, up to the end of what
+/// surrounds them. After a refusal it stands where it stood.
 #[derive(Debug, Drop)]
 pub struct Reader<'a> {
     place: usize,
@@ -43,7 +43,6 @@ impl<'a> Reader<'a> {
 
     /// The contents of an element, up to their end.
     pub fn inside(element: &Element<'a>) -> Reader<'a>
-        requires { IsWithin element.now }
         ensures { result ≡ inside (item element.now) }
     {
         Reader {
@@ -67,13 +66,6 @@ impl<'a> Reader<'a> {
         ensures { result ≡ self.now.place }
     {
         self.place
-    }
-
-    /// What is left, up to the end of what surrounds it.
-    pub fn left(&self) -> &'a [u8]
-        ensures { result.now ≡ self.now.rest }
-    {
-        self.rest
     }
 
     /// Nothing is left.
@@ -108,7 +100,6 @@ impl<'a> Reader<'a> {
     #[tactic(auto, unfolding(crate::specs::Reading::element_at))]
     pub fn element(&mut self) -> Result<Element<'a>, DerError>
         ensures exact { Reads item element_at self.old result self.new }
-        ensures within { IfOk result IsWithin }
         ensures forward { OnOk result (length self.new.rest < length self.old.rest) }
     {
         match self.rest {
@@ -122,7 +113,6 @@ impl<'a> Reader<'a> {
     #[tactic(auto, unfolding(crate::specs::Reading::wanted_at))]
     pub fn wanted(&mut self, wanted: u8) -> Result<Element<'a>, DerError>
         ensures exact { Reads item (wanted_at wanted) self.old result self.new }
-        ensures within { IfOk result IsWithin }
         ensures forward { OnOk result (length self.new.rest < length self.old.rest) }
     {
         match self.rest {
@@ -133,12 +123,11 @@ impl<'a> Reader<'a> {
         }
     }
 
-    /// The element whose length and contents are in these bytes behind its tag.
+    // The element whose length and contents are in these bytes behind its tag.
     #[tactic(auto, unfolding(crate::specs::Reading::behind_tag))]
     fn behind_tag(&mut self, tag: u8, rest: &'a [u8]) -> Result<Element<'a>, DerError>
         requires { length rest.now < length self.old.rest }
         ensures exact { Reads item (λ a. behind_tag a tag rest.now) self.old result self.new }
-        ensures within { IfOk result IsWithin }
         ensures forward { OnOk result (length self.new.rest < length self.old.rest) }
     {
         let (count, behind) = length(self.place, rest)?;
@@ -163,21 +152,20 @@ impl<'a> Reader<'a> {
 pub fn read<'a>(input: &'a [u8], place: usize) -> Result<Element<'a>, DerError>
     requires { place ≤ length input.now }
     ensures exact { Gives item result (found (element_at (at input.now place))) }
-    ensures within { IfOk result IsWithin }
 {
     Reader::at(input, place).element()
 }
 
-/// The element at this offset of the input, which has to have this tag. Its contents aren't looked into.
+/// The element at this offset of the input, which has to have this tag. Its contents aren't looked
+/// into.
 pub fn expect<'a>(input: &'a [u8], place: usize, tag: u8) -> Result<Element<'a>, DerError>
     requires { place ≤ length input.now }
     ensures exact { Gives item result (found (wanted_at tag (at input.now place))) }
-    ensures within { IfOk result IsWithin }
 {
     Reader::at(input, place).wanted(tag)
 }
 
-/// A length and the bytes behind it, of the element at this place.
+// A length and the bytes behind it, of the element at this place.
 fn length(place: usize, bytes: &[u8]) -> Result<(usize, &[u8]), DerError>
     ensures exact { Gives (λ x. (x.0, x.1.now)) result (length_at place bytes.now) }
     ensures rest { IfOk result (λ x. length x.1.now < length bytes.now) }
@@ -192,7 +180,7 @@ fn length(place: usize, bytes: &[u8]) -> Result<(usize, &[u8]), DerError>
     }
 }
 
-/// A length in one further byte.
+// A length in one further byte.
 fn one_byte(place: usize, bytes: &[u8]) -> Result<(usize, &[u8]), DerError>
     ensures exact { Gives (λ x. (x.0, x.1.now)) result (one_at place bytes.now) }
     ensures rest { IfOk result (λ x. length x.1.now ≤ length bytes.now) }
@@ -204,7 +192,7 @@ fn one_byte(place: usize, bytes: &[u8]) -> Result<(usize, &[u8]), DerError>
     }
 }
 
-/// A length in two further bytes, the highest first.
+// A length in two further bytes, the highest first.
 fn two_bytes(place: usize, bytes: &[u8]) -> Result<(usize, &[u8]), DerError>
     ensures exact { Gives (λ x. (x.0, x.1.now)) result (two_at place bytes.now) }
     ensures rest { IfOk result (λ x. length x.1.now ≤ length bytes.now) }
@@ -216,7 +204,7 @@ fn two_bytes(place: usize, bytes: &[u8]) -> Result<(usize, &[u8]), DerError>
     }
 }
 
-/// A length in three further bytes, the highest first.
+// A length in three further bytes, the highest first.
 fn three_bytes(place: usize, bytes: &[u8]) -> Result<(usize, &[u8]), DerError>
     ensures exact { Gives (λ x. (x.0, x.1.now)) result (three_at place bytes.now) }
     ensures rest { IfOk result (λ x. length x.1.now ≤ length bytes.now) }

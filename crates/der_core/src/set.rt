@@ -4,18 +4,17 @@ ghost use Rattle.std.specs.Prelude.{◌≡◌, ◌<◌, length, OnOk};
 ghost use Rattle.std.specs.Ordering.{nat_cmp, is_gt};
 ghost use Rattle.std.specs.Cmp.Lexicographic.{slice_cmp};
 ghost use Rattle.byte_forms.specs.Readings.{Gives, Moves};
-ghost use Rattle.der_core.specs.Items.{item, IsWithin};
+ghost use Rattle.der_core.specs.Items.{item};
 ghost use Rattle.der_core.specs.Sets.{risen_at, order_of};
 
 use crate::element::Element;
 use crate::fault::DerError;
 use crate::reader::Reader;
 
-/// The encodings in the contents of a SET OF rise; equal ones are allowed. The elements are read from the left: one that
-/// doesn't read answers its own fault at its own place, and one below the one before it `SetOrder` at the place of the set,
-/// whichever comes first.
+/// The encodings in the contents of a SET OF rise; equal ones are allowed. The elements are read
+/// from the left: one that doesn't read answers its own fault at its own place, and one below the
+/// one before it `SetOrder` at the place of the set, whichever comes first.
 pub fn set_in_order(e: &Element) -> Result<(), DerError>
-    requires { IsWithin e.now }
     ensures { Gives (λ x. x) result (order_of (item e.now)) }
 {
     let mut reader = Reader::inside(e);
@@ -26,7 +25,7 @@ pub fn set_in_order(e: &Element) -> Result<(), DerError>
     Ok(())
 }
 
-/// The next element of the set at this place, which isn't below the encoding before it.
+// The next element of the set at this place, which isn't below the encoding before it.
 #[tactic(auto, unfolding(crate::specs::Sets::risen_at))]
 fn risen<'a>(reader: &mut Reader<'a>, place: usize, before: &[u8]) -> Result<&'a [u8], DerError>
     ensures exact { Moves (λ bytes. bytes.now) (risen_at place before.now) reader.old result reader.new }
@@ -40,7 +39,7 @@ fn risen<'a>(reader: &mut Reader<'a>, place: usize, before: &[u8]) -> Result<&'a
     }
 }
 
-/// Byte by byte, `a` comes behind `b`; a front comes before what goes on.
+// Byte by byte, `a` comes behind `b`; a front comes before what goes on.
 fn is_above(a: &[u8], b: &[u8]) -> bool
     ensures { result ≡ is_gt (slice_cmp nat_cmp a.now b.now) }
 {

@@ -1,15 +1,19 @@
-//! Writing elements behind the bytes that are there. Where memory is refused, these bytes stay as they were.
+//! Writing elements behind the bytes that are there. Where memory is refused, these bytes stay as
+//! they were.
 
-ghost use Rattle.std.specs.Prelude.{◌≡◌, ◌≢◌, ◌%◌, ◌^◌, ◌<◌, ◌≤◌, ◌++◌, false, length, slice_index, OnOk, OnErr};
+ghost use Rattle.std.specs.Prelude.{◌≡◌, ◌≢◌, ◌%◌, ◌^◌, ◌<◌, ◌≤◌, ◌++◌, false, length, slice_index, IfOk, OnOk, OnErr};
 ghost use Rattle.byte_forms.specs.Places.{IsBytes};
 ghost use Rattle.byte_forms.specs.Numbers.{value};
 ghost use Rattle.der_core.specs.Elements.{element};
 ghost use Rattle.der_core.specs.Integers.{integer};
 ghost use Rattle.der_core.specs.Contents.{is_padded};
 
+use crate::tags::INTEGER;
 use mtc_io::{Bytes, Memory};
+use std::alloc::Global;
 
-/// Puts an element behind the bytes: its tag, the length of the contents in the fewest bytes, and the contents.
+/// Puts an element behind the bytes: its tag, the length of the contents in the fewest bytes, and
+/// the contents.
 #[tactic(auto, unfolding(crate::specs::Elements::element))]
 pub fn put(tag: u8, contents: &[u8], out: &mut Bytes) -> Result<(), Memory>
     requires tag { tag % 32 ≢ 31 }
@@ -42,6 +46,17 @@ pub fn put(tag: u8, contents: &[u8], out: &mut Bytes) -> Result<(), Memory>
     }
 }
 
+/// The element with this tag and these contents, by itself.
+pub fn element_of(alloc: Global, tag: u8, contents: &[u8]) -> Result<Bytes, Memory>
+    requires tag { tag % 32 ≢ 31 }
+    requires short { length contents.now < 2 ^ 24 }
+    ensures { IfOk result (λ bytes. bytes ≡ element tag contents.now) }
+{
+    let mut out = Bytes::new(alloc);
+    put(tag, contents, &mut out)?;
+    Ok(out)
+}
+
 /// Puts an INTEGER with this value behind the bytes.
 pub fn put_unsigned(value: u64, out: &mut Bytes) -> Result<(), Memory>
     ensures ok { OnOk result (out.new ≡ out.old ++ element 2 (integer value)) }
@@ -50,10 +65,10 @@ pub fn put_unsigned(value: u64, out: &mut Bytes) -> Result<(), Memory>
     let [a, b, c, d, e, f, g, h] = value.to_be_bytes();
     let all = [0, a, b, c, d, e, f, g, h];
     let contents = fewest(&all);
-    put(2, contents, out)
+    put(INTEGER, contents, out)
 }
 
-/// The same number without the bytes at its front that can be left out.
+// The same number without the bytes at its front that can be left out.
 fn fewest(bytes: &[u8]) -> &[u8]
     requires some { 0 < length bytes.now }
     requires positive { slice_index bytes.now 0 < 128 }
