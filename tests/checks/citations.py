@@ -274,6 +274,32 @@ def check_commands():
         yield "docs/COMMANDS.md: a command stands twice, or none was found"
 
 
+# Refusals of a log that no command can meet: it appends once, and asks for no entry.
+NEVER = {"Broken", "NoSuchEntry"}
+
+
+def printed_names():
+    """The names of refusals and failures in the texts that contracts and definitions spell."""
+    found = {"NotUtf8"}  # answered by `main`, of which no clause speaks
+    for name, crate in CRATES.items():
+        if name.startswith("mtc_"):
+            texts = [path.read_text() for path in (crate.folder / "specs").rglob("*.antt")]
+            for text in texts + [file.text for file in crate.files]:
+                found |= set(re.findall(r'codes "(?:mtc: |refused )?([A-Z]\w+)', text))
+    return found - NEVER
+
+
+def check_refusals():
+    """COMMANDS names each refusal that the program can print, and no other"""
+    spans = SPAN.findall((DOCS / "COMMANDS.md").read_text())
+    named = {word for span in spans for word in re.findall(r"\b[A-Z][a-z]\w+\b", span)}
+    printed = printed_names()
+    for name in sorted(printed - named):
+        yield f"docs/COMMANDS.md: `{name}` isn't named"
+    for name in sorted(named - printed):
+        yield f"docs/COMMANDS.md: nothing prints `{name}`"
+
+
 def in_order():
     """The crates, each behind those that it stands on; else in the order of crates.txt."""
     found = []
