@@ -1,4 +1,4 @@
-"""Checks of the sources: lengths, columns, names that are imported and not used."""
+"""Checks of the sources: lengths, columns, heads of files, names that are imported and not used."""
 
 import re
 
@@ -65,7 +65,15 @@ def occurrence(name):
     return rf"(?<![\w-]){escaped}(?![\w-])" if re.fullmatch(r"[\w-]+", sign) else escaped
 
 
-LIMITED = {"columns": wide_lines, "imports": unused_names}
+def bare_heads():
+    """(crate, what) for each file of src that doesn't begin by saying what it is."""
+    for name, path in code_files("src"):
+        head = path.read_text().split("\n")[0]
+        if not re.match(r"//! [A-Z`].*", head):
+            yield name, f"{shown(path)}: {head[:60]}"
+
+
+LIMITED = {"columns": wide_lines, "imports": unused_names, "heads": bare_heads}
 
 
 def by_crate(check):
@@ -98,13 +106,19 @@ def check_imports():
     yield from over_limit("imports")
 
 
+def check_heads():
+    """files of src begin with a sentence on what they are"""
+    yield from over_limit("heads")
+
+
 def lower_limits():
-    """Lowers each number to what there is. A file without numbers takes what there is."""
+    """Lowers each number to what there is. A check without numbers takes what there is."""
     old = limits()
+    checks = {check for check, _ in old}
     rows = [line for line in LIMITS.read_text().split("\n") if line.startswith("#")]
     for check in LIMITED:
         for name, lines in sorted(by_crate(check).items()):
-            most = old.get((check, name), 0) if old else len(lines)
+            most = old.get((check, name), 0) if check in checks else len(lines)
             if most:
                 rows.append(f"{check} {name} {min(len(lines), most)}")
     LIMITS.write_text("\n".join(rows) + "\n")
