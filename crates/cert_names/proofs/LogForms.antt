@@ -1,27 +1,26 @@
 -- The name of a log is read exactly from its spelling.
-use Rattle.std.proofs.Common.{◌≡◌, ℕ, ◌+◌, ◌%◌, ◌^◌, ◌<◌, ◌≤◌, Bool, true, false, List, [], ◌++◌, length, Result, Ok, Err, Option, Some, None, IfSome, MatchOption, refl, sym, ap, subst, ◌∙◌, append-nil, arith, lit<, eqb-true}
+use Rattle.std.proofs.Common.{◌≡◌, ℕ, ◌%◌, ◌^◌, ◌<◌, Bool, true, false, List, length, Result, Ok, Err, Option, Some, None, IfSome, MatchOption, refl, sym, ap, subst, ◌∙◌, arith, lit<}
 use Rattle.std.specs.Prelude.{if◌then◌else◌, ◌==◌}
 use Rattle.std.specs.Borrow.{Bor}
-use Rattle.std.proofs.lemmas.List.{length-append, nil_from_length}
+use Rattle.std.proofs.lemmas.List.{length-append}
 use Rattle.std.proofs.lemmas.Slice.Eq.{bytes_eq-Decides}
-use Rattle.byte_forms.specs.Places.{At, at, IsBytes}
-use Rattle.byte_forms.specs.Readings.{◌>>=◌, is_read, both_at, tested_at}
+use Rattle.byte_forms.specs.Places.{At, IsBytes}
+use Rattle.byte_forms.specs.Readings.{is_read, both_at, tested_at}
 use Rattle.byte_forms.specs.Forms.{IsForm, Anything, both, FitsBoth}
-use Rattle.byte_forms.proofs.Steps.{bind_ok, pass_ok, ok_is}
 use Rattle.byte_forms.proofs.Forms.{said_form, ended_form, both_form, mapped_form, tested_form}
 use Rattle.der_core.specs.Elements.{element}
-use Rattle.der_core.specs.Reading.{end_at}
-use Rattle.der_core.specs.Fields.{der, inside_at, contents_at, all_of}
-use Rattle.der_core.specs.declared.fault.DerError.TheVariants.{Trailing}
+use Rattle.der_core.specs.Fields.{inside_at, contents_at, all_of}
 use Rattle.der_core.specs.declared.fault.CertError.{CertError}
 use Rattle.der_core.specs.declared.fault.CertError.TheVariants.{BadName}
-use Rattle.der_core.proofs.Elements.{element-longer, element-short}
-use Rattle.der_core.proofs.Fields.{tag_of, der_ok, contents_form, inside_form}
+use Rattle.der_core.proofs.Elements.{element-longer}
+use Rattle.der_core.proofs.Fields.{tag_of, contents_form, inside_form, all_takes, all_again}
 use Rattle.tls_wire.specs.Arcs.{IsAnchorId}
 use Rattle.tls_wire.specs.Anchors.{is_anchor_text, text_of}
 use Rattle.tls_wire.proofs.AnchorForm.{text_again}
 use Rattle.tls_wire.proofs.AnchorTexts.{text-short}
-use Rattle.cert_names.specs.LogNames.{log_id, attribute_parts, set_parts, name_parts, name_with, IsLogName, is_log_id, second, parts_at, attribute_at, set_at, name_at, id_only, log_in}
+use Rattle.cert_names.proofs.Sizes.{name-size}
+use Rattle.cert_names.specs.Names.{attribute_contents, set_contents, name_contents}
+use Rattle.cert_names.specs.LogNames.{log_id, name_with, IsLogName, is_log_id, second, parts_at, attribute_at, set_at, name_at, id_only, log_in}
 
 abbrev Short : List ℕ → Type 0
 Short contents = length contents < 2 ^ 24
@@ -45,7 +44,7 @@ IsText text = IsPair (with_id text)
 id_back : (x : Pair) → IsPair x → with_id (second x) ≡ x
 id_back x f = ap (λ (id : List ℕ). (id, x.1)) (sym ((bytes_eq-Decides x.0 log_id).0 f.1))
 
-parts_form : IsForm attribute_parts IsText Anything parts_at
+parts_form : IsForm (attribute_contents log_id) IsText Anything parts_at
 unfolding parts_at
 parts_form =
     let fields : At → Result (Pair × At) CertError = both_at (contents_at 6) (contents_at 12) in
@@ -59,42 +58,27 @@ around : (tag : ℕ) (spell : List ℕ → List ℕ) (Fits : List ℕ → Type 0
     → IsForm spell Fits Anything read → IsForm (λ text. element tag (spell text)) (λ text. Fits text × Short (spell text)) Anything (inside_at tag read)
 around tag spell Fits read byte low form = inside_form tag spell Fits read (tag_of tag byte low) (ended_form spell Fits Anything read tt form)
 
-name_form : IsForm name_with (λ text. Short (name_parts text)) Anything name_at
+name_form : IsForm name_with (λ text. Short (name_contents log_id text)) Anything name_at
 unfolding name_at set_at attribute_at name_with
 name_form =
-    let Known : List ℕ → Type 0 = λ text. ((IsText text × Short (attribute_parts text)) × Short (set_parts text)) × Short (name_parts text) in
-    said_form name_with Known (λ text. Short (name_parts text)) Anything Anything (inside_at 48 (inside_at 49 (inside_at 48 parts_at)))
+    let Known : List ℕ → Type 0 = λ text. ((IsText text × Short (attribute_contents log_id text)) × Short (set_contents log_id text)) × Short (name_contents log_id text) in
+    said_form name_with Known (λ text. Short (name_contents log_id text)) Anything Anything (inside_at 48 (inside_at 49 (inside_at 48 parts_at)))
     (λ text f. f.1)
     (λ text short.
-    let set : Short (set_parts text) = omega (arith, short, element-longer 49 (set_parts text)) in
-    let attribute : Short (attribute_parts text) = omega (arith, set, element-longer 48 (attribute_parts text)) in
+    let set : Short (set_contents log_id text) = omega (arith, short, element-longer 49 (set_contents log_id text)) in
+    let attribute : Short (attribute_contents log_id text) = omega (arith, set, element-longer 48 (attribute_contents log_id text)) in
     let own : Short text = omega (arith, attribute, length-append (element 6 log_id) (element 12 text), element-longer 12 text) in
     (((((lit< tt, own), refl), attribute), set), short))
     (λ rest q. q)
-    (around 48 name_parts (λ text. (IsText text × Short (attribute_parts text)) × Short (set_parts text)) (inside_at 49 (inside_at 48 parts_at)) (lit< tt) refl
-    (around 49 set_parts (λ text. IsText text × Short (attribute_parts text)) (inside_at 48 parts_at) (lit< tt) refl
-    (around 48 attribute_parts IsText parts_at (lit< tt) refl parts_form)))
+    (around 48 (name_contents log_id) (λ text. (IsText text × Short (attribute_contents log_id text)) × Short (set_contents log_id text)) (inside_at 49 (inside_at 48 parts_at)) (lit< tt) refl
+    (around 49 (set_contents log_id) (λ text. IsText text × Short (attribute_contents log_id text)) (inside_at 48 parts_at) (lit< tt) refl
+    (around 48 (attribute_contents log_id) IsText parts_at (lit< tt) refl parts_form)))
 
-end_ok : (a : At) (done : Unit {0}) → end_at a ≡ Ok done → a.rest ≡ []
-end_ok a done e =
-    let p = pass_ok (length a.rest == 0) (Ok tt) (Trailing a.place) done e in
-    nil_from_length a.rest (eqb-true (length a.rest) 0 p.0)
+whole_takes : (name text : List ℕ) → IsBytes name → all_of name_at name ≡ Ok text → (name ≡ name_with text) × Short (name_contents log_id text)
+whole_takes name text h e = all_takes name_with (λ t. Short (name_contents log_id t)) name_at name_form name text h e
 
-whole_takes : (name text : List ℕ) → IsBytes name → all_of name_at name ≡ Ok text → (name ≡ name_with text) × Short (name_parts text)
-whole_takes name text h e =
-    let s = bind_ok (name_at (at name 0)) (λ (v : List ℕ × At). der (end_at v.1) >>= λ (done : Unit {0}). Ok v.0) text e in
-    let t = bind_ok (der (end_at s.0.1)) (λ (done : Unit {0}). Ok s.0.0) text s.2 in
-    let known = name_form.takes (at name 0) s.0.0 s.0.1 h s.1 in
-    let nothing = end_ok s.0.1 t.0 (der_ok (end_at s.0.1) t.0 t.1) in
-    let P : List ℕ → Type 0 = λ v. (name ≡ name_with v) × Short (name_parts v) in
-    subst P (ok_is CertError s.0.0 text t.2)
-    (known.0.parts ∙ (ap (λ (c : List ℕ). name_with s.0.0 ++ c) nothing ∙ append-nil (name_with s.0.0)), known.1)
-
-whole_again : (text : List ℕ) → Short (name_parts text) → all_of name_at (name_with text) ≡ Ok text
-whole_again text short =
-    let step : name_at (at (name_with text) 0) ≡ Ok (text, record { place = 0 + length (name_with text); rest = [] }) =
-    ap (λ (c : List ℕ). name_at (record { place = 0; rest = c })) (sym (append-nil (name_with text))) ∙ name_form.again text 0 [] short tt in
-    rw step refl
+whole_again : (text : List ℕ) → Short (name_contents log_id text) → all_of name_at (name_with text) ≡ Ok text
+whole_again text short = all_again name_with (λ t. Short (name_contents log_id t)) name_at name_form text short
 
 pub log_only : (name text : List ℕ) → IsBytes name → log_in name ≡ Some text → IsLogName name text
 unfolding log_in
@@ -137,20 +121,9 @@ only name None e text f = absurd (none (sym e ∙ log_again name text f))
     none : None ≡ Some text → ⊥
     none e = cc
 
--- ---- lengths
-
-pub attribute-short : (text : List ℕ) → length text ≤ 5355 → length (attribute_parts text) ≤ 5400
-attribute-short text le = omega (arith, le, length-append (element 6 log_id) (element 12 text), element-short 6 log_id, element-short 12 text)
-
-pub set-short : (text : List ℕ) → length text ≤ 5355 → length (set_parts text) ≤ 5405
-set-short text le = omega (arith, attribute-short text le, element-short 48 (attribute_parts text))
-
-pub name-short : (text : List ℕ) → length text ≤ 5355 → length (name_parts text) ≤ 5410
-name-short text le = omega (arith, set-short text le, element-short 49 (set_parts text))
-
 pub id_named : (id : List ℕ) → IsAnchorId id → IsLogName (name_with (text_of id)) (text_of id)
 id_named id f = record {
   id = ap is_read (text_again id f);
-  short = omega (arith, name-short (text_of id) (text-short id f));
+  short = omega (arith, name-size log_id (text_of id), text-short id f);
   spelled = refl;
 }

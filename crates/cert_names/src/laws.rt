@@ -1,6 +1,7 @@
 //! Laws of log names: the clauses are the laws, and the functions do nothing.
 
-ghost use Rattle.std.specs.Prelude.{◌≡◌, ℕ, List, Some};
+ghost use Rattle.std.specs.Prelude.{◌≡◌, Some};
+ghost use Rattle.byte_forms.specs.Types.{Text};
 ghost use Rattle.byte_forms.specs.Places.{IsBytes};
 ghost use Rattle.tls_wire.specs.Arcs.{IsAnchorId};
 ghost use Rattle.tls_wire.specs.Anchors.{text_of};
@@ -8,7 +9,7 @@ ghost use Rattle.cert_names.specs.LogNames.{IsLogName, name_with, log_in};
 
 /// The name of each anchor id is a log's, and a log's name is read exactly from its spelling.
 pub fn log_names_are_read_as_spelled()
-    ensures ids { (id : List ℕ) → IsAnchorId id → IsLogName (name_with (text_of id)) (text_of id) }
-    ensures read { (name text : List ℕ) → IsBytes name → log_in name ≡ Some text → IsLogName name text }
-    ensures again { (name text : List ℕ) → IsLogName name text → log_in name ≡ Some text }
+    ensures ids { (id : Text) → IsAnchorId id → IsLogName (name_with (text_of id)) (text_of id) }
+    ensures read { (name text : Text) → IsBytes name → log_in name ≡ Some text → IsLogName name text }
+    ensures again { (name text : Text) → IsLogName name text → log_in name ≡ Some text }
 {}

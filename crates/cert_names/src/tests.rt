@@ -15,7 +15,8 @@ fn names_of_logs(rt: HostRuntime) -> Result<(), Fail> {
     let name = log_name(rt.alloc(), &id)?;
     assert_eq!(rt; name.as_slice(), NAME.as_slice());
     assert_eq!(rt; log_of(&NAME), Some(b"32473.1".as_slice()));
-    // Another attribute, another kind of text, a leading zero, a letter, and a name that is cut or goes on.
+    // Another attribute, another kind of text, a leading zero, a letter, and a name that is cut or
+    // goes on.
     let changes: [(usize, u8); 4] = [(17, 0x00), (18, 0x13), (20, 0x30), (26, 0x61)];
     for (place, value) in changes {
         let mut other = NAME;
