@@ -21,7 +21,7 @@ def check_beliefs():
 
 
 CHECKS = [
-    pages.check_sentences, pages.check_links, pages.check_quotations, pages.check_example,
+    pages.check_sentences, pages.check_links, pages.check_quotations, pages.check_examples,
     citations.check_names, citations.check_promises, citations.check_definitions,
     citations.check_architecture, citations.check_commands, citations.check_refusals,
     citations.check_order, check_beliefs, house.check_lengths, house.check_columns,

@@ -116,18 +116,27 @@ def check_quotations():
         yield f"{shown(page)}: it quotes nothing"
 
 
-def check_example():
-    """the certificate that FORMATS spells byte by byte is one that the program accepts"""
-    page = (DOCS / "FORMATS.md").read_text()
-    section = page.split("\n## A certificate byte by byte\n")[1].split("\n## ")[0]
+def spelled_in(page, what):
+    """The bytes that a section spells, and its text."""
+    section = page.split(f"\n## {what} byte by byte\n")[1].split("\n## ")[0]
     lines = re.findall(r"^ {4} *((?:[0-9A-F]{2} ?)+)(?: |$)", section, re.M)
-    spelled = bytes.fromhex("".join(lines))
+    return bytes.fromhex("".join(lines)), section
+
+
+def check_examples():
+    """what FORMATS spells byte by byte are files that the program takes"""
+    page = (DOCS / "FORMATS.md").read_text()
     script = (ROOT / "tests" / "allocations.sh").read_text()
-    coded = re.search(r"<<'CERTIFICATE'\n(.*?)\nCERTIFICATE\n", script, re.S)[1]
-    accepted = base64.b64decode("".join(coded.split()))
-    if spelled != accepted or f"It has {len(spelled)} bytes." not in section:
-        yield f"docs/FORMATS.md: {len(spelled)} bytes are spelled, others are accepted"
-    version, names, key, extensions = spelled[6:11], spelled[28:89], spelled[89:133], spelled[133:162]
+    coded = {"A certificate": re.search(r"<<'CERTIFICATE'\n(.*?)\nCERTIFICATE\n", script, re.S)[1],
+             "A journal": re.search(r">j <<<'(.*?)'", script)[1]}
+    for what, text in coded.items():
+        spelled, section = spelled_in(page, what)
+        if spelled != base64.b64decode("".join(text.split())):
+            yield f"docs/FORMATS.md: {what.lower()} of other bytes is taken"
+        if f"It has {len(spelled)} bytes." not in section:
+            yield f"docs/FORMATS.md: {what.lower()} of {len(spelled)} bytes is spelled"
+    cert, section = spelled_in(page, "A certificate")
+    version, names, key, extensions = cert[6:11], cert[28:89], cert[89:133], cert[133:162]
     entry = b"\0\1" + version + names + b"\4\x20" + sha256(key).digest() + extensions
     null, leaf = (sha256(b"\0" + item).digest() for item in (b"\0\0", entry))
     root = sha256(b"\1" + null + leaf).hexdigest()
