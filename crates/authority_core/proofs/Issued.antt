@@ -231,7 +231,7 @@ alone_found : (r : Request) → CanBeIssued r → extensions_in (extensions_of r
 unfolding extensions_of
 alone_found r f =
     extensions_found (alt_name_of r ∷ []) (extensions_are r f)
-    (omega (arith, sequence-few r f, element-short 163 (element 48 (flat_map extension (alt_name_of r ∷ [])))))
+    (omega (arith, sequence-few r f))
 
 abbrev as_name : List ℕ → ℕ × List ℕ
 as_name name = (dns_name, name)

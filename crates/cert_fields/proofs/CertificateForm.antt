@@ -49,7 +49,7 @@ version-short : length (number 2) < 2 ^ 24
 unfolding element integer
 version-short = lit< tt
 
-version_form : IsForm version_text NoValue Anything version_at
+pub version_form : IsForm version_text NoValue Anything version_at
 unfolding version_at
 version_form =
     let read : At → Result (ℕ × At) CertError = tested_at (λ n. n == 2) BadVersion (unsigned_at BadVersion) in

@@ -4,10 +4,10 @@ use Rattle.std.specs.Prelude.{if◌then◌else◌, ◌==◌, not, is_some}
 use Rattle.std.specs.List.{flat_map, AllByRecursion}
 use Rattle.std.proofs.lemmas.List.{length-append, nil_from_length}
 use Rattle.byte_forms.specs.Places.{At, at, IsBytes, begins_with}
-use Rattle.byte_forms.specs.Readings.{◌>>=◌, both_at, mapped_at, tested_at, optional_at, some_at}
+use Rattle.byte_forms.specs.Readings.{◌>>=◌, both_at, mapped_at, tested_at, optional_at, some_at, is_read}
 use Rattle.byte_forms.specs.Forms.{Stands, IsForm, Anything, Nothing, OtherThan, itself, both, FitsBoth, optional, FitsEach}
 use Rattle.byte_forms.specs.Lists.{up_to_end}
-use Rattle.byte_forms.proofs.Steps.{bind_ok, pass_ok, ok_is, IsBytes-front, IsBytes-back}
+use Rattle.byte_forms.proofs.Steps.{bind_ok, pass_ok, ok_is, read_ok, IsBytes-front, IsBytes-back}
 use Rattle.byte_forms.proofs.Forms.{said_form, spelled_form, ended_form, both_form, mapped_form, tested_form, optional_form, or_nothing_form, some_form}
 use Rattle.byte_forms.proofs.Lists.{many_form, up_to_end_drains, each_form}
 use Rattle.der_core.specs.Elements.{element, length_octets}
@@ -22,7 +22,7 @@ use Rattle.der_core.specs.declared.fault.CertError.TheVariants.{BadExtension, Re
 use Rattle.der_core.proofs.Elements.{element_takes, element_again, element-longer, begins_with-element}
 use Rattle.der_core.proofs.Rules.{boolean_contents}
 use Rattle.der_core.proofs.Fields.{tag_of, der_ok, decoded_form, contents_form, inside_form, whole_form}
-use Rattle.cert_fields.specs.AltNames.{is_general_name, general_name_at, general_names_at, is_read, are_general_names}
+use Rattle.cert_fields.specs.AltNames.{is_general_name, general_name_at, general_names_at, are_general_names}
 use Rattle.cert_fields.specs.Extensions.{ExtensionFields, is_among, is_alt_name, new_identifier_at, critical_at, to_extension, has_its_form, identifier_of, extension_at, extension_list_at, extension_sequence_at, extensions_at}
 use Rattle.cert_fields.specs.Grammar.{IsIdentifier, IsGeneralName, IsGeneralNames, mark, extension_contents, IsExtension, extension, AreExtensions, IsExtensionSequence, IsExtensionsField}
 use Rattle.cert_fields.proofs.FieldForms.{identifier_form, each_drains}
@@ -78,10 +78,6 @@ general_names_form =
     (some_form (flat_map itself) (AllByRecursion IsGeneralName) (up_to_end general_name_at) BadExtension
     (up_to_end_drains itself IsGeneralName Anything general_name_at general_name_some general_name_form)
     (many_form itself IsGeneralName general_name_at general_name_some general_name_form))
-
-read_ok : {X E : Type 0} (r : Result X E) → is_read r ≡ true → (x : X) × (r ≡ Ok x)
-read_ok (Ok x) e = (x, refl)
-read_ok (Err d) e = absurd cc
 
 -- The test of the octets passes exactly general names.
 pub general_names_only : (octets : List ℕ) → IsBytes octets → are_general_names octets ≡ true → IsGeneralNames octets

@@ -1,5 +1,5 @@
 -- The fields of a certificate but its extensions: what is read is spelled so, and what is spelled so is read again.
-use Rattle.std.proofs.Common.{◌≡◌, ◌≢◌, ℕ, zero, suc, ◌+◌, ◌-◌, ◌%◌, ◌^◌, ◌<◌, ◌≤◌, true, false, List, [], ◌∷◌, ◌++◌, length, slice_index, Result, Ok, Err, Option, Some, None, refl, sym, ap, subst, ◌∙◌, append-nil, arith, inl, inr, ◌⊎◌, lit<, lit≤, eqb-true, ne_eqb, lt-ltb}
+use Rattle.std.proofs.Common.{◌≡◌, ◌≢◌, ℕ, zero, suc, ◌+◌, ◌-◌, ◌%◌, ◌^◌, ◌<◌, ◌≤◌, true, false, List, [], ◌∷◌, ◌++◌, length, slice_index, Result, Ok, Err, refl, sym, ap, subst, ◌∙◌, append-nil, arith, inl, inr, ◌⊎◌, lit<, lit≤, eqb-true, ne_eqb, lt-ltb}
 use Rattle.std.specs.Prelude.{if◌then◌else◌, ◌==◌, ℤ}
 use Rattle.std.specs.List.{flat_map, AllByRecursion}
 use Rattle.std.proofs.lemmas.List.{length-append, nil_from_length}
@@ -7,7 +7,7 @@ use Rattle.byte_forms.specs.Places.{At, IsBytes}
 use Rattle.byte_forms.specs.Readings.{◌>>=◌, some_or, discarded, both_at, mapped_at, last_at}
 use Rattle.byte_forms.specs.Forms.{Stands, IsForm, Anything, Nothing, itself, both, FitsBoth, FitsEach}
 use Rattle.byte_forms.specs.Lists.{up_to_end, each_at}
-use Rattle.byte_forms.proofs.Steps.{bind_ok, chosen, guard_ok, pass_ok, ok_is}
+use Rattle.byte_forms.proofs.Steps.{bind_ok, chosen, guard_ok, pass_ok, ok_is, discarded_ok, some_or_ok}
 use Rattle.byte_forms.proofs.Forms.{said_form, ended_form, both_form, mapped_form, last_form, one_value}
 use Rattle.byte_forms.proofs.Lists.{many_form, up_to_end_drains}
 use Rattle.der_core.specs.Elements.{element, IsTag, FitsElement}
@@ -151,10 +151,6 @@ each_drains {X} {K} {E} key spell Fits read some form (suc n) seen a xs b h le e
 next_some : (seen : List (List ℕ)) (bytes : List ℕ) → IsNext seen bytes → 0 < length bytes
 next_some seen bytes f = element_some bytes f.is_element
 
-discarded_ok : {X E : Type 0} (r : Result (X × At) E) (b : At) → discarded r ≡ Ok b → (x : X) × (r ≡ Ok (x, b))
-discarded_ok {X} {E} (Ok x) b e = (x.0, ap (λ (c : At). Ok (x.0, c)) (ok_is E x.1 b e))
-discarded_ok (Err d) b e = absurd cc
-
 checked_ok : (r : Result At DerError) (done : Unit {0}) → checked r ≡ Ok done → (b : At) × (r ≡ Ok b)
 checked_ok (Ok b) done e = (b, refl)
 checked_ok (Err d) done e = absurd cc
@@ -236,10 +232,6 @@ name_form =
 abbrev pub time_text : ℤ → List ℕ
 time_text z = element (time_tag z) (time_contents z)
 
-some_is : {A E : Type 0} (fault : E) (o : Option A) (x : A) → some_or fault o ≡ Ok x → o ≡ Some x
-some_is {A} {E} fault (Some y) x e = ap (λ (v : A). Some v) (ok_is E y x e)
-some_is fault None x e = absurd cc
-
 tag_is : (tag : ℕ) (contents rest : List ℕ) → (tag ≡ 23) ⊎ (tag ≡ 24) → tag_wanted (element tag contents ++ rest) ≡ tag
 unfolding element
 tag_is tag contents rest (inl same) = let P : ℕ → Type 0 = λ t. tag_wanted (element t contents ++ rest) ≡ t in subst P (sym same) refl
@@ -260,7 +252,7 @@ time_form = record {
       let tag : ℕ = tag_wanted a.rest in
       let s = bind_ok (der (wanted_at tag a)) (λ (v : Item × At). some_or BadTime (time_moment tag v.0.contents) >>= λ (m : ℤ). Ok (m, v.1)) (z, b) e in
       let t = bind_ok (some_or BadTime (time_moment tag s.0.0.contents)) (λ (m : ℤ). Ok (m, s.0.1)) (z, b) s.2 in
-      let known = time_moment-only tag s.0.0.contents t.0 (some_is BadTime (time_moment tag s.0.0.contents) t.0 t.1) in
+      let known = time_moment-only tag s.0.0.contents t.0 (some_or_ok BadTime (time_moment tag s.0.0.contents) t.0 t.1) in
       let read = wanted_takes tag a s.0.0 s.0.1 h (der_ok (wanted_at tag a) s.0 s.1) in
       let text : element s.0.0.tag s.0.0.contents ≡ time_text t.0 =
       ap (λ (n : ℕ). element n s.0.0.contents) (read.1 ∙ known.1) ∙ ap (element (time_tag t.0)) known.2 in

@@ -6,3 +6,5 @@ pub mod FieldForms
 pub mod ExtensionForms
 pub mod CertificateForm
 pub mod Found
+pub mod Offsets
+pub mod PublicKeys

@@ -1,8 +1,8 @@
 -- The names in a subjectAltName (RFC 5280, section 4.2.1.6).
-use Rattle.std.specs.Prelude.{ℕ, zero, suc, nat_lt, ◌==◌, ◌&&◌, ◌||◌, Bool, true, false, List, [], ◌∷◌, length, Result, Ok, Err, if◌then◌else◌}
+use Rattle.std.specs.Prelude.{ℕ, zero, suc, nat_lt, ◌==◌, ◌&&◌, ◌||◌, Bool, true, List, [], ◌∷◌, length, Result, Ok, Err, if◌then◌else◌}
 use Rattle.std.specs.List.{list_all}
 use Rattle.byte_forms.specs.Places.{At, at}
-use Rattle.byte_forms.specs.Readings.{◌>>=◌, some_at}
+use Rattle.byte_forms.specs.Readings.{◌>>=◌, some_at, is_read}
 use Rattle.byte_forms.specs.Lists.{up_to_end}
 use Rattle.der_core.specs.Items.{Item, inside}
 use Rattle.der_core.specs.Reading.{element_at, wanted_at}
@@ -36,10 +36,6 @@ general_name_at a = der (element_at a) >>= λ e. if is_general_name e.0.tag e.0.
 -- GeneralNames: a SEQUENCE of names, at least one.
 unfoldable pub general_names_at : At → Result (List ℕ × At) CertError
 general_names_at = whole_at 48 (some_at BadExtension (up_to_end general_name_at))
-
-abbrev pub is_read : {X E : Type 0} → Result X E → Bool
-is_read (Ok x) = true
-is_read (Err e) = false
 
 -- The octets are GeneralNames and nothing else.
 unfoldable pub are_general_names : List ℕ → Bool

@@ -1,9 +1,9 @@
 -- Algorithms, public keys and the signature's bits (RFC 5280, sections 4.1.1.2, 4.1.1.3 and 4.1.2.7).
-use Rattle.std.specs.Prelude.{ℕ, ◌==◌, List, Result, Ok, Err, if◌then◌else◌}
+use Rattle.std.specs.Prelude.{ℕ, ◌==◌, Bool, List, Result, Ok, Err, if◌then◌else◌}
 use Rattle.byte_forms.specs.Places.{At}
-use Rattle.byte_forms.specs.Readings.{◌>>=◌, both_at, last_at}
+use Rattle.byte_forms.specs.Readings.{◌>>=◌, both_at, last_at, is_read}
 use Rattle.der_core.specs.Contents.{oid_of, bits_of}
-use Rattle.der_core.specs.Fields.{whole_at, decoded_at, any_at}
+use Rattle.der_core.specs.Fields.{whole_at, decoded_at, any_at, all_of}
 use Rattle.der_core.specs.declared.fault.DerError.{DerError}
 use Rattle.der_core.specs.declared.fault.DerError.TheVariants.{BadBits}
 use Rattle.der_core.specs.declared.fault.CertError.{CertError}
@@ -15,6 +15,10 @@ algorithm_at = whole_at 48 (both_at (decoded_at 6 oid_of) (last_at any_at))
 -- SubjectPublicKeyInfo: an algorithm and a BIT STRING.
 unfoldable pub spki_at : At → Result (List ℕ × At) CertError
 spki_at = whole_at 48 (both_at algorithm_at (decoded_at 3 bits_of))
+
+-- The bytes are one SubjectPublicKeyInfo and nothing else.
+unfoldable pub is_public_key : List ℕ → Bool
+is_public_key bytes = is_read (all_of spki_at bytes)
 
 -- A BIT STRING of whole bytes: no bit of it is unused.
 unfoldable pub whole_bits_of : ℕ → List ℕ → Result (List ℕ) DerError

@@ -2,7 +2,7 @@
 
 ghost use Rattle.std.specs.Prelude.{◌≡◌, ◌<◌, List, [], ◌∷◌, length, Ok, Err, OnOk, IfErr, MatchOption};
 ghost use Rattle.std.specs.Iterator.{YieldsFirstRef, item_count};
-ghost use Rattle.byte_forms.specs.Readings.{Moves, Gives, discarded};
+ghost use Rattle.byte_forms.specs.Readings.{Moves, discarded};
 ghost use Rattle.byte_forms.specs.Lists.{up_to_end};
 ghost use Rattle.cert_fields.specs.AltNames.{is_name_tag, is_ascii, general_name_at, general_names_at, are_general_names, names_left, names_in};
 
@@ -100,7 +100,7 @@ impl<'a> Model for DnsNames<'a> {
 impl<'a> DnsNames<'a> {
     /// Those in the octets of a subjectAltName.
     #[tactic(auto, unfolding(crate::specs::AltNames::names_from))]
-    pub fn of(octets: &'a [u8]) -> DnsNames<'a>
+    pub(crate) fn of(octets: &'a [u8]) -> DnsNames<'a>
         ensures { result ≡ names_in octets.now }
     {
         let mut reader = Reader::at(octets, 0);

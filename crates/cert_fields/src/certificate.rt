@@ -8,10 +8,10 @@ ghost use Rattle.cert_fields.specs.Grammar.{IsCertificate};
 ghost use Rattle.cert_fields.specs.Views.{parts, body};
 
 use crate::cert::Cert;
-use crate::extensions::extensions;
+use crate::extensions::read_extensions;
 use crate::keys::{algorithm, signature, spki};
-use crate::names::name;
-use crate::times::validity;
+use crate::names::read_name;
+use crate::times::read_validity;
 use cert_time::Validity;
 use der_core::{CertError, Reader, unsigned};
 
@@ -29,7 +29,7 @@ pub struct Fields<'a> {
 
 /// The version has to be 3, which is written as 2.
 #[tactic(auto, unfolding(crate::specs::Certificate::version_at))]
-fn version(reader: &mut Reader) -> Result<(), CertError>
+pub fn read_version(reader: &mut Reader) -> Result<(), CertError>
     ensures { Moves (λ x. x) version_at reader.old result reader.new }
 {
     if !reader.begins_with(0xA0) {
@@ -73,14 +73,14 @@ fn behind_serial<'a>(reader: &mut Reader<'a>) -> Result<Fields<'a>, CertError>
     ensures { Moves body body_at reader.old result reader.new }
 {
     let algorithm = algorithm(reader)?;
-    let issuer = name(reader)?;
-    let (validity_der, validity) = validity(reader)?;
-    let subject = name(reader)?;
+    let issuer = read_name(reader)?;
+    let (validity_der, validity) = read_validity(reader)?;
+    let subject = read_name(reader)?;
     let spki = spki(reader)?;
     if has_unique_id(reader) {
         return Err(CertError::UniqueId);
     }
-    let extensions = extensions(reader)?;
+    let extensions = read_extensions(reader)?;
     Ok(Fields {
         algorithm,
         issuer,
@@ -99,7 +99,7 @@ fn tbs<'a>(reader: &mut Reader<'a>) -> Result<(u64, Fields<'a>), CertError>
 {
     let outer = reader.wanted(0x30)?;
     let mut inner = Reader::inside(&outer);
-    version(&mut inner)?;
+    read_version(&mut inner)?;
     let serial = serial(&mut inner)?;
     let fields = behind_serial(&mut inner)?;
     inner.end()?;

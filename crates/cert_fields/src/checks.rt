@@ -1,29 +1,45 @@
 //! One field in a longer input. The places of refusals count in the whole input.
 
-ghost use Rattle.std.specs.Prelude.{◌≤◌, length};
+ghost use Rattle.std.specs.Prelude.{◌≡◌, ◌↔◌, ◌≤◌, length, IfOk, IsTrue};
 ghost use Rattle.byte_forms.specs.Places.{at};
 ghost use Rattle.byte_forms.specs.Readings.{Gives};
-ghost use Rattle.cert_fields.specs.Keys.{algorithm_at, spki_at};
+ghost use Rattle.cert_fields.specs.Certificate.{version_at};
+ghost use Rattle.cert_fields.specs.Grammar.{IsPublicKey};
+ghost use Rattle.cert_fields.specs.Keys.{algorithm_at, spki_at, is_public_key};
 ghost use Rattle.cert_fields.specs.Names.{name_at};
 ghost use Rattle.cert_fields.specs.Times.{validity_at};
 ghost use Rattle.cert_fields.specs.Extensions.{extensions_at};
 ghost use Rattle.cert_fields.specs.Places.{place_behind, moments_behind};
 
-use crate::extensions::extensions;
-use crate::keys::{algorithm, spki};
-use crate::names::name;
-use crate::times::validity;
+use crate::certificate::read_version;
+use crate::extensions::read_extensions;
+use crate::keys::{algorithm, reads_as_key, spki};
+use crate::names::read_name;
+use crate::times::read_validity;
 use cert_time::Validity;
 use der_core::{CertError, Reader};
+
+/// Reads the version with its outer tag A0 (RFC 5280, section 4.1.2.1) at this offset and answers the offset behind it. Beside
+/// the faults of its elements, another tag and another version than 3, which is written as 2, are `BadVersion`.
+pub fn check_version(input: &[u8], place: usize) -> Result<usize, CertError>
+    requires { place ≤ length input.now }
+    ensures exact { Gives (λ p. p) result (place_behind (version_at (at input.now place))) }
+    ensures within { IfOk result (λ p. (place ≤ p) × (p ≤ length input.now)) }
+{
+    let mut reader = Reader::at(input, place);
+    read_version(&mut reader)?;
+    Ok(reader.place())
+}
 
 /// Reads a Name (RFC 5280, section 4.1.2.4) at this offset and answers the offset behind it. Beside the faults of its
 /// elements, a set that is empty is `BadName`.
 pub fn check_name(input: &[u8], place: usize) -> Result<usize, CertError>
     requires { place ≤ length input.now }
-    ensures { Gives (λ p. p) result (place_behind (name_at (at input.now place))) }
+    ensures exact { Gives (λ p. p) result (place_behind (name_at (at input.now place))) }
+    ensures within { IfOk result (λ p. (place ≤ p) × (p ≤ length input.now)) }
 {
     let mut reader = Reader::at(input, place);
-    name(&mut reader)?;
+    read_name(&mut reader)?;
     Ok(reader.place())
 }
 
@@ -31,27 +47,38 @@ pub fn check_name(input: &[u8], place: usize) -> Result<usize, CertError>
 /// faults of its elements, a time out of its form is `BadTime`.
 pub fn check_validity(input: &[u8], place: usize) -> Result<(Validity, usize), CertError>
     requires { place ≤ length input.now }
-    ensures { Gives (λ v. v) result (moments_behind (validity_at (at input.now place))) }
+    ensures exact { Gives (λ v. v) result (moments_behind (validity_at (at input.now place))) }
+    ensures within { IfOk result (λ v. (place ≤ v.1) × (v.1 ≤ length input.now)) }
 {
     let mut reader = Reader::at(input, place);
-    let (_, moments) = validity(&mut reader)?;
+    let (_, moments) = read_validity(&mut reader)?;
     Ok((moments, reader.place()))
 }
 
 /// Reads a SubjectPublicKeyInfo (RFC 5280, section 4.1.2.7) at this offset and answers the offset behind it.
 pub fn check_spki(input: &[u8], place: usize) -> Result<usize, CertError>
     requires { place ≤ length input.now }
-    ensures { Gives (λ p. p) result (place_behind (spki_at (at input.now place))) }
+    ensures exact { Gives (λ p. p) result (place_behind (spki_at (at input.now place))) }
+    ensures within { IfOk result (λ p. (place ≤ p) × (p ≤ length input.now)) }
 {
     let mut reader = Reader::at(input, place);
     spki(&mut reader)?;
     Ok(reader.place())
 }
 
+/// Whether the bytes are one SubjectPublicKeyInfo (RFC 5280, section 4.1.2.7), and nothing stands behind it.
+pub fn is_public_key(bytes: &[u8]) -> bool
+    ensures exact { result ≡ is_public_key bytes.now }
+    ensures meaning { IsTrue result ↔ IsPublicKey bytes.now }
+{
+    reads_as_key(bytes)
+}
+
 /// Reads an AlgorithmIdentifier (RFC 5280, section 4.1.1.2) at this offset and answers the offset behind it.
 pub fn check_algorithm(input: &[u8], place: usize) -> Result<usize, CertError>
     requires { place ≤ length input.now }
-    ensures { Gives (λ p. p) result (place_behind (algorithm_at (at input.now place))) }
+    ensures exact { Gives (λ p. p) result (place_behind (algorithm_at (at input.now place))) }
+    ensures within { IfOk result (λ p. (place ≤ p) × (p ≤ length input.now)) }
 {
     let mut reader = Reader::at(input, place);
     algorithm(&mut reader)?;
@@ -64,9 +91,10 @@ pub fn check_algorithm(input: &[u8], place: usize) -> Result<usize, CertError>
 /// subjectAltName out of its form is `BadExtension`.
 pub fn check_extensions(input: &[u8], place: usize) -> Result<usize, CertError>
     requires { place ≤ length input.now }
-    ensures { Gives (λ p. p) result (place_behind (extensions_at (at input.now place))) }
+    ensures exact { Gives (λ p. p) result (place_behind (extensions_at (at input.now place))) }
+    ensures within { IfOk result (λ p. (place ≤ p) × (p ≤ length input.now)) }
 {
     let mut reader = Reader::at(input, place);
-    extensions(&mut reader)?;
+    read_extensions(&mut reader)?;
     Ok(reader.place())
 }

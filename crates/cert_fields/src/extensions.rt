@@ -1,9 +1,9 @@
 //! Extensions (RFC 5280, sections 4.1.2.9 and 4.2).
 
-ghost use Rattle.std.specs.Prelude.{◌≡◌, ◌^◌, ◌<◌, List, [], length, Ok, Err, OnOk, IfErr};
+ghost use Rattle.std.specs.Prelude.{◌≡◌, ◌^◌, ◌<◌, [], length, Ok, Err, OnOk, IfErr};
 ghost use Rattle.std.specs.List.{list_any};
 ghost use Rattle.byte_forms.specs.Readings.{Moves, Gives, discarded};
-ghost use Rattle.cert_fields.specs.Extensions.{is_among, new_identifier_at, critical_at, has_its_form, extension_at, extension_list_at, extension_sequence_at, extensions_at, head_at, identifiers, extensions_left, list_in, is_unknown_critical, has_unknown_critical, alt_name_octets, extensions_in, dns_names_in};
+ghost use Rattle.cert_fields.specs.Extensions.{is_among, new_identifier_at, critical_at, has_its_form, extension_at, extension_list_at, extension_sequence_at, extensions_at, head_at, identifiers, extensions_left, list_in, is_unknown_critical, has_unknown_critical, alt_name_octets, dns_names_in};
 ghost use Rattle.cert_fields.specs.Views.{extension_fields};
 
 use crate::alt_names::{DnsNames, is_general_names};
@@ -155,7 +155,7 @@ fn extension_sequence<'a>(reader: &mut Reader<'a>) -> Result<&'a [u8], CertError
 
 /// The extensions with their outer tag, or no bytes where another tag stands.
 #[tactic(auto, unfolding(crate::specs::Extensions::extensions_at))]
-pub fn extensions<'a>(reader: &mut Reader<'a>) -> Result<&'a [u8], CertError>
+pub fn read_extensions<'a>(reader: &mut Reader<'a>) -> Result<&'a [u8], CertError>
     ensures { Moves (λ bytes. bytes.now) extensions_at reader.old result reader.new }
 {
     if !reader.begins_with(FIELD) {

@@ -4,6 +4,11 @@ ghost use Rattle.std.specs.Prelude.{◌≡◌};
 ghost use Rattle.std.specs.Str.{bytes_eq};
 ghost use Rattle.cert_fields.specs.Identifiers.{subject_alt_name, is_known_extension};
 
+/// The AlgorithmIdentifier of Merkle tree proofs, 1.3.6.1.4.1.44363.47.0, without parameters.
+pub const MTC_PROOF: [u8; 14] = [
+    0x30, 0x0C, 0x06, 0x0A, 0x2B, 0x06, 0x01, 0x04, 0x01, 0x82, 0xDA, 0x4B, 0x2F, 0x00,
+];
+
 const SUBJECT_ALT_NAME: [u8; 3] = [0x55, 0x1D, 0x11];
 
 const BASIC_CONSTRAINTS: [u8; 3] = [0x55, 0x1D, 0x13];

@@ -1,7 +1,8 @@
 //! Algorithms, public keys and the signature (RFC 5280, sections 4.1.1.2, 4.1.1.3 and 4.1.2.7).
 
+ghost use Rattle.std.specs.Prelude.{◌≡◌};
 ghost use Rattle.byte_forms.specs.Readings.{Moves, Gives};
-ghost use Rattle.cert_fields.specs.Keys.{algorithm_at, spki_at, whole_bits_of, signature_at};
+ghost use Rattle.cert_fields.specs.Keys.{algorithm_at, spki_at, is_public_key, whole_bits_of, signature_at};
 
 use der_core::{CertError, DerError, Element, Reader, bits, oid};
 
@@ -33,6 +34,18 @@ pub fn spki<'a>(reader: &mut Reader<'a>) -> Result<&'a [u8], CertError>
     bits(&key)?;
     inner.end()?;
     Ok(outer.whole)
+}
+
+/// The bytes are one subjectPublicKeyInfo, and nothing stands behind it.
+#[tactic(auto, unfolding(crate::specs::Keys::is_public_key))]
+pub fn reads_as_key(bytes: &[u8]) -> bool
+    ensures { result ≡ is_public_key bytes.now }
+{
+    let mut reader = Reader::at(bytes, 0);
+    match spki(&mut reader) {
+        Ok(_) => reader.is_at_end(),
+        Err(_) => false,
+    }
 }
 
 /// The bytes of a BIT STRING without unused bits; `BadBits` where there are some.

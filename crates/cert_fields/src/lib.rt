@@ -22,12 +22,18 @@ mod writing;
 
 pub use alt_names::DnsNames;
 pub use cert::Cert;
-pub use certificate::parse;
-pub use checks::{check_algorithm, check_extensions, check_name, check_spki, check_validity};
-pub use extensions::{dns_names, unknown_critical};
+pub use certificate::{parse, read_version};
+pub use checks::{
+    check_algorithm, check_extensions, check_name, check_spki, check_validity, check_version,
+    is_public_key,
+};
+pub use extensions::{dns_names, read_extensions, unknown_critical};
+pub use identifiers::MTC_PROOF;
 pub use laws::{
     certificates_are_read_as_spelled, extensions_are_found, extensions_are_read_as_spelled,
-    fields_are_read_as_spelled, one_spelling,
+    fields_are_read_as_spelled, names_and_marks_are_found, one_spelling,
 };
+pub use names::read_name;
 pub use parts::CertParts;
+pub use times::read_validity;
 pub use writing::write;

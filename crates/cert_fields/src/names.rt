@@ -63,7 +63,7 @@ fn sets(reader: &mut Reader) -> Result<(), CertError>
 
 /// A Name: a SEQUENCE of sets of attributes.
 #[tactic(auto, unfolding(crate::specs::Names::name_at))]
-pub fn name<'a>(reader: &mut Reader<'a>) -> Result<&'a [u8], CertError>
+pub fn read_name<'a>(reader: &mut Reader<'a>) -> Result<&'a [u8], CertError>
     ensures { Moves (λ bytes. bytes.now) name_at reader.old result reader.new }
 {
     let outer = reader.wanted(0x30)?;

@@ -29,7 +29,7 @@ fn time(reader: &mut Reader) -> Result<i64, CertError>
 
 /// A validity as its bytes and its moments.
 #[tactic(auto, unfolding(crate::specs::Times::validity_at))]
-pub fn validity<'a>(reader: &mut Reader<'a>) -> Result<(&'a [u8], Validity), CertError>
+pub fn read_validity<'a>(reader: &mut Reader<'a>) -> Result<(&'a [u8], Validity), CertError>
     ensures { Moves (λ v. (v.0.now, v.1)) validity_at reader.old result reader.new }
 {
     let outer = reader.wanted(0x30)?;

@@ -1,13 +1,13 @@
 //! Writing a certificate.
 
-ghost use Rattle.std.specs.Prelude.{◌≡◌, ◌^◌, ◌<◌, ◌≤◌, ◌++◌, ◌∷◌, length, Ok, IfOk};
+ghost use Rattle.std.specs.Prelude.{◌≡◌, ◌^◌, ◌<◌, ◌≤◌, ◌∷◌, Ok, IfOk};
 ghost use Rattle.cert_time.specs.Calendar.{IsMoment};
-ghost use Rattle.der_core.specs.Elements.{element};
 ghost use Rattle.cert_fields.specs.Certificate.{parts_of};
 ghost use Rattle.cert_fields.specs.Grammar.{IsCertificate};
 ghost use Rattle.cert_fields.specs.Spelling.{tbs_fields, certificate_fields, certificate};
 ghost use Rattle.cert_fields.specs.Given.{given, size_of};
 
+use crate::identifiers::MTC_PROOF;
 use crate::parts::CertParts;
 use cert_time::put_validity;
 use der_core::{put, put_unsigned};
@@ -15,11 +15,6 @@ use mtc_io::{Bytes, Memory};
 use std::alloc::Global;
 
 const VERSION: [u8; 5] = [0xA0, 0x03, 0x02, 0x01, 0x02];
-
-/// The AlgorithmIdentifier of Merkle tree proofs, 1.3.6.1.4.1.44363.47.0, without parameters.
-const MTC_PROOF: [u8; 14] = [
-    0x30, 0x0C, 0x06, 0x0A, 0x2B, 0x06, 0x01, 0x04, 0x01, 0x82, 0xDA, 0x4B, 0x2F, 0x00,
-];
 
 /// Writes a certificate (RFC 5280, section 4.1) whose algorithm is that of Merkle tree proofs. Want of memory is the only
 /// refusal.

@@ -1,17 +1,17 @@
 -- A whole entry: what is read is spelled so, and what is spelled so is read again.
-use Rattle.std.proofs.Common.{◌≡◌, ℕ, ◌+◌, ◌*◌, ◌<◌, List, [], ◌∷◌, ◌++◌, length, Option, Some, None, Result, Ok, Err, IfOk, refl, sym, ap, subst, ◌∙◌, append-nil, arith, inl, inr, eqb-true}
+use Rattle.std.proofs.Common.{◌≡◌, ℕ, ◌+◌, ◌*◌, ◌^◌, ◌<◌, true, List, [], ◌∷◌, ◌++◌, length, Option, Some, None, Result, Ok, Err, IfOk, refl, sym, ap, subst, ◌∙◌, append-nil, arith, inl, inr, lit<, eqb-true, eq-eqb}
 use Rattle.std.specs.Prelude.{◌==◌, if◌then◌else◌}
 use Rattle.std.proofs.lemmas.List.{nil_from_length}
 use Rattle.byte_forms.specs.Places.{At, IsBytes, at}
 use Rattle.byte_forms.specs.Readings.{◌>>=◌, lifted, both_at, mapped_at, Gives}
 use Rattle.byte_forms.specs.Forms.{IsForm, Anything, Nothing, OtherThan, itself, both, FitsBoth}
-use Rattle.byte_forms.proofs.Steps.{bind_ok, chosen, pass_ok, ok_is, IsBytes-rest}
-use Rattle.byte_forms.proofs.Forms.{said_form, ended_form, both_form, mapped_form}
+use Rattle.byte_forms.proofs.Steps.{bind_ok, chosen, pass_ok, ok_is, lifted_ok, IsBytes-rest}
+use Rattle.byte_forms.proofs.Forms.{said_form, spelled_form, ended_form, both_form, mapped_form, tested_form, lifted_form}
+use Rattle.der_core.specs.Elements.{element}
 use Rattle.der_core.specs.Reading.{end_at}
-use Rattle.der_core.specs.Fields.{der}
-use Rattle.der_core.specs.declared.fault.CertError.{CertError}
+use Rattle.der_core.specs.Fields.{der, contents_at}
 use Rattle.der_core.specs.declared.fault.DerError.TheVariants.{Trailing}
-use Rattle.der_core.proofs.Fields.{der_ok}
+use Rattle.der_core.proofs.Fields.{der_ok, tag_of, contents_form}
 use Rattle.cert_time.specs.declared.validity.Validity.{Validity}
 use Rattle.cert_fields.specs.Certificate.{version_at}
 use Rattle.cert_fields.specs.Names.{name_at}
@@ -19,14 +19,34 @@ use Rattle.cert_fields.specs.Times.{validity_at}
 use Rattle.cert_fields.specs.Extensions.{extensions_at}
 use Rattle.cert_fields.specs.Grammar.{IsName, IsValidity}
 use Rattle.cert_fields.proofs.FieldForms.{name_form, validity_form}
+use Rattle.cert_fields.proofs.CertificateForm.{NoValue, version_text, version_form}
 use Rattle.cert_fields.proofs.ExtensionForms.{IsExtensions, extensions_form}
 use Rattle.log_entry.specs.Entries.{TbsParts, hash_text, body_text, tbs_text, entry_text, IsTbs, IsEntry}
-use Rattle.log_entry.specs.Reading.{field_at, key_hash_at, Fields, to_tbs, fields_at, body_of, as_tbs, typed, entry_in}
+use Rattle.log_entry.specs.Reading.{field_at, has_hash_length, key_hash_at, Fields, to_tbs, fields_at, body_of, as_tbs, typed, entry_in}
 use Rattle.log_entry.specs.Views.{entry_parts}
 use Rattle.log_entry.specs.declared.entry.Entry.{Entry}
 use Rattle.log_entry.specs.declared.fault.EntryError.{EntryError}
-use Rattle.log_entry.specs.declared.fault.EntryError.TheVariants.{Body, NullHasBody, UnknownType}
-use Rattle.log_entry.proofs.FieldForms.{lifted_form, NoValue, version_text, version_form, IsHash, key_hash_form}
+use Rattle.log_entry.specs.declared.fault.EntryError.TheVariants.{Body, BadHashLength, NullHasBody, UnknownType}
+
+-- ---- the hash of the public key
+
+abbrev pub IsHash : List ℕ → Type 0
+IsHash hash = length hash ≡ 32
+
+hash_is : (hash : List ℕ) → length hash ≡ 32 → element 0x04 hash ≡ hash_text hash
+unfolding element
+hash_is hash e = rw e refl
+
+pub key_hash_form : IsForm hash_text IsHash Anything key_hash_at
+unfolding key_hash_at
+key_hash_form =
+    let Short : List ℕ → Type 0 = λ contents. length contents < 2 ^ 24 in
+    let Fits : List ℕ → Type 0 = λ hash. Short hash × (has_hash_length hash ≡ true) in
+    spelled_form (element 0x04) hash_text IsHash Anything key_hash_at hash_is
+    (said_form (element 0x04) Fits IsHash Anything Anything key_hash_at
+    (λ hash f. eqb-true (length hash) 32 f.1) (λ hash e. (omega arith, eq-eqb (length hash) 32 e)) (λ rest q. q)
+    (tested_form (element 0x04) Short Anything (field_at (contents_at 0x04)) has_hash_length BadHashLength
+    (lifted_form (element 0x04) Short Anything (contents_at 0x04) Body (contents_form 0x04 (tag_of 0x04 (lit< tt) refl)))))
 
 -- ---- the body
 
@@ -80,10 +100,6 @@ tbs_form =
     said_form (λ p. fields_text (from_tbs p)) (λ p. AreFields (from_tbs p)) IsTbs Nothing Nothing (mapped_at to_tbs fields_at) tbs_to tbs_from (λ rest q. q)
     (mapped_form fields_text AreFields Nothing fields_at to_tbs from_tbs (λ x f. refl) (λ p f. refl) fields_form)
 
-body_ok : {A : Type 0} (r : Result A CertError) (y : A) → lifted Body r ≡ Ok y → r ≡ Ok y
-body_ok (Ok x) y e = cc
-body_ok (Err d) y e = absurd cc
-
 -- Nothing stands behind the last field.
 end_ok : (a : At) (done : Unit {0}) → end_at a ≡ Ok done → a.rest ≡ []
 end_ok a done e =
@@ -96,7 +112,7 @@ body_takes a p h e =
     let s = bind_ok (mapped_at to_tbs fields_at a) (λ (v : TbsParts × At). lifted Body (der (end_at v.1)) >>= λ (done : Unit {0}). Ok v.0) p e in
     let t = bind_ok (lifted Body (der (end_at s.0.1))) (λ (done : Unit {0}). Ok s.0.0) p s.2 in
     let known = tbs_form.takes a s.0.0 s.0.1 h s.1 in
-    let nothing = end_ok s.0.1 t.0 (der_ok (end_at s.0.1) t.0 (body_ok (der (end_at s.0.1)) t.0 t.1)) in
+    let nothing = end_ok s.0.1 t.0 (der_ok (end_at s.0.1) t.0 (lifted_ok Body (der (end_at s.0.1)) t.0 t.1)) in
     let P : TbsParts → Type 0 = λ v. (a.rest ≡ body_text v) × IsTbs v in
     subst P (ok_is EntryError s.0.0 p t.2) (known.0.parts ∙ (ap (λ (c : List ℕ). body_text s.0.0 ++ c) nothing ∙ append-nil (body_text s.0.0)), known.1)
 

@@ -1,4 +1,2 @@
-pub mod Offsets
-pub mod FieldForms
 pub mod EntryForm
 pub mod Matches

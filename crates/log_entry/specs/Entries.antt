@@ -16,7 +16,7 @@ pub record TbsParts : Type 0 where
 
 -- The hash of the public key: an OCTET STRING of 32 bytes.
 abbrev pub hash_text : List ℕ → List ℕ
-hash_text hash = 4 ∷ 32 ∷ hash
+hash_text hash = 0x04 ∷ 0x20 ∷ hash
 
 -- The body: the fields as they stand in a certificate, with the hash in the place of the key.
 abbrev pub body_text : TbsParts → List ℕ

@@ -1,5 +1,5 @@
 -- The entry from which a certificate was made.
-use Rattle.std.specs.Prelude.{ℕ, List}
+use Rattle.std.specs.Prelude.{◌≡◌, ℕ, List}
 use Rattle.cert_fields.specs.Certificate.{Parts}
 use Rattle.log_entry.specs.Entries.{TbsParts, tbs_text}
 
@@ -18,3 +18,11 @@ tbs_with p key_hash = record {
 -- certificate, then 04 20 and the hash of the subjectPublicKeyInfo, then the extensions where there are some.
 unfoldable pub entry_of : (List ℕ → List ℕ) → Parts → List ℕ
 entry_of h p = tbs_text (tbs_with p (h p.spki))
+
+-- A certificate is made of these fields of an entry: it has them, and a key whose hash is theirs.
+pub record IsMadeOf (h : List ℕ → List ℕ) (t : TbsParts) (p : Parts) : Type 0 where
+  pub issuer : p.issuer ≡ t.issuer
+  pub validity : p.validity ≡ t.validity
+  pub subject : p.subject ≡ t.subject
+  pub key : h p.spki ≡ t.key_hash
+  pub extensions : p.extensions ≡ t.extensions

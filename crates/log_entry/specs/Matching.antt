@@ -1,20 +1,11 @@
 -- Whether a key is the one of an entry.
-use Rattle.std.specs.Prelude.{◌≡◌, ℕ, ◌&&◌, Bool, true, false, List, Option, Some, None, Result, Ok, Err}
+use Rattle.std.specs.Prelude.{◌≡◌, ℕ, ◌&&◌, Bool, false, List, Option, Some, None, Result, Ok, Err}
 use Rattle.std.specs.Str.{bytes_eq}
-use Rattle.der_core.specs.Fields.{all_of}
-use Rattle.cert_fields.specs.Keys.{spki_at}
+use Rattle.cert_fields.specs.Keys.{is_public_key}
 use Rattle.cert_fields.specs.Grammar.{IsPublicKey}
 use Rattle.log_entry.specs.Entries.{TbsParts, tbs_text, IsTbs}
 use Rattle.log_entry.specs.Reading.{entry_in}
 use Rattle.log_entry.specs.declared.fault.EntryError.{EntryError}
-
-abbrev pub is_read : {X E : Type 0} → Result X E → Bool
-is_read (Ok x) = true
-is_read (Err e) = false
-
--- The bytes are one subjectPublicKeyInfo and nothing else.
-unfoldable pub is_public_key : List ℕ → Bool
-is_public_key bytes = is_read (all_of spki_at bytes)
 
 -- The entry is of type 1 and holds this hash.
 abbrev pub holds : List ℕ → Result (Option TbsParts) EntryError → Bool

@@ -1,7 +1,7 @@
 -- Reading an entry, with its faults in their order.
 use Rattle.std.specs.Prelude.{ℕ, ◌+◌, ◌*◌, ◌==◌, Bool, List, [], ◌∷◌, length, Option, Some, None, Result, Ok, Err, if◌then◌else◌}
 use Rattle.byte_forms.specs.Places.{At, at}
-use Rattle.byte_forms.specs.Readings.{◌>>=◌, lifted, both_at, mapped_at, tested_at}
+use Rattle.byte_forms.specs.Readings.{Reading, ◌>>=◌, lifted, lifted_at, both_at, mapped_at, tested_at}
 use Rattle.der_core.specs.Reading.{end_at}
 use Rattle.der_core.specs.Fields.{der, contents_at}
 use Rattle.der_core.specs.declared.fault.CertError.{CertError}
@@ -15,15 +15,15 @@ use Rattle.log_entry.specs.declared.fault.EntryError.{EntryError}
 use Rattle.log_entry.specs.declared.fault.EntryError.TheVariants.{Short, UnknownType, Body, BadHashLength, NullHasBody}
 
 -- A field of a certificate, with its faults as faults of the entry.
-abbrev pub field_at : {X : Type 0} → (At → Result (X × At) CertError) → At → Result (X × At) EntryError
-field_at read a = lifted Body (read a)
+abbrev pub field_at : {X : Type 0} → Reading X CertError → Reading X EntryError
+field_at read = lifted_at Body read
 
 abbrev pub has_hash_length : List ℕ → Bool
 has_hash_length hash = length hash == 32
 
 -- The hash of the public key: the contents of an OCTET STRING, 32 bytes.
-unfoldable pub key_hash_at : At → Result (List ℕ × At) EntryError
-key_hash_at = tested_at has_hash_length BadHashLength (field_at (contents_at 4))
+unfoldable pub key_hash_at : Reading (List ℕ) EntryError
+key_hash_at = tested_at has_hash_length BadHashLength (field_at (contents_at 0x04))
 
 -- Version, issuer, validity, subject, hash, extensions.
 abbrev pub Fields : Type 0
@@ -40,7 +40,7 @@ to_tbs x =
       extensions = x.1.1.1.1.1;
     }
 
-abbrev pub fields_at : At → Result (Fields × At) EntryError
+abbrev pub fields_at : Reading Fields EntryError
 fields_at =
     both_at (field_at version_at) (both_at (field_at name_at) (both_at (field_at validity_at)
     (both_at (field_at name_at) (both_at key_hash_at (field_at extensions_at)))))

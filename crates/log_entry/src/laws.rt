@@ -5,7 +5,7 @@ ghost use Rattle.byte_forms.specs.Places.{IsBytes};
 ghost use Rattle.cert_fields.specs.Certificate.{Parts};
 ghost use Rattle.cert_fields.specs.Grammar.{IsPublicKey, IsCertificate};
 ghost use Rattle.log_entry.specs.Entries.{TbsParts, tbs_text, IsTbs, entry_text, IsEntry};
-ghost use Rattle.log_entry.specs.EntryOf.{tbs_with, entry_of};
+ghost use Rattle.log_entry.specs.EntryOf.{tbs_with, entry_of, IsMadeOf};
 ghost use Rattle.log_entry.specs.Reading.{entry_in};
 ghost use Rattle.log_entry.specs.Matching.{matches};
 
@@ -33,4 +33,12 @@ pub fn entries_of_certificates()
         → entry_in (entry_of h p) ≡ Ok (Some (tbs_with p (h p.spki))) }
     ensures key { (h : List ℕ → List ℕ) (p : Parts) → ((bytes : List ℕ) → length (h bytes) ≡ 32) → IsCertificate p
         → matches h (entry_of h p) p.spki ≡ true }
+{}
+
+/// An entry is the one of each certificate made of it: of one with its issuer, validity, subject and extensions, and with a
+/// key whose hash it holds.
+pub fn entries_are_of_their_certificates()
+    ensures spelled { (h : List ℕ → List ℕ) (t : TbsParts) (p : Parts) → IsTbs t → IsCertificate p → IsMadeOf h t p → entry_of h p ≡ tbs_text t }
+    ensures read { (h : List ℕ → List ℕ) (entry : List ℕ) (t : TbsParts) (p : Parts) → IsBytes entry → entry_in entry ≡ Ok (Some t)
+        → IsCertificate p → IsMadeOf h t p → entry_of h p ≡ entry }
 {}

@@ -9,7 +9,6 @@
 
 mod entry;
 mod fault;
-mod fields;
 mod hashing;
 mod laws;
 mod matching;
@@ -22,8 +21,8 @@ pub use entry::{Entry, EntryParts, TbsEntry};
 pub use fault::EntryError;
 pub use hashing::{entry_hash, key_hash};
 pub use laws::{
-    entries_are_read_as_spelled, entries_have_one_spelling, entries_of_certificates,
-    written_entries_match_their_keys,
+    entries_are_of_their_certificates, entries_are_read_as_spelled, entries_have_one_spelling,
+    entries_of_certificates, written_entries_match_their_keys,
 };
 pub use matching::key_matches;
 pub use reading::read_entry;

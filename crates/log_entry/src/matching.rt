@@ -1,23 +1,13 @@
 //! Whether a key is the one of an entry.
 
 ghost use Rattle.std.specs.Prelude.{◌≡◌, ◌↔◌, IsTrue};
-ghost use Rattle.log_entry.specs.Matching.{is_public_key, matches, Matches};
+ghost use Rattle.log_entry.specs.Matching.{matches, Matches};
 
 use crate::entry::Entry;
 use crate::hashing::key_hash;
 use crate::reading::read_entry;
-use cert_fields::check_spki;
+use cert_fields::is_public_key;
 use tree_core::TreeHash;
-
-/// The bytes are one subjectPublicKeyInfo, and nothing stands behind it.
-fn is_public_key(bytes: &[u8]) -> bool
-    ensures { result ≡ is_public_key bytes.now }
-{
-    match check_spki(bytes, 0) {
-        Ok(behind) => behind == bytes.len(),
-        Err(_) => false,
-    }
-}
 
 /// The same answer as an equation with the definition.
 #[tactic(auto, unfolding(crate::specs::Matching::matches))]

@@ -2,15 +2,28 @@
 
 ghost use Rattle.std.specs.Prelude.{◌≡◌, ◌≤◌, length, IfOk, Ok, Option};
 ghost use Rattle.byte_forms.specs.Places.{at};
-ghost use Rattle.byte_forms.specs.Readings.{Gives};
+ghost use Rattle.byte_forms.specs.Readings.{Gives, Moves};
 ghost use Rattle.log_entry.specs.Entries.{TbsParts, entry_text, IsEntry};
-ghost use Rattle.log_entry.specs.Reading.{body_of, entry_in};
+ghost use Rattle.log_entry.specs.Reading.{key_hash_at, body_of, entry_in};
 ghost use Rattle.log_entry.specs.Views.{tbs_parts, entry_parts};
 
 use crate::entry::{Entry, TbsEntry};
 use crate::fault::EntryError;
-use crate::fields::{extensions, key_hash, name, validity, version};
+use cert_fields::{read_extensions, read_name, read_validity, read_version};
 use der_core::Reader;
+
+/// The hash of the public key. `BadHashLength` where it hasn't 32 bytes.
+#[tactic(auto, unfolding(crate::specs::Reading::key_hash_at))]
+fn key_hash<'a>(reader: &mut Reader<'a>) -> Result<&'a [u8], EntryError>
+    ensures { Moves (λ bytes. bytes.now) key_hash_at reader.old result reader.new }
+{
+    let octets = reader.wanted(0x04)?;
+    if octets.contents.len() == 32 {
+        Ok(octets.contents)
+    } else {
+        Err(EntryError::BadHashLength)
+    }
+}
 
 /// The fields behind the type, up to the end.
 #[tactic(auto, unfolding(crate::specs::Reading::body_of))]
@@ -18,13 +31,14 @@ fn body(entry: &[u8]) -> Result<TbsEntry<'_>, EntryError>
     requires { 2 ≤ length entry.now }
     ensures { Gives tbs_parts result (body_of (at entry.now 2)) }
 {
-    let place = version(entry, 2)?;
-    let (issuer, place) = name(entry, place)?;
-    let (validity_der, validity, place) = validity(entry, place)?;
-    let (subject, place) = name(entry, place)?;
-    let (key_hash, place) = key_hash(entry, place)?;
-    let (extensions, place) = extensions(entry, place)?;
-    Reader::at(entry, place).end()?;
+    let mut reader = Reader::at(entry, 2);
+    read_version(&mut reader)?;
+    let issuer = read_name(&mut reader)?;
+    let (validity_der, validity) = read_validity(&mut reader)?;
+    let subject = read_name(&mut reader)?;
+    let key_hash = key_hash(&mut reader)?;
+    let extensions = read_extensions(&mut reader)?;
+    reader.end()?;
     Ok(TbsEntry {
         issuer,
         validity,
