@@ -13,7 +13,7 @@ use Rattle.der_core.specs.Fields.{inside_at, element_with_at, unsigned_at}
 use Rattle.der_core.specs.declared.fault.CertError.{CertError}
 use Rattle.der_core.specs.declared.fault.CertError.TheVariants.{BadVersion, BadSerial, AlgorithmsDiffer, UniqueId}
 use Rattle.der_core.proofs.Elements.{element-longer, begins_with-element}
-use Rattle.der_core.proofs.Fields.{tag_of, inside_form, element_with_form, unsigned_form}
+use Rattle.der_core.proofs.Fields.{tag_of, all_takes, all_again, inside_form, element_with_form, unsigned_form}
 use Rattle.cert_time.specs.declared.validity.Validity.{Validity}
 use Rattle.cert_fields.specs.Keys.{algorithm_at, spki_at, signature_at}
 use Rattle.cert_fields.specs.Names.{name_at}
@@ -25,7 +25,7 @@ use Rattle.cert_fields.specs.Grammar.{IsAlgorithm, IsPublicKey, IsName, IsValidi
 use Rattle.cert_fields.specs.Views.{parts}
 use Rattle.cert_fields.specs.declared.cert.Cert.{Cert}
 use Rattle.cert_fields.proofs.FieldForms.{algorithm_form, spki_form, name_form, validity_form, signature_form}
-use Rattle.cert_fields.proofs.ExtensionForms.{IsExtensions, extensions_form, all_takes, all_again}
+use Rattle.cert_fields.proofs.ExtensionForms.{IsExtensions, extensions_form}
 
 -- ---- version and serial number
 
@@ -33,7 +33,7 @@ abbrev IsVersion : ℕ → Type 0
 IsVersion n = (n < 2 ^ 64) × ((n == 2) ≡ true)
 
 abbrev number : ℕ → List ℕ
-number n = element 2 (integer n)
+number n = element 0x02 (integer n)
 
 abbrev pub NoValue : Unit {0} → Type 0
 NoValue x = Unit {0}
@@ -41,7 +41,7 @@ NoValue x = Unit {0}
 abbrev pub version_text : Unit {0} → List ℕ
 version_text x = version
 
-version_is : element 160 (element 2 (integer 2)) ≡ version
+version_is : element 0xA0 (element 0x02 (integer 2)) ≡ version
 unfolding element integer
 version_is = refl
 
@@ -54,13 +54,13 @@ unfolding version_at
 version_form =
     let read : At → Result (ℕ × At) CertError = tested_at (λ n. n == 2) BadVersion (unsigned_at BadVersion) in
     let Fits : ℕ → Type 0 = λ n. IsVersion n × (length (number n) < 2 ^ 24) in
-    let spell : ℕ → List ℕ = λ n. element 160 (number n) in
+    let spell : ℕ → List ℕ = λ n. element 0xA0 (number n) in
     let two : Unit {0} → ℕ = λ x. 2 in
     spelled_form (λ x. spell (two x)) version_text NoValue Anything version_at (λ x f. version_is)
     (said_form (λ x. spell (two x)) (λ x. Fits (two x)) NoValue Anything Anything version_at (λ x f. tt) (λ x f. ((lit< tt, refl), version-short)) (λ rest q. q)
-    (mapped_form spell Fits Anything (headed_at 160 BadVersion (inside_at 160 read)) nothing two (λ n f. sym (eqb-true n 2 f.0.1)) (λ y f. refl)
-    (headed_form spell Fits Anything (inside_at 160 read) 160 BadVersion (λ n rest f. begins_with-element 160 (number n) rest)
-    (inside_form 160 number IsVersion read (tag_of 160 (lit< tt) refl)
+    (mapped_form spell Fits Anything (headed_at 0xA0 BadVersion (inside_at 0xA0 read)) nothing two (λ n f. sym (eqb-true n 2 f.0.1)) (λ y f. refl)
+    (headed_form spell Fits Anything (inside_at 0xA0 read) 160 BadVersion (λ n rest f. begins_with-element 0xA0 (number n) rest)
+    (inside_form 0xA0 number IsVersion read (tag_of 0xA0 (lit< tt) refl)
     (ended_form number IsVersion Anything read tt
     (tested_form number (λ n. n < 2 ^ 64) Anything (unsigned_at BadVersion) (λ n. n == 2) BadVersion (unsigned_form BadVersion)))))))
 
@@ -88,7 +88,7 @@ no_unique_id bytes rest (inr field) end =
 last_field : IsForm itself IsExtensions Nothing (refused_at is_unique_id UniqueId extensions_at)
 last_field =
     refused_form itself IsExtensions Nothing extensions_at is_unique_id UniqueId no_unique_id
-    (ended_form itself IsExtensions (λ rest. Anything rest × OtherThan 163 rest) extensions_at (tt, tt) extensions_form)
+    (ended_form itself IsExtensions (λ rest. Anything rest × OtherThan 0xA3 rest) extensions_at (tt, tt) extensions_form)
 
 abbrev pub body_text : Body → List ℕ
 body_text = both itself (both itself (both moments_text (both itself (both itself itself))))
@@ -128,7 +128,7 @@ abbrev IsSigned : Signed → Type 0
 IsSigned = FitsBoth NoValue (FitsBoth IsSerial IsBody)
 
 abbrev tbs_text : Signed → List ℕ
-tbs_text x = element 48 (signed_text x)
+tbs_text x = element 0x30 (signed_text x)
 
 abbrev IsTbs : Signed → Type 0
 IsTbs x = IsSigned x × (length (signed_text x) < 2 ^ 24)
@@ -136,13 +136,13 @@ IsTbs x = IsSigned x × (length (signed_text x) < 2 ^ 24)
 tbs_form : IsForm tbs_text IsTbs Anything tbs_at
 unfolding tbs_at
 tbs_form =
-    inside_form 48 signed_text IsSigned (both_at version_at (both_at serial_at body_at)) (tag_of 48 (lit< tt) refl)
+    inside_form 0x30 signed_text IsSigned (both_at version_at (both_at serial_at body_at)) (tag_of 0x30 (lit< tt) refl)
     (both_form version_text NoValue Anything version_at (both number body_text) (FitsBoth IsSerial IsBody) Nothing (both_at serial_at body_at) version_form
     (both_form number IsSerial Anything serial_at body_text IsBody Nothing body_at serial_form body_form (λ y rest f q. tt))
     (λ y rest f q. tt))
 
 abbrev IsSequence : List ℕ → Type 0
-IsSequence = IsSpelling (element 48) (λ contents. length contents < 2 ^ 24)
+IsSequence = IsSpelling (element 0x30) (λ contents. length contents < 2 ^ 24)
 
 abbrev IsPair : Signed × List ℕ → Type 0
 IsPair x = FitsBoth IsTbs IsSequence x × (same_algorithm x ≡ true)
@@ -150,11 +150,11 @@ IsPair x = FitsBoth IsTbs IsSequence x × (same_algorithm x ≡ true)
 signed_form : IsForm (both tbs_text itself) IsPair Anything signed_at
 unfolding signed_at
 signed_form =
-    tested_form (both tbs_text itself) (FitsBoth IsTbs IsSequence) Anything (both_at tbs_at (element_with_at 48)) same_algorithm AlgorithmsDiffer
-    (both_form tbs_text IsTbs Anything tbs_at itself IsSequence Anything (element_with_at 48) tbs_form (element_with_form 48 (tag_of 48 (lit< tt) refl)) (λ y rest f q. tt))
+    tested_form (both tbs_text itself) (FitsBoth IsTbs IsSequence) Anything (both_at tbs_at (element_with_at 0x30)) same_algorithm AlgorithmsDiffer
+    (both_form tbs_text IsTbs Anything tbs_at itself IsSequence Anything (element_with_at 0x30) tbs_form (element_with_form 0x30 (tag_of 0x30 (lit< tt) refl)) (λ y rest f q. tt))
 
 abbrev signature_text : List ℕ → List ℕ
-signature_text proof = element 3 (0 ∷ proof)
+signature_text proof = element 0x03 (0 ∷ proof)
 
 abbrev Whole : Type 0
 Whole = (Signed × List ℕ) × List ℕ
@@ -177,7 +177,7 @@ same_ways x f =
     ap inside (sym same)
 
 algorithm_sequence : (bytes : List ℕ) → IsAlgorithm bytes → IsSequence bytes
-algorithm_sequence bytes f = (both (element 6) itself f.0, f.1.1, f.2)
+algorithm_sequence bytes f = (both (element 0x06) itself f.0, f.1.1, f.2)
 
 parts_to : (p : Parts) → IsWhole (from_parts p) × (length (whole_text (from_parts p)) < 2 ^ 24) → IsCertificate p
 parts_to p f =
@@ -198,10 +198,10 @@ parts_to p f =
 
 parts_from : (p : Parts) → IsCertificate p → IsWhole (from_parts p) × (length (whole_text (from_parts p)) < 2 ^ 24)
 parts_from p f =
-    let all = length-append (element 48 (tbs_fields p) ++ p.algorithm) (element 3 (0 ∷ p.proof)) in
-    let front = length-append (element 48 (tbs_fields p)) p.algorithm in
-    let signed : length (tbs_fields p) < 2 ^ 24 = omega (arith, f.short, all, front, element-longer 48 (tbs_fields p)) in
-    let proof : length (0 ∷ p.proof) < 2 ^ 24 = omega (arith, f.short, all, element-longer 3 (0 ∷ p.proof)) in
+    let all = length-append (element 0x30 (tbs_fields p) ++ p.algorithm) (element 0x03 (0 ∷ p.proof)) in
+    let front = length-append (element 0x30 (tbs_fields p)) p.algorithm in
+    let signed : length (tbs_fields p) < 2 ^ 24 = omega (arith, f.short, all, front, element-longer 0x30 (tbs_fields p)) in
+    let proof : length (0 ∷ p.proof) < 2 ^ 24 = omega (arith, f.short, all, element-longer 0x03 (0 ∷ p.proof)) in
     let body : IsBody (from_parts p).0.0.1.1 = (f.algorithm, (f.issuer, (f.validity, (f.subject, (f.spki, f.extensions))))) in
     let tbs : IsTbs (from_parts p).0.0 = ((tt, ((f.serial, lt-ltb 0 p.serial f.positive), body)), signed) in
     ((((tbs, algorithm_sequence p.algorithm f.algorithm), (bytes_eq-Decides p.algorithm p.algorithm).1 refl), proof), f.short)
@@ -211,10 +211,10 @@ unfolding certificate_at certificate
 certificate_form =
     let read : At → Result (Whole × At) CertError = both_at signed_at signature_at in
     let Known : Whole → Type 0 = λ x. IsWhole x × (length (whole_text x) < 2 ^ 24) in
-    let spell : Whole → List ℕ = λ x. element 48 (whole_text x) in
-    said_form (λ p. spell (from_parts p)) (λ p. Known (from_parts p)) IsCertificate Anything Anything (mapped_at to_parts (inside_at 48 read)) parts_to parts_from (λ rest q. q)
-    (mapped_form spell Known Anything (inside_at 48 read) to_parts from_parts (λ x f. same_ways x f.0) (λ p f. refl)
-    (inside_form 48 whole_text IsWhole read (tag_of 48 (lit< tt) refl)
+    let spell : Whole → List ℕ = λ x. element 0x30 (whole_text x) in
+    said_form (λ p. spell (from_parts p)) (λ p. Known (from_parts p)) IsCertificate Anything Anything (mapped_at to_parts (inside_at 0x30 read)) parts_to parts_from (λ rest q. q)
+    (mapped_form spell Known Anything (inside_at 0x30 read) to_parts from_parts (λ x f. same_ways x f.0) (λ p f. refl)
+    (inside_form 0x30 whole_text IsWhole read (tag_of 0x30 (lit< tt) refl)
     (ended_form whole_text IsWhole Anything read tt
     (both_form (both tbs_text itself) IsPair Anything signed_at signature_text IsSignature Anything signature_at signed_form signature_form (λ y rest f q. tt)))))
 

@@ -1,10 +1,10 @@
 -- Extensions: what is read is spelled so, and what is spelled so is read again.
-use Rattle.std.proofs.Common.{◌≡◌, ◌≢◌, ℕ, ◌+◌, ◌^◌, ◌<◌, Bool, true, false, List, [], ◌∷◌, ◌++◌, length, Result, Ok, Err, Option, Some, None, IfSome, refl, sym, ap, subst, ◌∙◌, append-nil, arith, ◌⊎◌, lit<, eqb-true}
-use Rattle.std.specs.Prelude.{if◌then◌else◌, ◌==◌, not, is_some}
+use Rattle.std.proofs.Common.{◌≡◌, ◌≢◌, ℕ, ◌+◌, ◌^◌, ◌<◌, Bool, true, false, List, [], ◌∷◌, ◌++◌, length, Result, Ok, Err, Option, Some, None, IfSome, refl, sym, ap, subst, arith, ◌⊎◌, lit<}
+use Rattle.std.specs.Prelude.{if◌then◌else◌, not, is_some}
 use Rattle.std.specs.List.{flat_map, AllByRecursion}
-use Rattle.std.proofs.lemmas.List.{length-append, nil_from_length}
+use Rattle.std.proofs.lemmas.List.{length-append}
 use Rattle.byte_forms.specs.Places.{At, at, IsBytes, begins_with}
-use Rattle.byte_forms.specs.Readings.{◌>>=◌, both_at, mapped_at, tested_at, optional_at, some_at, is_read}
+use Rattle.byte_forms.specs.Readings.{both_at, mapped_at, tested_at, optional_at, some_at, is_read}
 use Rattle.byte_forms.specs.Forms.{Stands, IsForm, Anything, Nothing, OtherThan, itself, both, FitsBoth, optional, FitsEach}
 use Rattle.byte_forms.specs.Lists.{up_to_end}
 use Rattle.byte_forms.proofs.Steps.{bind_ok, pass_ok, ok_is, read_ok, IsBytes-front, IsBytes-back}
@@ -12,44 +12,19 @@ use Rattle.byte_forms.proofs.Forms.{said_form, spelled_form, ended_form, both_fo
 use Rattle.byte_forms.proofs.Lists.{many_form, up_to_end_drains, each_form}
 use Rattle.der_core.specs.Elements.{element, length_octets}
 use Rattle.der_core.specs.Items.{Item}
-use Rattle.der_core.specs.Reading.{element_at, end_at}
+use Rattle.der_core.specs.Reading.{element_at}
 use Rattle.der_core.specs.Contents.{boolean_of, oid_of}
 use Rattle.der_core.specs.Fields.{der, decoded_at, contents_at, all_of, whole_at}
 use Rattle.der_core.specs.Forms.{boolean, FitsBoolean}
-use Rattle.der_core.specs.declared.fault.DerError.TheVariants.{Trailing}
 use Rattle.der_core.specs.declared.fault.CertError.{CertError}
 use Rattle.der_core.specs.declared.fault.CertError.TheVariants.{BadExtension, RepeatedExtension}
 use Rattle.der_core.proofs.Elements.{element_takes, element_again, element-longer, begins_with-element}
 use Rattle.der_core.proofs.Rules.{boolean_contents}
-use Rattle.der_core.proofs.Fields.{tag_of, der_ok, decoded_form, contents_form, inside_form, whole_form}
+use Rattle.der_core.proofs.Fields.{tag_of, der_ok, all_takes, all_again, decoded_form, contents_form, inside_form, whole_form}
 use Rattle.cert_fields.specs.AltNames.{is_general_name, general_name_at, general_names_at, are_general_names}
 use Rattle.cert_fields.specs.Extensions.{ExtensionFields, is_among, is_alt_name, new_identifier_at, critical_at, to_extension, has_its_form, identifier_of, extension_at, extension_list_at, extension_sequence_at, extensions_at}
 use Rattle.cert_fields.specs.Grammar.{IsIdentifier, IsGeneralName, IsGeneralNames, mark, extension_contents, IsExtension, extension, AreExtensions, IsExtensionSequence, IsExtensionsField}
 use Rattle.cert_fields.proofs.FieldForms.{identifier_form, each_drains}
-
--- ---- whole inputs
-
-end_ok : (a : At) (done : Unit {0}) → end_at a ≡ Ok done → a.rest ≡ []
-end_ok a done e =
-    let p = pass_ok (length a.rest == 0) (Ok tt) (Trailing a.place) done e in
-    nil_from_length a.rest (eqb-true (length a.rest) 0 p.0)
-
-pub all_takes : {X : Type 0} (spell : X → List ℕ) (Fits : X → Type 0) (read : At → Result (X × At) CertError) → IsForm spell Fits Anything read
-    → (bytes : List ℕ) (x : X) → IsBytes bytes → all_of read bytes ≡ Ok x → (bytes ≡ spell x) × Fits x
-all_takes {X} spell Fits read form bytes x h e =
-    let s = bind_ok (read (at bytes 0)) (λ (v : X × At). der (end_at v.1) >>= λ (done : Unit {0}). Ok v.0) x e in
-    let t = bind_ok (der (end_at s.0.1)) (λ (done : Unit {0}). Ok s.0.0) x s.2 in
-    let known = form.takes (at bytes 0) s.0.0 s.0.1 h s.1 in
-    let nothing = end_ok s.0.1 t.0 (der_ok (end_at s.0.1) t.0 t.1) in
-    let P : X → Type 0 = λ v. (bytes ≡ spell v) × Fits v in
-    subst P (ok_is CertError s.0.0 x t.2) (known.0.parts ∙ (ap (λ (c : List ℕ). spell s.0.0 ++ c) nothing ∙ append-nil (spell s.0.0)), known.1)
-
-pub all_again : {X : Type 0} (spell : X → List ℕ) (Fits : X → Type 0) (read : At → Result (X × At) CertError) → IsForm spell Fits Anything read
-    → (x : X) → Fits x → all_of read (spell x) ≡ Ok x
-all_again spell Fits read form x f =
-    let step : read (at (spell x) 0) ≡ Ok (x, record { place = 0 + length (spell x); rest = [] }) =
-    ap (λ (c : List ℕ). read (record { place = 0; rest = c })) (sym (append-nil (spell x))) ∙ form.again x 0 [] f tt in
-    rw step refl
 
 -- ---- general names
 
@@ -74,7 +49,7 @@ general_name_some bytes f = omega (arith, ap length f.spelled, element-longer f.
 general_names_form : IsForm itself IsGeneralNames Anything general_names_at
 unfolding general_names_at
 general_names_form =
-    whole_form 48 (flat_map itself) (λ names. AllByRecursion IsGeneralName names × (0 < length (flat_map itself names))) (some_at BadExtension (up_to_end general_name_at)) (tag_of 48 (lit< tt) refl)
+    whole_form 0x30 (flat_map itself) (λ names. AllByRecursion IsGeneralName names × (0 < length (flat_map itself names))) (some_at BadExtension (up_to_end general_name_at)) (tag_of 0x30 (lit< tt) refl)
     (some_form (flat_map itself) (AllByRecursion IsGeneralName) (up_to_end general_name_at) BadExtension
     (up_to_end_drains itself IsGeneralName Anything general_name_at general_name_some general_name_form)
     (many_form itself IsGeneralName general_name_at general_name_some general_name_form))
@@ -108,15 +83,15 @@ tested_as spell Fits Follows read test fault Says to from form =
     }
 
 new_identifier_form : (seen : List (List ℕ))
-    → IsForm (element 6) (λ identifier. IsIdentifier identifier × (not (is_among identifier seen) ≡ true)) Anything (new_identifier_at seen)
+    → IsForm (element 0x06) (λ identifier. IsIdentifier identifier × (not (is_among identifier seen) ≡ true)) Anything (new_identifier_at seen)
 unfolding new_identifier_at
-new_identifier_form seen = tested_form (element 6) IsIdentifier Anything (decoded_at 6 oid_of) (λ identifier. not (is_among identifier seen)) RepeatedExtension identifier_form
+new_identifier_form seen = tested_form (element 0x06) IsIdentifier Anything (decoded_at 0x06 oid_of) (λ identifier. not (is_among identifier seen)) RepeatedExtension identifier_form
 
 abbrev AnyMark : Bool → Type 0
 AnyMark b = Unit {0}
 
 abbrev truth : Bool → List ℕ
-truth b = element 1 (boolean b)
+truth b = element 0x01 (boolean b)
 
 abbrev IsTruth : Bool → Type 0
 IsTruth b = (FitsBoolean b × (length (boolean b) < 2 ^ 24)) × (b ≡ true)
@@ -142,17 +117,17 @@ marked_fits : (b : Bool) → IfSome (marked b) IsTruth
 marked_fits true = ((tt, lit< tt), refl)
 marked_fits false = tt
 
-critical_form : IsForm mark AnyMark (OtherThan 1) critical_at
+critical_form : IsForm mark AnyMark (OtherThan 0x01) critical_at
 unfolding critical_at
 critical_form =
-    let read : At → Result (Bool × At) CertError = tested_at (λ b. b) BadExtension (decoded_at 1 boolean_of) in
-    spelled_form (λ b. optional truth (marked b)) mark AnyMark (OtherThan 1) (mapped_at is_some (optional_at 1 read)) (λ b f. mark_is b)
-    (said_form (λ b. optional truth (marked b)) (λ b. IfSome (marked b) IsTruth) AnyMark (λ rest. Anything rest × OtherThan 1 rest) (OtherThan 1) (mapped_at is_some (optional_at 1 read))
+    let read : At → Result (Bool × At) CertError = tested_at (λ b. b) BadExtension (decoded_at 0x01 boolean_of) in
+    spelled_form (λ b. optional truth (marked b)) mark AnyMark (OtherThan 0x01) (mapped_at is_some (optional_at 0x01 read)) (λ b f. mark_is b)
+    (said_form (λ b. optional truth (marked b)) (λ b. IfSome (marked b) IsTruth) AnyMark (λ rest. Anything rest × OtherThan 0x01 rest) (OtherThan 0x01) (mapped_at is_some (optional_at 0x01 read))
     (λ b f. tt) (λ b f. marked_fits b) (λ rest q. (tt, q))
-    (mapped_form (optional truth) (λ o. IfSome o IsTruth) (λ rest. Anything rest × OtherThan 1 rest) (optional_at 1 read) is_some marked marked_back marked_there
-    (optional_form truth IsTruth Anything read 1 (λ b rest f. begins_with-element 1 (boolean b) rest)
-    (tested_form truth (λ b. FitsBoolean b × (length (boolean b) < 2 ^ 24)) Anything (decoded_at 1 boolean_of) (λ b. b) BadExtension
-    (decoded_form 1 boolean FitsBoolean boolean_of (tag_of 1 (lit< tt) refl) boolean_contents)))))
+    (mapped_form (optional truth) (λ o. IfSome o IsTruth) (λ rest. Anything rest × OtherThan 0x01 rest) (optional_at 0x01 read) is_some marked marked_back marked_there
+    (optional_form truth IsTruth Anything read 1 (λ b rest f. begins_with-element 0x01 (boolean b) rest)
+    (tested_form truth (λ b. FitsBoolean b × (length (boolean b) < 2 ^ 24)) Anything (decoded_at 0x01 boolean_of) (λ b. b) BadExtension
+    (decoded_form 0x01 boolean FitsBoolean boolean_of (tag_of 0x01 (lit< tt) refl) boolean_contents)))))
 
 other_element : (byte tag : ℕ) (contents rest : List ℕ) → tag ≢ byte → OtherThan byte (element tag contents ++ rest)
 unfolding element
@@ -170,8 +145,8 @@ HasNames x = is_alt_name x ≡ true → IsGeneralNames x.octets
 octets_bytes : (x : ExtensionFields) → IsBytes (extension_contents x) → IsBytes x.octets
 unfolding element
 octets_bytes x h =
-    let behind = IsBytes-back (element 6 x.identifier) (mark x.critical ++ element 4 x.octets) h in
-    let last : IsBytes (4 ∷ (length_octets (length x.octets) ++ x.octets)) = IsBytes-back (mark x.critical) (element 4 x.octets) behind in
+    let behind = IsBytes-back (element 0x06 x.identifier) (mark x.critical ++ element 0x04 x.octets) h in
+    let last : IsBytes (4 ∷ (length_octets (length x.octets) ++ x.octets)) = IsBytes-back (mark x.critical) (element 0x04 x.octets) behind in
     IsBytes-back (4 ∷ length_octets (length x.octets)) x.octets last
 
 names_to : (x : ExtensionFields) → IsBytes (extension_contents x) → has_its_form x ≡ true → HasNames x
@@ -199,16 +174,16 @@ Fields seen = FitsBoth (λ (identifier : List ℕ). IsIdentifier identifier × (
 
 contents_short : (seen : List (List ℕ)) (x : ExtensionFields) → IsExtension seen x → (length x.identifier < 2 ^ 24) × (length x.octets < 2 ^ 24)
 contents_short seen x f =
-    let all = length-append (element 6 x.identifier) (mark x.critical ++ element 4 x.octets) in
-    let behind = length-append (mark x.critical) (element 4 x.octets) in
-    let one = element-longer 6 x.identifier in
-    let two = element-longer 4 x.octets in
+    let all = length-append (element 0x06 x.identifier) (mark x.critical ++ element 0x04 x.octets) in
+    let behind = length-append (mark x.critical) (element 0x04 x.octets) in
+    let one = element-longer 0x06 x.identifier in
+    let two = element-longer 0x04 x.octets in
     (omega (arith, f.short, all, one), omega (arith, f.short, all, behind, two))
 
 pub extension_form : (seen : List (List ℕ)) → IsForm extension (IsExtension seen) Anything (extension_at seen)
 unfolding extension_at
 extension_form seen =
-    let fields : At → Result ((List ℕ × (Bool × List ℕ)) × At) CertError = both_at (new_identifier_at seen) (both_at critical_at (contents_at 4)) in
+    let fields : At → Result ((List ℕ × (Bool × List ℕ)) × At) CertError = both_at (new_identifier_at seen) (both_at critical_at (contents_at 0x04)) in
     let read : At → Result (ExtensionFields × At) CertError = mapped_at to_extension fields in
     let Known : ExtensionFields → Type 0 = λ x. (Fields seen (from_extension x) × HasNames x) × (length (extension_contents x) < 2 ^ 24) in
     said_form extension Known (IsExtension seen) Anything Anything (extension_at seen)
@@ -217,21 +192,21 @@ extension_form seen =
     let short = contents_short seen x f in
     (((((f.identifier, short.0), not_false (is_among x.identifier seen) f.new), (tt, short.1)), f.names), f.short))
     (λ rest q. q)
-    (inside_form 48 extension_contents (λ x. Fields seen (from_extension x) × HasNames x) (tested_at has_its_form BadExtension read) (tag_of 48 (lit< tt) refl)
+    (inside_form 0x30 extension_contents (λ x. Fields seen (from_extension x) × HasNames x) (tested_at has_its_form BadExtension read) (tag_of 0x30 (lit< tt) refl)
     (ended_form extension_contents (λ x. Fields seen (from_extension x) × HasNames x) Anything (tested_at has_its_form BadExtension read) tt
     (tested_as extension_contents (λ x. Fields seen (from_extension x)) Anything read has_its_form BadExtension HasNames names_to names_from
-    (mapped_form (both (element 6) (both mark (element 4))) (Fields seen) Anything fields to_extension from_extension (λ x f. refl) (λ y f. refl)
-    (both_form (element 6) (λ identifier. IsIdentifier identifier × (not (is_among identifier seen) ≡ true)) Anything (new_identifier_at seen)
-    (both mark (element 4)) (FitsBoth AnyMark Octets) Anything (both_at critical_at (contents_at 4))
+    (mapped_form (both (element 0x06) (both mark (element 0x04))) (Fields seen) Anything fields to_extension from_extension (λ x f. refl) (λ y f. refl)
+    (both_form (element 0x06) (λ identifier. IsIdentifier identifier × (not (is_among identifier seen) ≡ true)) Anything (new_identifier_at seen)
+    (both mark (element 0x04)) (FitsBoth AnyMark Octets) Anything (both_at critical_at (contents_at 0x04))
     (new_identifier_form seen)
-    (both_form mark AnyMark (OtherThan 1) critical_at (element 4) Octets Anything (contents_at 4) critical_form (contents_form 4 (tag_of 4 (lit< tt) refl))
-    (λ y rest f q. other_element 1 4 y rest (λ e. absurd (omega arith))))
+    (both_form mark AnyMark (OtherThan 0x01) critical_at (element 0x04) Octets Anything (contents_at 0x04) critical_form (contents_form 0x04 (tag_of 0x04 (lit< tt) refl))
+    (λ y rest f q. other_element 0x01 0x04 y rest (λ e. absurd (omega arith))))
     (λ y rest f q. tt))))))
 
 -- ---- the field
 
 extension_some : (seen : List (List ℕ)) (x : ExtensionFields) → IsExtension seen x → 0 < length (extension x)
-extension_some seen x f = omega (arith, element-longer 48 (extension_contents x))
+extension_some seen x f = omega (arith, element-longer 0x30 (extension_contents x))
 
 list_form : IsForm (flat_map extension) (FitsEach identifier_of IsExtension []) Nothing extension_list_at
 unfolding extension_list_at
@@ -245,7 +220,7 @@ list_drains a xs b h e =
 sequence_form : IsForm itself IsExtensionSequence Anything extension_sequence_at
 unfolding extension_sequence_at
 sequence_form =
-    whole_form 48 (flat_map extension) AreExtensions (some_at BadExtension extension_list_at) (tag_of 48 (lit< tt) refl)
+    whole_form 0x30 (flat_map extension) AreExtensions (some_at BadExtension extension_list_at) (tag_of 0x30 (lit< tt) refl)
     (said_form (flat_map extension) (λ xs. FitsEach identifier_of IsExtension [] xs × (0 < length (flat_map extension xs))) AreExtensions Nothing Nothing (some_at BadExtension extension_list_at)
     (λ xs f. record { some = f.1; each = f.0 }) (λ xs f. (f.each, f.some)) (λ rest q. q)
     (some_form (flat_map extension) (FitsEach identifier_of IsExtension []) extension_list_at BadExtension list_drains list_form))
@@ -253,12 +228,12 @@ sequence_form =
 abbrev pub IsExtensions : List ℕ → Type 0
 IsExtensions bytes = (bytes ≡ []) ⊎ IsExtensionsField bytes
 
-pub extensions_form : IsForm itself IsExtensions (λ rest. Anything rest × OtherThan 163 rest) extensions_at
+pub extensions_form : IsForm itself IsExtensions (λ rest. Anything rest × OtherThan 0xA3 rest) extensions_at
 unfolding extensions_at
 extensions_form =
-    or_nothing_form IsExtensionsField Anything (whole_at 163 extension_sequence_at) 163
+    or_nothing_form IsExtensionsField Anything (whole_at 0xA3 extension_sequence_at) 163
     (λ bytes rest f.
-    let P : List ℕ → Type 0 = λ t. begins_with 163 (t ++ rest) ≡ true in
-    subst P (sym f.2) (begins_with-element 163 f.0 rest))
-    (whole_form 163 itself IsExtensionSequence extension_sequence_at (tag_of 163 (lit< tt) refl)
+    let P : List ℕ → Type 0 = λ t. begins_with 0xA3 (t ++ rest) ≡ true in
+    subst P (sym f.2) (begins_with-element 0xA3 f.0 rest))
+    (whole_form 0xA3 itself IsExtensionSequence extension_sequence_at (tag_of 0xA3 (lit< tt) refl)
     (ended_form itself IsExtensionSequence Anything extension_sequence_at tt sequence_form))

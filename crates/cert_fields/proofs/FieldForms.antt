@@ -23,7 +23,7 @@ use Rattle.der_core.specs.declared.fault.CertError.{CertError}
 use Rattle.der_core.specs.declared.fault.CertError.TheVariants.{BadTime, BadName}
 use Rattle.der_core.proofs.Elements.{wanted_takes, wanted_again, element-longer}
 use Rattle.der_core.proofs.Rules.{oid_contents, bits_contents}
-use Rattle.der_core.proofs.Fields.{tag_of, der_ok, decoded_form, any_form, whole_form, noted_form, risen_form, rising_form}
+use Rattle.der_core.proofs.Fields.{tag_of, der_ok, decoded_form, any_form, whole_form, noted_form, next_some, risen_form, rising_form}
 use Rattle.cert_time.specs.Calendar.{IsMoment}
 use Rattle.cert_time.specs.Times.{time_tag, time_contents, time_moment, short_element, validity_element}
 use Rattle.cert_time.specs.declared.validity.Validity.{Validity}
@@ -36,8 +36,8 @@ use Rattle.cert_fields.proofs.Sizes.{time-short}
 
 -- ---- algorithms and keys
 
-pub identifier_form : IsForm (element 6) IsIdentifier Anything (decoded_at 6 oid_of)
-identifier_form = decoded_form 6 itself IsOid oid_of (tag_of 6 (lit< tt) refl) oid_contents
+pub identifier_form : IsForm (element 0x06) IsIdentifier Anything (decoded_at 0x06 oid_of)
+identifier_form = decoded_form 0x06 itself IsOid oid_of (tag_of 0x06 (lit< tt) refl) oid_contents
 
 pub element_some : (bytes : List ℕ) → IsElement bytes → 0 < length bytes
 element_some bytes f = omega (arith, ap length f.spelled, element-longer f.tag f.contents)
@@ -45,19 +45,19 @@ element_some bytes f = omega (arith, ap length f.spelled, element-longer f.tag f
 pub algorithm_form : IsForm itself IsAlgorithm Anything algorithm_at
 unfolding algorithm_at
 algorithm_form =
-    whole_form 48 (both (element 6) itself) (FitsBoth IsIdentifier IsElementOrNothing) (both_at (decoded_at 6 oid_of) (last_at any_at)) (tag_of 48 (lit< tt) refl)
-    (both_form (element 6) IsIdentifier Anything (decoded_at 6 oid_of) itself IsElementOrNothing Nothing (last_at any_at)
+    whole_form 0x30 (both (element 0x06) itself) (FitsBoth IsIdentifier IsElementOrNothing) (both_at (decoded_at 0x06 oid_of) (last_at any_at)) (tag_of 0x30 (lit< tt) refl)
+    (both_form (element 0x06) IsIdentifier Anything (decoded_at 0x06 oid_of) itself IsElementOrNothing Nothing (last_at any_at)
     identifier_form (last_form IsElement Anything any_at element_some tt any_form) (λ y rest f q. tt))
 
-bits_form : IsForm (λ b. element 3 (bit_string b)) IsBits Anything (decoded_at 3 bits_of)
-bits_form = decoded_form 3 bit_string IsBitString bits_of (tag_of 3 (lit< tt) refl) bits_contents
+bits_form : IsForm (λ b. element 0x03 (bit_string b)) IsBits Anything (decoded_at 0x03 bits_of)
+bits_form = decoded_form 0x03 bit_string IsBitString bits_of (tag_of 0x03 (lit< tt) refl) bits_contents
 
 pub spki_form : IsForm itself IsPublicKey Anything spki_at
 unfolding spki_at
 spki_form =
-    whole_form 48 (both itself (λ b. element 3 (bit_string b))) (FitsBoth IsAlgorithm IsBits) (both_at algorithm_at (decoded_at 3 bits_of)) (tag_of 48 (lit< tt) refl)
-    (ended_form (both itself (λ b. element 3 (bit_string b))) (FitsBoth IsAlgorithm IsBits) Anything (both_at algorithm_at (decoded_at 3 bits_of)) tt
-    (both_form itself IsAlgorithm Anything algorithm_at (λ b. element 3 (bit_string b)) IsBits Anything (decoded_at 3 bits_of)
+    whole_form 0x30 (both itself (λ b. element 0x03 (bit_string b))) (FitsBoth IsAlgorithm IsBits) (both_at algorithm_at (decoded_at 0x03 bits_of)) (tag_of 0x30 (lit< tt) refl)
+    (ended_form (both itself (λ b. element 0x03 (bit_string b))) (FitsBoth IsAlgorithm IsBits) Anything (both_at algorithm_at (decoded_at 0x03 bits_of)) tt
+    (both_form itself IsAlgorithm Anything algorithm_at (λ b. element 0x03 (bit_string b)) IsBits Anything (decoded_at 0x03 bits_of)
     algorithm_form bits_form (λ y rest f q. tt)))
 
 -- ---- the signature
@@ -84,29 +84,29 @@ whole_bits = record {
   again = λ place x f. rw (bits_contents.again place (0, x) (record { few = lit≤ tt; zero = none_unused x })) refl;
 }
 
-pub signature_form : IsForm (λ (proof : List ℕ). element 3 (0 ∷ proof)) IsSignature Anything signature_at
+pub signature_form : IsForm (λ (proof : List ℕ). element 0x03 (0 ∷ proof)) IsSignature Anything signature_at
 unfolding signature_at
 signature_form =
-    let spell : List ℕ → List ℕ = λ proof. element 3 (0 ∷ proof) in
-    said_form spell (λ proof. AnyBytes proof × IsSignature proof) IsSignature Anything Anything (decoded_at 3 whole_bits_of)
+    let spell : List ℕ → List ℕ = λ proof. element 0x03 (0 ∷ proof) in
+    said_form spell (λ proof. AnyBytes proof × IsSignature proof) IsSignature Anything Anything (decoded_at 0x03 whole_bits_of)
     (λ x f. f.1) (λ x f. (tt, f)) (λ rest q. q)
-    (decoded_form 3 (λ (proof : List ℕ). 0 ∷ proof) AnyBytes whole_bits_of (tag_of 3 (lit< tt) refl) whole_bits)
+    (decoded_form 0x03 (λ (proof : List ℕ). 0 ∷ proof) AnyBytes whole_bits_of (tag_of 0x03 (lit< tt) refl) whole_bits)
 
 -- ---- names
 
 pub attribute_form : IsForm itself IsAttribute Anything attribute_at
 unfolding attribute_at
 attribute_form =
-    whole_form 48 (both (element 6) itself) (FitsBoth IsIdentifier IsElement) (both_at (decoded_at 6 oid_of) any_at) (tag_of 48 (lit< tt) refl)
-    (ended_form (both (element 6) itself) (FitsBoth IsIdentifier IsElement) Anything (both_at (decoded_at 6 oid_of) any_at) tt
-    (both_form (element 6) IsIdentifier Anything (decoded_at 6 oid_of) itself IsElement Anything any_at identifier_form any_form (λ y rest f q. tt)))
+    whole_form 0x30 (both (element 0x06) itself) (FitsBoth IsIdentifier IsElement) (both_at (decoded_at 0x06 oid_of) any_at) (tag_of 0x30 (lit< tt) refl)
+    (ended_form (both (element 0x06) itself) (FitsBoth IsIdentifier IsElement) Anything (both_at (decoded_at 0x06 oid_of) any_at) tt
+    (both_form (element 0x06) IsIdentifier Anything (decoded_at 0x06 oid_of) itself IsElement Anything any_at identifier_form any_form (λ y rest f q. tt)))
 
 -- An element of some kind is an element.
 attribute_is : (bytes : List ℕ) → IsAttribute bytes → IsElement bytes
 attribute_is bytes f = record {
   tag = 48;
-  contents = both (element 6) itself f.0;
-  fits = record { is_tag = tag_of 48 (lit< tt) refl; short = f.1.1 };
+  contents = both (element 0x06) itself f.0;
+  fits = record { is_tag = tag_of 0x30 (lit< tt) refl; short = f.1.1 };
   spelled = f.2;
 }
 
@@ -114,7 +114,7 @@ attribute_some : (bytes : List ℕ) → IsAttribute bytes → 0 < length bytes
 attribute_some bytes f = element_some bytes (attribute_is bytes f)
 
 set_some : (bytes : List ℕ) → IsSet bytes → 0 < length bytes
-set_some bytes f = omega (arith, ap length f.2, element-longer 49 (flat_map itself f.0))
+set_some bytes f = omega (arith, ap length f.2, element-longer 0x31 (flat_map itself f.0))
 
 all_elements : (xs : List (List ℕ)) → AllByRecursion IsAttribute xs → AllByRecursion IsElement xs
 all_elements [] f = tt
@@ -148,9 +148,6 @@ each_drains {X} {K} {E} key spell Fits read some form (suc n) seen a xs b h le e
           ap (λ (v : List X × At). v.1.rest) (sym (ok_is E (s.0.0 ∷ t.0.0, t.0.1) (xs, b) t.2)) ∙ others
     ]
 
-next_some : (seen : List (List ℕ)) (bytes : List ℕ) → IsNext seen bytes → 0 < length bytes
-next_some seen bytes f = element_some bytes f.is_element
-
 checked_ok : (r : Result At DerError) (done : Unit {0}) → checked r ≡ Ok done → (b : At) × (r ≡ Ok b)
 checked_ok (Ok b) done e = (b, refl)
 checked_ok (Err d) done e = absurd cc
@@ -177,7 +174,7 @@ attributes_rise e xs done h parts each order =
 set_takes : (a : At) (x : List ℕ) (b : At) → IsBytes a.rest → set_at a ≡ Ok (x, b) → Stands a x b × IsSet x
 unfolding set_at
 set_takes a x b h e =
-    let s = bind_ok (der (wanted_at 49 a)) (λ (v : Item × At). if length v.0.contents == 0 then Err BadName else (der (order_of v.0) >>= λ (risen : Unit {0}). discarded (up_to_end attribute_at (inside v.0)) >>= λ (c : At). der (end_at c) >>= λ (done : Unit {0}). Ok (v.0.whole, v.1))) (x, b) e in
+    let s = bind_ok (der (wanted_at 0x31 a)) (λ (v : Item × At). if length v.0.contents == 0 then Err BadName else (der (order_of v.0) >>= λ (risen : Unit {0}). discarded (up_to_end attribute_at (inside v.0)) >>= λ (c : At). der (end_at c) >>= λ (done : Unit {0}). Ok (v.0.whole, v.1))) (x, b) e in
     let i : Item = s.0.0 in
     let g = guard_ok (length i.contents == 0) BadName (der (order_of i) >>= λ (risen : Unit {0}). discarded (up_to_end attribute_at (inside i)) >>= λ (c : At). der (end_at c) >>= λ (done : Unit {0}). Ok (i.whole, s.0.1)) (x, b) s.2 in
     let r = bind_ok (der (order_of i)) (λ (risen : Unit {0}). discarded (up_to_end attribute_at (inside i)) >>= λ (c : At). der (end_at c) >>= λ (done : Unit {0}). Ok (i.whole, s.0.1)) (x, b) g.1 in
@@ -185,13 +182,13 @@ set_takes a x b h e =
     let u = bind_ok (der (end_at t.0)) (λ (done : Unit {0}). Ok (i.whole, s.0.1)) (x, b) t.2 in
     let step = discarded_ok (up_to_end attribute_at (inside i)) t.0 t.1 in
     let xs : List (List ℕ) = step.0 in
-    let read = wanted_takes 49 a i s.0.1 h (der_ok (wanted_at 49 a) s.0 s.1) in
+    let read = wanted_takes 0x31 a i s.0.1 h (der_ok (wanted_at 0x31 a) s.0 s.1) in
     let inner = attributes_form.takes (inside i) xs t.0 read.0.bytes step.1 in
     let end : t.0.rest ≡ [] = up_to_end_drains itself IsAttribute Anything attribute_at attribute_some attribute_form (inside i) xs t.0 read.0.bytes step.1 in
     let all : i.contents ≡ flat_map itself xs = inner.0.parts ∙ ap (λ (c : List ℕ). flat_map itself xs ++ c) end ∙ append-nil (flat_map itself xs) in
     let rise = attributes_rise i xs r.0 read.0.bytes all inner.1 (der_ok (order_of i) r.0 r.1) in
     let some : length i.contents ≢ 0 = λ none. absurd (differ (length i.contents) none g.0) in
-    let text : element i.tag i.contents ≡ element 49 (flat_map itself xs) = ap (λ (n : ℕ). element n i.contents) read.1 ∙ ap (element 49) all in
+    let text : element i.tag i.contents ≡ element 0x31 (flat_map itself xs) = ap (λ (n : ℕ). element n i.contents) read.1 ∙ ap (element 0x31) all in
     let size : length i.contents ≡ length (flat_map itself xs) = ap length all in
     let P : List ℕ × At → Type 0 = λ v. Stands a v.0 v.1 × IsSet v.0 in
     let Q : List ℕ → Type 0 = λ w. Stands a w s.0.1 in
@@ -209,15 +206,15 @@ unfolding set_at
 set_again bytes p rest f =
     let xs : List (List ℕ) = f.0 in
     let cs : List ℕ = flat_map itself xs in
-    let inner : ℕ = p + (length (element 49 cs) - length cs) in
-    let fits : FitsElement 49 cs = record { is_tag = tag_of 49 (lit< tt) refl; short = f.1.1 } in
+    let inner : ℕ = p + (length (element 0x31 cs) - length cs) in
+    let fits : FitsElement 0x31 cs = record { is_tag = tag_of 0x31 (lit< tt) refl; short = f.1.1 } in
     let some : length cs ≢ 0 = omega (arith, f.1.0.some) in
     let rising : rising_at p (record { place = inner; rest = cs }) ≡ Ok (xs, record { place = inner + length cs; rest = [] }) =
     ap (λ (c : List ℕ). rising_at p (record { place = inner; rest = c })) (sym (append-nil cs)) ∙ (rising_form p).again xs inner [] f.1.0.rise refl in
     let attributes : up_to_end attribute_at (record { place = inner; rest = cs }) ≡ Ok (xs, record { place = inner + length cs; rest = [] }) =
     ap (λ (c : List ℕ). up_to_end attribute_at (record { place = inner; rest = c })) (sym (append-nil cs)) ∙ attributes_form.again xs inner [] f.1.0.each refl in
     let P : List ℕ → Type 0 = λ t. set_at (record { place = p; rest = t ++ rest }) ≡ Ok (t, record { place = p + length t; rest = rest }) in
-    subst P (sym f.2) (rw (wanted_again 49 cs p rest fits, ne_eqb (length cs) 0 some, rising, attributes) refl)
+    subst P (sym f.2) (rw (wanted_again 0x31 cs p rest fits, ne_eqb (length cs) 0 some, rising, attributes) refl)
 
 pub set_form : IsForm itself IsSet Anything set_at
 set_form = record { takes = set_takes; again = λ x p rest f q. set_again x p rest f }
@@ -225,7 +222,7 @@ set_form = record { takes = set_takes; again = λ x p rest f q. set_again x p re
 pub name_form : IsForm itself IsName Anything name_at
 unfolding name_at
 name_form =
-    whole_form 48 (flat_map itself) (AllByRecursion IsSet) (up_to_end set_at) (tag_of 48 (lit< tt) refl) (many_form itself IsSet set_at set_some set_form)
+    whole_form 0x30 (flat_map itself) (AllByRecursion IsSet) (up_to_end set_at) (tag_of 0x30 (lit< tt) refl) (many_form itself IsSet set_at set_some set_form)
 
 -- ---- times
 
@@ -243,7 +240,7 @@ time_tag-is z = elim (time_shape z) [ inl s ↦ inl s.0 | inr s ↦ inr s.0 ]
 time_fits : (z : ℤ) → FitsElement (time_tag z) (time_contents z)
 time_fits z =
     let short = time-short z in
-    record { is_tag = elim (time_tag-is z) [ inl s ↦ subst IsTag (sym s) (tag_of 23 (lit< tt) refl) | inr s ↦ subst IsTag (sym s) (tag_of 24 (lit< tt) refl) ]; short = omega (arith, short) }
+    record { is_tag = elim (time_tag-is z) [ inl s ↦ subst IsTag (sym s) (tag_of 0x17 (lit< tt) refl) | inr s ↦ subst IsTag (sym s) (tag_of 0x18 (lit< tt) refl) ]; short = omega (arith, short) }
 
 pub time_form : IsForm time_text IsMoment Anything time_at
 unfolding time_at
@@ -285,24 +282,24 @@ times-short v =
         omega (arith, short, ap length (short_is (time_tag z) (time_contents z) (omega (arith, short))))
 
 -- The validity is the element that its moments are written as.
-validity_is : (v : Validity) → element 48 (times_text v) ≡ validity_element v.not_before v.not_after
+validity_is : (v : Validity) → element 0x30 (times_text v) ≡ validity_element v.not_before v.not_after
 unfolding validity_element
 validity_is v =
     let one = short_is (time_tag v.not_before) (time_contents v.not_before) (omega (arith, time-short v.not_before)) in
     let two = short_is (time_tag v.not_after) (time_contents v.not_after) (omega (arith, time-short v.not_after)) in
-    short_is 48 (times_text v) (omega (arith, times-short v))
-    ∙ ap (short_element 48) (ap (λ (t : List ℕ). t ++ time_text v.not_after) one ∙ ap (λ (t : List ℕ). short_element (time_tag v.not_before) (time_contents v.not_before) ++ t) two)
+    short_is 0x30 (times_text v) (omega (arith, times-short v))
+    ∙ ap (short_element 0x30) (ap (λ (t : List ℕ). t ++ time_text v.not_after) one ∙ ap (λ (t : List ℕ). short_element (time_tag v.not_before) (time_contents v.not_before) ++ t) two)
 
 pub validity_form : IsForm (λ (v : List ℕ × Validity). v.0) IsValidity Anything validity_at
 unfolding validity_at
 validity_form =
     let Moments : Validity → Type 0 = λ v. FitsBoth IsMoment IsMoment (from_and_to v) in
-    let Known : List ℕ × Validity → Type 0 = λ v. (v.0 ≡ element 48 (times_text v.1)) × (Moments v.1 × (length (times_text v.1) < 2 ^ 24)) in
+    let Known : List ℕ × Validity → Type 0 = λ v. (v.0 ≡ element 0x30 (times_text v.1)) × (Moments v.1 × (length (times_text v.1) < 2 ^ 24)) in
     said_form (λ (v : List ℕ × Validity). v.0) Known IsValidity Anything Anything validity_at
     (λ v f. record { not_before = f.1.0.0; not_after = f.1.0.1; spelled = f.0 ∙ validity_is v.1 })
     (λ v f. (f.spelled ∙ sym (validity_is v.1), ((f.not_before, f.not_after), omega (arith, times-short v.1))))
     (λ rest q. q)
-    (noted_form 48 times_text Moments (mapped_at from_to (both_at time_at time_at)) (tag_of 48 (lit< tt) refl)
+    (noted_form 0x30 times_text Moments (mapped_at from_to (both_at time_at time_at)) (tag_of 0x30 (lit< tt) refl)
     (ended_form times_text Moments Anything (mapped_at from_to (both_at time_at time_at)) tt
     (mapped_form (both time_text time_text) (FitsBoth IsMoment IsMoment) Anything (both_at time_at time_at) from_to from_and_to (λ x f. refl) (λ y f. refl)
     (both_form time_text IsMoment Anything time_at time_text IsMoment Anything time_at time_form time_form (λ y rest f q. tt)))))

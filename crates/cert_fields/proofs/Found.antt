@@ -36,11 +36,11 @@ extensions_again : (n : ℕ) (seen : List (List ℕ)) (xs : List ExtensionFields
     → extensions_from n (record { place = p; rest = flat_map extension xs }) ≡ xs
 unfolding extensions_from
 extensions_again n seen [] p f le = none_left n p
-extensions_again zero seen (x ∷ xs) p f le = absurd (omega (arith, element-longer 48 (extension_contents x), length-append (extension x) (flat_map extension xs)))
+extensions_again zero seen (x ∷ xs) p f le = absurd (omega (arith, element-longer 0x30 (extension_contents x), length-append (extension x) (flat_map extension xs)))
 extensions_again (suc n) seen (x ∷ xs) p f le =
     let one = (extension_form []).again x p (flat_map extension xs) (first_fits seen x f.0) tt in
     let others = extensions_again n (seen ++ x.identifier ∷ []) xs (p + length (extension x)) f.1
-    (omega (arith, le, element-longer 48 (extension_contents x), length-append (extension x) (flat_map extension xs))) in
+    (omega (arith, le, element-longer 0x30 (extension_contents x), length-append (extension x) (flat_map extension xs))) in
     ap (λ (r : Result (ExtensionFields × At) CertError). value_then r (λ (b : At). extensions_from n b)) one
     ∙ ap (λ (ys : List ExtensionFields). x ∷ ys) others
 

@@ -8,7 +8,7 @@ use Rattle.der_core.specs.Fields.{all_of}
 use Rattle.cert_fields.specs.Keys.{spki_at, is_public_key}
 use Rattle.cert_fields.specs.Grammar.{IsPublicKey}
 use Rattle.cert_fields.proofs.FieldForms.{spki_form}
-use Rattle.cert_fields.proofs.ExtensionForms.{all_takes, all_again}
+use Rattle.der_core.proofs.Fields.{all_takes, all_again}
 
 -- Bytes that pass as a public key are one.
 pub public_key_only : (bytes : List ℕ) → IsBytes bytes → is_public_key bytes ≡ true → IsPublicKey bytes

@@ -24,13 +24,13 @@ validity-short a b =
 tbs-size : (p : Parts) → p.serial < 2 ^ 64
     → length (tbs_fields p) ≤ 19 + length p.algorithm + length p.issuer + length p.validity_der + length p.subject + length p.spki + length p.extensions
 tbs-size p small =
-    let number = element-short 2 (integer p.serial) in
+    let number = element-short 0x02 (integer p.serial) in
     omega (
       arith,
       number,
       length-integer p.serial small,
-      length-append version (element 2 (integer p.serial) ++ (p.algorithm ++ (p.issuer ++ (p.validity_der ++ (p.subject ++ (p.spki ++ p.extensions)))))),
-      length-append (element 2 (integer p.serial)) (p.algorithm ++ (p.issuer ++ (p.validity_der ++ (p.subject ++ (p.spki ++ p.extensions))))),
+      length-append version (element 0x02 (integer p.serial) ++ (p.algorithm ++ (p.issuer ++ (p.validity_der ++ (p.subject ++ (p.spki ++ p.extensions)))))),
+      length-append (element 0x02 (integer p.serial)) (p.algorithm ++ (p.issuer ++ (p.validity_der ++ (p.subject ++ (p.spki ++ p.extensions))))),
       length-append p.algorithm (p.issuer ++ (p.validity_der ++ (p.subject ++ (p.spki ++ p.extensions)))),
       length-append p.issuer (p.validity_der ++ (p.subject ++ (p.spki ++ p.extensions))),
       length-append p.validity_der (p.subject ++ (p.spki ++ p.extensions)),
@@ -49,10 +49,10 @@ given-short p small le =
     let q : Parts = given p in
     let signed : length (tbs_fields q) ≤ 69 + length p.issuer + length p.subject + length p.spki + length p.extensions =
     omega (arith, tbs-size q small, validity-short p.validity.not_before p.validity.not_after) in
-    let whole = length-append (element 48 (tbs_fields q) ++ mtc_proof) (element 3 (0 ∷ p.proof)) in
-    let front = length-append (element 48 (tbs_fields q)) mtc_proof in
+    let whole = length-append (element 0x30 (tbs_fields q) ++ mtc_proof) (element 0x03 (0 ∷ p.proof)) in
+    let front = length-append (element 0x30 (tbs_fields q)) mtc_proof in
     record {
       signed = omega (arith, signed, le);
       signature = omega (arith, le);
-      whole = omega (arith, signed, le, whole, front, element-short 48 (tbs_fields q), element-short 3 (0 ∷ p.proof));
+      whole = omega (arith, signed, le, whole, front, element-short 0x30 (tbs_fields q), element-short 0x03 (0 ∷ p.proof));
     }

@@ -132,12 +132,12 @@ oid_same place contents x e =
 head_of : (seen : List (List ℕ)) (a : At) (x : ExtensionFields) (b : At) → extension_at seen a ≡ Ok (x, b) → head_at a ≡ Ok (x.identifier, b)
 unfolding extension_at new_identifier_at head_at
 head_of seen a x b h =
-    let fields : At → Result ((List ℕ × (Bool × List ℕ)) × At) CertError = both_at (new_identifier_at seen) (both_at critical_at (contents_at 4)) in
+    let fields : At → Result ((List ℕ × (Bool × List ℕ)) × At) CertError = both_at (new_identifier_at seen) (both_at critical_at (contents_at 0x04)) in
     let s = inside_ok 48 (tested_at has_its_form BadExtension (mapped_at to_extension fields)) a x b h in
     let t = tested_ok has_its_form BadExtension (mapped_at to_extension fields) (inside s.0) x s.2.0 s.2.1 in
     let m = mapped_ok to_extension fields (inside s.0) x s.2.0 t.0 in
-    let f = first_ok (new_identifier_at seen) (both_at critical_at (contents_at 4)) (inside s.0) m.0 s.2.0 m.1 in
-    let i = tested_ok (λ (identifier : List ℕ). not (is_among identifier seen)) RepeatedExtension (decoded_at 6 oid_of) (inside s.0) m.0.0 f.0 f.1 in
+    let f = first_ok (new_identifier_at seen) (both_at critical_at (contents_at 0x04)) (inside s.0) m.0 s.2.0 m.1 in
+    let i = tested_ok (λ (identifier : List ℕ). not (is_among identifier seen)) RepeatedExtension (decoded_at 0x06 oid_of) (inside s.0) m.0.0 f.0 f.1 in
     let d = decoded_ok 6 oid_of (inside s.0) m.0.0 f.0 i.0 in
     let same : d.0.contents ≡ x.identifier = oid_same d.0.place d.0.contents m.0.0 d.2 ∙ ap identifier_of m.2 in
     rw (s.1, d.1) (ap (λ (t : List ℕ). Ok (t, b)) same)

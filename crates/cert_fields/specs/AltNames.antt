@@ -13,17 +13,17 @@ use Rattle.der_core.specs.declared.fault.CertError.TheVariants.{BadExtension}
 
 -- The tag of a dNSName.
 abbrev pub dns_name : ℕ
-dns_name = 130
+dns_name = 0x82
 
 -- A GeneralName that the contents allow: rfc822Name, dNSName, uniformResourceIdentifier, iPAddress, registeredID, otherName,
 -- x400Address, directoryName or ediPartyName.
 abbrev pub is_name_tag : ℕ → Bool
 is_name_tag tag =
-    tag == 129 || tag == 130 || tag == 134 || tag == 135 || tag == 136 || tag == 160 || tag == 163 || tag == 164 || tag == 165
+    tag == 0x81 || tag == 0x82 || tag == 0x86 || tag == 0x87 || tag == 0x88 || tag == 0xA0 || tag == 0xA3 || tag == 0xA4 || tag == 0xA5
 
 -- The bytes are ASCII.
 abbrev pub is_ascii : List ℕ → Bool
-is_ascii bytes = list_all (λ b. nat_lt b 128) bytes
+is_ascii bytes = list_all (λ b. nat_lt b 0x80) bytes
 
 -- One of these tags; a dNSName is ASCII.
 abbrev pub is_general_name : ℕ → List ℕ → Bool
@@ -35,7 +35,7 @@ general_name_at a = der (element_at a) >>= λ e. if is_general_name e.0.tag e.0.
 
 -- GeneralNames: a SEQUENCE of names, at least one.
 unfoldable pub general_names_at : At → Result (List ℕ × At) CertError
-general_names_at = whole_at 48 (some_at BadExtension (up_to_end general_name_at))
+general_names_at = whole_at 0x30 (some_at BadExtension (up_to_end general_name_at))
 
 -- The octets are GeneralNames and nothing else.
 unfoldable pub are_general_names : List ℕ → Bool
@@ -61,4 +61,4 @@ names_inside (Err fault) = []
 
 -- The dNSNames in the octets of a subjectAltName; in octets that don't begin with a SEQUENCE, none.
 abbrev pub names_in : List ℕ → List (List ℕ)
-names_in octets = names_inside (wanted_at 48 (at octets 0))
+names_in octets = names_inside (wanted_at 0x30 (at octets 0))

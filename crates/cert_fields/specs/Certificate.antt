@@ -30,7 +30,7 @@ nothing n = tt
 
 -- Version: 2 stands for version 3 (4.1.2.1). It isn't the default, so it is written.
 unfoldable pub version_at : At → Result (Unit {0} × At) CertError
-version_at = mapped_at nothing (headed_at 160 BadVersion (inside_at 160 (tested_at (λ n. n == 2) BadVersion (unsigned_at BadVersion))))
+version_at = mapped_at nothing (headed_at 0xA0 BadVersion (inside_at 0xA0 (tested_at (λ n. n == 2) BadVersion (unsigned_at BadVersion))))
 
 -- The serial number (4.1.2.2): from 1 to 2 ^ 64 - 1.
 unfoldable pub serial_at : At → Result (ℕ × At) CertError
@@ -38,7 +38,7 @@ serial_at = tested_at (λ n. nat_lt 0 n) BadSerial (unsigned_at BadSerial)
 
 -- A unique identifier of the issuer or the subject (4.1.2.8), in the primitive or the constructed form.
 abbrev pub is_unique_id : List ℕ → Bool
-is_unique_id rest = begins_with 129 rest || begins_with 130 rest || begins_with 161 rest || begins_with 162 rest
+is_unique_id rest = begins_with 0x81 rest || begins_with 0x82 rest || begins_with 0xA1 rest || begins_with 0xA2 rest
 
 -- The fields behind the serial number: algorithm, issuer, validity, subject, public key, extensions.
 abbrev pub Body : Type 0
@@ -50,14 +50,14 @@ body_at =
 
 -- TBSCertificate: what is signed.
 unfoldable pub tbs_at : At → Result ((Unit {0} × (ℕ × Body)) × At) CertError
-tbs_at = inside_at 48 (both_at version_at (both_at serial_at body_at))
+tbs_at = inside_at 0x30 (both_at version_at (both_at serial_at body_at))
 
 abbrev pub same_algorithm : (Unit {0} × (ℕ × Body)) × List ℕ → Bool
 same_algorithm x = bytes_eq x.0.1.1.0 x.1
 
 -- What is signed, and the algorithm beside it, which is the same (4.1.1.2).
 unfoldable pub signed_at : At → Result (((Unit {0} × (ℕ × Body)) × List ℕ) × At) CertError
-signed_at = tested_at same_algorithm AlgorithmsDiffer (both_at tbs_at (element_with_at 48))
+signed_at = tested_at same_algorithm AlgorithmsDiffer (both_at tbs_at (element_with_at 0x30))
 
 abbrev pub to_parts : ((Unit {0} × (ℕ × Body)) × List ℕ) × List ℕ → Parts
 to_parts x =
@@ -76,7 +76,7 @@ to_parts x =
 
 -- Certificate: what is signed, the algorithm, the signature.
 unfoldable pub certificate_at : At → Result (Parts × At) CertError
-certificate_at = mapped_at to_parts (inside_at 48 (both_at signed_at signature_at))
+certificate_at = mapped_at to_parts (inside_at 0x30 (both_at signed_at signature_at))
 
 -- The parts of the certificate that these bytes are, or the first fault from the left, an outer element before its parts.
 unfoldable pub parts_of : List ℕ → Result Parts CertError

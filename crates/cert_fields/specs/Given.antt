@@ -6,7 +6,7 @@ use Rattle.cert_fields.specs.declared.parts.CertParts.{CertParts}
 
 -- The AlgorithmIdentifier of Merkle tree proofs: the object identifier 1.3.6.1.4.1.44363.47.0, without parameters.
 abbrev pub mtc_proof : List ℕ
-mtc_proof = 48 ∷ 12 ∷ 6 ∷ 10 ∷ 43 ∷ 6 ∷ 1 ∷ 4 ∷ 1 ∷ 130 ∷ 218 ∷ 75 ∷ 47 ∷ 0 ∷ []
+mtc_proof = 0x30 ∷ 0x0C ∷ 0x06 ∷ 0x0A ∷ 0x2B ∷ 0x06 ∷ 0x01 ∷ 0x04 ∷ 0x01 ∷ 0x82 ∷ 0xDA ∷ 0x4B ∷ 0x2F ∷ 0x00 ∷ []
 
 abbrev pub given : CertParts → Parts
 given p = record {

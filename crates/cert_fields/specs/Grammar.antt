@@ -26,7 +26,7 @@ IsElementOrNothing bytes = (bytes ≡ []) ⊎ IsElement bytes
 
 -- AlgorithmIdentifier (4.1.1.2): a SEQUENCE of an object identifier and at most one element.
 abbrev pub IsAlgorithm : List ℕ → Type 0
-IsAlgorithm = IsElementOf 48 (both (element 6) itself) (FitsBoth IsIdentifier IsElementOrNothing)
+IsAlgorithm = IsElementOf 0x30 (both (element 0x06) itself) (FitsBoth IsIdentifier IsElementOrNothing)
 
 -- The number of unused bits and the bytes of a BIT STRING's element.
 abbrev pub IsBits : ℕ × List ℕ → Type 0
@@ -34,11 +34,11 @@ IsBits b = IsBitString b × (length (bit_string b) < 2 ^ 24)
 
 -- SubjectPublicKeyInfo (4.1.2.7): a SEQUENCE of an algorithm and a BIT STRING.
 abbrev pub IsPublicKey : List ℕ → Type 0
-IsPublicKey = IsElementOf 48 (both itself (λ b. element 3 (bit_string b))) (FitsBoth IsAlgorithm IsBits)
+IsPublicKey = IsElementOf 0x30 (both itself (λ b. element 0x03 (bit_string b))) (FitsBoth IsAlgorithm IsBits)
 
 -- AttributeTypeAndValue (4.1.2.4): a SEQUENCE of an object identifier and one element.
 abbrev pub IsAttribute : List ℕ → Type 0
-IsAttribute = IsElementOf 48 (both (element 6) itself) (FitsBoth IsIdentifier IsElement)
+IsAttribute = IsElementOf 0x30 (both (element 0x06) itself) (FitsBoth IsIdentifier IsElement)
 
 -- Attributes in rising order, at least one.
 pub record AreAttributes (attributes : List (List ℕ)) : Type 0 where
@@ -48,11 +48,11 @@ pub record AreAttributes (attributes : List (List ℕ)) : Type 0 where
 
 -- RelativeDistinguishedName: a SET of them.
 abbrev pub IsSet : List ℕ → Type 0
-IsSet = IsElementOf 49 (flat_map itself) AreAttributes
+IsSet = IsElementOf 0x31 (flat_map itself) AreAttributes
 
 -- Name (4.1.2.4): a SEQUENCE of sets, or of none.
 abbrev pub IsName : List ℕ → Type 0
-IsName = IsElementOf 48 (flat_map itself) (AllByRecursion IsSet)
+IsName = IsElementOf 0x30 (flat_map itself) (AllByRecursion IsSet)
 
 -- Validity (4.1.2.5): the element that its moments are written as.
 pub record IsValidity (v : List ℕ × Validity) : Type 0 where
@@ -74,16 +74,16 @@ pub record IsGeneralName (bytes : List ℕ) : Type 0 where
 
 -- GeneralNames (4.2.1.6): a SEQUENCE of them, at least one.
 abbrev pub IsGeneralNames : List ℕ → Type 0
-IsGeneralNames = IsElementOf 48 (flat_map itself) (λ names. AllByRecursion IsGeneralName names × (0 < length (flat_map itself names)))
+IsGeneralNames = IsElementOf 0x30 (flat_map itself) (λ names. AllByRecursion IsGeneralName names × (0 < length (flat_map itself names)))
 
 -- The mark of a critical extension: a BOOLEAN of TRUE, or nothing.
 abbrev pub mark : Bool → List ℕ
 mark false = []
-mark true = 1 ∷ 1 ∷ 255 ∷ []
+mark true = 0x01 ∷ 0x01 ∷ 0xFF ∷ []
 
 -- Identifier, mark and octets of an extension.
 abbrev pub extension_contents : ExtensionFields → List ℕ
-extension_contents x = element 6 x.identifier ++ (mark x.critical ++ element 4 x.octets)
+extension_contents x = element 0x06 x.identifier ++ (mark x.critical ++ element 0x04 x.octets)
 
 -- Extension (4.1.2.9), behind extensions with these identifiers.
 pub record IsExtension (seen : List (List ℕ)) (x : ExtensionFields) : Type 0 where
@@ -93,7 +93,7 @@ pub record IsExtension (seen : List (List ℕ)) (x : ExtensionFields) : Type 0 w
   pub short : length (extension_contents x) < 2 ^ 24
 
 abbrev pub extension : ExtensionFields → List ℕ
-extension x = element 48 (extension_contents x)
+extension x = element 0x30 (extension_contents x)
 
 -- Extensions, at least one, with different identifiers.
 pub record AreExtensions (xs : List ExtensionFields) : Type 0 where
@@ -102,11 +102,11 @@ pub record AreExtensions (xs : List ExtensionFields) : Type 0 where
 
 -- A SEQUENCE of them.
 abbrev pub IsExtensionSequence : List ℕ → Type 0
-IsExtensionSequence = IsElementOf 48 (flat_map extension) AreExtensions
+IsExtensionSequence = IsElementOf 0x30 (flat_map extension) AreExtensions
 
 -- The field (4.1): the sequence in its tag.
 abbrev pub IsExtensionsField : List ℕ → Type 0
-IsExtensionsField = IsElementOf 163 itself IsExtensionSequence
+IsExtensionsField = IsElementOf 0xA3 itself IsExtensionSequence
 
 -- Certificate (4.1): each part is in its grammar, and the whole is short enough for a length of three bytes.
 pub record IsCertificate (p : Parts) : Type 0 where

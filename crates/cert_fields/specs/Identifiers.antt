@@ -4,19 +4,19 @@ use Rattle.std.specs.Str.{bytes_eq}
 
 -- id-ce-subjectAltName, 2.5.29.17 (RFC 5280, section 4.2.1.6).
 abbrev pub subject_alt_name : List ℕ
-subject_alt_name = 85 ∷ 29 ∷ 17 ∷ []
+subject_alt_name = 0x55 ∷ 0x1D ∷ 0x11 ∷ []
 
 -- id-ce-basicConstraints, 2.5.29.19 (4.2.1.9).
 abbrev pub basic_constraints : List ℕ
-basic_constraints = 85 ∷ 29 ∷ 19 ∷ []
+basic_constraints = 0x55 ∷ 0x1D ∷ 0x13 ∷ []
 
 -- id-ce-keyUsage, 2.5.29.15 (4.2.1.3).
 abbrev pub key_usage : List ℕ
-key_usage = 85 ∷ 29 ∷ 15 ∷ []
+key_usage = 0x55 ∷ 0x1D ∷ 0x0F ∷ []
 
 -- id-ce-extKeyUsage, 2.5.29.37 (4.2.1.12).
 abbrev pub extended_key_usage : List ℕ
-extended_key_usage = 85 ∷ 29 ∷ 37 ∷ []
+extended_key_usage = 0x55 ∷ 0x1D ∷ 0x25 ∷ []
 
 -- The extensions that may be critical.
 abbrev pub is_known_extension : List ℕ → Bool

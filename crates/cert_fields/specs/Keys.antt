@@ -10,11 +10,11 @@ use Rattle.der_core.specs.declared.fault.CertError.{CertError}
 
 -- AlgorithmIdentifier: an object identifier and at most one element.
 unfoldable pub algorithm_at : At → Result (List ℕ × At) CertError
-algorithm_at = whole_at 48 (both_at (decoded_at 6 oid_of) (last_at any_at))
+algorithm_at = whole_at 0x30 (both_at (decoded_at 0x06 oid_of) (last_at any_at))
 
 -- SubjectPublicKeyInfo: an algorithm and a BIT STRING.
 unfoldable pub spki_at : At → Result (List ℕ × At) CertError
-spki_at = whole_at 48 (both_at algorithm_at (decoded_at 3 bits_of))
+spki_at = whole_at 0x30 (both_at algorithm_at (decoded_at 0x03 bits_of))
 
 -- The bytes are one SubjectPublicKeyInfo and nothing else.
 unfoldable pub is_public_key : List ℕ → Bool
@@ -26,4 +26,4 @@ whole_bits_of place contents = bits_of place contents >>= λ b. if b.0 == 0 then
 
 -- The signature: the bytes of a BIT STRING.
 unfoldable pub signature_at : At → Result (List ℕ × At) CertError
-signature_at = decoded_at 3 whole_bits_of
+signature_at = decoded_at 0x03 whole_bits_of

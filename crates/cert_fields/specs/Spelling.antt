@@ -6,16 +6,16 @@ use Rattle.cert_fields.specs.Certificate.{Parts}
 
 -- Version 3, as an INTEGER of 2 in its tag.
 abbrev pub version : List ℕ
-version = 160 ∷ 3 ∷ 2 ∷ 1 ∷ 2 ∷ []
+version = 0xA0 ∷ 0x03 ∷ 0x02 ∷ 0x01 ∷ 0x02 ∷ []
 
 -- The fields that are signed.
 abbrev pub tbs_fields : Parts → List ℕ
 tbs_fields p =
-    version ++ (element 2 (integer p.serial) ++ (p.algorithm ++ (p.issuer ++ (p.validity_der ++ (p.subject ++ (p.spki ++ p.extensions))))))
+    version ++ (element 0x02 (integer p.serial) ++ (p.algorithm ++ (p.issuer ++ (p.validity_der ++ (p.subject ++ (p.spki ++ p.extensions))))))
 
 -- What is signed, the algorithm again, and the signature as a BIT STRING without unused bits.
 abbrev pub certificate_fields : Parts → List ℕ
-certificate_fields p = (element 48 (tbs_fields p) ++ p.algorithm) ++ element 3 (0 ∷ p.proof)
+certificate_fields p = (element 0x30 (tbs_fields p) ++ p.algorithm) ++ element 0x03 (0 ∷ p.proof)
 
 unfoldable pub certificate : Parts → List ℕ
-certificate p = element 48 (certificate_fields p)
+certificate p = element 0x30 (certificate_fields p)

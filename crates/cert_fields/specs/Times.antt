@@ -11,7 +11,7 @@ use Rattle.cert_time.specs.declared.validity.Validity.{Validity}
 
 -- The tag that a time here has to have: GeneralizedTime where its tag stands, else UTCTime.
 abbrev pub tag_wanted : List ℕ → ℕ
-tag_wanted rest = if begins_with 24 rest then 24 else 23
+tag_wanted rest = if begins_with 0x18 rest then 0x18 else 0x17
 
 -- Time: the moment that its contents name.
 unfoldable pub time_at : At → Result (ℤ × At) CertError
@@ -23,4 +23,4 @@ from_to v = record { not_before = v.0; not_after = v.1 }
 
 -- Validity: a SEQUENCE of two times, with the bytes that spell it.
 unfoldable pub validity_at : At → Result ((List ℕ × Validity) × At) CertError
-validity_at = noted_at 48 (mapped_at from_to (both_at time_at time_at))
+validity_at = noted_at 0x30 (mapped_at from_to (both_at time_at time_at))

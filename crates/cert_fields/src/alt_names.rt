@@ -6,6 +6,7 @@ ghost use Rattle.byte_forms.specs.Readings.{Moves, discarded};
 ghost use Rattle.byte_forms.specs.Lists.{up_to_end};
 ghost use Rattle.cert_fields.specs.AltNames.{is_name_tag, is_ascii, general_name_at, general_names_at, are_general_names, names_left, names_in};
 
+use der_core::tags::SEQUENCE;
 use der_core::{CertError, Reader};
 use std::marker::Model;
 
@@ -60,7 +61,7 @@ fn general_name_list(reader: &mut Reader) -> Result<(), CertError>
 fn general_names<'a>(reader: &mut Reader<'a>) -> Result<&'a [u8], CertError>
     ensures { Moves (λ bytes. bytes.now) general_names_at reader.old result reader.new }
 {
-    let outer = reader.wanted(0x30)?;
+    let outer = reader.wanted(SEQUENCE)?;
     let mut inner = Reader::inside(&outer);
     if inner.is_at_end() {
         return Err(CertError::BadExtension);
@@ -104,7 +105,7 @@ impl<'a> DnsNames<'a> {
         ensures { result ≡ names_in octets.now }
     {
         let mut reader = Reader::at(octets, 0);
-        match reader.wanted(0x30) {
+        match reader.wanted(SEQUENCE) {
             Ok(outer) => DnsNames {
                 names: Reader::inside(&outer),
             },

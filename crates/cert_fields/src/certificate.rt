@@ -13,6 +13,7 @@ use crate::keys::{algorithm, signature, spki};
 use crate::names::read_name;
 use crate::times::read_validity;
 use cert_time::Validity;
+use der_core::tags::{INTEGER, SEQUENCE};
 use der_core::{CertError, Reader, unsigned};
 
 /// The fields behind the serial number.
@@ -37,7 +38,7 @@ pub fn read_version(reader: &mut Reader) -> Result<(), CertError>
     }
     let outer = reader.wanted(0xA0)?;
     let mut inner = Reader::inside(&outer);
-    let number = inner.wanted(0x02)?;
+    let number = inner.wanted(INTEGER)?;
     if unsigned(&number)? != Some(2) {
         return Err(CertError::BadVersion);
     }
@@ -50,7 +51,7 @@ pub fn read_version(reader: &mut Reader) -> Result<(), CertError>
 fn serial(reader: &mut Reader) -> Result<u64, CertError>
     ensures { Moves (λ n. n) serial_at reader.old result reader.new }
 {
-    let number = reader.wanted(0x02)?;
+    let number = reader.wanted(INTEGER)?;
     match unsigned(&number)? {
         None | Some(0) => Err(CertError::BadSerial),
         Some(serial) => Ok(serial),
@@ -97,7 +98,7 @@ fn behind_serial<'a>(reader: &mut Reader<'a>) -> Result<Fields<'a>, CertError>
 fn tbs<'a>(reader: &mut Reader<'a>) -> Result<(u64, Fields<'a>), CertError>
     ensures { Moves (λ t. (tt, (t.0, body t.1))) tbs_at reader.old result reader.new }
 {
-    let outer = reader.wanted(0x30)?;
+    let outer = reader.wanted(SEQUENCE)?;
     let mut inner = Reader::inside(&outer);
     read_version(&mut inner)?;
     let serial = serial(&mut inner)?;
@@ -112,7 +113,7 @@ fn signed<'a>(reader: &mut Reader<'a>) -> Result<(u64, Fields<'a>, &'a [u8]), Ce
     ensures { Moves (λ s. ((tt, (s.0, body s.1)), s.2.now)) signed_at reader.old result reader.new }
 {
     let (serial, fields) = tbs(reader)?;
-    let algorithm = reader.wanted(0x30)?.whole;
+    let algorithm = reader.wanted(SEQUENCE)?.whole;
     if fields.algorithm == algorithm {
         Ok((serial, fields, algorithm))
     } else {
@@ -125,7 +126,7 @@ fn signed<'a>(reader: &mut Reader<'a>) -> Result<(u64, Fields<'a>, &'a [u8]), Ce
 fn certificate<'a>(reader: &mut Reader<'a>) -> Result<Cert<'a>, CertError>
     ensures { Moves parts certificate_at reader.old result reader.new }
 {
-    let outer = reader.wanted(0x30)?;
+    let outer = reader.wanted(SEQUENCE)?;
     let mut inner = Reader::inside(&outer);
     let (serial, fields, algorithm) = signed(&mut inner)?;
     let proof = signature(&mut inner)?;

@@ -9,9 +9,8 @@ ghost use Rattle.cert_fields.specs.Views.{extension_fields};
 use crate::alt_names::{DnsNames, is_general_names};
 use crate::cert::Cert;
 use crate::identifiers::{is_known, is_subject_alt_name};
+use der_core::tags::{BOOLEAN, OBJECT_IDENTIFIER, OCTET_STRING, SEQUENCE};
 use der_core::{CertError, DerError, Reader, boolean, oid};
-
-const SEQUENCE: u8 = 0x30;
 
 const FIELD: u8 = 0xA3;
 
@@ -31,7 +30,7 @@ fn head<'a>(reader: &mut Reader<'a>) -> Result<&'a [u8], DerError>
 {
     let outer = reader.wanted(SEQUENCE)?;
     let mut inner = Reader::inside(&outer);
-    let identifier = inner.wanted(0x06)?;
+    let identifier = inner.wanted(OBJECT_IDENTIFIER)?;
     Ok(identifier.contents)
 }
 
@@ -64,7 +63,7 @@ fn new_identifier<'a>(
 ) -> Result<&'a [u8], CertError>
     ensures { Moves (λ bytes. bytes.now) (new_identifier_at (identifiers count list.now)) reader.old result reader.new }
 {
-    let element = reader.wanted(0x06)?;
+    let element = reader.wanted(OBJECT_IDENTIFIER)?;
     let identifier = oid(&element)?;
     if is_repeated(identifier, list, count) {
         Err(CertError::RepeatedExtension)
@@ -78,10 +77,10 @@ fn new_identifier<'a>(
 fn critical(reader: &mut Reader) -> Result<bool, CertError>
     ensures { Moves (λ b. b) critical_at reader.old result reader.new }
 {
-    if !reader.begins_with(0x01) {
+    if !reader.begins_with(BOOLEAN) {
         return Ok(false);
     }
-    let element = reader.wanted(0x01)?;
+    let element = reader.wanted(BOOLEAN)?;
     if boolean(&element)? {
         Ok(true)
     } else {
@@ -110,7 +109,7 @@ fn one_extension<'a>(
     let mut inner = Reader::inside(&outer);
     let identifier = new_identifier(&mut inner, list, count)?;
     let critical = critical(&mut inner)?;
-    let octets = inner.wanted(0x04)?.contents;
+    let octets = inner.wanted(OCTET_STRING)?.contents;
     let extension = Extension {
         identifier,
         critical,

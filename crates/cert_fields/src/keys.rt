@@ -4,6 +4,7 @@ ghost use Rattle.std.specs.Prelude.{◌≡◌};
 ghost use Rattle.byte_forms.specs.Readings.{Moves, Gives};
 ghost use Rattle.cert_fields.specs.Keys.{algorithm_at, spki_at, is_public_key, whole_bits_of, signature_at};
 
+use der_core::tags::{BIT_STRING, OBJECT_IDENTIFIER, SEQUENCE};
 use der_core::{CertError, DerError, Element, Reader, bits, oid};
 
 /// An AlgorithmIdentifier: an object identifier, and at most one element of parameters.
@@ -11,9 +12,9 @@ use der_core::{CertError, DerError, Element, Reader, bits, oid};
 pub fn algorithm<'a>(reader: &mut Reader<'a>) -> Result<&'a [u8], CertError>
     ensures { Moves (λ bytes. bytes.now) algorithm_at reader.old result reader.new }
 {
-    let outer = reader.wanted(0x30)?;
+    let outer = reader.wanted(SEQUENCE)?;
     let mut inner = Reader::inside(&outer);
-    let identifier = inner.wanted(0x06)?;
+    let identifier = inner.wanted(OBJECT_IDENTIFIER)?;
     oid(&identifier)?;
     if !inner.is_at_end() {
         inner.element()?;
@@ -27,10 +28,10 @@ pub fn algorithm<'a>(reader: &mut Reader<'a>) -> Result<&'a [u8], CertError>
 pub fn spki<'a>(reader: &mut Reader<'a>) -> Result<&'a [u8], CertError>
     ensures { Moves (λ bytes. bytes.now) spki_at reader.old result reader.new }
 {
-    let outer = reader.wanted(0x30)?;
+    let outer = reader.wanted(SEQUENCE)?;
     let mut inner = Reader::inside(&outer);
     algorithm(&mut inner)?;
-    let key = inner.wanted(0x03)?;
+    let key = inner.wanted(BIT_STRING)?;
     bits(&key)?;
     inner.end()?;
     Ok(outer.whole)
@@ -64,6 +65,6 @@ fn whole_bits<'a>(e: &Element<'a>) -> Result<&'a [u8], DerError>
 pub fn signature<'a>(reader: &mut Reader<'a>) -> Result<&'a [u8], CertError>
     ensures { Moves (λ bytes. bytes.now) signature_at reader.old result reader.new }
 {
-    let bit_string = reader.wanted(0x03)?;
+    let bit_string = reader.wanted(BIT_STRING)?;
     Ok(whole_bits(&bit_string)?)
 }

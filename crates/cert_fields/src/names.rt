@@ -5,6 +5,7 @@ ghost use Rattle.byte_forms.specs.Readings.{Moves, discarded};
 ghost use Rattle.byte_forms.specs.Lists.{up_to_end};
 ghost use Rattle.cert_fields.specs.Names.{attribute_at, set_at, name_at};
 
+use der_core::tags::{OBJECT_IDENTIFIER, SEQUENCE, SET};
 use der_core::{CertError, Reader, oid, set_in_order};
 
 /// An AttributeTypeAndValue: an object identifier and one element.
@@ -13,9 +14,9 @@ fn attribute<'a>(reader: &mut Reader<'a>) -> Result<&'a [u8], CertError>
     ensures exact { Moves (λ bytes. bytes.now) attribute_at reader.old result reader.new }
     ensures forward { OnOk result (length reader.new.rest < length reader.old.rest) }
 {
-    let outer = reader.wanted(0x30)?;
+    let outer = reader.wanted(SEQUENCE)?;
     let mut inner = Reader::inside(&outer);
-    let identifier = inner.wanted(0x06)?;
+    let identifier = inner.wanted(OBJECT_IDENTIFIER)?;
     oid(&identifier)?;
     inner.element()?;
     inner.end()?;
@@ -39,7 +40,7 @@ fn set<'a>(reader: &mut Reader<'a>) -> Result<&'a [u8], CertError>
     ensures exact { Moves (λ bytes. bytes.now) set_at reader.old result reader.new }
     ensures forward { OnOk result (length reader.new.rest < length reader.old.rest) }
 {
-    let outer = reader.wanted(0x31)?;
+    let outer = reader.wanted(SET)?;
     if outer.contents.is_empty() {
         return Err(CertError::BadName);
     }
@@ -66,7 +67,7 @@ fn sets(reader: &mut Reader) -> Result<(), CertError>
 pub fn read_name<'a>(reader: &mut Reader<'a>) -> Result<&'a [u8], CertError>
     ensures { Moves (λ bytes. bytes.now) name_at reader.old result reader.new }
 {
-    let outer = reader.wanted(0x30)?;
+    let outer = reader.wanted(SEQUENCE)?;
     let mut inner = Reader::inside(&outer);
     sets(&mut inner)?;
     inner.end()?;

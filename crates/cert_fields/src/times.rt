@@ -4,11 +4,8 @@ ghost use Rattle.byte_forms.specs.Readings.{Moves};
 ghost use Rattle.cert_fields.specs.Times.{time_at, validity_at};
 
 use cert_time::{Validity, read_time};
+use der_core::tags::{GENERALIZED_TIME, SEQUENCE, UTC_TIME};
 use der_core::{CertError, Reader};
-
-const UTC_TIME: u8 = 0x17;
-
-const GENERALIZED_TIME: u8 = 0x18;
 
 /// The moment of a UTCTime or a GeneralizedTime; `BadTime` where its contents aren't in their form.
 #[tactic(auto, unfolding(crate::specs::Times::time_at))]
@@ -32,7 +29,7 @@ fn time(reader: &mut Reader) -> Result<i64, CertError>
 pub fn read_validity<'a>(reader: &mut Reader<'a>) -> Result<(&'a [u8], Validity), CertError>
     ensures { Moves (λ v. (v.0.now, v.1)) validity_at reader.old result reader.new }
 {
-    let outer = reader.wanted(0x30)?;
+    let outer = reader.wanted(SEQUENCE)?;
     let mut inner = Reader::inside(&outer);
     let not_before = time(&mut inner)?;
     let not_after = time(&mut inner)?;

@@ -10,6 +10,7 @@ ghost use Rattle.cert_fields.specs.Given.{given, size_of};
 use crate::identifiers::MTC_PROOF;
 use crate::parts::CertParts;
 use cert_time::put_validity;
+use der_core::tags::{BIT_STRING, SEQUENCE};
 use der_core::{put, put_unsigned};
 use mtc_io::{Bytes, Memory};
 use std::alloc::Global;
@@ -41,7 +42,7 @@ fn certificate_element(alloc: Global, parts: &CertParts) -> Result<Bytes, Memory
 {
     let fields = certificate_contents(alloc, parts)?;
     let mut out = Bytes::new(alloc);
-    put(0x30, fields.as_slice(), &mut out)?;
+    put(SEQUENCE, fields.as_slice(), &mut out)?;
     Ok(out)
 }
 
@@ -56,9 +57,9 @@ fn certificate_contents(alloc: Global, parts: &CertParts) -> Result<Bytes, Memor
     let signed = signed_contents(alloc, parts)?;
     let bits = signature_contents(alloc, &parts.proof)?;
     let mut out = Bytes::new(alloc);
-    put(0x30, signed.as_slice(), &mut out)?;
+    put(SEQUENCE, signed.as_slice(), &mut out)?;
     out.append(&MTC_PROOF)?;
-    put(0x03, bits.as_slice(), &mut out)?;
+    put(BIT_STRING, bits.as_slice(), &mut out)?;
     Ok(out)
 }
 

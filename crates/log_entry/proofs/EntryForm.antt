@@ -10,8 +10,7 @@ use Rattle.byte_forms.proofs.Forms.{said_form, spelled_form, ended_form, both_fo
 use Rattle.der_core.specs.Elements.{element}
 use Rattle.der_core.specs.Reading.{end_at}
 use Rattle.der_core.specs.Fields.{der, contents_at}
-use Rattle.der_core.specs.declared.fault.DerError.TheVariants.{Trailing}
-use Rattle.der_core.proofs.Fields.{der_ok, tag_of, contents_form}
+use Rattle.der_core.proofs.Fields.{der_ok, end_ok, tag_of, contents_form}
 use Rattle.cert_time.specs.declared.validity.Validity.{Validity}
 use Rattle.cert_fields.specs.Certificate.{version_at}
 use Rattle.cert_fields.specs.Names.{name_at}
@@ -79,7 +78,7 @@ fields_form =
     (lifted_form itself IsName Anything name_at Body name_form)
     (both_form hash_text IsHash Anything key_hash_at itself IsExtensions Nothing (field_at extensions_at) key_hash_form
     (lifted_form itself IsExtensions Nothing extensions_at Body
-    (ended_form itself IsExtensions (λ rest. Anything rest × OtherThan 163 rest) extensions_at (tt, tt) extensions_form))
+    (ended_form itself IsExtensions (λ rest. Anything rest × OtherThan 0xA3 rest) extensions_at (tt, tt) extensions_form))
     (λ y rest f q. tt))
     (λ y rest f q. tt))
     (λ y rest f q. tt))
@@ -99,12 +98,6 @@ tbs_form : IsForm body_text IsTbs Nothing (mapped_at to_tbs fields_at)
 tbs_form =
     said_form (λ p. fields_text (from_tbs p)) (λ p. AreFields (from_tbs p)) IsTbs Nothing Nothing (mapped_at to_tbs fields_at) tbs_to tbs_from (λ rest q. q)
     (mapped_form fields_text AreFields Nothing fields_at to_tbs from_tbs (λ x f. refl) (λ p f. refl) fields_form)
-
--- Nothing stands behind the last field.
-end_ok : (a : At) (done : Unit {0}) → end_at a ≡ Ok done → a.rest ≡ []
-end_ok a done e =
-    let p = pass_ok (length a.rest == 0) (Ok tt) (Trailing a.place) done e in
-    nil_from_length a.rest (eqb-true (length a.rest) 0 p.0)
 
 body_takes : (a : At) (p : TbsParts) → IsBytes a.rest → body_of a ≡ Ok p → (a.rest ≡ body_text p) × IsTbs p
 unfolding body_of

@@ -11,13 +11,14 @@ use crate::entry::{Entry, TbsEntry};
 use crate::fault::EntryError;
 use cert_fields::{read_extensions, read_name, read_validity, read_version};
 use der_core::Reader;
+use der_core::tags::OCTET_STRING;
 
 /// The hash of the public key. `BadHashLength` where it hasn't 32 bytes.
 #[tactic(auto, unfolding(crate::specs::Reading::key_hash_at))]
 fn key_hash<'a>(reader: &mut Reader<'a>) -> Result<&'a [u8], EntryError>
     ensures { Moves (λ bytes. bytes.now) key_hash_at reader.old result reader.new }
 {
-    let octets = reader.wanted(0x04)?;
+    let octets = reader.wanted(OCTET_STRING)?;
     if octets.contents.len() == 32 {
         Ok(octets.contents)
     } else {
