@@ -77,13 +77,25 @@ def check_sentences():
                     yield f"{shown(path, line)}: {count} words: {sentence[:60]} .."
 
 
+@cache
+def anchors_of(path):
+    """The headings of a page, as links name them."""
+    headings = re.findall(r"^#+ +(.*)$", path.read_text(), re.M)
+    return {re.sub(r"[^\w -]", "", heading.lower()).replace(" ", "-") for heading in headings}
+
+
 def check_links():
     """what pages link to is there"""
     for path in pages():
         for number, line in enumerate(path.read_text().split("\n"), 1):
-            for target in re.findall(r"\]\(([^)#]+)(?:#[^)]*)?\)", line):
-                if not re.match(r"[a-z]+://", target) and not (path.parent / target).exists():
+            for target, anchor in re.findall(r"\]\(([^)#]*)#?([^)]*)\)", line):
+                if re.match(r"[a-z]+://", target):
+                    continue
+                there = path.parent / target if target else path
+                if not there.exists():
                     yield f"{shown(path, number)}: nothing at {target}"
+                elif anchor and anchor not in anchors_of(there):
+                    yield f"{shown(path, number)}: {target} has no heading {anchor}"
             for target in re.findall(r"`((?:docs|tests|examples|bench)/[\w./-]+)`", line):
                 if not (ROOT / target).exists():
                     yield f"{shown(path, number)}: no file {target}"
