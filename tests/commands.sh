@@ -1,7 +1,6 @@
 #!/bin/bash
 # Runs a list of commands on a log over real files, and compares the status, standard output (by the first half of its
-# SHA-256) and standard error of each, and the journal at the end, with answers that were recorded from another
-# implementation. It builds the program where that is missing.
+# SHA-256) and standard error of each, and the journal at the end, with those that another implementation gave once.
 # Usage: tests/commands.sh
 set -u
 root=$(cd "$(dirname "$0")/.." && pwd)
