@@ -1,7 +1,7 @@
 #!/bin/bash
 # Makes the picture of the crates' layers in docs/PICTURES.md anew from crates.txt, and compares it with the one that stands
 # there: the crates below the program, with an arrow to each crate that one names and that stands below no other that it names.
-# Then compares docs/speed.svg with the table that it is drawn from.
+# Then compares docs/speed.svg with the table that it is drawn from, and the bytes that the page spells with a certificate.
 # Usage: tests/pictures.sh [--write]
 set -u
 cd "$(dirname "$0")/.." || exit 2
@@ -73,5 +73,10 @@ if ! diff -u --label "$page" --label "by crates.txt" "$page" "$new"; then
     wrong=1
 fi
 bench/plot.sh --check || wrong=1
-[ "$wrong" -eq 0 ] && echo "the pictures are those of crates.txt and of docs/SPEED.md"
+spelled=$(awk '/^## / { is_in = /signature/ } is_in && /^[0-9a-f]+ +/ { printf "%s", $1 }' "$page")
+if [ "$spelled" != "$(tail -c 84 examples/www.cert | od -An -v -tx1 | tr -d ' \n')" ]; then
+    echo "wrong: the bytes in $page are not the last 84 of examples/www.cert"
+    wrong=1
+fi
+[ "$wrong" -eq 0 ] && echo "the pictures are those of crates.txt, docs/SPEED.md and examples/www.cert"
 exit "$wrong"
