@@ -1,11 +1,13 @@
-//! What a relying party answers to every change of one byte of a certificate, to be compared with the answers of another
-//! implementation.
+//! What a relying party answers to every change of one byte of a certificate, to be compared with
+//! the answers of another implementation.
 //!
-//! A line of the input is `LABEL MOMENT LOG START END HASH FROM TO CERTIFICATE`: the moment in seconds, and a store for the log
-//! with this id, which trusts the interval from START to END with this hash and has revoked the serial numbers from FROM to TO,
-//! without TO. Hash and certificate are in hexadecimal. The line is answered by a line `LABEL SIZE ANSWER` for the certificate
-//! itself, and a line for each offset: the offset, and `FROM-TO ANSWER` for each run of values of the byte there that have one
-//! answer. An answer is `Accepted` with index, start and end, or the refusal.
+//! A line of the input is `LABEL MOMENT LOG START END HASH FROM TO CERTIFICATE`: the moment in
+//! seconds, and a store for the log with this id, which trusts the interval from START to END with
+//! this hash and has revoked the serial numbers from FROM to TO, without TO. Hash and certificate
+//! are in hexadecimal. The line is answered by a line `LABEL SIZE ANSWER` for the certificate
+//! itself, and a line for each offset: the offset, and `FROM-TO ANSWER` for each run of values of
+//! the byte there that have one answer. An answer is `Accepted` with index, start and end, or the
+//! refusal.
 #![tactic(auto)]
 
 use anyhow::{Context, Result};

@@ -14,7 +14,7 @@ use Rattle.policy_core.specs.declared.error.StoreError.TheVariants.{NotToml, Unk
 use Rattle.policy_core.specs.declared.refusal.Refusal.{Refusal}
 use Rattle.policy_core.specs.declared.refusal.Refusal.TheVariants.{Grammar, Algorithm, UnknownLog, NotYet, Expired, UnknownCritical, Revoked, ProofGrammar, ProofShape, LandmarkDiffers, TooFewCosigners}
 use Rattle.policy_core.specs.declared.store.Store.{Store}
-use Rattle.relying_party.specs.Judgement.{judgement}
+use Rattle.policy_core.specs.Judgement.{judgement}
 use Rattle.mtc_answers.specs.declared.answer.Said.TheVariants.{Done, Against}
 use Rattle.mtc_answers.specs.declared.answer.Stopped.TheVariants.{BadForm}
 use Rattle.mtc_reads.specs.CertFaults.{cert_fault_text}

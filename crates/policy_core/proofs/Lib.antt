@@ -1,2 +1,5 @@
 mod Wholes
 mod Repeats
+mod Asked
+mod TrustedHash
+pub mod Judgements

@@ -1,2 +1,4 @@
 pub mod Stores
 pub mod Files
+pub mod Judgement
+pub mod Acceptance

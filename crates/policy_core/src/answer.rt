@@ -7,8 +7,8 @@ pub enum By {
     Landmark,
 }
 
-/// A certificate that was accepted: the entry's index in the log, the subtree `[start, end)` that its proof names,
-/// the hash that the proof gives it, and by what the hash was trusted.
+/// A certificate that was accepted: the entry's index in the log, the subtree `[start, end)` that
+/// its proof names, the hash that the proof gives it, and by what the hash was trusted.
 #[derive(Clone, Copy, Debug, PartialEq, Eq)]
 pub struct Accepted {
     pub index: u64,

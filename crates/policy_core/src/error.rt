@@ -14,25 +14,27 @@ pub enum Key {
     End,
     /// A subtree's `hash`.
     Hash,
-    /// A table that is none, or a list of tables that is none.
+    /// A value in the place of a table, or of a list of tables, that isn't one.
     Table,
 }
 
-/// Why a text is no store file. The tests are made in this order: the text, the keys of the root, the log, the
-/// subtrees and the revoked ranges one by one, each of them for its keys and then field by field, and the whole.
+/// Why a text is no store file. The tests are made in this order: the text, the keys of the root,
+/// the log, the subtrees and the revoked ranges one by one, each of them for its keys and then
+/// field by field, and the whole. An item that is no table is met at its turn, behind the faults of
+/// the items before it.
 #[derive(Clone, Copy, Debug, PartialEq, Eq)]
 pub enum StoreError {
     /// The text isn't UTF-8, or isn't TOML.
     NotToml,
     /// A table has a key that it may not have.
     UnknownKey,
-    /// The field is absent.
+    /// The field is absent. `Missing(LogId)` is also the answer where there is no table `log`.
     Missing(Key),
     /// The field isn't in its form.
     BadValue(Key),
     /// Two subtrees have one interval.
     RepeatedSubtree,
-    /// A subtree isn't valid, or a revoked range ends where it starts or before.
+    /// An interval is no subtree, or a revoked range ends where it starts or before.
     BadRange,
     /// Memory was refused.
     Memory,

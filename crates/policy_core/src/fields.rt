@@ -1,10 +1,11 @@
 //! The tables of a store file, and their fields.
 
-ghost use Rattle.std.specs.Prelude.{◌≡◌, map, codes, IfOk};
+ghost use Rattle.std.specs.Prelude.{◌≡◌, ◌≢◌, map, codes, Result, Ok, Err, IfOk, IfErr};
 ghost use Rattle.byte_forms.specs.Readings.{Answers, Gives};
-ghost use Rattle.toml.specs.Data.{get_member};
+ghost use Rattle.toml.specs.Data.{Data, get_member};
 ghost use Rattle.toml.specs.View.{items_view, table_view, view};
 ghost use Rattle.toml_fields.specs.Codes.{hash_data, number_data};
+ghost use Rattle.policy_core.specs.declared.error.StoreError.{StoreError};
 ghost use Rattle.policy_core.specs.Files.{each_of, field, id_data, items_at, list_at, log_at, range_data, subtree_data, table_with};
 
 use crate::error::{Key, StoreError};
@@ -18,7 +19,8 @@ use tree_core::Span;
 
 // A table that has no other keys than these.
 fn table_with<'a>(value: &'a Value, names: &[&str]) -> Result<&'a Table, StoreError>
-    ensures { Gives (λ t. table_view t.now) result (table_with (map (λ n. n.now) names.now) (view value.now)) }
+    ensures { Gives (λ t. table_view t.now) result
+        (table_with (map (λ n. n.now) names.now) (view value.now)) }
 {
     let Some(table) = value.as_table() else {
         return Err(StoreError::BadValue(Key::Table));
@@ -67,7 +69,8 @@ fn id_of(alloc: Global, value: &Value) -> Result<Option<AnchorId>, Memory>
 
 // The id in the log's table.
 fn id_at(alloc: Global, table: &Table) -> Result<AnchorId, StoreError>
-    ensures { Answers StoreError.Memory (field Key.LogId id_data (get_member (codes "id") (table_view table.now))) result }
+    ensures { Answers StoreError.Memory
+        (field Key.LogId id_data (get_member (codes "id") (table_view table.now))) result }
 {
     let Some(value) = value_at(table, "id") else {
         return Err(StoreError::Missing(Key::LogId));
@@ -76,8 +79,9 @@ fn id_at(alloc: Global, table: &Table) -> Result<AnchorId, StoreError>
 }
 
 /// The id of the log.
-pub fn log_of(alloc: Global, root: &Table) -> Result<AnchorId, StoreError>
-    ensures { Answers StoreError.Memory (log_at (get_member (codes "log") (table_view root.now))) result }
+pub fn log_id_of(alloc: Global, root: &Table) -> Result<AnchorId, StoreError>
+    ensures { Answers StoreError.Memory
+        (log_at (get_member (codes "log") (table_view root.now))) result }
 {
     let Some(value) = value_at(root, "log") else {
         return Err(StoreError::Missing(Key::LogId));
@@ -85,32 +89,47 @@ pub fn log_of(alloc: Global, root: &Table) -> Result<AnchorId, StoreError>
     id_at(alloc, table_with(value, &["id"])?)
 }
 
+// What is read from an item of a list of tables.
+trait Item: Sized {
+    /// What a value says as an item, or its first fault.
+    ghost says: { Data → Result Self StoreError };
+
+    /// Reads an item.
+    fn of(value: &Value) -> Result<Self, StoreError>
+        ensures { result ≡ says (view value.now) };
+}
+
 // One subtree.
-#[tactic(auto, unfolding(crate::specs::Files::subtree_data))]
-fn subtree_of(value: &Value) -> Result<Trusted, StoreError>
-    ensures { result ≡ subtree_data (view value.now) }
-{
-    let table = table_with(value, &["start", "end", "hash"])?;
-    let start = number_at(table, "start", Key::Start)?;
-    let end = number_at(table, "end", Key::End)?;
-    let hash = hash_at(table)?;
-    Ok(Trusted { start, end, hash })
+impl Item for Trusted {
+    ghost says = { subtree_data };
+
+    #[tactic(auto, unfolding(crate::specs::Files::subtree_data))]
+    fn of(value: &Value) -> Result<Trusted, StoreError> {
+        let table = table_with(value, &["start", "end", "hash"])?;
+        let start = number_at(table, "start", Key::Start)?;
+        let end = number_at(table, "end", Key::End)?;
+        let hash = hash_at(table)?;
+        Ok(Trusted { start, end, hash })
+    }
 }
 
 // One range of serial numbers.
-#[tactic(auto, unfolding(crate::specs::Files::range_data))]
-fn range_of(value: &Value) -> Result<Span, StoreError>
-    ensures { result ≡ range_data (view value.now) }
-{
-    let table = table_with(value, &["start", "end"])?;
-    let start = number_at(table, "start", Key::Start)?;
-    let end = number_at(table, "end", Key::End)?;
-    Ok(Span { start, end })
+impl Item for Span {
+    ghost says = { range_data };
+
+    #[tactic(auto, unfolding(crate::specs::Files::range_data))]
+    fn of(value: &Value) -> Result<Span, StoreError> {
+        let table = table_with(value, &["start", "end"])?;
+        let start = number_at(table, "start", Key::Start)?;
+        let end = number_at(table, "end", Key::End)?;
+        Ok(Span { start, end })
+    }
 }
 
 // The items of a list of tables; none where the list is absent.
 fn items_at<'a>(root: &'a Table, name: &str) -> Result<&'a [Value], StoreError>
-    ensures { Gives (λ vs. items_view vs.now) result (items_at (get_member name.now (table_view root.now))) }
+    ensures { Gives (λ vs. items_view vs.now) result
+        (items_at (get_member name.now (table_view root.now))) }
 {
     let Some(value) = value_at(root, name) else {
         return Ok(&[]);
@@ -121,38 +140,31 @@ fn items_at<'a>(root: &'a Table, name: &str) -> Result<&'a [Value], StoreError>
     }
 }
 
-// The subtrees that some items are.
-fn subtrees_in(alloc: Global, values: &[Value]) -> Result<Subtrees, StoreError>
-    ensures { Answers StoreError.Memory (each_of subtree_data (items_view values.now)) result }
+// What the items say, each in its turn.
+fn each_of<T: Item + Drop>(alloc: Global, values: &[Value]) -> Result<Vec<T>, StoreError>
+    ensures ok { IfOk result (λ xs. each_of T.says (items_view values.now) ≡ Ok xs.items) }
+    ensures err { IfErr result (λ e. e ≢ StoreError.Memory
+        → each_of T.says (items_view values.now) ≡ Err e) }
 {
     let mut items = Vec::new(alloc);
     for value in values {
-        items.push(subtree_of(value)?)?;
+        items.push(T::of(value)?)?;
     }
-    Ok(Subtrees::from_vec(items))
-}
-
-// The ranges that some items are.
-fn ranges_in(alloc: Global, values: &[Value]) -> Result<Revoked, StoreError>
-    ensures { Answers StoreError.Memory (each_of range_data (items_view values.now)) result }
-{
-    let mut items = Vec::new(alloc);
-    for value in values {
-        items.push(range_of(value)?)?;
-    }
-    Ok(Revoked::from_vec(items))
+    Ok(items)
 }
 
 /// The subtrees of a store.
 pub fn subtrees_of(alloc: Global, root: &Table) -> Result<Subtrees, StoreError>
-    ensures { Answers StoreError.Memory (list_at subtree_data (get_member (codes "subtree") (table_view root.now))) result }
+    ensures { Answers StoreError.Memory
+        (list_at subtree_data (get_member (codes "subtree") (table_view root.now))) result }
 {
-    subtrees_in(alloc, items_at(root, "subtree")?)
+    Ok(Subtrees::from_vec(each_of(alloc, items_at(root, "subtree")?)?))
 }
 
 /// The revoked ranges of a store.
 pub fn revoked_of(alloc: Global, root: &Table) -> Result<Revoked, StoreError>
-    ensures { Answers StoreError.Memory (list_at range_data (get_member (codes "revoked") (table_view root.now))) result }
+    ensures { Answers StoreError.Memory
+        (list_at range_data (get_member (codes "revoked") (table_view root.now))) result }
 {
-    ranges_in(alloc, items_at(root, "revoked")?)
+    Ok(Revoked::from_vec(each_of(alloc, items_at(root, "revoked")?)?))
 }

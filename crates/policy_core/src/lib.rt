@@ -1,7 +1,9 @@
-//! What a relying party holds of a log: its store, and what it may answer about a certificate.
+//! What a relying party holds of a log, and how it judges a certificate by that.
 //!
-//! A [`Store`] has the log's id, the issuer name of its certificates, the subtrees whose hashes are trusted, and the
-//! ranges of serial numbers that are revoked. [`Store::read`] reads it from a TOML file and answers valid stores only.
+//! A [`Store`] has the log's id, the issuer name of its certificates, the subtrees whose hashes are
+//! trusted, and the ranges of serial numbers that are revoked. [`Store::read`] reads it from a TOML
+//! file and answers valid stores only. The judgement of a certificate stands here as a definition,
+//! with its answers [`Accepted`] and [`Refusal`]; the call that makes it is of a crate above.
 #![tactic(auto)]
 
 mod answer;
@@ -11,8 +13,6 @@ mod lists;
 mod reading;
 mod refusal;
 mod store;
-#[cfg(test)]
-mod tests;
 mod whole;
 
 pub use answer::{Accepted, By};

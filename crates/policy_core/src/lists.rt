@@ -43,6 +43,7 @@ impl Subtrees {
         self.items
     }
 
+    /// The subtrees, in their order.
     pub fn as_slice(&self) -> &[Trusted]
         ensures { result.now ≡ self.now }
     {
@@ -50,7 +51,8 @@ impl Subtrees {
     }
 }
 
-/// Revoked ranges of serial numbers: those from `start` up to `end`, without `end`. Contracts see the list of them.
+/// Revoked ranges of serial numbers: those from `start` up to `end`, without `end`. Contracts see
+/// the list of them.
 #[derive(Debug, Drop)]
 pub struct Revoked {
     items: Vec<Span>,
@@ -82,6 +84,7 @@ impl Revoked {
         self.items
     }
 
+    /// The ranges, in their order.
     pub fn as_slice(&self) -> &[Span]
         ensures { result.now ≡ self.now }
     {

@@ -7,7 +7,7 @@ ghost use Rattle.policy_core.specs.Files.{store_in, store_of};
 ghost use Rattle.policy_core.specs.Stores.{IsValid};
 
 use crate::error::StoreError;
-use crate::fields::{log_of, revoked_of, subtrees_of};
+use crate::fields::{log_id_of, revoked_of, subtrees_of};
 use crate::store::Store;
 use crate::whole::check;
 use cert_names::log_name;
@@ -15,13 +15,13 @@ use std::alloc::Global;
 use toml::Table;
 use toml_fields::{TreeError, keys_are_among, read_tree};
 
-// The store that the root says.
+// The store that the fields of the root say, valid as a whole.
 #[tactic(auto, unfolding(crate::specs::Files::store_in))]
 fn store_from(alloc: Global, root: &Table) -> Result<Store, StoreError>
     ensures exact { Answers StoreError.Memory (store_in (table_view root.now)) result }
     ensures valid { IfOk result IsValid }
 {
-    let log = log_of(alloc, root)?;
+    let log = log_id_of(alloc, root)?;
     let name = log_name(alloc, &log)?;
     let subtrees = subtrees_of(alloc, root)?;
     let revoked = revoked_of(alloc, root)?;
@@ -34,7 +34,7 @@ fn store_from(alloc: Global, root: &Table) -> Result<Store, StoreError>
     check(alloc, store)
 }
 
-// The store that a text says.
+// The store of a text that is TOML and whose root has no other tables.
 #[tactic(auto, unfolding(crate::specs::Files::store_of))]
 fn read_store(alloc: Global, text: &[u8]) -> Result<Store, StoreError>
     ensures exact { Answers StoreError.Memory (store_of text.now) result }
@@ -53,10 +53,10 @@ fn read_store(alloc: Global, text: &[u8]) -> Result<Store, StoreError>
 }
 
 impl Store {
-    /// Reads a store file. It has a table `log` with the text `id`, an anchor id in dotted decimal; and may have lists of
-    /// tables, `subtree` with the numbers `start` and `end` and the text `hash` of 64 hexadecimal digits, and `revoked`
-    /// with the numbers `start` and `end`. The first fault is answered, in the order of [`StoreError`]; what is answered
-    /// is a valid store.
+    /// Reads a store file. It has a table `log` with the text `id`, an anchor id in dotted decimal;
+    /// and may have lists of tables: `subtree` with the numbers `start` and `end` and the text
+    /// `hash` of 64 hexadecimal digits, and `revoked` with the numbers `start` and `end`. The first
+    /// fault is answered, in the order of [`StoreError`]; what is answered is a valid store.
     pub fn read(alloc: Global, text: &[u8]) -> Result<Store, StoreError>
         ensures exact { Answers StoreError.Memory (store_of text.now) result }
         ensures valid { IfOk result IsValid }

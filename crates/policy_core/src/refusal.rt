@@ -27,8 +27,8 @@ pub enum Refusal {
     ProofShape(EvalError),
     /// The interval is trusted with another hash than the one that the proof gives.
     LandmarkDiffers,
-    /// The interval isn't trusted, and this is the first rule that isn't met, counted from 1; or there is no rule, and the
-    /// number is 0.
+    /// The interval isn't trusted, and this is the first rule that isn't met, counted from 1; or
+    /// there is no rule, and the number is 0.
     TooFewCosigners(u64),
 }
 

@@ -2,7 +2,7 @@
 
 ghost use Rattle.std.specs.Prelude.{◌≡◌, IfOk};
 ghost use Rattle.byte_forms.specs.Readings.{Answers};
-ghost use Rattle.policy_core.specs.Files.{are_ranges, are_subtrees, checked, has_repeat};
+ghost use Rattle.policy_core.specs.Files.{are_inhabited, are_subtrees, checked, has_repeat};
 ghost use Rattle.policy_core.specs.Stores.{IsValid};
 ghost use Rattle.cert_names.specs.LogNames.{name_with};
 ghost use Rattle.tls_wire.specs.Anchors.{text_of};
@@ -28,19 +28,22 @@ fn repeats(alloc: Global, subtrees: &[Trusted]) -> Result<bool, Memory>
     Ok(false)
 }
 
+// Each interval is that of a subtree.
 fn are_valid(subtrees: &[Trusted]) -> bool
     ensures { result ≡ are_subtrees subtrees.now }
 {
     subtrees.iter().all(|one| subtree_ok(one.start, one.end))
 }
 
-fn have_numbers(ranges: &[Span]) -> bool
-    ensures { result ≡ are_ranges ranges.now }
+// Each range holds a number.
+fn all_inhabited(ranges: &[Span]) -> bool
+    ensures { result ≡ are_inhabited ranges.now }
 {
     ranges.iter().all(|range| range.start < range.end)
 }
 
-/// The store, where it is one as a whole: no interval is trusted twice, each is a subtree, and each range has numbers.
+/// The store, where it is one as a whole: no interval is trusted twice, each is that of a subtree,
+/// and each range holds a number.
 #[tactic(auto, unfolding(crate::specs::Files::checked))]
 pub fn check(alloc: Global, store: Store) -> Result<Store, StoreError>
     ensures exact { Answers StoreError.Memory (checked store) result }
@@ -52,7 +55,7 @@ pub fn check(alloc: Global, store: Store) -> Result<Store, StoreError>
     if !are_valid(store.subtrees.as_slice()) {
         return Err(StoreError::BadRange);
     }
-    if !have_numbers(store.revoked.as_slice()) {
+    if !all_inhabited(store.revoked.as_slice()) {
         return Err(StoreError::BadRange);
     }
     Ok(store)

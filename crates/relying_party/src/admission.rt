@@ -3,18 +3,13 @@
 ghost use Rattle.std.specs.Prelude.{◌≡◌};
 ghost use Rattle.std.specs.List.{list_any};
 ghost use Rattle.cert_fields.specs.Views.{parts};
-ghost use Rattle.relying_party.specs.Judgement.{is_in, admitted};
+ghost use Rattle.policy_core.specs.Judgement.{is_in, admitted};
 
-use cert_fields::{Cert, unknown_critical};
+use cert_fields::{Cert, MTC_PROOF, unknown_critical};
 use policy_core::{Refusal, Store};
 use tree_core::Span;
 
-/// The AlgorithmIdentifier of Merkle tree proofs, 1.3.6.1.4.1.44363.47.0, without parameters.
-const MTC_PROOF: [u8; 14] = [
-    0x30, 0x0C, 0x06, 0x0A, 0x2B, 0x06, 0x01, 0x04, 0x01, 0x82, 0xDA, 0x4B, 0x2F, 0x00,
-];
-
-/// The serial number lies in one of the ranges. The end of a range isn't in it.
+// The serial number lies in one of the ranges. The end of a range isn't in it.
 fn is_revoked(serial: u64, ranges: &[Span]) -> bool
     ensures { result ≡ list_any (λ range. is_in serial range) ranges.now }
 {
@@ -23,9 +18,9 @@ fn is_revoked(serial: u64, ranges: &[Span]) -> bool
         .any(|range| range.start <= serial && serial < range.end)
 }
 
-/// The algorithm, the issuer, the moment in seconds since 1970-01-01T00:00:00Z, the extensions and the serial number, in this
-/// order.
-#[tactic(auto, unfolding(crate::specs::Judgement::admitted))]
+/// The algorithm, the issuer, the moment in seconds since 1970-01-01T00:00:00Z, the extensions and
+/// the serial number, in this order.
+#[tactic(auto, unfolding(policy_core::specs::Judgement::admitted))]
 pub fn admit(cert: &Cert, store: &Store, now: i64) -> Result<(), Refusal>
     ensures { result ≡ admitted store.now now (parts cert.now) }
 {

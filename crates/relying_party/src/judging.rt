@@ -1,7 +1,7 @@
 //! The judgement of a certificate.
 
 ghost use Rattle.std.specs.Prelude.{◌≡◌};
-ghost use Rattle.relying_party.specs.Judgement.{judgement};
+ghost use Rattle.policy_core.specs.Judgement.{judgement};
 
 use crate::admission::admit;
 use crate::trust::decide;
@@ -13,14 +13,17 @@ use tree_core::{TreeHash, evaluate};
 
 /// Judges a certificate at a moment, in seconds since 1970-01-01T00:00:00Z, without taking memory.
 ///
-/// It is refused with the first of these that holds: `Grammar` where the bytes aren't a certificate; `Algorithm` where its
-/// algorithm isn't that of Merkle tree proofs, without parameters; `UnknownLog` where its issuer isn't the store's name, byte
-/// for byte; `NotYet` and `Expired` where the moment is before its first or after its last one; `UnknownCritical` where a
-/// critical extension is none of subjectAltName, basicConstraints, keyUsage and extKeyUsage; `Revoked` where its serial number
-/// lies in a revoked range; `ProofGrammar` where the bytes of its signature aren't a proof; `ProofShape` where the path has no
-/// value for its entry, which stands in the log at the serial number, in the interval of the proof; `LandmarkDiffers` where the
-/// interval is trusted with another hash than the path's value; `TooFewCosigners(0)` where the interval isn't trusted.
-#[tactic(auto, unfolding(crate::specs::Judgement::judgement))]
+/// It is refused with the first of these that holds: `Grammar` where the bytes aren't a
+/// certificate; `Algorithm` where its algorithm isn't that of Merkle tree proofs, without
+/// parameters; `UnknownLog` where its issuer isn't the store's name, byte for byte; `NotYet` and
+/// `Expired` where the moment is before its first or after its last one; `UnknownCritical` where a
+/// critical extension is none of subjectAltName, basicConstraints, keyUsage and extKeyUsage;
+/// `Revoked` where its serial number lies in a revoked range; `ProofGrammar` where the bytes of its
+/// signature aren't a proof; `ProofShape` where the path has no value for its entry, which stands
+/// in the log at the serial number, in the interval of the proof; `LandmarkDiffers` where the
+/// interval is trusted with another hash than the path's value; `TooFewCosigners(0)` where the
+/// interval isn't trusted.
+#[tactic(auto, unfolding(policy_core::specs::Judgement::judged, policy_core::specs::Judgement::judgement))]
 pub fn judge<H: TreeHash>(cert: &[u8], store: &Store, now: i64) -> Result<Accepted, Refusal>
     ensures { result ≡ judgement H.hash cert.now store.now now }
 {

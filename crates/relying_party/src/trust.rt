@@ -2,13 +2,14 @@
 
 ghost use Rattle.std.specs.Prelude.{◌≡◌, Some, None, MatchOption};
 ghost use Rattle.std.specs.List.{find};
-ghost use Rattle.relying_party.specs.Judgement.{is_of, decided};
+ghost use Rattle.policy_core.specs.Judgement.{is_of, decided};
 
 use policy_core::{Accepted, By, Refusal, Trusted};
 
-/// The trusted subtree with this interval.
+// The trusted subtree with this interval.
 fn trusted(start: u64, end: u64, subtrees: &[Trusted]) -> Option<&Trusted>
-    ensures { MatchOption result (find (is_of start end) subtrees.now ≡ None) (λ t. find (is_of start end) subtrees.now ≡ Some t.now) }
+    ensures { MatchOption result (find (is_of start end) subtrees.now ≡ None)
+        (λ t. find (is_of start end) subtrees.now ≡ Some t.now) }
 {
     for subtree in subtrees {
         if subtree.start == start && subtree.end == end {
@@ -18,8 +19,9 @@ fn trusted(start: u64, end: u64, subtrees: &[Trusted]) -> Option<&Trusted>
     None
 }
 
-/// The answer where the proof of the entry at this index gives the interval this hash. A trusted interval decides alone.
-#[tactic(auto, unfolding(crate::specs::Judgement::decided))]
+/// The answer where the proof of the entry at this index gives the interval this hash. A trusted
+/// interval decides alone.
+#[tactic(auto, unfolding(policy_core::specs::Judgement::decided))]
 pub fn decide(
     subtrees: &[Trusted],
     index: u64,

@@ -7,7 +7,7 @@ use Rattle.base64.specs.GeneralPurpose.{decoded_of}
 use Rattle.hex.specs.Hex.{decode_sized}
 use Rattle.toml.specs.Data.{Data, as_integer, as_str}
 
--- a whole number that isn't negative
+-- A whole number that isn't negative.
 abbrev pub natural : ℤ → Option ℕ
 natural (pos n) = Some n
 natural (negsuc n) = None
@@ -15,14 +15,15 @@ natural (negsuc n) = None
 abbrev pub number_data : Data → Option ℕ
 number_data d = option_and_then natural (as_integer d)
 
--- the 32 bytes that 64 hexadecimal digits write, in either case (RFC 4648, section 8)
+-- The 32 bytes that 64 hexadecimal digits write, in either case (RFC 4648, section 8).
 unfoldable pub hash_text : List ℕ → Option (List ℕ)
 hash_text text = result_ok (decode_sized text 32)
 
 unfoldable pub hash_data : Data → Option (List ℕ)
 hash_data d = option_and_then hash_text (as_str d)
 
--- the bytes that a text in base64 writes, in the standard alphabet and padded (RFC 4648, section 4)
+-- The bytes that a text in base64 writes, in the standard alphabet and padded (RFC 4648,
+-- section 4).
 unfoldable pub base64_text : List ℕ → Option (List ℕ)
 base64_text text = decoded_of standard text
 

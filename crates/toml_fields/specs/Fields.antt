@@ -1,4 +1,5 @@
--- A field of a table: the value at its key, in its form. The faults are those of whoever reads the file.
+-- A field of a table: the value at its key, in its form. The faults are those of whoever reads the
+-- file.
 use Rattle.std.specs.Prelude.{Option, Some, None, Result, Ok, Err, option_map}
 use Rattle.byte_forms.specs.Readings.{some_or}
 use Rattle.toml.specs.Data.{Data}

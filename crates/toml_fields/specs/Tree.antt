@@ -5,15 +5,15 @@ use Rattle.std.specs.Str.{is_utf8}
 use Rattle.toml.specs.Data.{Members, no_members, member}
 use Rattle.toml.specs.Parse.{parse_document}
 
--- the tree of a text that is UTF-8 and TOML
+-- The tree of a text that is UTF-8 and TOML.
 unfoldable pub tree_of : List ℕ → Option Members
 tree_of text = if is_utf8 text then parse_document text else None
 
--- the key is one of the names
+-- The key is one of the names.
 abbrev pub has_name : List (List ℕ) → List ℕ → Bool
 has_name names key = list_any (λ name. bytes_eq name key) names
 
--- each key is one of the names
+-- Each key is one of the names.
 abbrev pub has_only : List (List ℕ) → Members → Bool
 has_only names no_members = true
 has_only names (member key d ms) = has_name names key && has_only names ms

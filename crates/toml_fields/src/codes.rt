@@ -65,7 +65,8 @@ fn read_base64(alloc: Global, text: &str) -> Result<Option<Bytes>, Memory>
     }
 }
 
-/// The bytes that a text in base64 writes, in the standard alphabet and padded. Want of memory is the only refusal.
+/// The bytes that a text in base64 writes, in the standard alphabet and padded. Want of memory is
+/// the only refusal.
 #[tactic(auto, unfolding(crate::specs::Codes::bytes_data))]
 pub fn bytes_of(alloc: Global, value: &Value) -> Result<Option<Bytes>, Memory>
     ensures value { IfOk result (λ o. o ≡ bytes_data (view value.now)) }

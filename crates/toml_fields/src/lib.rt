@@ -1,15 +1,13 @@
-//! Fields of a TOML file: the tree that a file's text is, the keys that a table may have, and values in the forms
-//! that files use. These forms are texts, numbers that aren't negative, bytes in base64 (RFC 4648, section 4) and
-//! hashes in hexadecimal.
+//! Fields of a TOML file: the tree that a file's text is, the keys that a table may have, and
+//! values in the forms that files use. These forms are texts, numbers that aren't negative, bytes
+//! in base64 (RFC 4648, section 4) and hashes in hexadecimal.
 //!
-//! Contracts see a table as its members and a value as its data, in the words of `toml`. Only the tree counts: a
-//! table in line is as good as one with a header.
+//! Contracts see a table as its members and a value as its data, in the words of `toml`. Only the
+//! tree counts: an inline table is as good as one with a header.
 #![tactic(auto)]
 
 mod codes;
 mod table;
-#[cfg(test)]
-mod tests;
 mod tree;
 
 pub use codes::{bytes_of, hash_of, number_of};

@@ -30,7 +30,8 @@ fn is_among(key: &str, names: &[&str]) -> bool
 
 // Each key passes.
 fn all_among(table: &Table, names: &[&str]) -> bool
-    ensures { result ≡ list_all (λ k. has_name (map (λ n. n.now) names.now) (string_bytes k)) (keys table.now) }
+    ensures { result
+        ≡ list_all (λ k. has_name (map (λ n. n.now) names.now) (string_bytes k)) (keys table.now) }
 {
     table.keys().all(|key| is_among(key.as_str(), names))
 }

@@ -7,4 +7,4 @@ returns-clause-valid c = λ name.
     whole c.args.store name
     (rw c.as_slice.ensures at (sym c.in_ok-repeats.ensures ∙ c.if-branch.false))
     (rw c.as_slice-2.ensures at (sym c.are_valid.ensures ∙ c.if-not-are_valid.false))
-    (rw c.as_slice-3.ensures at (sym c.have_numbers.ensures ∙ c.if-not-have_numbers.false))
+    (rw c.as_slice-3.ensures at (sym c.all_inhabited.ensures ∙ c.if-not-all_inhabited.false))

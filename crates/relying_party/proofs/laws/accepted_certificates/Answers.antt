@@ -1,4 +1,4 @@
-use Rattle.relying_party.proofs.Accepted.{accepted_only, accepted_again}
+use Rattle.policy_core.proofs.Judgements.{accepted_only, accepted_again}
 use Rattle.relying_party.proofs.laws.accepted_certificates.Goals as goal
 
 pub returns : goal.returns

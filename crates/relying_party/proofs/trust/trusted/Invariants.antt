@@ -1,6 +1,6 @@
 use Rattle.std.proofs.Common.{◌≡◌, drop}
 use Rattle.std.specs.List.{find}
-use Rattle.relying_party.specs.Judgement.{is_of}
+use Rattle.policy_core.specs.Judgement.{is_of}
 use Rattle.relying_party.proofs.trust.trusted.Given as goal
 
 -- None of the subtrees so far has the interval.

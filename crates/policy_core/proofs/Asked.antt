@@ -14,7 +14,7 @@ use Rattle.tree_core.specs.declared.spans.Span.{Span}
 use Rattle.policy_core.specs.declared.store.Store.{Store}
 use Rattle.policy_core.specs.declared.refusal.Refusal.{Refusal}
 use Rattle.policy_core.specs.declared.refusal.Refusal.TheVariants.{Algorithm, UnknownLog, NotYet, Expired, UnknownCritical, Revoked}
-use Rattle.relying_party.specs.Judgement.{is_in, admitted}
+use Rattle.policy_core.specs.Judgement.{is_in, admitted}
 
 pub record IsAdmitted (store : Store) (now : ℤ) (c : Parts) : Type 0 where
   pub algorithm : c.algorithm ≡ mtc_proof

@@ -4,8 +4,8 @@ use Rattle.std.specs.Prelude.{◌==◌, ◌&&◌}
 use Rattle.std.specs.List.{find, AllByRecursion, IsDistinct}
 use Rattle.policy_core.specs.Stores.{has_same_interval}
 use Rattle.policy_core.specs.declared.lists.Trusted.{Trusted}
-use Rattle.relying_party.specs.Acceptance.{IsAmong}
-use Rattle.relying_party.specs.Judgement.{is_of}
+use Rattle.policy_core.specs.Acceptance.{IsAmong}
+use Rattle.policy_core.specs.Judgement.{is_of}
 
 pub record IsFound (start end : ℕ) (t : Trusted) (xs : List Trusted) : Type 0 where
   pub among : IsAmong t xs

@@ -6,7 +6,7 @@ use Rattle.std.specs.Str.{bytes_eq}
 use Rattle.std.proofs.lemmas.Slice.Eq.{bytes_eq-Decides}
 use Rattle.byte_forms.specs.Places.{IsBytes}
 use Rattle.byte_forms.specs.Readings.{◌>>=◌, lifted}
-use Rattle.byte_forms.proofs.Steps.{bind_ok, pass_ok, ok_is, IsBytes-rest, IsBytes-back}
+use Rattle.byte_forms.proofs.Steps.{bind_ok, lifted_ok, pass_ok, ok_is, IsBytes-rest, IsBytes-back}
 use Rattle.der_core.specs.Elements.{length_octets, element}
 use Rattle.cert_fields.specs.Certificate.{Parts, parts_of}
 use Rattle.cert_fields.specs.Spelling.{tbs_fields, certificate_fields, certificate}
@@ -23,14 +23,10 @@ use Rattle.policy_core.specs.declared.lists.Trusted.{Trusted}
 use Rattle.policy_core.specs.declared.store.Store.{Store}
 use Rattle.policy_core.specs.declared.refusal.Refusal.{Refusal}
 use Rattle.policy_core.specs.declared.refusal.Refusal.TheVariants.{Grammar, ProofGrammar, ProofShape, LandmarkDiffers}
-use Rattle.relying_party.specs.Acceptance.{IsAmong, IsAccepted}
-use Rattle.relying_party.specs.Judgement.{admitted, is_of, accepted, by_trust, decided, judgement}
-use Rattle.relying_party.proofs.Asked.{admitted_only, admitted_again}
-use Rattle.relying_party.proofs.TrustedHash.{find_only, find_again}
-
-lifted_ok : {A E F : Type 0} (fault : E → F) (r : Result A E) (y : A) → lifted fault r ≡ Ok y → r ≡ Ok y
-lifted_ok fault (Ok x) y e = cc
-lifted_ok fault (Err d) y e = absurd cc
+use Rattle.policy_core.specs.Acceptance.{IsAmong, IsAccepted}
+use Rattle.policy_core.specs.Judgement.{admitted, is_of, accepted, by_trust, decided, judged, judgement}
+use Rattle.policy_core.proofs.Asked.{admitted_only, admitted_again}
+use Rattle.policy_core.proofs.TrustedHash.{find_only, find_again}
 
 -- ---- the trusted hash
 
@@ -73,9 +69,6 @@ with_proof h store c p =
 abbrev admitted_with : (List ℕ → List ℕ) → Store → Parts → Result Accepted Refusal
 admitted_with h store c = lifted ProofGrammar (proof_in c.proof) >>= λ p. with_proof h store c p
 
-abbrev with_parts : (List ℕ → List ℕ) → Store → ℤ → Parts → Result Accepted Refusal
-with_parts h store now c = admitted store now c >>= λ done. admitted_with h store c
-
 -- The bytes of the signature are bytes.
 proof_bytes : (p : Parts) → IsBytes (certificate p) → IsBytes p.proof
 unfolding certificate element
@@ -89,9 +82,9 @@ proof_bytes p h =
 
 pub accepted_only : (h : List ℕ → List ℕ) (bytes : List ℕ) (store : Store) (now : ℤ) (a : Accepted) → IsBytes bytes
     → judgement h bytes store now ≡ Ok a → IsAccepted h bytes store now a
-unfolding judgement
+unfolding judged judgement
 accepted_only h bytes store now a ok e =
-    let s = bind_ok (lifted Grammar (parts_of bytes)) (λ (c : Parts). with_parts h store now c) a e in
+    let s = bind_ok (lifted Grammar (parts_of bytes)) (judged h store now) a e in
     let c : Parts = s.0 in
     let t = bind_ok (admitted store now c) (λ (done : Unit {0}). admitted_with h store c) a s.2 in
     let u = bind_ok (lifted ProofGrammar (proof_in c.proof)) (λ (p : ProofParts). with_proof h store c p) a t.2 in
@@ -126,7 +119,7 @@ accepted_only h bytes store now a ok e =
 
 pub accepted_again : (h : List ℕ → List ℕ) (bytes : List ℕ) (store : Store) (now : ℤ) (a : Accepted) → IsValid store
     → IsAccepted h bytes store now a → judgement h bytes store now ≡ Ok a
-unfolding judgement
+unfolding judged judgement
 accepted_again h bytes store now a valid f =
     let c : Parts = f.parts in
     let p : ProofParts = f.proof in

@@ -1,6 +1,7 @@
 -- What it means that a certificate is accepted, in terms of the grammars and of the tree.
-use Rattle.std.specs.Prelude.{◌≡◌, ℕ, ◌⊎◌, false, ℤ, ◌≤ℤ◌, List, [], ◌∷◌, Ok}
+use Rattle.std.specs.Prelude.{◌≡◌, ◌⊎◌, false, ℤ, ◌≤ℤ◌, List, [], ◌∷◌, Ok}
 use Rattle.std.specs.List.{AllByRecursion}
+use Rattle.byte_forms.specs.Types.{Text, HashFunction}
 use Rattle.cert_fields.specs.Certificate.{Parts}
 use Rattle.cert_fields.specs.Extensions.{has_unknown_critical}
 use Rattle.cert_fields.specs.Given.{mtc_proof}
@@ -13,16 +14,18 @@ use Rattle.mtc_proof.specs.Proofs.{ProofParts, proof_text, IsProof}
 use Rattle.policy_core.specs.declared.answer.Accepted.{Accepted}
 use Rattle.policy_core.specs.declared.lists.Trusted.{Trusted}
 use Rattle.policy_core.specs.declared.store.Store.{Store}
-use Rattle.relying_party.specs.Judgement.{is_in, accepted}
+use Rattle.policy_core.specs.Judgement.{is_in, accepted}
 
 -- The subtree is one of these.
 abbrev pub IsAmong : Trusted → List Trusted → Type 0
 IsAmong t [] = ⊥
 IsAmong t (x ∷ xs) = (x ≡ t) ⊎ IsAmong t xs
 
--- The bytes spell a certificate of the store's log that is valid at the moment, isn't revoked, and has no critical extension
--- that isn't known; its signature spells a proof, whose path gives the interval a hash that the store trusts there.
-pub record IsAccepted (h : List ℕ → List ℕ) (bytes : List ℕ) (store : Store) (now : ℤ) (a : Accepted) : Type 0 where
+-- The bytes spell a certificate of the store's log that is valid at the moment, isn't revoked, and
+-- has no critical extension that isn't known; its signature spells a proof, whose path gives the
+-- interval a hash that the store trusts there.
+pub record IsAccepted (h : HashFunction) (bytes : Text) (store : Store) (now : ℤ) (a : Accepted)
+    : Type 0 where
   pub parts : Parts
   pub fits : IsCertificate parts
   pub spelled : bytes ≡ certificate parts
@@ -35,6 +38,9 @@ pub record IsAccepted (h : List ℕ → List ℕ) (bytes : List ℕ) (store : St
   pub proof : ProofParts
   pub proof_fits : IsProof proof
   pub proof_spelled : parts.proof ≡ proof_text proof
-  pub evaluates : evaluation h (leaf_hash h (entry_of h parts)) parts.serial proof.start proof.end proof.path ≡ Ok a.hash
-  pub trusted : IsAmong (record { start = proof.start; end = proof.end; hash = a.hash }) store.subtrees
+  pub evaluates :
+      evaluation h (leaf_hash h (entry_of h parts)) parts.serial proof.start proof.end proof.path
+      ≡ Ok a.hash
+  pub trusted :
+      IsAmong (record { start = proof.start; end = proof.end; hash = a.hash }) store.subtrees
   pub known : a ≡ accepted parts.serial proof.start proof.end a.hash

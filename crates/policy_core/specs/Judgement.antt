@@ -1,7 +1,9 @@
--- The judgement of a certificate by a relying party: the first refusal that holds, or what is known of the certificate.
+-- The judgement of a certificate by a relying party: the first refusal that holds, or what is known
+-- of the certificate.
 use Rattle.std.specs.Prelude.{ℕ, ◌&&◌, ◌==◌, Bool, not, nat_lt, nat_le, int_lt, ℤ, List, Option, Some, None, Result, Ok, Err, if◌then◌else◌}
 use Rattle.std.specs.List.{list_any, find}
 use Rattle.std.specs.Str.{bytes_eq}
+use Rattle.byte_forms.specs.Types.{Text, Hash, HashFunction}
 use Rattle.byte_forms.specs.Readings.{◌>>=◌, lifted}
 use Rattle.cert_fields.specs.Certificate.{Parts, parts_of}
 use Rattle.cert_fields.specs.Extensions.{has_unknown_critical}
@@ -22,8 +24,9 @@ use Rattle.policy_core.specs.declared.refusal.Refusal.TheVariants.{Grammar, Algo
 abbrev pub is_in : ℕ → Span → Bool
 is_in serial range = nat_le range.start serial && nat_lt serial range.end
 
--- What is asked of the fields of a certificate: its algorithm is that of Merkle tree proofs without parameters, its issuer is
--- the log, the moment lies in its validity, each critical extension is known, and its serial number isn't revoked.
+-- What is asked of the fields of a certificate: its algorithm is that of Merkle tree proofs without
+-- parameters, its issuer is the log, the moment lies in its validity, each critical extension is
+-- known, and its serial number isn't revoked.
 unfoldable pub admitted : Store → ℤ → Parts → Result (Unit {0}) Refusal
 admitted store now c =
     if not (bytes_eq c.algorithm mtc_proof) then Err Algorithm
@@ -38,23 +41,33 @@ admitted store now c =
 abbrev pub is_of : ℕ → ℕ → Trusted → Bool
 is_of start end t = (t.start == start) && (t.end == end)
 
-abbrev pub accepted : ℕ → ℕ → ℕ → List ℕ → Accepted
-accepted index start end hash = record { index = index; start = start; end = end; hash = hash; by = Landmark }
+-- What is known of a certificate that was accepted by a trusted hash.
+abbrev pub accepted : ℕ → ℕ → ℕ → Hash → Accepted
+accepted index start end hash =
+    record { index = index; start = start; end = end; hash = hash; by = Landmark }
 
 -- The trusted hash decides alone; without one there are too few cosigners.
-abbrev pub by_trust : ℕ → ℕ → ℕ → List ℕ → Option Trusted → Result Accepted Refusal
+abbrev pub by_trust : ℕ → ℕ → ℕ → Hash → Option Trusted → Result Accepted Refusal
 by_trust index start end hash None = Err (TooFewCosigners 0)
-by_trust index start end hash (Some t) = if bytes_eq t.hash hash then Ok (accepted index start end hash) else Err LandmarkDiffers
+by_trust index start end hash (Some t) =
+    if bytes_eq t.hash hash then Ok (accepted index start end hash) else Err LandmarkDiffers
 
-unfoldable pub decided : List Trusted → ℕ → ℕ → ℕ → List ℕ → Result Accepted Refusal
-decided subtrees index start end hash = by_trust index start end hash (find (is_of start end) subtrees)
+-- The decision on the hash that the path of a proof gives the interval.
+unfoldable pub decided : List Trusted → ℕ → ℕ → ℕ → Hash → Result Accepted Refusal
+decided subtrees index start end hash =
+    by_trust index start end hash (find (is_of start end) subtrees)
 
--- The judgement under the hash function h. The certificate's entry stands in the log at its serial number, and the proof's path
--- is evaluated there, in the proof's interval.
-unfoldable pub judgement : (List ℕ → List ℕ) → List ℕ → Store → ℤ → Result Accepted Refusal
-judgement h bytes store now =
-    lifted Grammar (parts_of bytes) >>= λ c.
+-- The judgement of a certificate that has these parts, under the hash function h. The certificate's
+-- entry stands in the log at its serial number, and the proof's path is evaluated there, in the
+-- proof's interval.
+unfoldable pub judged : HashFunction → Store → ℤ → Parts → Result Accepted Refusal
+judged h store now c =
     admitted store now c >>= λ done.
     lifted ProofGrammar (proof_in c.proof) >>= λ p.
-    lifted ProofShape (evaluation h (leaf_hash h (entry_of h c)) c.serial p.start p.end p.path) >>= λ hash.
+    lifted ProofShape
+    (evaluation h (leaf_hash h (entry_of h c)) c.serial p.start p.end p.path) >>= λ hash.
     decided store.subtrees c.serial p.start p.end hash
+
+-- The judgement of bytes: that of the certificate which they are.
+unfoldable pub judgement : HashFunction → Text → Store → ℤ → Result Accepted Refusal
+judgement h bytes store now = lifted Grammar (parts_of bytes) >>= judged h store now

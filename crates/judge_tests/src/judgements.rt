@@ -1,16 +1,18 @@
-//! The judgement of the certificate of one name that a log with id 32473.1 issues as its entry 1, and of changes to it.
+//! The judgement of the certificate of one name that a log with id 32473.1 issues as its entry 1,
+//! and of changes to it.
 
-use crate::judge;
 use cert_names::log_name;
 use mtc_proof::ProofError;
 use policy_core::{Accepted, By, Refusal, Revoked, Store, Subtrees, Trusted};
+use relying_party::judge;
 use std::alloc::Global;
 use std::test::Fail;
 use tls_wire::AnchorId;
 use tree_core::{EvalError, Sha, Span};
 
-/// Serial number 1, issuer of log 32473.1, 2026-01-01 to 2026-01-08, no subject, an Ed25519 key of zeros, one critical
-/// subjectAltName with `a.example`, and a proof of the interval 0 to 2 with the leaf hash of the null entry.
+// Serial number 1, issuer of log 32473.1, 2026-01-01 to 2026-01-08, no subject, an Ed25519 key of
+// zeros, one critical subjectAltName with `a.example`, and a proof of the interval 0 to 2 with the
+// leaf hash of the null entry.
 const CERTIFICATE: [u8; 231] = [
     0x30, 0x81, 0xE4, 0x30, 0x81, 0x9C, 0xA0, 0x03, 0x02, 0x01, 0x02, 0x02, 0x01, 0x01, 0x30, 0x0C,
     0x06, 0x0A, 0x2B, 0x06, 0x01, 0x04, 0x01, 0x82, 0xDA, 0x4B, 0x2F, 0x00, 0x30, 0x19, 0x31, 0x17,
@@ -29,19 +31,19 @@ const CERTIFICATE: [u8; 231] = [
     0xBD, 0x70, 0xF8, 0x14, 0x7C, 0x00, 0x00,
 ];
 
-/// The hash of the pair of the null entry's leaf and the certificate's.
+// The hash of the pair of the null entry's leaf and the certificate's.
 const TRUSTED: [u8; 32] = [
     0x77, 0x56, 0x68, 0x25, 0xCD, 0x25, 0xF2, 0x63, 0x27, 0x1E, 0x3F, 0xA5, 0x34, 0x1D, 0xB2, 0x8E,
     0xD2, 0xC8, 0x79, 0x45, 0xEE, 0x98, 0xF7, 0x31, 0xB2, 0xAA, 0x96, 0xB9, 0xE6, 0xB1, 0x1C, 0xF6,
 ];
 
-/// 2026-01-01T00:00:00Z, the first moment of the certificate.
+// 2026-01-01T00:00:00Z, the first moment of the certificate.
 const FIRST: i64 = 1_767_225_600;
 
-/// 2026-01-08T00:00:00Z, the last one.
+// 2026-01-08T00:00:00Z, the last one.
 const LAST: i64 = 1_767_830_400;
 
-/// A store for the log with this id.
+// A store for the log with this id.
 fn store_of(
     alloc: Global,
     id: &str,
@@ -58,7 +60,7 @@ fn store_of(
     })
 }
 
-/// The certificate with other bytes at some places.
+// The certificate with other bytes at some places.
 fn changed(changes: &[(usize, u8)]) -> [u8; 231] {
     let mut bytes = CERTIFICATE;
     for (place, byte) in changes {
@@ -69,7 +71,7 @@ fn changed(changes: &[(usize, u8)]) -> [u8; 231] {
     bytes
 }
 
-/// The certificate with parameters of NULL in both algorithms.
+// The certificate with parameters of NULL in both algorithms.
 fn with_parameters(alloc: Global) -> Result<Vec<u8>, Fail> {
     let pieces: [&[u8]; 8] = [
         &[0x30, 0x81, 0xE8, 0x30, 0x81, 0x9E],
@@ -90,7 +92,7 @@ fn with_parameters(alloc: Global) -> Result<Vec<u8>, Fail> {
     Ok(bytes)
 }
 
-/// The interval 0 to 2 with this hash.
+// The interval 0 to 2 with this hash.
 fn subtree(hash: [u8; 32]) -> Trusted {
     Trusted {
         start: 0,
@@ -107,8 +109,15 @@ const ACCEPTED: Accepted = Accepted {
     by: By::Landmark,
 };
 
+// The judgement at a moment.
+fn answer(certificate: &[u8], store: &Store, now: i64) -> Result<Accepted, Refusal> {
+    judge::<Sha>(certificate, store, now)
+}
+
 #[test]
-fn moments_and_changes(rt: HostRuntime) -> Result<(), Fail> {
+fn a_certificate_is_accepted_from_its_first_to_its_last_moment(
+    rt: HostRuntime,
+) -> Result<(), Fail> {
     let store = store_of(rt.alloc(), "32473.1", &[subtree(TRUSTED)], &[])?;
     let moments: [(i64, Result<Accepted, Refusal>); 4] = [
         (FIRST - 1, Err(Refusal::NotYet)),
@@ -117,8 +126,14 @@ fn moments_and_changes(rt: HostRuntime) -> Result<(), Fail> {
         (LAST + 1, Err(Refusal::Expired)),
     ];
     for (now, wanted) in moments {
-        assert_eq!(rt; judge::<Sha>(&CERTIFICATE, &store, now), wanted);
+        assert!(rt; answer(&CERTIFICATE, &store, now) == wanted, "{now}");
     }
+    Ok(())
+}
+
+#[test]
+fn each_change_has_its_refusal(rt: HostRuntime) -> Result<(), Fail> {
+    let store = store_of(rt.alloc(), "32473.1", &[subtree(TRUSTED)], &[])?;
     let changes: [(&[(usize, u8)], Refusal); 11] = [
         (
             &[(196, 0x1F)],
@@ -138,18 +153,24 @@ fn moments_and_changes(rt: HostRuntime) -> Result<(), Fail> {
         (&[(54, 0x39)], Refusal::UnknownLog),
     ];
     for (bytes, refusal) in changes {
-        assert_eq!(rt; judge::<Sha>(&changed(bytes), &store, FIRST), Err(refusal));
+        assert!(rt;
+            answer(&changed(bytes), &store, FIRST) == Err(refusal),
+            "{refusal:?}"
+        );
     }
-    let parameters = with_parameters(rt.alloc())?;
-    assert_eq!(rt;
-        judge::<Sha>(parameters.as_slice(), &store, FIRST),
-        Err(Refusal::Algorithm)
-    );
     Ok(())
 }
 
 #[test]
-fn stores(rt: HostRuntime) -> Result<(), Fail> {
+fn an_algorithm_with_parameters_is_refused(rt: HostRuntime) -> Result<(), Fail> {
+    let store = store_of(rt.alloc(), "32473.1", &[subtree(TRUSTED)], &[])?;
+    let bytes = with_parameters(rt.alloc())?;
+    assert!(rt; answer(bytes.as_slice(), &store, FIRST) == Err(Refusal::Algorithm));
+    Ok(())
+}
+
+#[test]
+fn the_store_decides(rt: HostRuntime) -> Result<(), Fail> {
     let mut other = TRUSTED;
     other[31] = 0;
     let good = [subtree(TRUSTED)];
@@ -165,7 +186,7 @@ fn stores(rt: HostRuntime) -> Result<(), Fail> {
     ];
     for (id, subtrees, revoked, wanted) in cases {
         let store = store_of(rt.alloc(), id, subtrees, revoked)?;
-        assert_eq!(rt; judge::<Sha>(&CERTIFICATE, &store, FIRST), wanted);
+        assert!(rt; answer(&CERTIFICATE, &store, FIRST) == wanted, "{wanted:?}");
     }
     Ok(())
 }
