@@ -1,7 +1,16 @@
--- What a `Fuse` shows: the disk inside, how many calls it still passes, and whether it has failed one.
+-- What a `Fuse` shows: the disk inside, how many calls it still passes, whether it has failed one, and how many.
 use Rattle.std.specs.Prelude.{◌≡◌, ℕ, ◌-◌, Bool, true, false, ◌&&◌, ◌||◌, ◌==◌, if◌then◌else◌}
 use Rattle.disk_core.specs.declared.disk.Disk.{Ghosts}
 use Rattle.disk_core.specs.declared.fuse.Fuse.{Fuse}
+use Rattle.disk_core.specs.declared.memory.call.Call.{Call}
+use Rattle.disk_core.specs.declared.memory.call.Call.TheVariants.{Len, Read, Write, Sync}
+
+-- it is one of the two calls that change a file
+abbrev pub is_change : Call → Bool
+is_change Len = false
+is_change (Read place size) = false
+is_change (Write place piece) = true
+is_change Sync = true
 
 module _ {D : Type 0} where
   abbrev pub inner_of : Fuse D → D
@@ -13,12 +22,15 @@ module _ {D : Type 0} where
   abbrev pub is_blown : Fuse D → Bool
   is_blown f = f.blown
 
-  -- it fails the next call, which may be one of the two that change a file
-  abbrev pub will_fail : Fuse D → Bool → Bool
-  will_fail f changes = f.blown || (changes && f.passes == 0)
+  abbrev pub refused_of : Fuse D → ℕ
+  refused_of f = f.refused
+
+  -- it fails this call
+  abbrev pub will_fail : Fuse D → Call → Bool
+  will_fail f call = f.blown || (is_change call && f.passes == 0)
 
   -- A call that it fails leaves the disk inside alone, and it fails each one after. A call that it passes takes one of
   -- the passes where it is one of the two that change a file.
-  pub record FuseTurn (g : Ghosts D) (old : Fuse D) (changes ok : Bool) (new : Fuse D) : Type 0 where
-    pub failed : will_fail old changes ≡ true → (ok ≡ false) × (new.blown ≡ true) × (new.disk ≡ old.disk)
-    pub passed : will_fail old changes ≡ false → (new.blown ≡ false) × (new.passes ≡ old.passes - (if changes then 1 else 0)) × g.turn old.disk changes ok new.disk
+  pub record FuseTurn (g : Ghosts D) (old : Fuse D) (call : Call) (ok : Bool) (new : Fuse D) : Type 0 where
+    pub failed : will_fail old call ≡ true → (ok ≡ false) × (new.blown ≡ true) × (new.disk ≡ old.disk)
+    pub passed : will_fail old call ≡ false → (new.blown ≡ false) × (new.passes ≡ old.passes - (if is_change call then 1 else 0)) × g.turn old.disk call ok new.disk

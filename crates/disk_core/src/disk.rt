@@ -2,6 +2,8 @@
 ghost use Rattle.std.specs.Prelude.{◌≡◌, ℕ, ◌+◌, ◌^◌, ◌<◌, ◌≤◌, max, Bool, true, false, List, length, Option, is_some, is_ok, option_map, Some, IfSome, IfOk, OnOk, OnErr, MatchResult};
 ghost use Rattle.mtc_io.specs.Counts.{Rose, HasCause};
 ghost use Rattle.disk_core.specs.Disk.{overwritten, part, Torn, Follows, NoNew, Only, Elapses};
+ghost use Rattle.disk_core.specs.declared.memory.call.Call.{Call};
+ghost use Rattle.disk_core.specs.declared.memory.call.Call.TheVariants.{Len, Read, Write, Sync};
 
 use mtc_io::Failed;
 
@@ -28,9 +30,9 @@ pub trait Disk {
     /// How often the disk has failed.
     ghost faults: { Self → ℕ };
 
-    /// What a type says beside the rest of one call: of the disk before it, whether it is one of the two calls that
-    /// change a file, whether it was answered Ok, and of the disk after it.
-    ghost turn: { Self → Bool → Bool → Self → Type 0 } = { λ _ _ _ _. Unit {0} };
+    /// What a type says beside the rest of one call: of the disk before it, what was asked, whether it was answered Ok,
+    /// and of the disk after it.
+    ghost turn: { Self → Call → Bool → Self → Type 0 } = { λ _ _ _ _. Unit {0} };
 
     /// The number of bytes.
     fn len(&mut self) -> Result<u64, Failed>
@@ -43,7 +45,7 @@ pub trait Disk {
             (left_since self.new) (may_leave self.new) }
         ensures clock { OnOk result (Rose (moment self.old) (moment self.new)) }
         ensures cause { HasCause (faults self.old) (faults self.new) result }
-        ensures turn { turn self.old false (is_ok result) self.new };
+        ensures turn { turn self.old Len (is_ok result) self.new };
 
     /// Fills `out` with the bytes from a place on. Its range ends at or below the known length.
     fn read_at(&mut self, place: u64, out: &mut [u8]) -> Result<(), Failed>
@@ -57,7 +59,7 @@ pub trait Disk {
             (left_since self.new) (may_leave self.new) }
         ensures clock { OnOk result (Rose (moment self.old) (moment self.new)) }
         ensures cause { HasCause (faults self.old) (faults self.new) result }
-        ensures turn { turn self.old false (is_ok result) self.new };
+        ensures turn { turn self.old (Read place (length out.old)) (is_ok result) self.new };
 
     /// Writes over what is there, and past the end. It begins at or below the known length.
     fn write_at(&mut self, place: u64, bytes: &[u8]) -> Result<(), Failed>
@@ -74,7 +76,7 @@ pub trait Disk {
             (left_since self.new) (may_leave self.new) }
         ensures clock { OnOk result (Rose (moment self.old) (moment self.new)) }
         ensures cause { HasCause (faults self.old) (faults self.new) result }
-        ensures turn { turn self.old true (is_ok result) self.new };
+        ensures turn { turn self.old (Write place bytes.now) (is_ok result) self.new };
 
     /// After an Ok a crash leaves what a read gives.
     fn sync(&mut self) -> Result<(), Failed>
@@ -86,7 +88,7 @@ pub trait Disk {
             (left_since self.new) (may_leave self.new) }
         ensures clock { OnOk result (Rose (moment self.old) (moment self.new)) }
         ensures cause { HasCause (faults self.old) (faults self.new) result }
-        ensures turn { turn self.old true (is_ok result) self.new };
+        ensures turn { turn self.old Sync (is_ok result) self.new };
 
     /// What a read gives is one of the images.
     ghost reads_image: { (d : Self) (b : List ℕ) → told d ≡ Some b → may_leave d b };

@@ -5,23 +5,23 @@ ghost use Rattle.disk_core.specs.File.{file_of, file_faults, file_known, file_mo
 
 use crate::disk::Disk;
 use mtc_io::Failed;
-use std::fs::File;
+use std::fs::{File, OpenFile};
 use std::io;
 use std::os::unix::fs::FileExt;
 
 /// An open file. It tells nothing of its bytes, nor of what a crash leaves: that the operating system keeps the rules
 /// of [`Disk`] is taken on trust. It keeps the known length, a clock and a count of its faults.
 #[derive(Debug, Drop)]
-pub struct FileDisk {
-    file: File,
+pub struct FileDisk<F = File> {
+    file: F,
     known: u64,
     clock: u64,
     faults: u64,
 }
 
-impl FileDisk {
+impl<F: OpenFile + FileExt> FileDisk<F> {
     /// The file as it stands, with a known length of 0, no fault so far, and the clock at its start.
-    pub fn new(file: File) -> FileDisk
+    pub fn new(file: F) -> FileDisk<F>
         ensures file { file_of result ≡ file }
         ensures known { file_known result ≡ 0 }
         ensures moment { file_moment result ≡ 0 }
@@ -43,7 +43,7 @@ impl FileDisk {
     }
 
     /// The file, for another use.
-    pub fn into_inner(self) -> File
+    pub fn into_inner(self) -> F
         ensures { result ≡ file_of self }
     {
         self.file
@@ -69,11 +69,11 @@ fn count<T: Drop>(clock: &mut u64, faults: &mut u64, answer: io::Result<T>) -> R
     }
 }
 
-fn measure(file: &File) -> io::Result<u64> {
+fn measure(file: &impl OpenFile) -> io::Result<u64> {
     Ok(file.metadata()?.len())
 }
 
-impl Disk for FileDisk {
+impl<F: OpenFile + FileExt> Disk for FileDisk<F> {
     ghost told = { λ _. None };
 
     ghost known = { λ d. d.known };

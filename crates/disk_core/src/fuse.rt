@@ -16,12 +16,15 @@ pub struct Fuse<D: Disk> {
 }
 
 impl<D: Disk> Fuse<D> {
-    ghost use Rattle.disk_core.specs.Fuse.{inner_of, passes_of, is_blown};
+    ghost use Rattle.disk_core.specs.Fuse.{inner_of, passes_of, is_blown, refused_of};
 
+    /// A fuse that has failed no call. It counts the faults of the disk inside, and each call that it fails itself.
     pub fn new(disk: D, passes: u64) -> Fuse<D>
         ensures disk { inner_of result ≡ disk }
         ensures passes { passes_of result ≡ passes }
         ensures whole { is_blown result ≡ false }
+        ensures refused { refused_of result ≡ 0 }
+        ensures faults { ⟦<Fuse<D> as Disk>⟧.faults result ≡ D.faults disk }
     {
         Fuse {
             disk,
@@ -31,6 +34,15 @@ impl<D: Disk> Fuse<D> {
         }
     }
 
+    /// How many calls it has failed itself, up to the last value of the count.
+    pub fn refused(&self) -> u64
+        ensures value { result ≡ refused_of self.now }
+        ensures faults { ⟦<Fuse<D> as Disk>⟧.faults self.now ≡ D.faults (inner_of self.now) + result }
+    {
+        self.refused
+    }
+
+    /// The disk inside.
     pub fn into_inner(self) -> D
         ensures { result ≡ inner_of self }
     {
@@ -85,7 +97,7 @@ impl<D: Disk> Disk for Fuse<D> {
 
     ghost faults = { λ f. D.Disk.faults f.disk + f.refused };
 
-    ghost turn = { λ f changes ok h. FuseTurn D.Disk f changes ok h };
+    ghost turn = { λ f call ok h. FuseTurn D.Disk f call ok h };
 
     fn len(&mut self) -> Result<u64, Failed> {
         look(self.blown, &mut self.refused)?;

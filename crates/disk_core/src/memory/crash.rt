@@ -96,7 +96,7 @@ pub(crate) fn left(
         replay(&mut seen, &mut image, made, choice)?;
         choice = match made.call {
             Call::Write { .. } => choice / 4 + choice % 4 * (1 << 62),
-            Call::Sync => pick,
+            Call::Sync if made.ok => pick,
             _ => choice,
         };
     }

@@ -3,7 +3,7 @@ ghost use Rattle.std.specs.Prelude.{◌≡◌, ◌+◌, ◌≤◌, ◌<◌, ℕ,
 ghost use Rattle.mtc_io.specs.Counts.{HasCause};
 ghost use Rattle.disk_core.specs.Disk.{overwritten, Torn, Follows, NoNew, Only, Elapses};
 ghost use Rattle.disk_core.specs.History.{seen_of, left_of, moment_of, since_of};
-ghost use Rattle.disk_core.specs.Plan.{PlanTurn};
+ghost use Rattle.disk_core.specs.Plan.{PlanTurn, Notes};
 ghost use Rattle.disk_core.specs.Replay.{State, after_call};
 ghost use Rattle.disk_core.specs.ReplayLaws.{told_seen, told_length, now_since, since_now};
 
@@ -15,7 +15,10 @@ use mtc_io::{Bytes, Failed, Memory};
 use std::alloc::Global;
 
 /// A disk in memory. It tells its bytes, fails the calls whose numbers are listed, counted from 0, and keeps a record of
-/// its calls. A call whose growth finds no memory fails too, leaves no trace, and is counted apart.
+/// its calls. A call that finds no memory fails too, isn't in the record, and is counted apart.
+///
+/// What it tells is the replay of the record over what it held at first: a write that is done is seen, and of each write
+/// since the last sync, a failed one too, a crash may leave what it may leave of any.
 #[derive(Debug, Drop)]
 pub struct MemDisk {
     past: History,
@@ -34,10 +37,13 @@ fn look(plan: &mut Plan, past: &mut History, call: Call) -> Result<(), Failed>
     ensures clock { OnOk result (moment_of past.old < moment_of past.new) }
     ensures cause { HasCause plan.old.faults plan.new.faults result }
     ensures turn { PlanTurn plan.old (is_ok result) plan.new }
+    ensures noted { Notes plan.old past.old call (is_ok result) plan.new past.new }
 {
     if plan.begin() {
-        let _ = past.note(call, false);
-        return Err(Failed);
+        return match past.note(call, false) {
+            Ok(()) => Err(Failed),
+            Err(Memory) => Err(plan.miss()),
+        };
     }
     match past.note(call, true) {
         Ok(()) => Ok(()),
@@ -55,10 +61,13 @@ fn settle(plan: &mut Plan, past: &mut History) -> Result<(), Failed>
     ensures clock { OnOk result (moment_of past.old < moment_of past.new) }
     ensures cause { HasCause plan.old.faults plan.new.faults result }
     ensures turn { PlanTurn plan.old (is_ok result) plan.new }
+    ensures noted { Notes plan.old past.old Call.Sync (is_ok result) plan.new past.new }
 {
     if plan.begin() {
-        let _ = past.note(Call::Sync, false);
-        return Err(Failed);
+        return match past.note(Call::Sync, false) {
+            Ok(()) => Err(Failed),
+            Err(Memory) => Err(plan.miss()),
+        };
     }
     match past.settle() {
         Ok(()) => Ok(()),
@@ -76,10 +85,13 @@ fn write(plan: &mut Plan, past: &mut History, place: u64, piece: &[u8]) -> Resul
     ensures clock { OnOk result (moment_of past.old < moment_of past.new) }
     ensures cause { HasCause plan.old.faults plan.new.faults result }
     ensures turn { PlanTurn plan.old (is_ok result) plan.new }
+    ensures noted { Notes plan.old past.old (Call.Write place piece.now) (is_ok result) plan.new past.new }
 {
     if plan.begin() {
-        let _ = past.fail_write(place, piece);
-        return Err(Failed);
+        return match past.fail_write(place, piece) {
+            Ok(()) => Err(Failed),
+            Err(Memory) => Err(plan.miss()),
+        };
     }
     match past.write(place, piece) {
         Ok(()) => Ok(()),
@@ -133,9 +145,10 @@ impl MemDisk {
         })
     }
 
-    /// A disk over one image that a crash now may leave, chosen by `pick`. Of each write since the last sync nothing is
-    /// left, all of it, its front alone, or its front with other bytes behind: two bits of `pick` choose, and the next
-    /// two the length of the front, in quarters. The same pick gives the same image.
+    /// A disk over one image that a crash now may leave, chosen by `pick`. Of each write since the last sync that was
+    /// answered Ok nothing is left, all of it, its front alone, or its front with other bytes behind: two bits of `pick`
+    /// choose, for each write the two above those of the one before it, and the two above these say the length of the
+    /// front, in quarters. They are those that choose for the next write. The same pick gives the same image.
     pub fn crash(self, pick: u64) -> Result<MemDisk, Memory>
         ensures image { IfOk result (λ it. images_of self (bytes_of it)) }
         ensures fresh { IfOk result (λ it. IsFresh (bytes_of it) it) }
@@ -195,7 +208,7 @@ impl Disk for MemDisk {
 
     ghost faults = { λ m. m.plan.faults };
 
-    ghost turn = { λ m _ ok n. PlanTurn m.plan ok n.plan };
+    ghost turn = { λ m call ok n. PlanTurn m.plan ok n.plan × Notes m.plan m.past call ok n.plan n.past };
 
     fn len(&mut self) -> Result<u64, Failed> {
         look(&mut self.plan, &mut self.past, Call::Len)?;

@@ -55,4 +55,15 @@ impl Plan {
         self.starved = self.starved.saturating_add(1);
         Failed
     }
+
+    // A call that fails in any case finds no memory to be noted.
+    pub(crate) fn miss(&mut self) -> Failed
+        ensures made { self.new.made ≡ self.old.made }
+        ensures failing { self.new.failing ≡ self.old.failing }
+        ensures faults { self.new.faults ≡ self.old.faults }
+        ensures starved { Rose self.old.starved self.new.starved }
+    {
+        self.starved = self.starved.saturating_add(1);
+        Failed
+    }
 }
