@@ -2,7 +2,6 @@ pub mod Append
 pub mod FirstRecord
 pub mod OpeningSteps
 pub mod ReadOn
-pub mod Readable
 pub mod Records
 pub mod Steps
 pub mod Told

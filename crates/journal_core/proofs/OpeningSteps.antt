@@ -2,7 +2,7 @@
 use Rattle.std.proofs.Common.{◌≡◌, ℕ, ◌+◌, ◌≤◌, List, [], ◌∷◌, ◌++◌, length, take, Option, Some, None, IfSome, option_map, refl, ap, sym, ◌∙◌, subst, arith}
 use Rattle.disk_core.specs.Moments.{Looks}
 use Rattle.disk_core.specs.declared.disk.Disk.{Ghosts}
-use Rattle.journal_core.specs.Format.{header, IsRecordAt, behind, IsClosedAt, StandsFor, records_of, records_before, IsBadLengthAt, IsCutShortAt}
+use Rattle.journal_core.specs.Format.{header, IsRecordAt, end_behind, IsClosedAt, StandsFor, records_of, records_before, IsBadLengthAt, IsCutShortAt}
 use Rattle.journal_core.specs.Opens.{HasReason, IsOfRecord, IsWalkTo}
 use Rattle.journal_core.specs.Walk.{walk_of, at_gate, at_bad_length, at_cut}
 use Rattle.journal_core.specs.Settled.{IsReading, IsSettled}
@@ -10,7 +10,7 @@ use Rattle.journal_core.specs.Words.{AllStandFor}
 use Rattle.journal_core.specs.declared.error.OpenError.{OpenError}
 use Rattle.journal_core.specs.declared.error.OpenError.TheVariants.{NotJournal, BadLength, CutShort, Failed, Memory}
 use Rattle.journal_core.proofs.Told.{if_told, at_told, of_records}
-use Rattle.std.proofs.lemmas.List.{length-take}
+use Rattle.std.proofs.lemmas.List.{length-take, length_push}
 use Rattle.journal_core.proofs.Records.{records_of-stands}
 use Rattle.journal_core.proofs.Walk.{walk_closed, walk_bad, walk_cut}
 use Rattle.journal_core.proofs.ReadOn.{more_list, more_read, read_same, read_all, settled, not_bad, not_cut}
@@ -43,6 +43,15 @@ module _ {D : Type 0} (g : Ghosts D) (old new : D) (looks : Looks g old new) (pl
             → option_map (λ b. records_before b next) told ≡ option_map (λ list. list ++ body ∷ []) (option_map (λ b. records_before b place) told)
         go None is = refl
         go (Some b) is = ap Some (ap (records_before b) next_is ∙ more_list b (g.may_leave old) place (reading b is) body (found_in b is))
+
+    -- the count of them
+    pub step_count : (count : ℕ) → ((b : List ℕ) → g.told old ≡ Some b → count ≡ length (records_before b place))
+        → (b : List ℕ) → g.told new ≡ Some b → count + 1 ≡ length (records_before b next)
+    step_count count counted b told =
+        let told_old : g.told old ≡ Some b = sym looks.told ∙ told in
+        let more : records_before b next ≡ records_before b place ++ body ∷ []
+        = ap (records_before b) next_is ∙ more_list b (g.may_leave old) place (reading b told_old) body (found_in b told_old) in
+        ap (λ (n : ℕ). n + 1) (counted b told_old) ∙ sym (ap length more ∙ length_push (records_before b place) body)
 
   -- no record more
   pub same_reading : (b : List ℕ) → g.told new ≡ Some b → IsReading b (g.may_leave new) place
@@ -126,5 +135,11 @@ module _ {D : Type 0} (g : Ghosts D) (disk : D) (place : ℕ)
   ended_all = of_records (AllStandFor g disk) (g.told disk) (λ b told. let is = ended_settled b told in
       λ c left. subst (λ (bytes : List ℕ). StandsFor bytes (records_of b)) (sym (is.only c left)) is.stands)
 
-  pub ended_place : IfSome (option_map records_of (g.told disk)) (λ list. place + 1 ≡ behind 16 list + 1)
-  ended_place = of_records (λ (list : List (List ℕ)). place + 1 ≡ behind 16 list + 1) (g.told disk) (λ b told. (ended_settled b told).end_is)
+  pub ended_place : IfSome (option_map records_of (g.told disk)) (λ list. place + 1 ≡ end_behind list)
+  ended_place = of_records (λ (list : List (List ℕ)). place + 1 ≡ end_behind list) (g.told disk) (λ b told. (ended_settled b told).end_is)
+
+-- the count of the records that were read, as one of their list
+pub count_of_list : (told : Option (List ℕ)) (place count : ℕ) → ((b : List ℕ) → told ≡ Some b → count ≡ length (records_before b place))
+    → IfSome (option_map (λ b. records_before b place) told) (λ list. count ≡ length list)
+count_of_list None place count counted = tt
+count_of_list (Some b) place count counted = counted b refl

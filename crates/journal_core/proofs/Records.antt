@@ -1,7 +1,7 @@
 -- Records depend on the bytes up to their end alone, and are found again from the bytes.
-use Rattle.std.proofs.Common.{◌≡◌, ◌≢◌, ℕ, zero, suc, ◌+◌, ◌<◌, ◌≤◌, ◌==◌, nat_lt, true, false, List, [], ◌∷◌, ◌++◌, length, take, drop, get_or, slice_index, refl, ap, sym, ◌∙◌, arith}
+use Rattle.std.proofs.Common.{◌≡◌, ◌≢◌, ℕ, zero, suc, ◌+◌, ◌-◌, ◌<◌, ◌≤◌, ◌==◌, nat_lt, true, false, List, [], ◌∷◌, ◌++◌, length, take, drop, get_or, slice_index, refl, ap, sym, ◌∙◌, arith}
 use Rattle.std.specs.Int.{w32, to_be_bytes, from_be_bytes}
-use Rattle.std.proofs.lemmas.List.{take-take, drop-take, get_or-take, length-take, length-drop}
+use Rattle.std.proofs.lemmas.List.{take-take, drop-take, drop-drop, get_or-take, length-take, length-drop}
 use Rattle.std.proofs.lemmas.Bool.{ne_eqb, lt-ltb, le-ltb}
 use Rattle.std.proofs.lemmas.Nat.{from_be_bytes-to_be_bytes_4}
 use Rattle.disk_core.specs.Disk.{part}
@@ -145,3 +145,18 @@ pub body_there : (bytes : List ℕ) (place : ℕ) (front : List (List ℕ)) (bod
     → AreRecordsAt bytes place (front ++ body ∷ back) → part (behind place front + 5) (length body) bytes ≡ body
 body_there bytes place [] body back are = are.0.body_is
 body_there bytes place (first ∷ front) body back are = body_there bytes (place + 5 + length first) front body back are.1
+
+pub length_there : (bytes : List ℕ) (place : ℕ) (front : List (List ℕ)) (body : List ℕ) (back : List (List ℕ))
+    → AreRecordsAt bytes place (front ++ body ∷ back) → part (behind place front + 1) 4 bytes ≡ to_be_bytes w32 (length body)
+length_there bytes place [] body back are = are.0.size
+length_there bytes place (first ∷ front) body back are = length_there bytes (place + 5 + length first) front body back are.1
+
+-- a part of it
+pub part_there : (bytes : List ℕ) (place from count : ℕ) (body : List ℕ) → part place (length body) bytes ≡ body → from + count ≤ length body
+    → part (place + from) count bytes ≡ part from count body
+part_there bytes place from count body is within =
+    let split : length body ≡ from + (length body - from) = omega arith in
+    let whole : drop from body ≡ take (length body - from) (drop from (drop place bytes))
+    = ap (drop from) (sym is) ∙ ap (λ (n : ℕ). drop from (take n (drop place bytes))) split ∙ drop-take from (length body - from) (drop place bytes) in
+    sym (ap (take count) whole ∙ take-take count (length body - from) (drop from (drop place bytes)) (omega arith)
+    ∙ ap (take count) (drop-drop from place bytes))

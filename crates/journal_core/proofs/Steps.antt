@@ -1,13 +1,13 @@
 -- The two writes of an append as steps of a disk: what its images stand for, at each moment and afterwards.
-use Rattle.std.proofs.Common.{◌≡◌, inl, ℕ, ◌+◌, ◌-◌, ◌≤◌, List, [], ◌∷◌, ◌++◌, length, Option, Some, None, IfSome, option_map, refl, ap, sym, ◌∙◌, subst, arith}
+use Rattle.std.proofs.Common.{◌≡◌, inl, inr, ℕ, ◌+◌, ◌-◌, ◌≤◌, List, [], ◌∷◌, ◌++◌, length, Option, Some, None, IfSome, option_map, is_some, true, false, refl, ap, sym, ◌∙◌, subst, arith}
 use Rattle.disk_core.specs.Disk.{overwritten, part, Torn, Only}
 use Rattle.disk_core.specs.Moments.{LeavesOnly}
 use Rattle.disk_core.specs.declared.disk.Disk.{Ghosts}
-use Rattle.disk_core.proofs.Moments.{started, joined, weaker}
+use Rattle.disk_core.proofs.Moments.{started, joined, weaker, left_now}
 use Rattle.journal_core.specs.Format.{AreRecordsAt, behind, StandsFor, StandsForEither, tail_of, records_of}
 use Rattle.journal_core.specs.Settled.{IsSettled}
-use Rattle.journal_core.specs.Words.{AllStandFor, HoldsBody}
-use Rattle.journal_core.proofs.Records.{records_of-stands, behind-append, body_there}
+use Rattle.journal_core.specs.Words.{AllStandFor, HoldsBody, HoldsLength}
+use Rattle.journal_core.proofs.Records.{records_of-stands, behind-append, body_there, length_there, part_there}
 use Rattle.journal_core.proofs.Told.{if_told, at_told, told_before, of_records}
 use Rattle.journal_core.proofs.Append.{IsStaged, staged, torn_behind, torn_gate, opened}
 
@@ -116,14 +116,48 @@ module _ {D : Type 0} (g : Ghosts D) (old mid new : D) (body piece : List ℕ) (
       joined g old mid new _ (first_step g old mid new b body end (records_of b) was.only was.stands was.end_is count run)
       (second_step g old mid new b body end (records_of b) now only is_staged some few was.end_is run_on))
 
--- what is read over the range of a body
-module _ {D : Type 0} (g : Ghosts D) (old : D) (end place : ℕ) (read : List ℕ)
-    (settled : (b : List ℕ) → g.told old ≡ Some b → IsSettled b (g.may_leave old) end)
+-- What is read over the range of a body, of a part of one, or of its length.
+module _ {D : Type 0} (g : Ghosts D) (old : D) (place : ℕ) (read : List ℕ)
+    (stands : (b : List ℕ) → g.told old ≡ Some b → StandsFor b (records_of b))
     (is : IfSome (g.told old) (λ b. read ≡ part place (length read) b)) where
+  found : (b : List ℕ) → g.told old ≡ Some b → read ≡ part place (length read) b
+  found b told = at_told (λ (bytes : List ℕ). read ≡ part place (length read) bytes) (g.told old) b told is
+
+  are : (b : List ℕ) (list : List (List ℕ)) → g.told old ≡ Some b → records_of b ≡ list → AreRecordsAt b 16 list
+  are b list told list_is = subst (λ (list : List (List ℕ)). AreRecordsAt b 16 list) list_is (stands b told).holds
+
   pub read_body : IfSome (option_map records_of (g.told old)) (HoldsBody place read)
-  read_body = of_records (HoldsBody place read) (g.told old) (λ b told front body back list_is place_is length_is.
-      let found : read ≡ part place (length read) b = at_told (λ (bytes : List ℕ). read ≡ part place (length read) bytes) (g.told old) b told is in
-      let are : AreRecordsAt b 16 (front ++ body ∷ back)
-      = subst (λ (list : List (List ℕ)). AreRecordsAt b 16 list) list_is (settled b told).stands.holds in
-      found ∙ ap (λ (n : ℕ). part place n b) length_is ∙ ap (λ (n : ℕ). part n (length body) b) place_is
-      ∙ body_there b 16 front body back are)
+  read_body = of_records (HoldsBody place read) (g.told old) (λ b told front body back from list_is place_is within.
+      let whole : place ≡ behind 16 front + 5 + from = omega arith in
+      found b told ∙ ap (λ (n : ℕ). part n (length read) b) whole
+      ∙ part_there b (behind 16 front + 5) from (length read) body (body_there b 16 front body back (are b _ told list_is)) within)
+
+  pub read_length : IfSome (option_map records_of (g.told old)) (HoldsLength place read)
+  read_length = of_records (HoldsLength place read) (g.told old) (λ b told front body back list_is place_is four.
+      found b told ∙ ap (λ (n : ℕ). part place n b) four ∙ ap (λ (n : ℕ). part n 4 b) place_is
+      ∙ length_there b 16 front body back (are b _ told list_is))
+
+-- Behind writes at each moment of which a crash leaves the old records, or these and one more, the bytes still stand for
+-- their records.
+module _ {D : Type 0} (g : Ghosts D) (old new : D) (body : List ℕ)
+    (told_kept : is_some (g.told new) ≡ is_some (g.told old))
+    (reads_image : (b : List ℕ) → g.told new ≡ Some b → g.may_leave new b)
+    (counts_now : (t : ℕ) (c : List ℕ) → t ≤ g.moment new → g.may_leave new c → g.left_since new t c)
+    (run : IfSome (option_map records_of (g.told old)) (λ list. LeavesOnly g old new (StandsForEither list body))) where
+  pub still_stands : (b : List ℕ) → g.told new ≡ Some b → StandsFor b (records_of b)
+  still_stands b told = go (g.told old) refl
+    where
+      by_list : (list : List (List ℕ)) → StandsFor b list → StandsFor b (records_of b)
+      by_list list stands = subst (λ (l : List (List ℕ)). StandsFor b l) (sym (records_of-stands b list stands)) stands
+
+      go : (was : Option (List ℕ)) → g.told old ≡ was → StandsFor b (records_of b)
+      go None is =
+          let wrong : true ≡ false = ap is_some (sym told) ∙ told_kept ∙ ap is_some is in cc
+      go (Some bytes) is =
+          let leaves : LeavesOnly g old new (StandsForEither (records_of bytes) body)
+          = at_told (λ (list : List (List ℕ)). LeavesOnly g old new (StandsForEither list body)) (option_map records_of (g.told old)) (records_of bytes)
+          (ap (option_map records_of) is) run in
+          elim (left_now g old new _ counts_now leaves b (reads_image b told)) [
+            | inl stands ↦ by_list (records_of bytes) stands
+            | inr stands ↦ by_list (records_of bytes ++ body ∷ []) stands
+          ]

@@ -26,6 +26,11 @@ abbrev pub behind : ℕ → List (List ℕ) → ℕ
 behind place [] = place
 behind place (body ∷ bodies) = behind (place + 5 + length body) bodies
 
+-- The end of a journal with these records: the place behind the closed gate that ends them. The next body would begin
+-- four bytes further on.
+abbrev pub end_behind : List (List ℕ) → ℕ
+end_behind records = behind 16 records + 1
+
 -- at this place stands a closed gate
 pub record IsClosedAt (bytes : List ℕ) (place : ℕ) : Type 0 where
   pub there : place < length bytes

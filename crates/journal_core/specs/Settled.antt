@@ -2,12 +2,12 @@
 use Rattle.std.specs.Prelude.{◌≡◌, ℕ, ◌+◌, List, [], ◌∷◌, length, take}
 use Rattle.std.proofs.Props.{props}
 use Rattle.disk_core.specs.Disk.{Only}
-use Rattle.journal_core.specs.Format.{header, IsRecordAt, AreRecordsAt, behind, IsClosedAt, StandsFor, records_of, records_before}
+use Rattle.journal_core.specs.Format.{header, IsRecordAt, AreRecordsAt, behind, end_behind, IsClosedAt, StandsFor, records_of, records_before}
 
 -- the bytes stand for their records, all of it is on the disk, and `end` is the place behind the closed gate
 pub record IsSettled (bytes : List ℕ) (images : List ℕ → Type 0) (end : ℕ) : Type 0 where
   pub stands : StandsFor bytes (records_of bytes)
-  pub end_is : end ≡ behind 16 (records_of bytes) + 1
+  pub end_is : end ≡ end_behind (records_of bytes)
   pub only : Only bytes images
 
 -- the records before a place were read, in a file of which everything is on the disk
@@ -31,6 +31,9 @@ IsClosedAt-prop bytes place = hlevel props
 
 pub StandsFor-prop : (bytes : List ℕ) (records : List (List ℕ)) → IsProp (StandsFor bytes records)
 StandsFor-prop bytes records = hlevel (props, AreRecordsAt-prop bytes 16 records, IsClosedAt-prop bytes (behind 16 records))
+
+pub StandsFor-records-prop : (bytes : List ℕ) → IsProp (StandsFor bytes (records_of bytes))
+StandsFor-records-prop bytes = StandsFor-prop bytes (records_of bytes)
 
 pub IsSettled-prop : (bytes : List ℕ) (images : List ℕ → Type 0) (end : ℕ) → IsProp (IsSettled bytes images end)
 IsSettled-prop bytes images end = hlevel (props, StandsFor-prop bytes (records_of bytes))

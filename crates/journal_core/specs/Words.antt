@@ -1,8 +1,10 @@
 -- What a journal shows, and what `append` makes of it.
-use Rattle.std.specs.Prelude.{◌≡◌, ℕ, ◌+◌, Bool, true, false, List, [], ◌∷◌, ◌++◌, length, Option, option_map, IfSome, Result, Ok, Err}
+use Rattle.std.specs.Prelude.{◌≡◌, ℕ, ◌+◌, ◌≤◌, Bool, true, false, List, [], ◌∷◌, ◌++◌, length, Option, option_map, IfSome, Result, Ok, Err}
+use Rattle.std.specs.Int.{w32, to_be_bytes}
 use Rattle.mtc_io.specs.Counts.{Rose}
+use Rattle.disk_core.specs.Disk.{part}
 use Rattle.disk_core.specs.declared.disk.Disk.{Ghosts}
-use Rattle.journal_core.specs.Format.{behind, StandsFor, records_of}
+use Rattle.journal_core.specs.Format.{end_behind, StandsFor, records_of}
 use Rattle.journal_core.specs.declared.error.AppendError.{AppendError}
 use Rattle.journal_core.specs.declared.error.AppendError.TheVariants.{Failed, Broken, Full}
 use Rattle.journal_core.specs.declared.journal.Journal.{Journal}
@@ -11,11 +13,16 @@ use Rattle.journal_core.specs.declared.journal.Journal.{Journal}
 abbrev pub AllStandFor : {D : Type 0} → Ghosts D → D → List (List ℕ) → Type 0
 AllStandFor g disk list = (c : List ℕ) → g.may_leave disk c → StandsFor c list
 
--- Where the range that was read is that of a body of these records, this is the body: behind other records it lies 5
--- bytes behind their end.
+-- Where the range that was read lies within a body of these records, from so many of its bytes on, this is that part of
+-- the body. The body behind some of the records begins four bytes behind their end.
 abbrev pub HoldsBody : ℕ → List ℕ → List (List ℕ) → Type 0
-HoldsBody place read list = (front : List (List ℕ)) (body : List ℕ) (back : List (List ℕ)) → list ≡ front ++ body ∷ back
-    → place ≡ behind 16 front + 5 → length read ≡ length body → read ≡ body
+HoldsBody place read list = (front : List (List ℕ)) (body : List ℕ) (back : List (List ℕ)) (from : ℕ) → list ≡ front ++ body ∷ back
+    → place ≡ end_behind front + 4 + from → from + length read ≤ length body → read ≡ part from (length read) body
+
+-- Where the four bytes before a body were read, these are its length.
+abbrev pub HoldsLength : ℕ → List ℕ → List (List ℕ) → Type 0
+HoldsLength place read list = (front : List (List ℕ)) (body : List ℕ) (back : List (List ℕ)) → list ≡ front ++ body ∷ back
+    → place ≡ end_behind front → length read ≡ 4 → read ≡ to_be_bytes w32 (length body)
 
 module _ {D : Type 0} {g : Ghosts D} where
   abbrev pub disk_of : Journal D g → D

@@ -49,12 +49,12 @@ pub enum OpenError {
 /// Why a record was not appended, in the order of the tests.
 #[derive(Clone, Copy, Debug, PartialEq, Eq)]
 pub enum AppendError {
-    /// The disk failed: the journal holds the old records, or these and the new one, and is to be opened again.
-    Failed,
     /// An earlier append on this value answered `Failed`.
     Broken,
     /// The file would pass 2^31 bytes.
     Full,
+    /// The disk failed: the journal holds the old records, or these and the new one, and is to be opened again.
+    Failed,
 }
 
 impl From<Failed> for StartError {

@@ -4,8 +4,8 @@ ghost use Rattle.std.proofs.Props.{props};
 ghost use Rattle.mtc_io.specs.Counts.{HasCause};
 ghost use Rattle.disk_core.specs.Disk.{part};
 ghost use Rattle.disk_core.specs.Moments.{LeavesOnly, Looks};
-ghost use Rattle.journal_core.specs.Format.{StandsForEither};
-ghost use Rattle.journal_core.specs.Settled.{IsSettled, IsSettled-prop};
+ghost use Rattle.journal_core.specs.Format.{StandsFor, StandsForEither, records_of};
+ghost use Rattle.journal_core.specs.Settled.{IsSettled, IsSettled-prop, StandsFor-records-prop};
 
 use crate::error::AppendError;
 use crate::format::pack;
@@ -25,12 +25,14 @@ pub struct Journal<D: Disk> {
     ghost room: { length buffer.items ≡ 131094 },
     ghost there: { end ≤ D.Disk.known disk },
     ghost begun: { 17 ≤ end },
+    ghost stands: { (b : List ℕ) → D.Disk.told disk ≡ Some b
+        → StandsFor b (records_of b) } by { Prim.hlevel (props, StandsFor-records-prop) },
     ghost settled: { broken ≡ false → (b : List ℕ) → D.Disk.told disk ≡ Some b
         → IsSettled b (D.Disk.may_leave disk) end } by { Prim.hlevel (props, IsSettled-prop) },
 }
 
 impl<D: Disk> Journal<D> {
-    ghost use Rattle.journal_core.specs.Words.{disk_of, end_of, is_broken, records, Leaves, HoldsBody};
+    ghost use Rattle.journal_core.specs.Words.{disk_of, end_of, is_broken, records, Leaves, HoldsBody, HoldsLength};
 
     /// Adds a record of 1 to 131,072 bytes. At Ok a crash leaves the records with it; at any moment of the call it leaves
     /// the old records, or these and the new one.
@@ -59,14 +61,16 @@ impl<D: Disk> Journal<D> {
         self.put(body)
     }
 
-    /// Fills `out` with the bytes from a place on. Its range ends at or below the end. Over the range of a body it gives
-    /// that body. The first body lies at place 21, each later one 5 bytes behind the end of the one before.
+    /// Fills `out` with the bytes from a place on. Its range ends at or below the end. Over the range of a body, or of a
+    /// part of one, it gives that, and over the four bytes before a body its length, the highest byte first. The first
+    /// body lies at place 21, each later one 5 bytes behind the end of the one before. So it does also where an append
+    /// has failed.
     pub fn read(&mut self, place: u64, out: &mut [u8]) -> Result<(), Failed>
         requires { place + length out.old ≤ end_of self.old }
         ensures read { OnOk result (IfSome (D.told (disk_of self.old))
             (λ bytes. out.new ≡ part place (length out.old) bytes)) }
-        ensures body { OnOk result (is_broken self.old ≡ false
-            → IfSome (records self.old) (HoldsBody place out.new)) }
+        ensures body { OnOk result (IfSome (records self.old) (HoldsBody place out.new)) }
+        ensures length { OnOk result (IfSome (records self.old) (HoldsLength place out.new)) }
         ensures records { records self.new ≡ records self.old }
         ensures end { end_of self.new ≡ end_of self.old }
         ensures broken { is_broken self.new ≡ is_broken self.old }

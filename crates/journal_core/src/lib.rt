@@ -6,13 +6,14 @@
 //! the new one, and once the call has answered Ok it leaves the latter.
 //!
 //! A layer above speaks of lists of records alone: a file stands for a list, every image of a disk stands for a list, or
-//! for one of two lists while a record is appended. No other crate names a gate or a place in a record's head.
+//! for one of two lists while a record is appended.
 #![tactic(auto)]
 
 mod error;
 mod first_record;
 mod format;
 mod journal;
+mod laws;
 mod opening;
 mod record;
 #[cfg(test)]
@@ -22,4 +23,5 @@ pub use error::{AppendError, OpenError, Refused, StartError};
 pub use first_record::start;
 pub use format::MAX_BODY;
 pub use journal::Journal;
+pub use laws::a_file_stands_for_one_list_at_most;
 pub use opening::Opening;

@@ -4,7 +4,7 @@ ghost use Rattle.std.proofs.Props.{props};
 ghost use Rattle.mtc_io.specs.Counts.{HasCause};
 ghost use Rattle.disk_core.specs.Disk.{Only};
 ghost use Rattle.disk_core.specs.Moments.{Looks};
-ghost use Rattle.journal_core.specs.Format.{header, behind, IsClosedAt, StandsFor};
+ghost use Rattle.journal_core.specs.Format.{header, end_behind, IsClosedAt, StandsFor, records_before};
 ghost use Rattle.journal_core.specs.Opens.{HasReason, IsOfHeader};
 ghost use Rattle.journal_core.specs.Settled.{IsReading, IsReading-prop, IsClosedAt-prop};
 
@@ -22,6 +22,7 @@ pub struct Opening<D: Disk> {
     disk: D,
     size: u64,
     place: u64,
+    count: u64,
     body: usize,
     ended: bool,
     refused: Option<OpenError>,
@@ -30,10 +31,12 @@ pub struct Opening<D: Disk> {
     ghost held: { body ≤ 131072 },
     ghost known: { size ≤ D.Disk.known disk },
     ghost begun: { 16 ≤ place },
+    ghost few: { count < place },
     ghost within: { ended ≡ true → place < size },
     ghost exact: { (b : List ℕ) → D.Disk.told disk ≡ Some b → size ≡ length b },
     ghost reading: { (b : List ℕ) → D.Disk.told disk ≡ Some b
         → IsReading b (D.Disk.may_leave disk) place } by { Prim.hlevel (props, IsReading-prop) },
+    ghost counted: { (b : List ℕ) → D.Disk.told disk ≡ Some b → count ≡ length (records_before b place) },
     ghost closed: { ended ≡ true → (b : List ℕ) → D.Disk.told disk ≡ Some b
         → IsClosedAt b place } by { Prim.hlevel (props, IsClosedAt-prop) },
 }
@@ -102,6 +105,7 @@ impl<D: Disk> Opening<D> {
             disk,
             size,
             place: 16,
+            count: 0,
             body: 0,
             ended: false,
             refused: None,
@@ -125,6 +129,13 @@ impl<D: Disk> Opening<D> {
         }
     }
 
+    /// How many records were read, so the number of the next one.
+    pub fn read_count(&self) -> u64
+        ensures { IfSome (read_list self.now) (λ list. result ≡ length list) }
+    {
+        self.count
+    }
+
     /// The journal, once its closed gate was read.
     pub fn ready(self) -> Journal<D>
         requires { is_ended self ≡ true }
@@ -132,7 +143,7 @@ impl<D: Disk> Opening<D> {
         ensures disk { disk_of result ≡ opening_disk self }
         ensures sound { is_broken result ≡ false }
         ensures all { IfSome (records result) (AllStandFor D.Disk (disk_of result)) }
-        ensures end { IfSome (records result) (λ list. end_of result ≡ behind 16 list + 1) }
+        ensures end { IfSome (records result) (λ list. end_of result ≡ end_behind list) }
     {
         Journal {
             disk: self.disk,
@@ -168,6 +179,7 @@ impl<D: Disk> Opening<D> {
         match read_record(&mut self.disk, self.size, self.place, &mut self.buffer) {
             Ok(Some(length)) => {
                 self.place += 5 + length as u64;
+                self.count += 1;
                 self.body = length;
                 Ok(true)
             }

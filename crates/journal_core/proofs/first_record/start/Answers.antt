@@ -23,6 +23,15 @@ invariant_of-result-clause-settled g c = λ sound b told.
     (piece_is _ _ _ c.deref.ensures.value c.pack_first.ensures.first) c.requires.some c.requires.few
     c.in-Ok-write_first.ensures.written c.in-Ok-write_first.ensures.durable b told
 
+pub invariant_of-result-clause-stands : goal.invariant_of-result-clause-stands
+invariant_of-result-clause-stands g c = λ b told.
+    (started_settled g.D.Disk c.look_len.new.disk c.write_first.new.disk c.args.first.now
+    (take (length c.args.first.now + 22) c.deref.result.now)
+    (subst (λ (told : Option (List ℕ)). IfSome told (λ b. b ≡ [])) (sym c.look_len.ensures.looks.told)
+    (empty (g.D.Disk.told c.args.disk) c.in-Ok.length c.if-length-ne0.false c.in-Ok.ensures.length))
+    (piece_is _ _ _ c.deref.ensures.value c.pack_first.ensures.first) c.requires.some c.requires.few
+    c.in-Ok-write_first.ensures.written c.in-Ok-write_first.ensures.durable b told).stands
+
 pub returns-in-Ok-write_first-clause-ok : goal.returns-in-Ok-write_first-clause-ok
 returns-in-Ok-write_first-clause-ok g c = record {
   empty = empty (g.D.Disk.told c.args.disk) c.in-Ok.length c.if-length-ne0.false c.in-Ok.ensures.length;

@@ -1,13 +1,22 @@
-use Rattle.std.proofs.Common.{◌≡◌, ℕ, length, subst, sym}
+use Rattle.std.proofs.Common.{◌≡◌, ℕ, List, Option, length, subst, sym, IfSome}
 use Rattle.disk_core.specs.Disk.{part}
 use Rattle.journal_core.proofs.Told.{if_some}
-use Rattle.journal_core.proofs.Steps.{read_body}
+use Rattle.journal_core.proofs.Steps.{read_body, read_length}
 use Rattle.journal_core.proofs.journal.Journal.read.Goals as goal
 
+-- what was read, by its own length
+read_is : (told : Option (List ℕ)) (read : List ℕ) (place count : ℕ) → length read ≡ count → IfSome told (λ b. read ≡ part place count b)
+    → IfSome told (λ b. read ≡ part place (length read) b)
+read_is told read place count size is =
+    if_some (λ b. read ≡ part place count b) (λ b. read ≡ part place (length read) b) told
+    (λ b found. subst (λ (n : ℕ). read ≡ part place n b) (sym size) found) is
+
 pub returns-clause-body : goal.returns-clause-body
-returns-clause-body g c = λ sound.
-    let size : length c.look_at.new.out ≡ length c.args.out.now = c.look_at.auto.out in
-    read_body g.D.Disk c.args.self.now.disk c.args.self.now.end c.args.place c.look_at.new.out (c.args.self.now.settled sound)
-    (if_some (λ b. c.look_at.new.out ≡ part c.args.place (length c.args.out.now) b) (λ b. c.look_at.new.out ≡ part c.args.place (length c.look_at.new.out) b)
-    (g.D.Disk.told c.args.self.now.disk)
-    (λ b is. subst (λ (n : ℕ). c.look_at.new.out ≡ part c.args.place n b) (sym size) is) c.in_ok-look_at.ensures.read)
+returns-clause-body g c =
+    read_body g.D.Disk c.args.self.now.disk c.args.place c.look_at.new.out c.args.self.now.stands
+    (read_is (g.D.Disk.told c.args.self.now.disk) c.look_at.new.out c.args.place _ c.look_at.auto.out c.in_ok-look_at.ensures.read)
+
+pub returns-clause-length : goal.returns-clause-length
+returns-clause-length g c =
+    read_length g.D.Disk c.args.self.now.disk c.args.place c.look_at.new.out c.args.self.now.stands
+    (read_is (g.D.Disk.told c.args.self.now.disk) c.look_at.new.out c.args.place _ c.look_at.auto.out c.in_ok-look_at.ensures.read)

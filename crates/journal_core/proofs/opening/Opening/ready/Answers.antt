@@ -5,6 +5,10 @@ pub invariant_of-result-clause-settled : goal.invariant_of-result-clause-settled
 invariant_of-result-clause-settled g c = λ sound b told.
     ended_settled g.D.Disk c.args.self.disk c.args.self.place c.args.self.reading (c.args.self.closed c.requires) b told
 
+pub invariant_of-result-clause-stands : goal.invariant_of-result-clause-stands
+invariant_of-result-clause-stands g c = λ b told.
+    (ended_settled g.D.Disk c.args.self.disk c.args.self.place c.args.self.reading (c.args.self.closed c.requires) b told).stands
+
 pub returns-clause-list : goal.returns-clause-list
 returns-clause-list g c = ended_records g.D.Disk c.args.self.disk c.args.self.place c.args.self.reading (c.args.self.closed c.requires)
 

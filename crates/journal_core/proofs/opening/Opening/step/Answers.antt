@@ -2,7 +2,7 @@ use Rattle.std.proofs.Common.{◌≡◌, ◌+◌, ◌≤◌, IfSome, Some, None,
 use Rattle.std.proofs.lemmas.List.{length-take, with_items_is}
 use Rattle.std.specs.Vec.{with_items}
 use Rattle.journal_core.specs.Format.{IsClosedAt, records_before}
-use Rattle.journal_core.proofs.OpeningSteps.{step_reading, step_list, same_reading, same_list, only_fails, refused_walk, ended_stands, ended_walk}
+use Rattle.journal_core.proofs.OpeningSteps.{step_reading, step_list, step_count, same_reading, same_list, only_fails, refused_walk, ended_stands, ended_walk}
 use Rattle.disk_core.proofs.Moments.{no_look}
 use Rattle.journal_core.proofs.Told.{at_told}
 use Rattle.journal_core.proofs.opening.Opening.step.Goals as goal
@@ -23,6 +23,17 @@ invariant_of-self-clause-reading g c =
     step_reading g.D.Disk c.args.self.now.disk c.read_record.new.disk c.read_record.ensures.looks c.args.self.now.place c.args.self.now.reading
     body (rw c.in-Ok-Some.field-0-is at c.in-Ok-Some.ensures.found) (c.args.self.now.place + (5 + n))
     (next_is c.args.self.now.place n body (length_is n buffer room within.1))
+
+pub invariant_of-self-clause-counted : goal.invariant_of-self-clause-counted
+invariant_of-self-clause-counted g c =
+    let n = c.in-Ok-Some.length in
+    let buffer = c.read_record.new.buffer in
+    let body : List ℕ = take n buffer in
+    let room : length buffer ≡ 131094 = search rules in
+    let within : (1 ≤ n) × (n ≤ 131072) × (c.args.self.now.place + 5 + n ≤ c.args.self.now.size) = rw c.in-Ok-Some.field-0-is at c.in-Ok-Some.ensures.within in
+    step_count g.D.Disk c.args.self.now.disk c.read_record.new.disk c.read_record.ensures.looks c.args.self.now.place c.args.self.now.reading
+    body (rw c.in-Ok-Some.field-0-is at c.in-Ok-Some.ensures.found) (c.args.self.now.place + (5 + n))
+    (next_is c.args.self.now.place n body (length_is n buffer room within.1)) c.args.self.now.count c.args.self.now.counted
 
 pub returns-in-Ok-Some : goal.returns-in-Ok-Some
 returns-in-Ok-Some g c =
