@@ -13,8 +13,8 @@ use std::alloc::Global;
 use std::collections::BTreeMap;
 
 /// A room whose files stand in memory. It tells them. Each file has a list of the calls that fail. For its device they
-/// are counted over all lendings, and for a source anew from each lending. Sources and devices are lent as copies;
-/// where the room finds no memory it fails, and counts that apart too, as it does what a device counted so.
+/// are counted over all lendings, and for a source anew from each lending. Sources and devices are lent as copies. Where
+/// the room finds no memory it fails; such faults are counted apart too, its own and those of devices that it takes back.
 #[derive(Debug, Drop)]
 pub struct MemRoom {
     alloc: Global,
@@ -63,18 +63,19 @@ impl MemRoom {
 
     /// From here on each file that is made fails the calls with these numbers.
     pub fn fail_fresh(&mut self, failing: Vec<u64>)
-        ensures { state self.new ≡ record (state self.old) { fresh_failing = failing.items } }
+        ensures state { state self.new ≡ record (state self.old) { fresh_failing = failing.items } }
+        ensures files { self.new.files ≡ self.old.files }
     {
         self.fresh_failing = failing;
     }
 
-    /// Puts a file with these bytes and failing calls in the place of any file of that name. Where memory is
-    /// refused the room stays as it was.
+    /// Puts a file with these bytes and failing calls in the place of any file of that name. It has had no call, and a
+    /// crash leaves its bytes. Where memory is refused the room stays as it was.
     pub fn place(&mut self, name: &str, bytes: Bytes, failing: Vec<u64>) -> Result<(), Memory>
-        ensures placed { OnOk result ((state self.new).file name.now
-            ≡ Some (record { bytes = bytes; failing = failing.items })) }
-        ensures others { (other : List ℕ) → other ≢ name.now → (state self.new).file other ≡ (state self.old).file other }
-        ensures err { OnErr result ((other : List ℕ) → (state self.new).file other ≡ (state self.old).file other) }
+        ensures placed { OnOk result (IsSomeAnd (disk_in self.new name.now)
+            (λ d. IsFresh bytes d × (failing_of d ≡ failing.items))) }
+        ensures others { (other : List ℕ) → other ≢ name.now → disk_in self.new other ≡ disk_in self.old other }
+        ensures err { OnErr result ((other : List ℕ) → disk_in self.new other ≡ disk_in self.old other) }
         ensures fresh_failing { (state self.new).fresh_failing ≡ (state self.old).fresh_failing }
         ensures lent { (state self.new).lent ≡ (state self.old).lent }
         ensures faults { (state self.new).faults ≡ (state self.old).faults }
