@@ -1,51 +1,65 @@
--- Dates and times of day of the Gregorian calendar in UTC, and the seconds since 1970-01-01T00:00:00Z that they name.
--- `days_from_civil` is the number of days from 1970-01-01 to a date, counted year by year and month by month.
+-- Dates and times of day of the Gregorian calendar in UTC, and the seconds since
+-- 1970-01-01T00:00:00Z that they name. `days_from_civil` is the number of days from 1970-01-01 to
+-- a date, counted year by year and month by month.
 use Rattle.std.specs.Prelude.{ℕ, zero, suc, ◌+◌, ◌*◌, ◌/◌, ◌%◌, ◌&&◌, nat_lt, nat_le, Bool, if◌then◌else◌, ℤ, pos, negsuc, ◌+ℤ◌, ◌*ℤ◌, ◌≤ℤ◌, unsigned_abs, Option, Some, None}
 use Rattle.jiff_core.specs.Calendar.{days_in_month, days_from_civil}
 use Rattle.cert_time.specs.declared.civil.CivilTime.{CivilTime}
 
--- the calendar has the day, in a year of at most four digits, and a clock without leap seconds shows the time
+-- The calendar has the day, in a year of at most four digits, and a clock without leap seconds
+-- shows the time.
 abbrev pub exists : CivilTime → Bool
 exists c =
-    nat_le c.year 9999 && nat_le 1 c.month && nat_le c.month 12 && nat_le 1 c.day && nat_le c.day (days_in_month (pos c.year) c.month)
+    nat_le c.year 9999 && nat_le 1 c.month && nat_le c.month 12 && nat_le 1 c.day
+    && nat_le c.day (days_in_month (pos c.year) c.month)
     && nat_lt c.hour 24 && nat_lt c.minute 60 && nat_lt c.second 60
 
--- the seconds from 1970-01-01T00:00:00Z to a date and a time of day: the whole days between, and the seconds of the day
+-- The seconds from 1970-01-01T00:00:00Z to a date and a time of day: the whole days between, and
+-- the seconds of the day.
 abbrev pub moment : CivilTime → ℤ
 moment c =
-    days_from_civil (pos c.year) c.month c.day *ℤ pos 86400 +ℤ pos (3600 * c.hour + 60 * c.minute + c.second)
+    days_from_civil (pos c.year) c.month c.day *ℤ pos 86400
+    +ℤ pos (3600 * c.hour + 60 * c.minute + c.second)
 
--- the moment of a date and a time of day that exist, in this year or a later one
+-- The moment of a date and a time of day that exist, in this year or a later one.
 abbrev pub moment_from : ℕ → CivilTime → Option ℤ
 moment_from first_year c = if nat_le first_year c.year && exists c then Some (moment c) else None
 
--- the moments from 1950-01-01T00:00:00Z to 9999-12-31T23:59:59Z
+-- The moments from 1950-01-01T00:00:00Z to 9999-12-31T23:59:59Z.
 abbrev pub IsMoment : ℤ → Type 0
 IsMoment z = (negsuc 631151999 ≤ℤ z) × (z ≤ℤ pos 253402300799)
 
+-- A date.
 pub record Date : Type 0 where
   pub year : ℕ
   pub month : ℕ
   pub day : ℕ
 
--- the day after: the next one of the month, else the first of the next month, else the first of the next year
+-- The day after: the next one of the month, else the first of the next month, else the first of
+-- the next year.
 abbrev pub next_day : Date → Date
 next_day d =
     if nat_lt d.day (days_in_month (pos d.year) d.month) then record d { day = d.day + 1 }
     else (if nat_lt d.month 12 then record d { month = d.month + 1; day = 1 }
     else record { year = d.year + 1; month = 1; day = 1 })
 
--- the date so many days after 1 January 1950
+-- The date so many days after 1 January 1950.
 unfoldable pub date_after : ℕ → Date
 date_after zero = record { year = 1950; month = 1; day = 1 }
 date_after (suc n) = next_day (date_after n)
 
--- a date with so many seconds since its midnight
+-- A date with so many seconds since its midnight.
 abbrev pub at_second : Date → ℕ → CivilTime
 at_second d s =
-    record { year = d.year; month = d.month; day = d.day; hour = s / 3600; minute = s % 3600 / 60; second = s % 60 }
+    record {
+      year = d.year;
+      month = d.month;
+      day = d.day;
+      hour = s / 3600;
+      minute = s % 3600 / 60;
+      second = s % 60;
+    }
 
--- the date and the time of day of a moment from 1950 on
+-- The date and the time of day of a moment from 1950 on.
 unfoldable pub civil_of : ℤ → CivilTime
 civil_of z =
     let since_1950 = unsigned_abs (z +ℤ pos 631152000) in

@@ -3,31 +3,32 @@ use Rattle.std.specs.Prelude.{ℕ, ◌+◌, ◌-◌, ◌*◌, ◌/◌, ◌%◌, 
 use Rattle.std.specs.Char.{is_ascii_digit}
 use Rattle.cert_time.specs.declared.civil.CivilTime.{CivilTime}
 
--- a byte at a place of a form, where 0 in the form stands for any digit, and anything else for itself
+-- A byte at a place of a form, where 0 in the form stands for any digit, and anything else for
+-- itself.
 abbrev pub fits_byte : ℕ → ℕ → Bool
-fits_byte form byte = if form == 48 then is_ascii_digit byte else byte == form
+fits_byte form byte = if form == 0x30 then is_ascii_digit byte else byte == form
 
--- a text that has a form: each of its bytes fits, and it is as long
+-- A text that has a form: each of its bytes fits, and it is as long.
 abbrev pub fits_form : List ℕ → List ℕ → Bool
 fits_form [] [] = true
 fits_form (f ∷ form) (b ∷ text) = fits_byte f b && fits_form form text
 fits_form _ _ = false
 
--- the number that two digits, or four, of a text write
+-- The number that two digits, or four, of a text write.
 abbrev pub two_at : List ℕ → ℕ → ℕ
-two_at text i = 10 * (slice_index text i - 48) + (slice_index text (i + 1) - 48)
+two_at text i = 10 * (slice_index text i - 0x30) + (slice_index text (i + 1) - 0x30)
 
 abbrev pub four_at : List ℕ → ℕ → ℕ
 four_at text i = 100 * two_at text i + two_at text (i + 2)
 
--- the digits of a number below 100, and of one below 10000
+-- The digits of a number below 100, and of one below 10000.
 abbrev pub two_digits : ℕ → List ℕ
-two_digits n = (48 + n / 10) ∷ (48 + n % 10) ∷ []
+two_digits n = (0x30 + n / 10) ∷ (0x30 + n % 10) ∷ []
 
 abbrev pub four_digits : ℕ → List ℕ
 four_digits n = two_digits (n / 100) ++ two_digits (n % 100)
 
--- the parts of a date and a time of day have as many digits as the forms have places
+-- The parts of a date and a time of day have as many digits as the forms have places.
 pub record HasDigits (c : CivilTime) : Type 0 where
   pub year : c.year < 10000
   pub month : c.month < 100

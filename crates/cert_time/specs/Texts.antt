@@ -4,23 +4,34 @@ use Rattle.cert_time.specs.declared.civil.CivilTime.{CivilTime}
 use Rattle.cert_time.specs.Calendar.{moment_from, civil_of}
 use Rattle.cert_time.specs.Forms.{fits_form, two_at, four_at, two_digits, four_digits}
 
--- the form of a text, the parts that one in this form has, and the text with given parts
+-- The form of a text.
 abbrev pub text_form : List ℕ
 text_form = codes "0000-00-00T00:00:00Z"
 
+-- The parts that a text in this form has.
 abbrev pub text_parts : List ℕ → CivilTime
 text_parts t =
-    record { year = four_at t 0; month = two_at t 5; day = two_at t 8; hour = two_at t 11; minute = two_at t 14; second = two_at t 17 }
+    record {
+      year = four_at t 0;
+      month = two_at t 5;
+      day = two_at t 8;
+      hour = two_at t 11;
+      minute = two_at t 14;
+      second = two_at t 17;
+    }
 
+-- The text with these parts.
 abbrev pub text_with : CivilTime → List ℕ
 text_with c =
     four_digits c.year ++ (codes "-" ++ (two_digits c.month ++ (codes "-" ++ (two_digits c.day
-    ++ (codes "T" ++ (two_digits c.hour ++ (codes ":" ++ (two_digits c.minute ++ (codes ":" ++ (two_digits c.second ++ codes "Z"))))))))))
+    ++ (codes "T" ++ (two_digits c.hour ++ (codes ":" ++ (two_digits c.minute
+    ++ (codes ":" ++ (two_digits c.second ++ codes "Z"))))))))))
 
--- the moment that a text names: it has the form, and the date and the time of day exist, in 1950 or later
+-- The moment that a text names: it has the form, and the date and the time of day exist, in 1950
+-- or later.
 unfoldable pub text_moment : List ℕ → Option ℤ
 text_moment t = if fits_form text_form t then moment_from 1950 (text_parts t) else None
 
--- the text of a moment
+-- The text of a moment.
 unfoldable pub text_of : ℤ → List ℕ
 text_of z = text_with (civil_of z)

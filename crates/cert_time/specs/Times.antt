@@ -1,15 +1,24 @@
--- The times of a certificate, and its validity (RFC 5280, section 4.1.2.5; X.690, sections 11.7 and 11.8).
+-- The times of a certificate, and its validity (RFC 5280, section 4.1.2.5; X.690, sections 11.7
+-- and 11.8).
 use Rattle.std.specs.Prelude.{ℕ, ◌+◌, ◌/◌, ◌%◌, ◌==◌, nat_lt, if◌then◌else◌, ℤ, List, ◌∷◌, ◌++◌, length, codes, Option, None}
 use Rattle.cert_time.specs.declared.civil.CivilTime.{CivilTime}
 use Rattle.cert_time.specs.Calendar.{moment_from, civil_of}
 use Rattle.cert_time.specs.Forms.{fits_form, two_at, four_at, two_digits}
 
--- MMDDHHMMSS at a place, in a year
+-- MMDDHHMMSS at a place, in a year.
 abbrev pub parts_at : ℕ → ℕ → List ℕ → CivilTime
 parts_at year i t =
-    record { year = year; month = two_at t i; day = two_at t (i + 2); hour = two_at t (i + 4); minute = two_at t (i + 6); second = two_at t (i + 8) }
+    record {
+      year = year;
+      month = two_at t i;
+      day = two_at t (i + 2);
+      hour = two_at t (i + 4);
+      minute = two_at t (i + 6);
+      second = two_at t (i + 8);
+    }
 
--- UTCTime: YYMMDDHHMMSSZ, where a year below 50 is one of the 2000s, and any other one of the 1900s
+-- UTCTime: YYMMDDHHMMSSZ, where a year below 50 is one of the 2000s, and any other one of the
+-- 1900s.
 abbrev pub full_year : ℕ → ℕ
 full_year yy = if nat_lt yy 50 then 2000 + yy else 1900 + yy
 
@@ -24,7 +33,7 @@ utc_with c =
     two_digits (c.year % 100) ++ (two_digits c.month ++ (two_digits c.day
     ++ (two_digits c.hour ++ (two_digits c.minute ++ (two_digits c.second ++ codes "Z")))))
 
--- GeneralizedTime: YYYYMMDDHHMMSSZ, for the years from 2050 on
+-- GeneralizedTime: YYYYMMDDHHMMSSZ, for the years from 2050 on.
 abbrev pub general_form : List ℕ
 general_form = codes "00000000000000Z"
 
@@ -34,7 +43,8 @@ general_parts t = parts_at (four_at t 0) 4 t
 abbrev pub general_with : CivilTime → List ℕ
 general_with c = two_digits (c.year / 100) ++ utc_with c
 
--- the moment that the contents of an element name: UTCTime has tag 0x17, and GeneralizedTime tag 0x18
+-- The moment that the contents of an element name: UTCTime has tag 0x17, and GeneralizedTime tag
+-- 0x18.
 unfoldable pub utc_moment : List ℕ → Option ℤ
 utc_moment t = if fits_form utc_form t then moment_from 1950 (utc_parts t) else None
 
@@ -43,31 +53,34 @@ general_moment t = if fits_form general_form t then moment_from 2050 (general_pa
 
 unfoldable pub time_moment : ℕ → List ℕ → Option ℤ
 time_moment tag contents =
-    if tag == 0x17 then utc_moment contents else (if tag == 0x18 then general_moment contents else None)
+    if tag == 0x17 then utc_moment contents
+    else (if tag == 0x18 then general_moment contents else None)
 
--- the time of a date and a time of day: UTCTime up to 2049, and GeneralizedTime from 2050 on
+-- The time of a date and a time of day: UTCTime up to 2049, and GeneralizedTime from 2050 on.
 abbrev pub tag_with : CivilTime → ℕ
 tag_with c = if nat_lt c.year 2050 then 0x17 else 0x18
 
 abbrev pub contents_with : CivilTime → List ℕ
 contents_with c = if nat_lt c.year 2050 then utc_with c else general_with c
 
--- the tag and the contents of the time that stands for a moment
+-- The tag and the contents of the time that stands for a moment.
 unfoldable pub time_tag : ℤ → ℕ
 time_tag z = tag_with (civil_of z)
 
 unfoldable pub time_contents : ℤ → List ℕ
 time_contents z = contents_with (civil_of z)
 
--- an element of DER whose contents have fewer than 128 bytes: its tag, its length in one byte, and its contents
+-- An element of DER whose contents have fewer than 128 bytes: its tag, its length in one byte, and
+-- its contents.
 abbrev pub short_element : ℕ → List ℕ → List ℕ
 short_element tag contents = tag ∷ length contents ∷ contents
 
--- a validity, as an element: a SEQUENCE of two times
+-- A validity, as an element: a SEQUENCE of two times.
 abbrev pub sequence_of_times : ℕ → List ℕ → ℕ → List ℕ → List ℕ
 sequence_of_times first_tag first second_tag second =
     short_element 0x30 (short_element first_tag first ++ short_element second_tag second)
 
 unfoldable pub validity_element : ℤ → ℤ → List ℕ
 validity_element not_before not_after =
-    sequence_of_times (time_tag not_before) (time_contents not_before) (time_tag not_after) (time_contents not_after)
+    sequence_of_times (time_tag not_before) (time_contents not_before)
+    (time_tag not_after) (time_contents not_after)

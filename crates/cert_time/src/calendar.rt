@@ -1,4 +1,5 @@
-// Dates to moments and back, by the calendar of `jiff_core`.
+//! Dates to moments and back, by the calendar of `jiff_core`.
+
 ghost use Rattle.std.specs.Prelude.{◌≡◌, ◌≤◌, IfSome};
 ghost use Rattle.cert_time.specs.Calendar.{IsMoment, civil_of, moment_from};
 ghost use Rattle.cert_time.specs.Forms.{HasDigits};

@@ -1,4 +1,5 @@
-// Forms made of digits, and the numbers that digits write.
+//! Forms made of digits, and the numbers that digits write.
+
 ghost use Rattle.std.specs.Prelude.{◌≡◌, ◌+◌, ◌<◌, IsTrue, length};
 ghost use Rattle.cert_time.specs.Forms.{fits_byte, fits_form, four_at, two_at, two_digits};
 
@@ -30,8 +31,8 @@ pub fn fits(form: &[u8], text: &[u8]) -> bool
     true
 }
 
-/// The number that the two digits at a place write. Bytes that are no digits have a number too, which nobody uses:
-/// every text is tested against its form first.
+/// The number that the two digits at a place write. Bytes that are no digits have a number too,
+/// which nobody uses: every text is tested against its form first.
 pub fn read_two(text: &[u8], place: usize) -> u16
     requires { place + 1 < length text.now }
     ensures { result ≡ two_at text.now place }

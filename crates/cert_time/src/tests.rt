@@ -1,4 +1,5 @@
-// Moments as texts and as times of a certificate, against values from other software.
+//! Moments as texts and as times of a certificate, against values from other software.
+
 use crate::{Validity, put_validity, read_time, seconds_to_text, text_to_seconds};
 use mtc_io::Bytes;
 use std::test::Fail;

@@ -1,4 +1,5 @@
-// Moments as texts.
+//! Moments as texts.
+
 ghost use Rattle.std.specs.Prelude.{◌≡◌, IfSome};
 ghost use Rattle.cert_time.specs.Calendar.{IsMoment};
 ghost use Rattle.cert_time.specs.Texts.{text_moment, text_of};
@@ -10,7 +11,8 @@ use crate::time::generalized;
 
 /// The moment that a text `YYYY-MM-DDTHH:MM:SSZ` names, in seconds since 1970-01-01T00:00:00Z.
 ///
-/// `None` exactly where the text hasn't this form, its year is before 1950, or no such date or time of day exists.
+/// `None` exactly where the text hasn't this form, its year is before 1950, or no such date or
+/// time of day exists.
 #[tactic(auto, unfolding(crate::specs::Texts::text_moment))]
 pub fn text_to_seconds(text: &str) -> Option<i64>
     ensures value { result ≡ text_moment text.now }

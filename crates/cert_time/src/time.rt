@@ -1,4 +1,5 @@
-// The times of a certificate: UTCTime and GeneralizedTime.
+//! The times of a certificate: UTCTime and GeneralizedTime.
+
 ghost use Rattle.std.specs.Prelude.{◌≡◌, ◌+◌, ◌<◌, ◌++◌, length, nat_lt, OnOk, OnErr, IfSome};
 ghost use Rattle.cert_time.specs.Calendar.{IsMoment};
 ghost use Rattle.cert_time.specs.Forms.{HasDigits};
@@ -13,11 +14,13 @@ const UTC_TIME: u8 = 0x17;
 
 const GENERALIZED_TIME: u8 = 0x18;
 
-/// The moment that the contents of an element with this tag name, in seconds since 1970-01-01T00:00:00Z.
+/// The moment that the contents of an element with this tag name, in seconds since
+/// 1970-01-01T00:00:00Z.
 ///
-/// A UTCTime (tag 17, hexadecimal) is `YYMMDDHHMMSSZ` with a year from 1950 to 2049, and a GeneralizedTime (tag 18) is
-/// `YYYYMMDDHHMMSSZ` with a year from 2050 to 9999 (RFC 5280, section 4.1.2.5). `None` exactly where the tag is another
-/// one, the contents haven't the form of their tag, or no such date or time of day exists.
+/// A UTCTime (tag 17, hexadecimal) is `YYMMDDHHMMSSZ` with a year from 1950 to 2049, and a
+/// GeneralizedTime (tag 18) is `YYYYMMDDHHMMSSZ` with a year from 2050 to 9999 (RFC 5280, section
+/// 4.1.2.5). `None` exactly where the tag is another one, the contents haven't the form of their
+/// tag, or no such date or time of day exists.
 #[tactic(auto, unfolding(crate::specs::Times::time_moment))]
 pub fn read_time(tag: u8, contents: &[u8]) -> Option<i64>
     ensures value { result ≡ time_moment tag contents.now }
@@ -107,10 +110,12 @@ pub fn time_length(civil: CivilTime) -> u8
     if is_utc(civil.year) { 15 } else { 17 }
 }
 
-/// Puts a time behind the bytes, as an element. Where memory is refused the bytes stay as they were.
+/// Puts a time behind the bytes, as an element. Where memory is refused the bytes stay as they
+/// were.
 pub fn put_time(civil: CivilTime, out: &mut Bytes) -> Result<(), Memory>
     requires { HasDigits civil }
-    ensures ok { OnOk result (out.new ≡ out.old ++ short_element (tag_with civil) (contents_with civil)) }
+    ensures ok { OnOk result
+        (out.new ≡ out.old ++ short_element (tag_with civil) (contents_with civil)) }
     ensures err { OnErr result (out.new ≡ out.old) }
 {
     let contents = generalized(civil);

@@ -1,4 +1,5 @@
-// A certificate's validity.
+//! A certificate's validity.
+
 ghost use Rattle.std.specs.Prelude.{◌≡◌, ◌++◌, length, take, OnOk, OnErr};
 ghost use Rattle.cert_time.specs.Calendar.{IsMoment};
 ghost use Rattle.cert_time.specs.Forms.{HasDigits};
@@ -11,15 +12,19 @@ use mtc_io::{Bytes, Memory};
 
 const SEQUENCE: u8 = 0x30;
 
-/// The first and the last moment at which a certificate is valid, in seconds since 1970-01-01T00:00:00Z.
+/// The first and the last moment at which a certificate is valid, in seconds since
+/// 1970-01-01T00:00:00Z. Any numbers make one; readers give moments from 1950 to 9999.
 #[derive(Clone, Copy, Debug, PartialEq, Eq)]
 pub struct Validity {
+    /// The first moment.
     pub not_before: i64,
+    /// The last moment.
     pub not_after: i64,
 }
 
-/// Puts a validity behind the bytes: a SEQUENCE of two times (RFC 5280, section 4.1.2.5), each of them a UTCTime up to
-/// 2049 and a GeneralizedTime from 2050 on. Where memory is refused the bytes stay as they were.
+/// Puts a validity behind the bytes: a SEQUENCE of two times (RFC 5280, section 4.1.2.5), each of
+/// them a UTCTime up to 2049 and a GeneralizedTime from 2050 on. Where memory is refused the bytes
+/// stay as they were.
 pub fn put_validity(validity: &Validity, out: &mut Bytes) -> Result<(), Memory>
     requires not_before { IsMoment validity.now.not_before }
     requires not_after { IsMoment validity.now.not_after }
