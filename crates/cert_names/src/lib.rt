@@ -5,8 +5,6 @@
 mod laws;
 mod names;
 mod reading;
-#[cfg(test)]
-mod tests;
 mod writing;
 
 pub use laws::log_names_are_read_as_spelled;

@@ -10,8 +10,6 @@ mod calendar;
 mod civil;
 mod digits;
 mod laws;
-#[cfg(test)]
-mod tests;
 mod text;
 mod time;
 mod validity;

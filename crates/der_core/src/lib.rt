@@ -13,8 +13,6 @@ mod laws;
 mod reader;
 mod set;
 pub mod tags;
-#[cfg(test)]
-mod tests;
 mod writing;
 
 pub use contents::{bits, boolean, oid, unsigned};

@@ -9,8 +9,6 @@ mod cursor;
 mod dotted;
 mod fault;
 mod laws;
-#[cfg(test)]
-mod tests;
 mod writing;
 
 pub use anchor::AnchorId;

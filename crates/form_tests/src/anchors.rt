@@ -1,0 +1,108 @@
+//! Anchor ids, as bytes and as text.
+
+use std::alloc::Global;
+use std::test::Fail;
+use tls_wire::{AnchorBytesError, AnchorError, AnchorId};
+
+fn refused_text(alloc: Global, text: &str) -> Option<AnchorError> {
+    AnchorId::from_text(alloc, text).err()
+}
+
+#[test]
+fn the_first_fault_of_a_text_is_answered(rt: HostRuntime) {
+    let faults = [
+        ("", AnchorError::Empty),
+        ("1.", AnchorError::NotDecimal(2)),
+        (".1", AnchorError::NotDecimal(0)),
+        ("1..2", AnchorError::NotDecimal(2)),
+        ("1a", AnchorError::NotDecimal(1)),
+        ("00a", AnchorError::LeadingZero(0)),
+        ("32473.01", AnchorError::LeadingZero(6)),
+        ("1.18446744073709551616", AnchorError::ArcTooLarge(2)),
+        ("18446744073709551616x", AnchorError::ArcTooLarge(0)),
+    ];
+    for (text, fault) in faults {
+        assert!(rt; refused_text(rt.alloc(), text) == Some(fault), "of {text}");
+    }
+}
+
+// Two hundred and fifty-six numbers, and this behind them.
+fn long_text(alloc: Global, behind: &str) -> Result<String, Fail> {
+    let mut text = String::from_str(alloc, "1")?;
+    for _ in 0..255 {
+        text.push_str(".1")?;
+    }
+    text.push_str(behind)?;
+    Ok(text)
+}
+
+#[test]
+fn a_text_is_too_long_only_where_it_has_no_other_fault(rt: HostRuntime) -> Result<(), Fail> {
+    let long = long_text(rt.alloc(), "")?;
+    assert!(rt; refused_text(rt.alloc(), long.as_str()) == Some(AnchorError::TooLong));
+    let wrong = long_text(rt.alloc(), "x")?;
+    assert!(rt; refused_text(rt.alloc(), wrong.as_str()) == Some(AnchorError::NotDecimal(511)));
+    Ok(())
+}
+
+fn is_its_own_text(alloc: Global, text: &str) -> Result<bool, Fail> {
+    let id = AnchorId::from_text(alloc, text)?;
+    Ok(id.to_text()?.as_slice() == text.as_bytes())
+}
+
+#[test]
+fn a_text_is_the_text_of_what_was_read(rt: HostRuntime) -> Result<(), Fail> {
+    for text in ["32473.1", "0.0", "18446744073709551615.127.128"] {
+        assert!(rt; is_its_own_text(rt.alloc(), text)?, "of {text}");
+    }
+    Ok(())
+}
+
+fn has_bytes(alloc: Global, text: &str, bytes: &[u8]) -> Result<bool, Fail> {
+    Ok(AnchorId::from_text(alloc, text)?.as_bytes() == bytes)
+}
+
+#[test]
+fn numbers_of_a_text_are_arcs(rt: HostRuntime) -> Result<(), Fail> {
+    assert!(rt; has_bytes(rt.alloc(), "32473.1", &[0x81, 0xfd, 0x59, 1])?);
+    Ok(())
+}
+
+fn refused_bytes(alloc: Global, bytes: &[u8]) -> Option<AnchorBytesError> {
+    AnchorId::from_bytes(alloc, bytes).err()
+}
+
+#[test]
+fn the_first_fault_of_bytes_is_answered(rt: HostRuntime) {
+    let faults: [(&[u8], AnchorBytesError); 7] = [
+        (&[], AnchorBytesError::Empty),
+        (&[0x80; 256], AnchorBytesError::TooLong),
+        (&[0x80, 1], AnchorBytesError::Padding(0)),
+        (&[1, 0x80, 1], AnchorBytesError::Padding(1)),
+        (&[0x81], AnchorBytesError::Unfinished),
+        (
+            &[0x82, 0x80, 0x80, 0x80, 0x80, 0x80, 0x80, 0x80, 0x80, 0],
+            AnchorBytesError::ArcTooLarge(0),
+        ),
+        (
+            &[0x82, 0x80, 0x80, 0x80, 0x80, 0x80, 0x80, 0x80, 0x80, 0x80],
+            AnchorBytesError::ArcTooLarge(0),
+        ),
+    ];
+    for (bytes, fault) in faults {
+        assert!(rt;
+            refused_bytes(rt.alloc(), bytes) == Some(fault),
+            "of {bytes:?}"
+        );
+    }
+}
+
+fn length_of_text(alloc: Global, bytes: &[u8]) -> Result<usize, Fail> {
+    Ok(AnchorId::from_bytes(alloc, bytes)?.to_text()?.len())
+}
+
+#[test]
+fn the_longest_anchor_id_is_read(rt: HostRuntime) -> Result<(), Fail> {
+    assert!(rt; length_of_text(rt.alloc(), &[1; 255])? == 509);
+    Ok(())
+}
