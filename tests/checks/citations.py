@@ -179,12 +179,12 @@ def definitions_in(row):
 
 
 def rows_of_definitions():
-    """(crate, line, word) for each word in the first column of the page."""
+    """(crate, line, words, files) for each row of the page."""
     for names, begin, lines in sections_of("DEFINITIONS.md"):
         for number, line in enumerate(lines, begin):
             if line.startswith("|") and not re.match(r"\| Name |\|-", line):
-                for word in definitions_in(line):
-                    yield names[0], number, word
+                files = re.findall(r"[\w/]+", cells_of(line)[2])
+                yield names[0], number, definitions_in(line), files
 
 
 def as_defined(name, word):
@@ -195,22 +195,36 @@ def as_defined(name, word):
 
 def missing_definitions():
     """The definitions that the page doesn't name, by crate."""
-    listed = {(name, as_defined(name, word)) for name, _, word in rows_of_definitions()}
+    listed = {(name, as_defined(name, word)) for name, _, words, _ in rows_of_definitions() for word in words}
     for name, crate in CRATES.items():
         missing = [one for one in crate.definitions if (name, one.name) not in listed]
         if missing:
             yield name, missing
 
 
+def wrong_files(name, words, files):
+    """The files of a row that have none of its definitions, and definitions that stand elsewhere."""
+    specs = CRATES[name].folder / "specs"
+    at = {word: set() for word in words}
+    for one in CRATES[name].definitions:
+        if one.name in at:
+            at[one.name].add(str(one.path.relative_to(specs))[:-len(".antt")])
+    yield from (f"`{word}` stands in {', '.join(at[word])}" for word in words if not at[word] & set(files))
+    yield from (f"none of these stands in {file}" for file in files if file not in set().union(*at.values()))
+
+
 def check_definitions():
-    """DEFINITIONS names each definition of a crate once, and no other"""
+    """DEFINITIONS names each definition of a crate once, with its file, and no other"""
     listed = {}
-    for name, number, word in rows_of_definitions():
-        defined = as_defined(name, word)
-        if defined:
-            listed.setdefault((name, defined), []).append(number)
-        elif word not in words_of(name) and word not in CRATES:
-            yield f"docs/DEFINITIONS.md:{number}: {name} has no definition `{word}`"
+    for name, number, words, files in rows_of_definitions():
+        for word in words:
+            if as_defined(name, word):
+                listed.setdefault((name, as_defined(name, word)), []).append(number)
+            elif word not in words_of(name):
+                yield f"docs/DEFINITIONS.md:{number}: {name} has no definition `{word}`"
+        known = [as_defined(name, word) for word in words if as_defined(name, word)]
+        for what in wrong_files(name, known, files):
+            yield f"docs/DEFINITIONS.md:{number}: {what}"
     for (name, word), lines in listed.items():
         if len(lines) > sum(one.name == word for one in CRATES[name].definitions):
             yield f"docs/DEFINITIONS.md:{lines[-1]}: `{word}` of {name} stands {len(lines)} times"
