@@ -32,6 +32,41 @@ def check_lengths():
                 yield f"{shown(one.path, one.line)}: {one.name} has {one.length} lines"
 
 
+def documented(file):
+    """(doc, lines) for each item of a file: its `///` lines as one text, and the lines from its head on."""
+    lines = file.text.split("\n")
+    doc = []
+    for number, line in enumerate(lines):
+        bare = line.strip()
+        if bare.startswith("///"):
+            doc.append(bare[3:].strip())
+        elif doc and not bare.startswith("#["):
+            yield " ".join(doc), lines[number:]
+            doc = []
+
+
+def variants_of(lines):
+    end = next(number for number, line in enumerate(lines) if line.startswith("}"))
+    return [match[1] for line in lines[1:end] if (match := re.match(r" {4}([A-Z]\w*)", line))]
+
+
+def check_errors():
+    """an enum of errors in the order of the tests has the order that its calls list"""
+    claim = "in the order of the tests"
+    for crate in CRATES.values():
+        items = [item for file in crate.files for item in documented(file)]
+        enums = {match[1]: variants_of(lines) for doc, lines in items
+                 if claim in doc and (match := re.match(r"pub enum (\w+)", lines[0]))}
+        for doc, lines in items:
+            listed = re.search(claim + r": ([^.]*)\.", doc)
+            for enum, variants in enums.items():
+                if listed and enum in "".join(lines[:8]):
+                    named = re.findall(r"(?:^|[;,] )`(\w+)`", listed[1])
+                    places = [variants.index(one) for one in named if one in variants]
+                    if places != sorted(places):
+                        yield f"{crate.name}: {lines[0].strip()[:50]} lists {', '.join(named)}; {enum} has another order"
+
+
 # ---- what is let through as yet: its numbers may not grow
 
 
