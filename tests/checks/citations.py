@@ -183,7 +183,7 @@ def rows_of_definitions():
     for names, begin, lines in sections_of("DEFINITIONS.md"):
         for number, line in enumerate(lines, begin):
             if line.startswith("|") and not re.match(r"\| Name |\|-", line):
-                files = re.findall(r"[\w/]+", cells_of(line)[2])
+                files = re.findall(r"(?:\w*/?specs/)?([\w/]+)(?:\.antt)?", cells_of(line)[2])
                 yield names[0], number, definitions_in(line), files
 
 
