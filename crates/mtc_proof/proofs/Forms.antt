@@ -1,52 +1,41 @@
 -- Signatures and proofs: what is read is spelled so, and what is spelled so is read again.
-use Rattle.std.proofs.Common.{◌≡◌, ℕ, ◌+◌, ◌-◌, ◌^◌, ◌<◌, ◌≤◌, true, false, List, [], ◌∷◌, ◌++◌, length, take, drop, Result, Ok, Err, IfOk, refl, sym, ap, subst, ◌∙◌, append_assoc, append-nil, arith, eqb-true, ne_eqb}
-use Rattle.std.specs.Prelude.{if◌then◌else◌, ◌==◌, not}
+use Rattle.std.proofs.Common.{◌≡◌, ℕ, ◌+◌, ◌-◌, ◌^◌, ◌<◌, ◌≤◌, true, List, [], ◌++◌, length, take, drop, Result, Ok, Err, IfOk, refl, sym, ap, subst, ◌∙◌, append_assoc, append-nil, arith, eqb-true}
+use Rattle.std.specs.Prelude.{if◌then◌else◌, ◌==◌, OnOk, IsOk}
 use Rattle.std.specs.List.{flat_map, AllByRecursion}
 use Rattle.std.specs.Int.{w8, w16, w64}
 use Rattle.std.proofs.lemmas.List.{length-append, nil_from_length, take_at, drop_at}
-use Rattle.byte_forms.specs.Places.{At, IsBytes, at}
-use Rattle.byte_forms.specs.Readings.{◌>>=◌, lifted, discarded, both_at, mapped_at, tested_at, Gives}
+use Rattle.byte_forms.specs.Types.{Text}
+use Rattle.byte_forms.specs.Places.{At, IsBytes, at, has_bytes}
+use Rattle.byte_forms.specs.Readings.{◌>>=◌, discarded, both_at, mapped_at, tested_at, Gives}
 use Rattle.byte_forms.specs.Lists.{up_to_end}
 use Rattle.byte_forms.specs.Forms.{IsForm, Anything, Nothing, both, FitsBoth}
-use Rattle.byte_forms.proofs.Steps.{bind_ok, pass_ok, ok_is, IsBytes-back}
-use Rattle.byte_forms.proofs.Forms.{said_form, both_form, mapped_form, tested_form}
+use Rattle.byte_forms.proofs.Steps.{bind_ok, pass_ok, ok_is, IsBytes-back, discarded_ok, has_bytes-some, some-has_bytes}
+use Rattle.byte_forms.proofs.Forms.{said_form, both_form, mapped_form, tested_form, lifted_form}
 use Rattle.byte_forms.proofs.Lists.{many_form, up_to_end_drains}
 use Rattle.tls_wire.specs.Reading.{number_at, vector_at, hashes_at}
 use Rattle.tls_wire.specs.Spelling.{number, vector, hashes, AreHashes}
-use Rattle.tls_wire.proofs.Numbers.{wide8, wide16, wide64, number_form}
+use Rattle.tls_wire.proofs.Numbers.{wide8, wide16, word_form}
 use Rattle.tls_wire.proofs.Vectors.{vector_form}
 use Rattle.tls_wire.proofs.Hashes.{hashes_form}
 use Rattle.mtc_proof.specs.Proofs.{SigParts, signature_text, IsSignature, AreSignatures, ProofParts, proof_text, IsProof}
-use Rattle.mtc_proof.specs.Reading.{of_short, of_hashes, form_at, path_at, is_some, id_at, to_signature, signature_at, checked, to_proof, parts_at, inside_list, proof_in}
+use Rattle.mtc_proof.specs.Reading.{of_short, of_hashes, word_at, text_at, path_at, id_at, to_signature, signature_at, checked, to_proof, parts_at, inside_list, proof_in}
 use Rattle.mtc_proof.specs.Views.{proof_parts}
 use Rattle.mtc_proof.specs.declared.proof.Proof.{Proof}
 use Rattle.mtc_proof.specs.declared.fault.ProofError.{ProofError}
 use Rattle.mtc_proof.specs.declared.fault.ProofError.TheVariants.{EmptyId, Trailing}
 
-lifted_ok : {A E F : Type 0} (fault : E → F) (r : Result A E) (y : A) → lifted fault r ≡ Ok y → r ≡ Ok y
-lifted_ok fault (Ok x) y e = cc
-lifted_ok fault (Err d) y e = absurd cc
-
-lifted_form : {X E F : Type 0} (spell : X → List ℕ) (Fits : X → Type 0) (Follows : List ℕ → Type 0) (read : At → Result (X × At) E) (fault : E → F)
-    → IsForm spell Fits Follows read → IsForm spell Fits Follows (λ a. lifted fault (read a))
-lifted_form spell Fits Follows read fault form = record {
-  takes = λ a x b h e. form.takes a x b h (lifted_ok fault (read a) (x, b) e);
-  again = λ x p rest f q. rw (form.again x p rest f q) refl;
-}
-
 -- ---- one signature
 
-abbrev IsShort : List ℕ → Type 0
+abbrev IsShort : Text → Type 0
 IsShort bytes = length bytes < 2 ^ 16
 
-abbrev IsId : List ℕ → Type 0
-IsId id = (length id < 2 ^ 8) × (is_some id ≡ true)
+abbrev IsId : Text → Type 0
+IsId id = (length id < 2 ^ 8) × (has_bytes id ≡ true)
 
-short_id : IsForm (vector w8) (λ id. length id < 2 ^ 8) Anything (form_at (vector_at w8))
-short_id = lifted_form (vector w8) (λ id. length id < 2 ^ 8) Anything (vector_at w8) of_short (vector_form w8 (2 ^ 8) wide8)
-
-id_tested : (fault : ProofError) → IsForm (vector w8) IsId Anything (tested_at is_some fault (form_at (vector_at w8)))
-id_tested fault = tested_form (vector w8) (λ id. length id < 2 ^ 8) Anything (form_at (vector_at w8)) is_some fault short_id
+id_tested : (fault : ProofError) → IsForm (vector w8) IsId Anything (tested_at has_bytes fault (text_at w8))
+id_tested fault =
+    tested_form (vector w8) (λ id. length id < 2 ^ 8) Anything (text_at w8) has_bytes fault
+    (lifted_form (vector w8) (λ id. length id < 2 ^ 8) Anything (vector_at w8) of_short (vector_form w8 (2 ^ 8) wide8))
 
 id_form : IsForm (vector w8) IsId Anything id_at
 id_form = record {
@@ -54,33 +43,26 @@ id_form = record {
   again = λ x p rest f q. (id_tested (EmptyId p)).again x p rest f q;
 }
 
-long_form : IsForm (vector w16) IsShort Anything (form_at (vector_at w16))
+long_form : IsForm (vector w16) IsShort Anything (text_at w16)
 long_form = lifted_form (vector w16) IsShort Anything (vector_at w16) of_short (vector_form w16 (2 ^ 16) wide16)
 
 abbrev from_signature : SigParts → List ℕ × List ℕ
 from_signature s = (s.cosigner, s.signature)
 
-some_bytes : (id : List ℕ) → is_some id ≡ true → 0 < length id
-some_bytes [] e = absurd cc
-some_bytes (b ∷ id) e = omega arith
-
-bytes_some : (id : List ℕ) → 0 < length id → is_some id ≡ true
-bytes_some id lt = let some : (length id == 0) ≡ false = ne_eqb (length id) 0 (λ none. omega arith) in ap not some
-
 signature_to : (s : SigParts) → FitsBoth IsId IsShort (from_signature s) → IsSignature s
-signature_to s f = record { some = some_bytes s.cosigner f.0.1; cosigner = f.0.0; signature = f.1 }
+signature_to s f = record { some = has_bytes-some s.cosigner f.0.1; cosigner = f.0.0; signature = f.1 }
 
 signature_from : (s : SigParts) → IsSignature s → FitsBoth IsId IsShort (from_signature s)
-signature_from s f = ((f.cosigner, bytes_some s.cosigner f.some), f.signature)
+signature_from s f = ((f.cosigner, some-has_bytes s.cosigner f.some), f.signature)
 
 pub signature_form : IsForm signature_text IsSignature Anything signature_at
 unfolding signature_at
 signature_form =
-    let read : At → Result ((List ℕ × List ℕ) × At) ProofError = both_at id_at (form_at (vector_at w16)) in
+    let read : At → Result ((List ℕ × List ℕ) × At) ProofError = both_at id_at (text_at w16) in
     said_form (λ s. both (vector w8) (vector w16) (from_signature s)) (λ s. FitsBoth IsId IsShort (from_signature s)) IsSignature Anything Anything
     (mapped_at to_signature read) signature_to signature_from (λ rest q. q)
     (mapped_form (both (vector w8) (vector w16)) (FitsBoth IsId IsShort) Anything read to_signature from_signature (λ x f. refl) (λ s f. refl)
-    (both_form (vector w8) IsId Anything id_at (vector w16) IsShort Anything (form_at (vector_at w16)) id_form long_form (λ y rest f q. tt)))
+    (both_form (vector w8) IsId Anything id_at (vector w16) IsShort Anything (text_at w16) id_form long_form (λ y rest f q. tt)))
 
 -- ---- signatures up to the end
 
@@ -90,10 +72,6 @@ signature_some s f =
 
 pub list_form : IsForm (flat_map signature_text) (AllByRecursion IsSignature) Nothing (up_to_end signature_at)
 list_form = many_form signature_text IsSignature signature_at signature_some signature_form
-
-discarded_ok : {X : Type 0} (r : Result (X × At) ProofError) (b : At) → discarded r ≡ Ok b → (x : X) × (r ≡ Ok (x, b))
-discarded_ok (Ok x) b e = (x.0, ap (λ (c : At). Ok (x.0, c)) (ok_is ProofError x.1 b e))
-discarded_ok (Err d) b e = absurd cc
 
 pub checked_only : (a : At) (done : Unit {0}) → IsBytes a.rest → checked a ≡ Ok done → AreSignatures a.rest
 checked_only a done h e =
@@ -128,19 +106,20 @@ four_text = both (number w64) (both (number w64) (both hashes (vector w16)))
 abbrev AreFour : Four → Type 0
 AreFour = FitsBoth IsWord (FitsBoth IsWord (FitsBoth AreHashes IsShort))
 
-word_form : IsForm (number w64) IsWord Anything (form_at (number_at w64))
-word_form = lifted_form (number w64) IsWord Anything (number_at w64) of_short (number_form w64 (2 ^ 64) wide64)
+start_form : IsForm (number w64) IsWord Anything word_at
+start_form = lifted_form (number w64) IsWord Anything (number_at w64) of_short word_form
 
 path_form : IsForm hashes AreHashes Anything path_at
 path_form = lifted_form hashes AreHashes Anything hashes_at of_hashes hashes_form
 
-four_form : IsForm four_text AreFour Anything (both_at (form_at (number_at w64)) (both_at (form_at (number_at w64)) (both_at path_at (form_at (vector_at w16)))))
+four_form : IsForm four_text AreFour Anything (both_at word_at (both_at word_at (both_at path_at (text_at w16))))
 four_form =
-    both_form (number w64) IsWord Anything (form_at (number_at w64)) (both (number w64) (both hashes (vector w16))) (FitsBoth IsWord (FitsBoth AreHashes IsShort)) Anything
-    (both_at (form_at (number_at w64)) (both_at path_at (form_at (vector_at w16)))) word_form
-    (both_form (number w64) IsWord Anything (form_at (number_at w64)) (both hashes (vector w16)) (FitsBoth AreHashes IsShort) Anything
-    (both_at path_at (form_at (vector_at w16))) word_form
-    (both_form hashes AreHashes Anything path_at (vector w16) IsShort Anything (form_at (vector_at w16)) path_form long_form (λ y rest f q. tt))
+    both_form (number w64) IsWord Anything word_at (both (number w64) (both hashes (vector w16)))
+    (FitsBoth IsWord (FitsBoth AreHashes IsShort)) Anything (both_at word_at (both_at path_at (text_at w16))) start_form
+    (both_form (number w64) IsWord Anything word_at (both hashes (vector w16)) (FitsBoth AreHashes IsShort) Anything
+    (both_at path_at (text_at w16)) start_form
+    (both_form hashes AreHashes Anything path_at (vector w16) IsShort Anything (text_at w16) path_form long_form
+    (λ y rest f q. tt))
     (λ y rest f q. tt))
     (λ y rest f q. tt)
 
@@ -151,7 +130,7 @@ from_proof p = (p.start, (p.end, (p.path, p.signatures)))
 pub parts_form : IsForm proof_text (λ p. AreFour (from_proof p)) Anything parts_at
 unfolding parts_at
 parts_form =
-    mapped_form four_text AreFour Anything (both_at (form_at (number_at w64)) (both_at (form_at (number_at w64)) (both_at path_at (form_at (vector_at w16)))))
+    mapped_form four_text AreFour Anything (both_at word_at (both_at word_at (both_at path_at (text_at w16))))
     to_proof from_proof (λ x f. refl) (λ p f. refl) four_form
 
 -- All before the signatures.
@@ -234,3 +213,15 @@ pub gives_only : (bytes : List ℕ) (r : Result Proof ProofError) → Gives proo
 gives_only bytes r given p f same =
     let P : Result ProofParts ProofError → Type 0 = λ wanted. Gives proof_parts r wanted in
     subst P (ap proof_in same ∙ proofs_again p f) given
+
+-- ---- a list of signatures
+
+pub list_found : (bytes : Text) (r : Result (Unit {0}) ProofError) → IsBytes bytes
+    → Gives (λ x. x) r (checked (at bytes 0)) → OnOk r (AreSignatures bytes)
+list_found bytes (Ok done) h e = checked_only (at bytes 0) done h e
+list_found bytes (Err fault) h e = tt
+
+pub list_only : (bytes : Text) (r : Result (Unit {0}) ProofError)
+    → Gives (λ x. x) r (checked (at bytes 0)) → AreSignatures bytes → IsOk r
+list_only bytes (Ok done) e list = refl
+list_only bytes (Err fault) e list = let read = checked_again 0 bytes list in absurd cc

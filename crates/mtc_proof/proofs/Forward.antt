@@ -1,17 +1,13 @@
 -- A signature that is read takes bytes away.
-use Rattle.std.proofs.Common.{◌≡◌, ℕ, ◌+◌, ◌≤◌, List, length, take, Result, Ok, Err, subst, arith, ltb-false}
+use Rattle.std.proofs.Common.{◌≡◌, ℕ, ◌+◌, ◌≤◌, List, length, take, Ok, subst, arith, ltb-false}
 use Rattle.std.specs.Prelude.{nat_lt}
 use Rattle.std.specs.Int.{Width, byte_len, from_be_bytes}
 use Rattle.std.proofs.lemmas.List.{length-drop}
 use Rattle.byte_forms.specs.Places.{At, after}
 use Rattle.byte_forms.specs.Readings.{blamed}
-use Rattle.byte_forms.proofs.Steps.{bind_ok, guard_ok, ok_is}
+use Rattle.byte_forms.proofs.Steps.{bind_ok, blamed_ok, guard_ok, ok_is}
 use Rattle.tls_wire.specs.Reading.{short, bytes_at, number_at, vector_at}
 use Rattle.tls_wire.specs.declared.cursor.Short.{Short}
-
-blamed_ok : {A E F : Type 0} (fault : F) (r : Result A E) (y : A) → blamed fault r ≡ Ok y → r ≡ Ok y
-blamed_ok fault (Ok x) y e = cc
-blamed_ok fault (Err d) y e = absurd cc
 
 -- A vector takes at least the bytes of its length.
 pub vector_forward : (w : Width) (a : At) (bytes : List ℕ) (b : At) → vector_at w a ≡ Ok (bytes, b) → length b.rest + byte_len w ≤ length a.rest

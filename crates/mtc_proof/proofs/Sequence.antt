@@ -4,29 +4,25 @@ use Rattle.std.specs.Prelude.{if◌then◌else◌}
 use Rattle.std.specs.List.{flat_map, AllByRecursion}
 use Rattle.std.specs.Int.{w8, w16}
 use Rattle.std.proofs.lemmas.List.{length-append}
-use Rattle.byte_forms.specs.Places.{At, at}
-use Rattle.byte_forms.specs.Readings.{◌>>=◌, lifted, both_at}
-use Rattle.byte_forms.proofs.Steps.{bind_ok, pass_ok, ok_is}
+use Rattle.byte_forms.specs.Places.{At, at, has_bytes}
+use Rattle.byte_forms.specs.Readings.{◌>>=◌, both_at}
+use Rattle.byte_forms.proofs.Steps.{bind_ok, lifted_ok, pass_ok, ok_is}
 use Rattle.tls_wire.specs.Reading.{vector_at}
 use Rattle.mtc_proof.specs.Proofs.{SigParts, signature_text, IsSignature}
-use Rattle.mtc_proof.specs.Reading.{of_short, form_at, is_some, id_at, to_signature, signature_at, signature_then, signatures_from, signatures_left}
+use Rattle.mtc_proof.specs.Reading.{of_short, text_at, id_at, to_signature, signature_at, signature_then, signatures_from, signatures_left}
 use Rattle.mtc_proof.specs.declared.fault.ProofError.{ProofError}
 use Rattle.mtc_proof.specs.declared.fault.ProofError.TheVariants.{EmptyId}
 use Rattle.mtc_proof.proofs.Forward.{vector_forward}
 use Rattle.mtc_proof.proofs.Forms.{signature_form, signature_some}
 
-lifted_ok : {A E F : Type 0} (fault : E → F) (r : Result A E) (y : A) → lifted fault r ≡ Ok y → r ≡ Ok y
-lifted_ok fault (Ok x) y e = cc
-lifted_ok fault (Err d) y e = absurd cc
-
 signature_forward : (a : At) (x : SigParts × At) → signature_at a ≡ Ok x → length x.1.rest < length a.rest
 unfolding signature_at
 signature_forward a x e =
-    let s = bind_ok (both_at id_at (form_at (vector_at w16)) a) (λ (v : (List ℕ × List ℕ) × At). Ok (to_signature v.0, v.1)) x e in
-    let t = bind_ok (id_at a) (λ (v : List ℕ × At). form_at (vector_at w16) v.1 >>= λ (w : List ℕ × At). Ok ((v.0, w.0), w.1)) s.0 s.1 in
-    let u = bind_ok (form_at (vector_at w16) t.0.1) (λ (w : List ℕ × At). Ok ((t.0.0, w.0), w.1)) s.0 t.2 in
-    let v = bind_ok (form_at (vector_at w8) a) (λ (y : List ℕ × At). if is_some y.0 then Ok y else Err (EmptyId a.place)) t.0 t.1 in
-    let g = pass_ok (is_some v.0.0) (Ok v.0) (EmptyId a.place) t.0 v.2 in
+    let s = bind_ok (both_at id_at (text_at w16) a) (λ (v : (List ℕ × List ℕ) × At). Ok (to_signature v.0, v.1)) x e in
+    let t = bind_ok (id_at a) (λ (v : List ℕ × At). text_at w16 v.1 >>= λ (w : List ℕ × At). Ok ((v.0, w.0), w.1)) s.0 s.1 in
+    let u = bind_ok (text_at w16 t.0.1) (λ (w : List ℕ × At). Ok ((t.0.0, w.0), w.1)) s.0 t.2 in
+    let v = bind_ok (text_at w8 a) (λ (y : List ℕ × At). if has_bytes y.0 then Ok y else Err (EmptyId a.place)) t.0 t.1 in
+    let g = pass_ok (has_bytes v.0.0) (Ok v.0) (EmptyId a.place) t.0 v.2 in
     let id : length v.0.1.rest + 1 ≤ length a.rest = vector_forward w8 a v.0.0 v.0.1 (lifted_ok of_short (vector_at w8 a) v.0 v.1) in
     let long : length u.0.1.rest + 2 ≤ length t.0.1.rest = vector_forward w16 t.0.1 u.0.0 u.0.1 (lifted_ok of_short (vector_at w16 t.0.1) u.0 u.1) in
     let same : length v.0.1.rest ≡ length t.0.1.rest = ap (λ (y : List ℕ × At). length y.1.rest) (ok_is ProofError v.0 t.0 g.1) in

@@ -1,17 +1,18 @@
--- Proofs and their signatures: how their parts are spelled (the draft on Merkle Tree Certificates, where it defines MTCProof
--- and MTCSignature, in the presentation language of RFC 8446, section 3).
+-- Proofs and their signatures: how their parts are spelled (the draft on Merkle Tree Certificates,
+-- where it defines MTCProof and MTCSignature, in the presentation language of RFC 8446, section 3).
 use Rattle.std.specs.Prelude.{◌≡◌, ℕ, ◌^◌, ◌<◌, List, ◌++◌, length}
+use Rattle.byte_forms.specs.Types.{Hash, Text}
 use Rattle.std.specs.List.{flat_map, AllByRecursion}
 use Rattle.std.specs.Int.{w8, w16, w64}
 use Rattle.tls_wire.specs.Spelling.{number, vector, hashes, AreHashes}
 
 -- A signature: the id of the cosigner, and what it signed with.
 pub record SigParts : Type 0 where
-  pub cosigner : List ℕ
-  pub signature : List ℕ
+  pub cosigner : Text
+  pub signature : Text
 
 -- The id behind a length of one byte, the signature behind a length of two bytes.
-abbrev pub signature_text : SigParts → List ℕ
+abbrev pub signature_text : SigParts → Text
 signature_text s = vector w8 s.cosigner ++ vector w16 s.signature
 
 pub record IsSignature (s : SigParts) : Type 0 where
@@ -20,7 +21,7 @@ pub record IsSignature (s : SigParts) : Type 0 where
   pub signature : length s.signature < 2 ^ 16
 
 -- The bytes are signatures one behind the other, or none.
-pub record AreSignatures (bytes : List ℕ) : Type 0 where
+pub record AreSignatures (bytes : Text) : Type 0 where
   pub list : List SigParts
   pub each : AllByRecursion IsSignature list
   pub spelled : bytes ≡ flat_map signature_text list
@@ -29,11 +30,11 @@ pub record AreSignatures (bytes : List ℕ) : Type 0 where
 pub record ProofParts : Type 0 where
   pub start : ℕ
   pub end : ℕ
-  pub path : List (List ℕ)
-  pub signatures : List ℕ
+  pub path : List Hash
+  pub signatures : Text
 
 -- Two numbers of eight bytes, the hashes of the path in a vector, and the signatures in a vector.
-abbrev pub proof_text : ProofParts → List ℕ
+abbrev pub proof_text : ProofParts → Text
 proof_text p = number w64 p.start ++ (number w64 p.end ++ (hashes p.path ++ vector w16 p.signatures))
 
 pub record IsProof (p : ProofParts) : Type 0 where

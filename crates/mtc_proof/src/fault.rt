@@ -2,11 +2,12 @@
 
 use tls_wire::{HashesError, Short};
 
-/// Why bytes aren't a proof, or a list of signatures. They are read from the left, the signatures before what stands behind
-/// them, and the first fault is answered.
+/// Why bytes aren't a proof, or a list of signatures. They are read from the left, the signatures
+/// before what stands behind them, and the first fault is answered.
 #[derive(Clone, Copy, Debug, PartialEq, Eq)]
 pub enum ProofError {
-    /// The number, the vector of hashes, the id or the signature that begins at this offset doesn't fit.
+    /// The number, the vector of hashes, the id or the signature that begins at this offset doesn't
+    /// fit.
     Short(usize),
     /// The length of the path is no multiple of 32.
     HashLength,

@@ -28,8 +28,8 @@ impl<'a> Model for Signatures<'a> {
 }
 
 impl<'a> Signatures<'a> {
-    /// Those in these bytes.
-    pub fn of(bytes: &'a [u8]) -> Signatures<'a>
+    // Those in these bytes.
+    pub(crate) fn of(bytes: &'a [u8]) -> Signatures<'a>
         ensures { result ≡ signatures_left (at bytes.now 0) }
     {
         Signatures {
@@ -52,7 +52,7 @@ impl<'a> Iterator for Signatures<'a> {
     }
 }
 
-/// The next signature; none where what is left doesn't read as one.
+// The next signature; none where what is left doesn't read as one.
 fn next_signature<'a>(cursor: &mut Cursor<'a>) -> Option<SigRef<'a>>
     ensures { MatchOption result ((signatures_left cursor.old ≡ []) × (signatures_left cursor.new ≡ []))
         (λ s. signatures_left cursor.old ≡ sig_parts s ∷ signatures_left cursor.new) }

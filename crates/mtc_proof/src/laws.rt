@@ -8,7 +8,8 @@ ghost use Rattle.byte_forms.specs.Forms.{IsForm, Anything, Nothing};
 ghost use Rattle.mtc_proof.specs.Proofs.{SigParts, ProofParts, signature_text, IsSignature, proof_text, IsProof};
 ghost use Rattle.mtc_proof.specs.Reading.{signature_at, signatures_left, proof_in};
 
-/// A signature is read exactly from its spelling, whatever follows it, and so is a list of them, where nothing follows.
+/// A signature is read exactly from its spelling, whatever follows it, and so is a list of them,
+/// where nothing follows.
 pub fn signatures_are_read_as_spelled()
     ensures one { IsForm signature_text IsSignature Anything signature_at }
     ensures list { IsForm (flat_map signature_text) (AllByRecursion IsSignature) Nothing (up_to_end signature_at) }
@@ -19,8 +20,8 @@ pub fn signatures_are_found()
     ensures { (xs : List SigParts) → AllByRecursion IsSignature xs → signatures_left (at (flat_map signature_text xs) 0) ≡ xs }
 {}
 
-/// What is read as a proof is spelled as one, and the spelling of each proof is read as its parts. So a proof has one
-/// spelling.
+/// What is read as a proof is spelled as one, and the spelling of each proof is read as its parts. So
+/// a proof has one spelling.
 pub fn proofs_are_read_as_spelled()
     ensures only { (bytes : List ℕ) (p : ProofParts) → IsBytes bytes → proof_in bytes ≡ Ok p → (bytes ≡ proof_text p) × IsProof p }
     ensures again { (p : ProofParts) → IsProof p → proof_in (proof_text p) ≡ Ok p }

@@ -1,9 +1,10 @@
 //! Lists of signatures.
 
-ghost use Rattle.std.specs.Prelude.{◌≡◌, ◌<◌, ◌≤◌, length, Ok, Err, OnOk, IfErr};
+ghost use Rattle.std.specs.Prelude.{◌≡◌, ◌<◌, ◌≤◌, length, Ok, Err, OnOk, IfErr, IsOk};
 ghost use Rattle.byte_forms.specs.Places.{at};
 ghost use Rattle.byte_forms.specs.Readings.{Moves, Gives, discarded};
 ghost use Rattle.byte_forms.specs.Lists.{up_to_end};
+ghost use Rattle.mtc_proof.specs.Proofs.{AreSignatures};
 ghost use Rattle.mtc_proof.specs.Reading.{signature_at, checked, signatures_left};
 ghost use Rattle.mtc_proof.specs.Views.{sig_parts};
 
@@ -12,22 +13,10 @@ use crate::found::Signatures;
 use crate::proof::{Proof, SigRef};
 use tls_wire::Cursor;
 
-/// This offset of an input, up to its end.
-fn cursor_at(input: &[u8], place: usize) -> Cursor<'_>
-    requires { place ≤ length input.now }
-    ensures { result ≡ at input.now place }
-{
-    let mut cursor = Cursor::new(input);
-    match cursor.bytes(place) {
-        Ok(_) => cursor,
-        Err(_) => cursor,
-    }
-}
-
-/// One signature: the cosigner's id behind a length of one byte, and the signature behind a length of two bytes. `EmptyId`
-/// where the id has no bytes.
+// One signature: the cosigner's id behind a length of one byte, and the signature behind a length of
+// two bytes. `EmptyId` where the id has no bytes.
 #[tactic(auto, unfolding(crate::specs::Reading::signature_at))]
-pub fn signature<'a>(cursor: &mut Cursor<'a>) -> Result<SigRef<'a>, ProofError>
+pub(crate) fn signature<'a>(cursor: &mut Cursor<'a>) -> Result<SigRef<'a>, ProofError>
     ensures exact { Moves sig_parts signature_at cursor.old result cursor.new }
     ensures forward { OnOk result (length cursor.new.rest < length cursor.old.rest) }
 {
@@ -43,7 +32,7 @@ pub fn signature<'a>(cursor: &mut Cursor<'a>) -> Result<SigRef<'a>, ProofError>
     })
 }
 
-/// Signatures up to the end.
+// Signatures up to the end.
 fn all_signatures(cursor: &mut Cursor) -> Result<(), ProofError>
     ensures ok { OnOk result (discarded (up_to_end signature_at cursor.old) ≡ Ok cursor.new) }
     ensures err { IfErr result (λ e. discarded (up_to_end signature_at cursor.old) ≡ Err e) }
@@ -54,25 +43,28 @@ fn all_signatures(cursor: &mut Cursor) -> Result<(), ProofError>
     Ok(())
 }
 
-/// The bytes from this offset on are signatures. Offsets of faults count in the whole input.
-pub fn check_from(input: &[u8], place: usize) -> Result<(), ProofError>
+// The bytes from this offset on are signatures. Offsets of faults count in the whole input.
+pub(crate) fn check_from(input: &[u8], place: usize) -> Result<(), ProofError>
     requires { place ≤ length input.now }
     ensures { Gives (λ x. x) result (checked (at input.now place)) }
 {
-    let mut cursor = cursor_at(input, place);
+    let mut cursor = Cursor::at(input, place);
     all_signatures(&mut cursor)
 }
 
-/// Whether the bytes are signatures one behind the other, or none. Refuses with `Short` for an id or a signature that doesn't
-/// fit, with the offset of its length, and `EmptyId` for a signature whose id has no bytes, with the offset of the
-/// signature.
+/// Whether the bytes are signatures one behind the other, or none. Refuses with `Short` for an id or
+/// a signature that doesn't fit, with the offset of its length, and with `EmptyId` for a signature
+/// whose id has no bytes, with the offset of the signature.
 pub fn check_signatures(bytes: &[u8]) -> Result<(), ProofError>
-    ensures { Gives (λ x. x) result (checked (at bytes.now 0)) }
+    ensures found { OnOk result (AreSignatures bytes.now) }
+    ensures only { AreSignatures bytes.now → IsOk result }
+    ensures exact { Gives (λ x. x) result (checked (at bytes.now 0)) }
 {
     check_from(bytes, 0)
 }
 
-/// The signatures of a proof in their order. Of a proof that wasn't read they are those up to the first that doesn't read.
+/// The signatures of a proof in their order. Of a proof that wasn't read they are those up to the
+/// first that doesn't read.
 pub fn signatures<'a>(p: &Proof<'a>) -> Signatures<'a>
     ensures { result ≡ signatures_left (at p.now.signatures.now 0) }
 {

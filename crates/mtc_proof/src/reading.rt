@@ -11,7 +11,7 @@ use crate::list::check_from;
 use crate::proof::Proof;
 use tls_wire::Cursor;
 
-/// The parts of a proof, whose signatures aren't looked into.
+// The parts of a proof, whose signatures aren't looked into.
 #[tactic(auto, unfolding(crate::specs::Reading::parts_at))]
 fn parts<'a>(cursor: &mut Cursor<'a>) -> Result<Proof<'a>, ProofError>
     ensures { Moves proof_parts parts_at cursor.old result cursor.new }
@@ -28,7 +28,7 @@ fn parts<'a>(cursor: &mut Cursor<'a>) -> Result<Proof<'a>, ProofError>
     })
 }
 
-/// The bytes of the proof that end at this offset are signatures.
+// The bytes of the proof that end at this offset are signatures.
 fn check_list(bytes: &[u8], behind: usize, signatures: &[u8]) -> Result<(), ProofError>
     requires within { behind ≤ length bytes.now }
     requires fits { length signatures.now ≤ behind }
@@ -38,7 +38,7 @@ fn check_list(bytes: &[u8], behind: usize, signatures: &[u8]) -> Result<(), Proo
     check_from(&bytes[..behind], behind - signatures.len())
 }
 
-/// All of the bytes.
+// All of the bytes.
 #[tactic(auto, unfolding(crate::specs::Reading::proof_in))]
 fn whole(bytes: &[u8]) -> Result<Proof<'_>, ProofError>
     ensures { Gives proof_parts result (proof_in bytes.now) }
@@ -52,13 +52,14 @@ fn whole(bytes: &[u8]) -> Result<Proof<'_>, ProofError>
     Ok(proof)
 }
 
-/// Reads a proof, without taking memory: start and end of the interval in eight bytes each, the hashes of the path behind
-/// their length in two bytes, and the signatures behind their length in two bytes.
+/// Reads a proof, without taking memory: start and end of the interval in eight bytes each, the
+/// hashes of the path behind their length in two bytes, and the signatures behind their length in
+/// two bytes.
 ///
-/// The first fault from the left is answered: `Short` with the offset of the number, the vector, the id or the signature
-/// that doesn't fit; `HashLength` where the length of the path is no multiple of 32; `EmptyId` with the offset of a
-/// signature whose cosigner's id has no bytes; `Trailing` where something stands behind the signatures. Offsets count in
-/// the bytes of the proof.
+/// The first fault from the left is answered: `Short` with the offset of the number, the vector, the
+/// id or the signature that doesn't fit; `HashLength` where the length of the path is no multiple of
+/// 32; `EmptyId` with the offset of a signature whose cosigner's id has no bytes; `Trailing` where
+/// something stands behind the signatures. Offsets count in the bytes of the proof.
 pub fn read_proof(bytes: &[u8]) -> Result<Proof<'_>, ProofError>
     ensures found { IfOk result (λ p. (bytes.now ≡ proof_text (proof_parts p)) × IsProof (proof_parts p)) }
     ensures only { (p : ProofParts) → IsProof p → bytes.now ≡ proof_text p → Gives proof_parts result (Ok p) }
