@@ -1,68 +1,48 @@
 -- Requests: what is read is spelled so, and what is spelled so is read again.
-use Rattle.std.proofs.Common.{◌≡◌, ℕ, ◌^◌, ◌<◌, true, false, ltb, List, [], ◌∷◌, ◌++◌, length, take, Result, Ok, Err, refl, sym, ap, subst, ◌∙◌, append-nil, arith, eqb-true, ne_eqb}
-use Rattle.std.specs.Prelude.{if◌then◌else◌, ◌==◌, not}
+use Rattle.std.proofs.Common.{◌≡◌, ℕ, ◌^◌, ◌<◌, true, List, [], ◌++◌, length, Result, Ok, Err, refl, sym, ap, subst, ◌∙◌, append-nil, eqb-true}
+use Rattle.std.specs.Prelude.{if◌then◌else◌, ◌==◌}
 use Rattle.std.specs.Int.{w8, w64}
-use Rattle.std.proofs.lemmas.List.{length-take-le, nil_from_length}
-use Rattle.std.proofs.lemmas.Bool.{ltb-false}
-use Rattle.byte_forms.specs.Places.{At, IsBytes, after, at}
-use Rattle.byte_forms.specs.Readings.{◌>>=◌, both_at, lifted, mapped_at}
+use Rattle.std.proofs.lemmas.List.{nil_from_length}
+use Rattle.byte_forms.specs.Types.{Text}
+use Rattle.byte_forms.specs.Places.{At, IsBytes, at, has_bytes}
+use Rattle.byte_forms.specs.Readings.{◌>>=◌, both_at, lifted_at, mapped_at}
 use Rattle.byte_forms.specs.Forms.{Anything, FitsBoth, IsForm, both, itself}
-use Rattle.byte_forms.proofs.Steps.{bind_ok, guard_ok, ok_is, pass_ok}
-use Rattle.byte_forms.proofs.Forms.{both_form, mapped_form, said_form, tested_form}
-use Rattle.tls_wire.specs.declared.cursor.Short.{Short as ShortForm}
+use Rattle.byte_forms.proofs.Steps.{bind_ok, has_bytes-some, ok_is, pass_ok, some-has_bytes}
+use Rattle.byte_forms.proofs.Forms.{both_form, lifted_form, mapped_form, said_form, tested_form}
 use Rattle.tls_wire.specs.Reading.{bytes_at, hashes_at, number_at, vector_at}
 use Rattle.tls_wire.specs.Spelling.{AreHashes, hashes, number, vector}
 use Rattle.tls_wire.proofs.Hashes.{hashes_form}
-use Rattle.tls_wire.proofs.Numbers.{bytes_form, number_form, wide64, wide8}
+use Rattle.tls_wire.proofs.Numbers.{bytes_form, wide8, word_form}
 use Rattle.tls_wire.proofs.Vectors.{vector_form}
 use Rattle.cosigner_core.specs.declared.fault.FormError.{FormError}
 use Rattle.cosigner_core.specs.declared.fault.FormError.TheVariants.{EmptyId, Trailing}
-use Rattle.cosigner_core.specs.Reading.{advance_at, advance_in, form_at, hash_at, id_at, is_some, of_hashes, of_short, proof_at, subtree_at, subtree_in, to_advance, to_subtree, whole_in, word_at}
+use Rattle.cosigner_core.specs.Reading.{advance_at, advance_in, hash_at, id_at, of_hashes, of_short, proof_at, subtree_at, subtree_in, to_advance, to_subtree, whole_in, word_at}
 use Rattle.cosigner_core.specs.Requests.{AdvanceParts, IsAdvance, IsSubtreeRequest, SubtreeParts, advance_text, subtree_text}
 
 -- ---- the parts
 
-lifted_ok : {A E F : Type 0} (fault : E → F) (r : Result A E) (y : A) → lifted fault r ≡ Ok y → r ≡ Ok y
-lifted_ok fault (Ok x) y e = cc
-lifted_ok fault (Err d) y e = absurd cc
-
-lifted_form : {X E F : Type 0} (spell : X → List ℕ) (Fits : X → Type 0) (Follows : List ℕ → Type 0) (read : At → Result (X × At) E) (fault : E → F)
-    → IsForm spell Fits Follows read → IsForm spell Fits Follows (λ a. lifted fault (read a))
-lifted_form spell Fits Follows read fault form = record {
-  takes = λ a x b h e. form.takes a x b h (lifted_ok fault (read a) (x, b) e);
-  again = λ x p rest f q. rw (form.again x p rest f q) refl;
-}
-
-abbrev IsId : List ℕ → Type 0
-IsId id = (length id < 2 ^ 8) × (is_some id ≡ true)
+abbrev IsId : Text → Type 0
+IsId id = (length id < 2 ^ 8) × (has_bytes id ≡ true)
 
 abbrev IsWord : ℕ → Type 0
 IsWord n = n < 2 ^ 64
 
-abbrev IsHash : List ℕ → Type 0
+abbrev IsHash : Text → Type 0
 IsHash hash = length hash ≡ 32
 
-short_id : IsForm (vector w8) (λ id. length id < 2 ^ 8) Anything (form_at (vector_at w8))
-short_id = lifted_form (vector w8) (λ id. length id < 2 ^ 8) Anything (vector_at w8) of_short (vector_form w8 (2 ^ 8) wide8)
-
 id_form : IsForm (vector w8) IsId Anything id_at
-id_form = tested_form (vector w8) (λ id. length id < 2 ^ 8) Anything (form_at (vector_at w8)) is_some EmptyId short_id
+id_form =
+    tested_form (vector w8) (λ id. length id < 2 ^ 8) Anything (lifted_at of_short (vector_at w8)) has_bytes EmptyId
+    (lifted_form (vector w8) (λ id. length id < 2 ^ 8) Anything (vector_at w8) of_short (vector_form w8 (2 ^ 8) wide8))
 
-word_form : IsForm (number w64) IsWord Anything word_at
-word_form = lifted_form (number w64) IsWord Anything (number_at w64) of_short (number_form w64 (2 ^ 64) wide64)
+size_form : IsForm (number w64) IsWord Anything word_at
+size_form = lifted_form (number w64) IsWord Anything (number_at w64) of_short word_form
 
 hash_form : IsForm itself IsHash Anything hash_at
 hash_form = lifted_form itself IsHash Anything (bytes_at 32) of_short (bytes_form 32)
 
 proof_form : IsForm hashes AreHashes Anything proof_at
 proof_form = lifted_form hashes AreHashes Anything hashes_at of_hashes hashes_form
-
-some_bytes : (id : List ℕ) → is_some id ≡ true → 0 < length id
-some_bytes [] e = absurd cc
-some_bytes (b ∷ id) e = omega arith
-
-bytes_some : (id : List ℕ) → 0 < length id → is_some id ≡ true
-bytes_some id lt = let some : (length id == 0) ≡ false = ne_eqb (length id) 0 (λ none. omega arith) in ap not some
 
 -- ---- to hold a larger log
 
@@ -79,7 +59,7 @@ root_form : IsForm root_text IsRoot Anything (both_at hash_at proof_at)
 root_form = both_form itself IsHash Anything hash_at hashes AreHashes Anything proof_at hash_form proof_form (λ y rest f q. tt)
 
 sized_form : IsForm (both (number w64) root_text) (FitsBoth IsWord IsRoot) Anything (both_at word_at (both_at hash_at proof_at))
-sized_form = both_form (number w64) IsWord Anything word_at root_text IsRoot Anything (both_at hash_at proof_at) word_form root_form (λ y rest f q. tt)
+sized_form = both_form (number w64) IsWord Anything word_at root_text IsRoot Anything (both_at hash_at proof_at) size_form root_form (λ y rest f q. tt)
 
 abbrev Advance : Type 0
 Advance = List ℕ × (ℕ × Root)
@@ -95,7 +75,7 @@ AreAdvance = FitsBoth IsId (FitsBoth IsWord IsRoot)
 
 advance_to : (r : AdvanceParts) → AreAdvance (from_advance r) → IsAdvance r
 advance_to r f = record {
-  some = some_bytes r.log f.0.1;
+  some = has_bytes-some r.log f.0.1;
   log = f.0.0;
   size = f.1.0;
   root = f.1.1.0;
@@ -103,7 +83,7 @@ advance_to r f = record {
 }
 
 advance_from : (r : AdvanceParts) → IsAdvance r → AreAdvance (from_advance r)
-advance_from r f = ((f.log, bytes_some r.log f.some), (f.size, (f.root, f.proof)))
+advance_from r f = ((f.log, some-has_bytes r.log f.some), (f.size, (f.root, f.proof)))
 
 pub advance_form : IsForm advance_text IsAdvance Anything advance_at
 unfolding advance_at
@@ -120,7 +100,7 @@ advance_form =
 spanned_form : IsForm (both (number w64) (both (number w64) root_text)) (FitsBoth IsWord (FitsBoth IsWord IsRoot)) Anything
     (both_at word_at (both_at word_at (both_at hash_at proof_at)))
 spanned_form = both_form (number w64) IsWord Anything word_at (both (number w64) root_text) (FitsBoth IsWord IsRoot) Anything
-    (both_at word_at (both_at hash_at proof_at)) word_form sized_form (λ y rest f q. tt)
+    (both_at word_at (both_at hash_at proof_at)) size_form sized_form (λ y rest f q. tt)
 
 abbrev Subtree : Type 0
 Subtree = List ℕ × (ℕ × (ℕ × Root))
@@ -136,7 +116,7 @@ AreSubtree = FitsBoth IsId (FitsBoth IsWord (FitsBoth IsWord IsRoot))
 
 subtree_to : (r : SubtreeParts) → AreSubtree (from_subtree r) → IsSubtreeRequest r
 subtree_to r f = record {
-  some = some_bytes r.log f.0.1;
+  some = has_bytes-some r.log f.0.1;
   log = f.0.0;
   start = f.1.0;
   end = f.1.1.0;
@@ -145,7 +125,7 @@ subtree_to r f = record {
 }
 
 subtree_from : (r : SubtreeParts) → IsSubtreeRequest r → AreSubtree (from_subtree r)
-subtree_from r f = ((f.log, bytes_some r.log f.some), (f.start, (f.end, (f.hash, f.proof))))
+subtree_from r f = ((f.log, some-has_bytes r.log f.some), (f.start, (f.end, (f.hash, f.proof))))
 
 pub subtree_form : IsForm subtree_text IsSubtreeRequest Anything subtree_at
 unfolding subtree_at
@@ -194,12 +174,3 @@ subtree_only = whole_only subtree_text IsSubtreeRequest subtree_at subtree_form
 pub subtree_again : (r : SubtreeParts) → IsSubtreeRequest r → subtree_in (subtree_text r) ≡ Ok r
 unfolding subtree_in
 subtree_again = whole_again subtree_text IsSubtreeRequest subtree_at subtree_form
-
--- ---- a hash that was read
-
-pub bytes_length : (count : ℕ) (a : At) (bytes : List ℕ) (b : At) → bytes_at count a ≡ Ok (bytes, b) → length bytes ≡ count
-bytes_length count a bytes b e =
-    let g = guard_ok (ltb (length a.rest) count) (record { place = a.place }) (Ok (take count a.rest, after count a)) (bytes, b) e in
-    let room = ltb-false (length a.rest) count g.0 in
-    let P : List ℕ × At → Type 0 = λ x. length x.0 ≡ count in
-    subst P (ok_is ShortForm (take count a.rest, after count a) (bytes, b) g.1) (length-take-le count a.rest room)

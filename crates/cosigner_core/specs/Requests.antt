@@ -1,20 +1,21 @@
 -- The requests to a cosigner: how their parts are spelled, in the presentation language of RFC 8446
 -- (section 3).
 use Rattle.std.specs.Prelude.{◌≡◌, ℕ, ◌^◌, ◌<◌, List, ◌++◌, length}
+use Rattle.byte_forms.specs.Types.{Hash, Text}
 use Rattle.std.specs.Int.{w8, w64}
 use Rattle.tls_wire.specs.Spelling.{AreHashes, hashes, number, vector}
 
 -- To hold the root of a larger log: the log's id, its size and root, and the consistency proof of
 -- what is held.
 pub record AdvanceParts : Type 0 where
-  pub log : List ℕ
+  pub log : Text
   pub size : ℕ
-  pub root : List ℕ
-  pub proof : List (List ℕ)
+  pub root : Hash
+  pub proof : List Hash
 
 -- The id behind a length of one byte, the size in eight bytes, the root in 32, and the hashes in a
 -- vector.
-abbrev pub advance_text : AdvanceParts → List ℕ
+abbrev pub advance_text : AdvanceParts → Text
 advance_text r = vector w8 r.log ++ (number w64 r.size ++ (r.root ++ hashes r.proof))
 
 pub record IsAdvance (r : AdvanceParts) : Type 0 where
@@ -27,16 +28,17 @@ pub record IsAdvance (r : AdvanceParts) : Type 0 where
 -- To sign a subtree of what is held: the log's id, the interval, the hash of the subtree, and its
 -- consistency proof.
 pub record SubtreeParts : Type 0 where
-  pub log : List ℕ
+  pub log : Text
   pub start : ℕ
   pub end : ℕ
-  pub hash : List ℕ
-  pub proof : List (List ℕ)
+  pub hash : Hash
+  pub proof : List Hash
 
 -- The id behind a length of one byte, start and end in eight bytes each, the hash in 32, and the
 -- hashes in a vector.
-abbrev pub subtree_text : SubtreeParts → List ℕ
-subtree_text r = vector w8 r.log ++ (number w64 r.start ++ (number w64 r.end ++ (r.hash ++ hashes r.proof)))
+abbrev pub subtree_text : SubtreeParts → Text
+subtree_text r =
+    vector w8 r.log ++ (number w64 r.start ++ (number w64 r.end ++ (r.hash ++ hashes r.proof)))
 
 pub record IsSubtreeRequest (r : SubtreeParts) : Type 0 where
   pub some : 0 < length r.log

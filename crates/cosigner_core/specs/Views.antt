@@ -7,4 +7,10 @@ abbrev pub advance_parts : AdvanceRequest → AdvanceParts
 advance_parts r = record { log = r.log.now; size = r.size; root = r.root; proof = r.proof.now }
 
 abbrev pub subtree_parts : SubtreeRequest → SubtreeParts
-subtree_parts r = record { log = r.log.now; start = r.start; end = r.end; hash = r.hash; proof = r.proof.now }
+subtree_parts r = record {
+  log = r.log.now;
+  start = r.start;
+  end = r.end;
+  hash = r.hash;
+  proof = r.proof.now;
+}

@@ -6,8 +6,6 @@ mod fault;
 mod laws;
 mod reading;
 mod requests;
-#[cfg(test)]
-mod tests;
 mod writing;
 
 pub use fault::FormError;

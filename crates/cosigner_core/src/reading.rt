@@ -1,9 +1,7 @@
 //! Reading requests.
 
-ghost use Rattle.std.specs.Prelude.{◌≡◌, Ok, IfOk};
 ghost use Rattle.byte_forms.specs.Readings.{Gives, Moves};
-ghost use Rattle.cosigner_core.specs.Reading.{advance_at, advance_in, hash_at, id_at, subtree_at, subtree_in};
-ghost use Rattle.cosigner_core.specs.Requests.{AdvanceParts, IsAdvance, IsSubtreeRequest, SubtreeParts, advance_text, subtree_text};
+ghost use Rattle.cosigner_core.specs.Reading.{advance_at, advance_in, id_at, subtree_at, subtree_in};
 ghost use Rattle.cosigner_core.specs.Views.{advance_parts, subtree_parts};
 
 use crate::fault::FormError;
@@ -21,16 +19,6 @@ fn log_id<'a>(cursor: &mut Cursor<'a>) -> Result<&'a [u8], FormError>
     Ok(id)
 }
 
-// A hash of 32 bytes.
-fn hash(cursor: &mut Cursor) -> Result<[u8; 32], FormError>
-    ensures { Moves (λ hash. hash) hash_at cursor.old result cursor.new }
-{
-    let bytes = cursor.bytes(32)?;
-    let mut hash = [0; 32];
-    hash.copy_from_slice(bytes);
-    Ok(hash)
-}
-
 // The parts of a request to hold a larger log.
 #[tactic(auto, unfolding(crate::specs::Reading::advance_at))]
 fn advance<'a>(cursor: &mut Cursor<'a>) -> Result<AdvanceRequest<'a>, FormError>
@@ -38,7 +26,7 @@ fn advance<'a>(cursor: &mut Cursor<'a>) -> Result<AdvanceRequest<'a>, FormError>
 {
     let log = log_id(cursor)?;
     let size = cursor.u64()?;
-    let root = hash(cursor)?;
+    let root = *cursor.hash()?;
     let proof = cursor.hashes()?;
     Ok(AdvanceRequest {
         log,
@@ -56,7 +44,7 @@ fn subtree<'a>(cursor: &mut Cursor<'a>) -> Result<SubtreeRequest<'a>, FormError>
     let log = log_id(cursor)?;
     let start = cursor.u64()?;
     let end = cursor.u64()?;
-    let hash = hash(cursor)?;
+    let hash = *cursor.hash()?;
     let proof = cursor.hashes()?;
     Ok(SubtreeRequest {
         log,

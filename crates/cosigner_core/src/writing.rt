@@ -7,20 +7,16 @@ ghost use Rattle.cosigner_core.specs.Requests.{advance_text, subtree_text};
 
 use mtc_io::{Bytes, Memory};
 use std::alloc::Global;
-use tls_wire::{put_bytes, put_u16, put_u64, put_vec8};
+use tls_wire::{put_bytes, put_hashes, put_u64, put_vec8};
 use tree_proofs::Path;
 
-// Puts hashes behind the bytes, behind their length in two bytes.
-fn put_hashes(out: &mut Bytes, items: &[[u8; 32]]) -> Result<(), Memory>
-    requires { length items.now ≤ 128 }
-    ensures text { OnOk result (out.new ≡ out.old ++ hashes items.now) }
-    ensures spelled { AreHashes items.now }
+// Puts the hashes of a proof, which their type makes as long as hashes are.
+fn put_proof(out: &mut Bytes, proof: &[[u8; 32]]) -> Result<(), Memory>
+    requires { length proof.now ≤ 128 }
+    ensures text { OnOk result (out.new ≡ out.old ++ hashes proof.now) }
+    ensures sized { AreHashes proof.now }
 {
-    put_u16(out, items.len() as u16 * 32)?;
-    for hash in items {
-        put_bytes(out, hash)?;
-    }
-    Ok(())
+    put_hashes(out, proof)
 }
 
 /// The bytes of a request to hold a larger log: what `read_advance` reads as these parts.
@@ -40,7 +36,7 @@ pub fn write_advance(
     put_vec8(&mut out, log)?;
     put_u64(&mut out, size)?;
     put_bytes(&mut out, root)?;
-    put_hashes(&mut out, proof.as_slice())?;
+    put_proof(&mut out, proof.as_slice())?;
     Ok(out)
 }
 
@@ -64,6 +60,6 @@ pub fn write_subtree(
     put_u64(&mut out, start)?;
     put_u64(&mut out, end)?;
     put_bytes(&mut out, hash)?;
-    put_hashes(&mut out, proof.as_slice())?;
+    put_proof(&mut out, proof.as_slice())?;
     Ok(out)
 }
