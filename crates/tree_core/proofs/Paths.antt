@@ -15,7 +15,7 @@ use Rattle.tree_core.specs.Path.{inclusion_path, part_of, path_of, path_within}
 use Rattle.tree_core.specs.Laws.{IsLargestPowerBelow}
 use Rattle.tree_core.specs.PathLaws.{IsInclusionPath, PathsByLength, PathsEvaluate, SubtreePathsEvaluate, WrongLengthByPath}
 use Rattle.tree_core.specs.Split.{split_of}
-use Rattle.tree_core.specs.Tree.{leaf_hash, pair_hash, root_of, tree_hash}
+use Rattle.tree_core.specs.Tree.{leaf_hash, pair_hash, root_of}
 
 -- The cases of the definition of a path.
 

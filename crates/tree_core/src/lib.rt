@@ -25,8 +25,6 @@ mod sha256;
 mod spans;
 mod subtree;
 mod sum;
-#[cfg(test)]
-mod tests;
 
 pub use covering::cover;
 pub use error::EvalError;

@@ -1,8 +1,8 @@
 -- Made consistency proofs check, and only proofs of their length have a value.
-use Rattle.std.proofs.Common.{◌≡◌, ℕ, zero, suc, ◌+◌, ◌-◌, ◌^◌, ◌<◌, ◌≤◌, ⊎_elim, inl, inr, Bool, true, false, ◌&&◌, cond, eqb, leb, List, [], ◌∷◌, ◌++◌, length, take, drop, Some, None, Ok, Err, sym, ◌∙◌, ap, refl, subst, arith}
+use Rattle.std.proofs.Common.{◌≡◌, ℕ, zero, suc, ◌+◌, ◌-◌, ◌^◌, ◌<◌, ◌≤◌, ⊎_elim, inl, inr, Bool, true, false, cond, eqb, leb, List, [], ◌∷◌, ◌++◌, length, take, drop, Some, None, Ok, Err, sym, ◌∙◌, ap, refl, subst, arith}
 use Rattle.std.specs.Prelude.{Option, Result, is_some, map, not, option_map, reverse, bytes_eq}
 use Rattle.std.proofs.lemmas.Bool.{cases_eq, eq-eqb, eqb-true, ne_eqb, cond-false, cond-true, false≢true, le-leb, leb-true, lt-leb, not_from_false, not_from_true}
-use Rattle.std.proofs.lemmas.List.{drop-drop, drop-map, drop-take, length-drop, length-map, length-reverse, length-take, length_push, reverse-append, take-map, take-take}
+use Rattle.std.proofs.lemmas.List.{drop-map, length-drop, length-map, length-reverse, length-take, length_push, reverse-append, take-map}
 use Rattle.std.proofs.lemmas.Slice.Eq.{bytes_eq-Decides}
 use Rattle.tree_core.proofs.Powers.{split_bounds, split_power, split_unique}
 use Rattle.tree_core.proofs.Roots.{root_of-split}

@@ -3,9 +3,8 @@ use Rattle.std.proofs.Common.{◌≡◌, ℕ, ◌+◌, ◌-◌, ◌^◌, ◌<◌
 use Rattle.std.specs.Prelude.{IfSome, Option}
 use Rattle.std.proofs.lemmas.List.{length_push}
 use Rattle.tree_core.proofs.Powers.{half_within, split_bounds}
-use Rattle.tree_core.specs.Path.{part_of, path_of}
+use Rattle.tree_core.specs.Path.{part_of}
 use Rattle.tree_core.specs.Split.{split_of}
-use Rattle.tree_core.specs.Subtree.{is_subtree}
 use Rattle.tree_core.specs.Tree.{root_of}
 use Rattle.tree_proofs.proofs.Made.{part_proof-whole}
 use Rattle.tree_proofs.proofs.Parts.{path-one}

@@ -22,25 +22,23 @@
 mod checking;
 mod consistency;
 mod error;
-mod paths;
 mod inclusion;
 mod laws;
 mod leaves;
 mod nodes;
-mod outcome;
 mod opening;
-#[cfg(test)]
-mod tests;
+mod outcome;
+mod paths;
 mod tree;
 
 pub use checking::check;
 pub use consistency::consist;
 pub use error::ConsistError;
-pub use paths::Path;
 pub use inclusion::include;
 pub use laws::consistency_proofs_check;
 pub use leaves::Listed;
 pub use nodes::{Nodes, node_of};
-pub use outcome::Opened;
 pub use opening::opened;
+pub use outcome::Opened;
+pub use paths::Path;
 pub use tree::root;

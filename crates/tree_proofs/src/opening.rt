@@ -82,7 +82,10 @@ pub fn opened<H: TreeHash>(
     }
     let (last, count) = (end - middle, size - middle);
     if middle <= start {
-        return root_right::<H>(sibling, opened::<H>(start - middle, last, count, known, node, rest));
+        return root_right::<H>(
+            sibling,
+            opened::<H>(start - middle, last, count, known, node, rest),
+        );
     }
     if start > 0 {
         return None;

@@ -1,0 +1,13 @@
+//! Tests of trees, of proofs in certificates and of requests to cosigners.
+#![tactic(auto)]
+
+#[cfg(test)]
+mod hashing;
+#[cfg(test)]
+mod known;
+#[cfg(test)]
+mod proving;
+#[cfg(test)]
+mod requesting;
+#[cfg(test)]
+mod signing;
