@@ -101,11 +101,16 @@ def declared(dotted):
     return crate, place.removesuffix(".TheVariants").split(".")[-1]
 
 
-def reached():
+def named_first():
+    """What the contract of `run` names itself, as (module, name)."""
+    contract, imports = statement()
+    return [imports[token] for token in set(TOKEN.findall(contract)) if token in imports]
+
+
+def reached(waiting):
     """Definitions by (module, name); types of the code; modules of the kit with their words."""
     own, types, kit = {}, set(), {}
-    contract, imports = statement()
-    waiting = [imports[token] for token in set(TOKEN.findall(contract)) if token in imports]
+    waiting = list(waiting)
     while waiting:
         dotted, name = waiting.pop()
         if ".specs.declared." in dotted:
@@ -130,11 +135,26 @@ def row(name, own, types):
     return f"| {name} | {len(own)} | {lines} | {files} | {len(types)} |"
 
 
+def first_rows():
+    """The definitions that the contract names itself, with their lengths."""
+    found = {}
+    for dotted, name in named_first():
+        module = module_of(dotted)
+        whole = module.owners.get(sign_of(name), name) if module else None
+        if module and whole in module.bodies:
+            found[dotted, whole] = len(module.bodies[whole])
+    rows = ["| The contract names | In | Lines |", "|---|---|---|"]
+    for (dotted, name), count in sorted(found.items()):
+        crate, _, place = dotted.partition(".")
+        rows.append(f"| `{name}` | `{crate}/{place.replace('.', '/')}` | {count} |")
+    return rows + [f"| {len(found)} definitions | | {sum(found.values())} |", ""]
+
+
 def table():
-    own, types, kit = reached()
+    own, types, kit = reached(named_first())
     order = [crate.name for crate in crates()]
     used = {dotted.split(".")[0] for dotted, _ in own} | {crate for crate, _ in types}
-    rows = ["| Crate | Definitions | Lines | Files | Types of the code |", "|---|---|---|---|---|"]
+    rows = first_rows() + ["| Crate | Definitions | Lines | Files | Types of the code |", "|---|---|---|---|---|"]
     for name in sorted(used, key=order.index):
         mine = {key: body for key, body in own.items() if key[0].split(".")[0] == name}
         rows.append(row(f"`{name}`", mine, {one for crate, one in types if crate == name}))
@@ -162,7 +182,7 @@ def main(words):
         before, _, behind = between()
         PAGE.write_text(before + "\n" + table() + "\n" + behind)
     elif words == ["--list"]:
-        for (dotted, name), body in sorted(reached()[0].items()):
+        for (dotted, name), body in sorted(reached(named_first())[0].items()):
             print(f"{dotted} {name} {len(body)}")
     else:
         print(table())
