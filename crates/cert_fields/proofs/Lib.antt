@@ -8,3 +8,5 @@ pub mod CertificateForm
 pub mod Found
 pub mod Offsets
 pub mod PublicKeys
+pub mod Twice
+pub mod Many

@@ -1,8 +1,10 @@
 -- Loops over names and extensions: what is left decides as the whole does.
-use Rattle.std.proofs.Common.{◌≡◌, ◌≢◌, ℕ, zero, suc, ◌+◌, ◌-◌, ◌<◌, ◌≤◌, Bool, true, false, ◌||◌, List, [], ◌∷◌, ◌++◌, length, Result, Ok, Err, refl, sym, ap, ◌∙◌, append_assoc, ne_eqb, arith}
+use Rattle.std.proofs.Common.{◌≡◌, ◌≢◌, ℕ, zero, suc, ◌+◌, ◌-◌, ◌<◌, ◌≤◌, Bool, true, false, ◌||◌, List, [], ◌∷◌, ◌++◌, length, take, Result, Ok, Err, refl, sym, ap, ◌∙◌, append_assoc, ne_eqb, arith}
 use Rattle.std.proofs.lemmas.List.{append-nil}
 use Rattle.std.specs.Prelude.{if◌then◌else◌, ◌==◌, not}
-use Rattle.std.specs.Str.{bytes_eq}
+use Rattle.std.specs.List.{list_any}
+use denote.Ref.{Bor}
+use Rattle.cert_fields.specs.Views.{texts}
 use Rattle.byte_forms.specs.Places.{At}
 use Rattle.byte_forms.specs.Readings.{discarded, both_at, mapped_at, tested_at}
 use Rattle.byte_forms.proofs.Loops.{WalksEach, each_from, each_more, each_fails, each_end}
@@ -76,52 +78,90 @@ names_end a fault step =
     let more : names_left a ≡ names_from (suc (length a.rest)) a = sym (names_one (length a.rest) a (omega arith)) in
     more ∙ ap (λ (r : Result (Item × At) DerError). name_then r (λ (c : At). names_from (length a.rest) c)) step
 
--- ---- identifiers before an extension
+-- ---- the identifiers of extensions
 
--- The first n extensions here have the identifier as the whole list has.
-abbrev pub StillAmong : Bool → List ℕ → ℕ → At → Type 0
-StillAmong total identifier n a = is_among identifier (identifiers n a) ≡ total
+-- One of the first n extensions here passes the test where one of the whole list does.
+abbrev pub StillAny : Bool → (List ℕ → Bool) → ℕ → At → Type 0
+StillAny total test n a = list_any test (identifiers n a) ≡ total
 
--- An extension with another identifier.
-pub among_more : (total : Bool) (identifier : List ℕ) (n : ℕ) (a : At) (other : List ℕ) (b : At) → 0 < n → head_at a ≡ Ok (other, b)
-    → false ≡ bytes_eq other identifier → StillAmong total identifier n a → StillAmong total identifier (n - 1) b
+pub identifiers_more : (n : ℕ) (a : At) (identifier : List ℕ) (b : At) → head_at a ≡ Ok (identifier, b) → identifiers (suc n) a ≡ identifier ∷ identifiers n b
 unfolding identifiers
-among_more total identifier zero a other b pos step differs so_far = absurd (omega arith)
-among_more total identifier (suc n) a other b pos step differs so_far =
-    let one : suc n - 1 ≡ n = omega arith in
-    let read : is_among identifier (identifiers (suc n) a) ≡ (bytes_eq other identifier || is_among identifier (identifiers n b)) =
-    ap (λ (r : Result (List ℕ × At) DerError). is_among identifier (value_then r (λ (c : At). identifiers n c))) step in
-    rw one (sym (read ∙ ap (λ (t : Bool). t || is_among identifier (identifiers n b)) (sym differs)) ∙ so_far)
-
--- An extension with this identifier.
-pub among_found : (total : Bool) (identifier : List ℕ) (n : ℕ) (a : At) (other : List ℕ) (b : At) → 0 < n → head_at a ≡ Ok (other, b)
-    → true ≡ bytes_eq other identifier → StillAmong total identifier n a → true ≡ total
-unfolding identifiers
-among_found total identifier zero a other b pos step same so_far = absurd (omega arith)
-among_found total identifier (suc n) a other b pos step same so_far =
-    let read : is_among identifier (identifiers (suc n) a) ≡ (bytes_eq other identifier || is_among identifier (identifiers n b)) =
-    ap (λ (r : Result (List ℕ × At) DerError). is_among identifier (value_then r (λ (c : At). identifiers n c))) step in
-    sym (read ∙ ap (λ (t : Bool). t || is_among identifier (identifiers n b)) (sym same)) ∙ so_far
+identifiers_more n a identifier b step = ap (λ (r : Result (List ℕ × At) DerError). value_then r (λ (c : At). identifiers n c)) step
 
 -- No extension is left that reads.
-pub among_fails : (total : Bool) (identifier : List ℕ) (n : ℕ) (a : At) (fault : DerError) → head_at a ≡ Err fault
-    → StillAmong total identifier n a → false ≡ total
+pub identifiers_end : (n : ℕ) (a : At) (fault : DerError) → head_at a ≡ Err fault → identifiers n a ≡ []
 unfolding identifiers
-among_fails total identifier zero a fault step so_far = so_far
-among_fails total identifier (suc n) a fault step so_far =
-    let read : is_among identifier (identifiers (suc n) a) ≡ false =
-    ap (λ (r : Result (List ℕ × At) DerError). is_among identifier (value_then r (λ (c : At). identifiers n c))) step in
-    sym read ∙ so_far
+identifiers_end zero a fault step = refl
+identifiers_end (suc n) a fault step = ap (λ (r : Result (List ℕ × At) DerError). value_then r (λ (c : At). identifiers n c)) step
+
+-- An extension that doesn't pass.
+pub any_more : (total : Bool) (test : List ℕ → Bool) (n : ℕ) (a : At) (other : List ℕ) (b : At) → 0 < n → head_at a ≡ Ok (other, b)
+    → false ≡ test other → StillAny total test n a → StillAny total test (n - 1) b
+any_more total test zero a other b pos step differs so_far = absurd (omega arith)
+any_more total test (suc n) a other b pos step differs so_far =
+    let one : suc n - 1 ≡ n = omega arith in
+    rw one (sym (ap (list_any test) (identifiers_more n a other b step) ∙ ap (λ (t : Bool). t || list_any test (identifiers n b)) (sym differs)) ∙ so_far)
+
+-- An extension that passes.
+pub any_found : (total : Bool) (test : List ℕ → Bool) (n : ℕ) (a : At) (other : List ℕ) (b : At) → 0 < n → head_at a ≡ Ok (other, b)
+    → true ≡ test other → StillAny total test n a → true ≡ total
+any_found total test zero a other b pos step same so_far = absurd (omega arith)
+any_found total test (suc n) a other b pos step same so_far =
+    sym (ap (list_any test) (identifiers_more n a other b step) ∙ ap (λ (t : Bool). t || list_any test (identifiers n b)) (sym same)) ∙ so_far
+
+pub any_fails : (total : Bool) (test : List ℕ → Bool) (n : ℕ) (a : At) (fault : DerError) → head_at a ≡ Err fault → StillAny total test n a → false ≡ total
+any_fails total test n a fault step so_far = sym (ap (list_any test) (identifiers_end n a fault step)) ∙ so_far
 
 -- No extension is to be looked at.
-pub among_end : (total : Bool) (identifier : List ℕ) (n : ℕ) (a : At) → n ≤ 0 → StillAmong total identifier n a → false ≡ total
+pub identifiers_none : (n : ℕ) (a : At) → n ≤ 0 → identifiers n a ≡ []
 unfolding identifiers
-among_end total identifier zero a le so_far = so_far
-among_end total identifier (suc n) a le so_far = absurd (omega arith)
+identifiers_none zero a le = refl
+identifiers_none (suc n) a le = absurd (omega (arith, le))
+
+pub any_end : (total : Bool) (test : List ℕ → Bool) (n : ℕ) (a : At) → n ≤ 0 → StillAny total test n a → false ≡ total
+any_end total test n a le so_far = sym (ap (list_any test) (identifiers_none n a le)) ∙ so_far
+
+-- ---- a block of identifiers
+
+-- So many of the identifiers from the old place on are these, and the others follow at the new one.
+abbrev pub Taken : At → ℕ → List (List ℕ) → At → Type 0
+Taken old count seen a = (n : ℕ) → identifiers (count + n) old ≡ seen ++ identifiers n a
+
+pub taken_none : (old a : At) → a ≡ old → Taken old 0 [] a
+taken_none old a same n =
+    let e : 0 + n ≡ n = omega arith in
+    ap (λ (m : ℕ). identifiers m old) e ∙ ap (λ (c : At). identifiers n c) (sym same)
+
+pub taken_more : (old : At) (count : ℕ) (seen : List (List ℕ)) (a : At) (identifier : List ℕ) (b : At) → head_at a ≡ Ok (identifier, b)
+    → Taken old count seen a → Taken old (count + 1) (seen ++ identifier ∷ []) b
+taken_more old count seen a identifier b step so_far n =
+    let e : count + 1 + n ≡ count + suc n = omega arith in
+    ap (λ (m : ℕ). identifiers m old) e ∙ (so_far (suc n) ∙ (ap (λ (ids : List (List ℕ)). seen ++ ids) (identifiers_more n a identifier b step)
+    ∙ sym (append_assoc seen (identifier ∷ []) (identifiers n b))))
+
+-- All that were taken.
+pub all_taken : (old : At) (count : ℕ) (seen : List (List ℕ)) (a : At) → Taken old count seen a → identifiers count old ≡ seen
+unfolding identifiers
+all_taken old count seen a so_far =
+    let e : count ≡ count + 0 = omega arith in
+    ap (λ (n : ℕ). identifiers n old) e ∙ so_far 0 ∙ append-nil seen
+
+pub taken_of : (old : At) (count : ℕ) (seen : List (List ℕ)) (a : At) (n : ℕ) → count ≤ n → Taken old count seen a → identifiers n old ≡ seen ++ identifiers (n - count) a
+taken_of old count seen a n le so_far =
+    let e : n ≡ count + (n - count) = omega arith in
+    ap (λ (m : ℕ). identifiers m old) e ∙ so_far (n - count)
+
+-- Where nothing was taken, and no extension reads, there are no identifiers.
+pub taken_ends : (old : At) (count : ℕ) (slices : List (Bor (List ℕ))) (a : At) (fault : DerError) → Taken old count (texts (take count slices)) a
+    → head_at a ≡ Err fault → count ≡ 0 → (n : ℕ) → identifiers n old ≡ []
+taken_ends old zero slices a fault so_far step same n =
+    let e : n ≡ 0 + n = omega arith in
+    ap (λ (m : ℕ). identifiers m old) e ∙ (so_far n ∙ identifiers_end n a fault step)
+taken_ends old (suc k) slices a fault so_far step same n = absurd (omega (arith, same))
 
 -- ---- the list of extensions
 
-oid_same : (place : ℕ) (contents x : List ℕ) → oid_of place contents ≡ Ok x → contents ≡ x
+pub oid_same : (place : ℕ) (contents x : List ℕ) → oid_of place contents ≡ Ok x → contents ≡ x
 unfolding oid_of
 oid_same place contents x e =
     let g = guard_ok (length contents == 0) (BadOid place) (if are_arcs true contents then Ok contents else Err (BadOid place)) x e in
@@ -129,7 +169,7 @@ oid_same place contents x e =
     ok_is DerError contents x p.1
 
 -- An extension that reads begins with its identifier.
-head_of : (seen : List (List ℕ)) (a : At) (x : ExtensionFields) (b : At) → extension_at seen a ≡ Ok (x, b) → head_at a ≡ Ok (x.identifier, b)
+pub head_of : (seen : List (List ℕ)) (a : At) (x : ExtensionFields) (b : At) → extension_at seen a ≡ Ok (x, b) → head_at a ≡ Ok (x.identifier, b)
 unfolding extension_at new_identifier_at head_at
 head_of seen a x b h =
     let fields : At → Result ((List ℕ × (Bool × List ℕ)) × At) CertError = both_at (new_identifier_at seen) (both_at critical_at (contents_at 0x04)) in
@@ -146,7 +186,7 @@ head_of seen a x b h =
 pub record Passes (total : Result At CertError) (list : At) (count : ℕ) (a : At) : Type 0 where
   pub seen : List (List ℕ)
   pub walks : WalksEach identifier_of extension_at total seen a
-  pub passed : (n : ℕ) → identifiers (count + n) list ≡ seen ++ identifiers n a
+  pub passed : Taken list count seen a
   pub room : count + length a.rest ≤ length list.rest
 
 pub passes_from : (a list : At) → list ≡ a → Passes (discarded (extension_list_at a)) list 0 a
@@ -154,36 +194,23 @@ unfolding extension_list_at
 passes_from a list same = record {
   seen = [];
   walks = each_from identifier_of extension_at [] a;
-  passed = λ n. ap (λ (l : At). identifiers (0 + n) l) same ∙ ap (λ (m : ℕ). identifiers m a) (omega arith);
+  passed = taken_none list a (sym same);
   room = rw same (omega arith);
 }
 
--- The identifiers before this extension.
-before : (total : Result At CertError) (list : At) (count : ℕ) (a : At) (p : Passes total list count a) → identifiers count list ≡ p.seen
-unfolding identifiers
-before total list count a p =
-    let e : count ≡ count + 0 = omega arith in
-    ap (λ (n : ℕ). identifiers n list) e ∙ p.passed 0 ∙ append-nil p.seen
-
 pub passes_more : (total : Result At CertError) (list : At) (count : ℕ) (a : At) (x : ExtensionFields) (b : At)
     → extension_at (identifiers count list) a ≡ Ok (x, b) → length b.rest < length a.rest → Passes total list count a → Passes total list (count + 1) b
-unfolding identifiers
 passes_more total list count a x b step less p = record {
   seen = p.seen ++ x.identifier ∷ [];
-  walks = each_more identifier_of extension_at total p.seen a x b (ap (λ (seen : List (List ℕ)). extension_at seen a) (sym (before total list count a p)) ∙ step) less p.walks;
-  passed = λ n.
-      let e : count + 1 + n ≡ count + suc n = omega arith in
-      let read : identifiers (suc n) a ≡ x.identifier ∷ identifiers n b =
-      ap (λ (r : Result (List ℕ × At) DerError). value_then r (λ (c : At). identifiers n c)) (head_of (identifiers count list) a x b step) in
-      ap (λ (m : ℕ). identifiers m list) e ∙ p.passed (suc n) ∙ ap (λ (ids : List (List ℕ)). p.seen ++ ids) read
-      ∙ sym (append_assoc p.seen (x.identifier ∷ []) (identifiers n b));
+  walks = each_more identifier_of extension_at total p.seen a x b (ap (λ (seen : List (List ℕ)). extension_at seen a) (sym (all_taken list count p.seen a p.passed)) ∙ step) less p.walks;
+  passed = taken_more list count p.seen a x.identifier b (head_of (identifiers count list) a x b step) p.passed;
   room = omega (arith, p.room);
 }
 
 pub passes_fails : (total : Result At CertError) (list : At) (count : ℕ) (a : At) (e : CertError)
     → extension_at (identifiers count list) a ≡ Err e → (length a.rest == 0) ≡ false → Passes total list count a → total ≡ Err e
 passes_fails total list count a e step other p =
-    each_fails identifier_of extension_at total p.seen a e (ap (λ (seen : List (List ℕ)). extension_at seen a) (sym (before total list count a p)) ∙ step) other p.walks
+    each_fails identifier_of extension_at total p.seen a e (ap (λ (seen : List (List ℕ)). extension_at seen a) (sym (all_taken list count p.seen a p.passed)) ∙ step) other p.walks
 
 pub passes_end : (total : Result At CertError) (list : At) (count : ℕ) (a : At)
     → (length a.rest == 0) ≡ true → Passes total list count a → total ≡ Ok a

@@ -1,5 +1,5 @@
 -- Extensions (RFC 5280, sections 4.1 and 4.2).
-use Rattle.std.specs.Prelude.{ℕ, zero, suc, ◌&&◌, Bool, true, not, List, [], ◌∷◌, length, is_some, Result, Ok, Err, if◌then◌else◌}
+use Rattle.std.specs.Prelude.{ℕ, zero, suc, ◌&&◌, ◌||◌, Bool, true, false, not, List, [], ◌∷◌, length, is_some, Result, Ok, Err, if◌then◌else◌}
 use Rattle.std.specs.List.{list_any}
 use Rattle.std.specs.Str.{bytes_eq}
 use Rattle.byte_forms.specs.Places.{At, at}
@@ -79,6 +79,15 @@ value_then (Err fault) behind = []
 unfoldable pub identifiers : ℕ → At → List (List ℕ)
 identifiers zero a = []
 identifiers (suc n) a = value_then (head_at a) (λ b. identifiers n b)
+
+-- One of them stands twice.
+abbrev pub are_repeated : List (List ℕ) → Bool
+are_repeated [] = false
+are_repeated (identifier ∷ others) = is_among identifier others || are_repeated others
+
+-- One of them is among those that were seen.
+abbrev pub any_among : List (List ℕ) → List (List ℕ) → Bool
+any_among seen identifiers = list_any (λ identifier. is_among identifier seen) identifiers
 
 -- The first n extensions, up to the first that doesn't read.
 unfoldable pub extensions_from : ℕ → At → List ExtensionFields

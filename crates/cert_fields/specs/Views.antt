@@ -1,4 +1,9 @@
 -- Parts of the code's values as contracts see them: slices as their bytes.
+use denote.Ref.{Bor}
+use Rattle.std.specs.Prelude.{ℕ, List, map}
+use Rattle.std.specs.List.Sorted.{IsSortedBy}
+use Rattle.std.specs.Ordering.{nat_cmp, is_lt}
+use Rattle.std.specs.Cmp.Lexicographic.{slice_cmp}
 use Rattle.cert_fields.specs.Certificate.{Parts, Body}
 use Rattle.cert_fields.specs.Extensions.{ExtensionFields}
 use Rattle.cert_fields.specs.declared.cert.Cert.{Cert}
@@ -23,3 +28,11 @@ body f = (f.algorithm.now, (f.issuer.now, ((f.validity_der.now, f.validity), (f.
 
 abbrev pub extension_fields : Extension → ExtensionFields
 extension_fields x = record { identifier = x.identifier.now; critical = x.critical; octets = x.octets.now }
+
+-- The bytes of each slice.
+abbrev pub texts : List (Bor (List ℕ)) → List (List ℕ)
+texts slices = map (λ slice. slice.now) slices
+
+-- The slices rise, byte by byte.
+abbrev pub AreSorted : List (Bor (List ℕ)) → Type 0
+AreSorted = IsSortedBy (λ x y. is_lt (slice_cmp nat_cmp x.now y.now))

@@ -1,18 +1,23 @@
 //! Extensions (RFC 5280, sections 4.1.2.9 and 4.2).
 
-ghost use Rattle.std.specs.Prelude.{◌≡◌, ◌^◌, ◌<◌, [], length, Ok, Err, OnOk, IfErr};
+ghost use Rattle.std.specs.Prelude.{◌≡◌, ◌^◌, ◌<◌, [], length, Ok, Err, OnOk, IfErr, if◌then◌else◌};
 ghost use Rattle.std.specs.List.{list_any};
 ghost use Rattle.byte_forms.specs.Readings.{Moves, Gives, discarded};
-ghost use Rattle.cert_fields.specs.Extensions.{is_among, new_identifier_at, critical_at, has_its_form, extension_at, extension_list_at, extension_sequence_at, extensions_at, head_at, identifiers, extensions_left, list_in, is_unknown_critical, has_unknown_critical, alt_name_octets, dns_names_in};
+ghost use Rattle.cert_fields.specs.Extensions.{is_among, new_identifier_at, critical_at, has_its_form, extension_at, extension_list_at, extension_sequence_at, extensions_at, identifiers, are_repeated, extensions_left, list_in, is_unknown_critical, has_unknown_critical, alt_name_octets, dns_names_in};
 ghost use Rattle.cert_fields.specs.Views.{extension_fields};
+ghost use Rattle.der_core.specs.declared.fault.CertError.TheVariants.{RepeatedExtension};
 
 use crate::alt_names::{DnsNames, is_general_names};
 use crate::cert::Cert;
 use crate::identifiers::{is_known, is_subject_alt_name};
+use crate::repeats::{has_repeats, head};
 use der_core::tags::{BOOLEAN, OBJECT_IDENTIFIER, OCTET_STRING, SEQUENCE};
 use der_core::{CertError, DerError, Reader, boolean, oid};
 
 const FIELD: u8 = 0xA3;
+
+/// Up to so many extensions each is compared with all before it.
+const FEW: usize = 64;
 
 /// One extension.
 #[derive(Clone, Copy, Debug)]
@@ -20,18 +25,6 @@ pub struct Extension<'a> {
     pub identifier: &'a [u8],
     pub critical: bool,
     pub octets: &'a [u8],
-}
-
-/// The identifier of the next extension, whose other parts aren't looked into.
-#[tactic(auto, unfolding(crate::specs::Extensions::head_at))]
-fn head<'a>(reader: &mut Reader<'a>) -> Result<&'a [u8], DerError>
-    ensures exact { Moves (λ bytes. bytes.now) head_at reader.old result reader.new }
-    ensures forward { OnOk result (length reader.new.rest < length reader.old.rest) }
-{
-    let outer = reader.wanted(SEQUENCE)?;
-    let mut inner = Reader::inside(&outer);
-    let identifier = inner.wanted(OBJECT_IDENTIFIER)?;
-    Ok(identifier.contents)
 }
 
 /// One of the first `count` extensions in the list has this identifier.
@@ -122,8 +115,8 @@ fn one_extension<'a>(
     Ok(extension)
 }
 
-/// Extensions with different identifiers, up to the end.
-fn extension_list(reader: &mut Reader) -> Result<(), CertError>
+/// A few extensions with different identifiers, up to the end: each is compared with all before it.
+fn few_extensions(reader: &mut Reader) -> Result<(), CertError>
     requires { length reader.old.rest < 2 ^ 64 }
     ensures ok { OnOk result (discarded (extension_list_at reader.old) ≡ Ok reader.new) }
     ensures err { IfErr result (λ e. discarded (extension_list_at reader.old) ≡ Err e) }
@@ -135,6 +128,63 @@ fn extension_list(reader: &mut Reader) -> Result<(), CertError>
         count += 1;
     }
     Ok(())
+}
+
+/// The same of many extensions. First each is read, whatever its identifier, up to the first fault; then the identifiers are
+/// compared, that of the fault's extension too, since a repetition is told before what stands behind the identifier.
+fn many_extensions(reader: &mut Reader) -> Result<(), CertError>
+    requires { length reader.old.rest < 2 ^ 64 }
+    ensures ok { OnOk result (discarded (extension_list_at reader.old) ≡ Ok reader.new) }
+    ensures err { IfErr result (λ e. discarded (extension_list_at reader.old) ≡ Err e) }
+{
+    let list = reader.fork();
+    let mut count: usize = 0;
+    while !reader.is_at_end() {
+        count += 1;
+        if let Err(fault) = next_extension(reader) {
+            return Err(first_fault(&list, count, fault));
+        }
+    }
+    if has_repeats(&list, count) {
+        Err(CertError::RepeatedExtension)
+    } else {
+        Ok(())
+    }
+}
+
+/// The fault of the last of `count` extensions, unless one of them has the identifier of another.
+fn first_fault(list: &Reader, count: usize, fault: CertError) -> CertError
+    ensures { result ≡ (if are_repeated (identifiers count list.now) then RepeatedExtension else fault) }
+{
+    if has_repeats(list, count) {
+        CertError::RepeatedExtension
+    } else {
+        fault
+    }
+}
+
+/// Extensions with different identifiers, up to the end.
+fn extension_list(reader: &mut Reader) -> Result<(), CertError>
+    requires { length reader.old.rest < 2 ^ 64 }
+    ensures ok { OnOk result (discarded (extension_list_at reader.old) ≡ Ok reader.new) }
+    ensures err { IfErr result (λ e. discarded (extension_list_at reader.old) ≡ Err e) }
+{
+    if are_few(reader) {
+        few_extensions(reader)
+    } else {
+        many_extensions(reader)
+    }
+}
+
+/// Whether fewer elements stand here than pay for a block. It is a matter of speed alone.
+fn are_few(list: &Reader) -> bool {
+    let mut reader = list.fork();
+    for _ in 0..FEW {
+        if reader.element().is_err() {
+            return true;
+        }
+    }
+    reader.is_at_end()
 }
 
 /// The list in its SEQUENCE. `BadExtension` where it is empty.

@@ -15,6 +15,7 @@ mod keys;
 mod laws;
 mod names;
 mod parts;
+mod repeats;
 #[cfg(test)]
 mod tests;
 mod times;

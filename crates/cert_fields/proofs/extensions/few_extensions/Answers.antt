@@ -1,7 +1,7 @@
 use Rattle.std.proofs.Common.{sym, ap, ◌∙◌, length, arith}
 use Rattle.std.proofs.lemmas.Result.{err_from_is_err_and}
 use Rattle.cert_fields.proofs.Walks.{passes_from, passes_more, passes_fails, passes_end}
-use Rattle.cert_fields.proofs.extensions.extension_list.Goals as goal
+use Rattle.cert_fields.proofs.extensions.few_extensions.Goals as goal
 
 pub loop-list-init : goal.loop-list-init
 loop-list-init c = passes_from _ _ c.fork-list.ensures
