@@ -50,11 +50,13 @@ to_subtree x = record {
 
 unfoldable pub subtree_at : Reading SubtreeParts FormError
 subtree_at =
-    mapped_at to_subtree (both_at id_at (both_at word_at (both_at word_at (both_at hash_at proof_at))))
+    mapped_at to_subtree
+    (both_at id_at (both_at word_at (both_at word_at (both_at hash_at proof_at))))
 
 -- All of the bytes, and nothing behind.
 abbrev pub whole_in : {X : Type 0} → Reading X FormError → Text → Result X FormError
-whole_in read bytes = read (at bytes 0) >>= λ x. if length x.1.rest == 0 then Ok x.0 else Err Trailing
+whole_in read bytes =
+    read (at bytes 0) >>= λ x. if length x.1.rest == 0 then Ok x.0 else Err Trailing
 
 -- The request that these bytes are.
 unfoldable pub advance_in : Text → Result AdvanceParts FormError

@@ -1,5 +1,5 @@
-//! Cosigners of a log. So far the requests that they are sent: to hold the root of a larger log, and
-//! to sign a subtree of it, as bytes in the presentation language of TLS (RFC 8446, section 3).
+//! Cosigners of a log. So far the requests that they are sent: to hold the root of a larger log,
+//! and to sign a subtree of it, as bytes in the presentation language of TLS (RFC 8446, section 3).
 #![tactic(auto)]
 
 mod fault;

@@ -29,8 +29,10 @@ pub fn write_advance(
 ) -> Result<Bytes, Memory>
     requires some { 0 < length log.now }
     requires short { length log.now < 256 }
-    ensures text { IfOk result (λ bytes. bytes ≡ advance_text (record { log = log.now; size = size; root = root.now; proof = proof.now })) }
-    ensures read { IfOk result (λ bytes. advance_in bytes ≡ Ok (record { log = log.now; size = size; root = root.now; proof = proof.now })) }
+    ensures text { IfOk result (λ bytes. bytes ≡ advance_text
+        (record { log = log.now; size = size; root = root.now; proof = proof.now })) }
+    ensures read { IfOk result (λ bytes. advance_in bytes ≡ Ok
+        (record { log = log.now; size = size; root = root.now; proof = proof.now })) }
 {
     let mut out = Bytes::new(alloc);
     put_vec8(&mut out, log)?;
@@ -52,8 +54,10 @@ pub fn write_subtree(
 ) -> Result<Bytes, Memory>
     requires some { 0 < length log.now }
     requires short { length log.now < 256 }
-    ensures text { IfOk result (λ bytes. bytes ≡ subtree_text (record { log = log.now; start = start; end = end; hash = hash.now; proof = proof.now })) }
-    ensures read { IfOk result (λ bytes. subtree_in bytes ≡ Ok (record { log = log.now; start = start; end = end; hash = hash.now; proof = proof.now })) }
+    ensures text { IfOk result (λ bytes. bytes ≡ subtree_text
+        (record { log = log.now; start = start; end = end; hash = hash.now; proof = proof.now })) }
+    ensures read { IfOk result (λ bytes. subtree_in bytes ≡ Ok
+        (record { log = log.now; start = start; end = end; hash = hash.now; proof = proof.now })) }
 {
     let mut out = Bytes::new(alloc);
     put_vec8(&mut out, log)?;

@@ -35,7 +35,8 @@ pub record ProofParts : Type 0 where
 
 -- Two numbers of eight bytes, the hashes of the path in a vector, and the signatures in a vector.
 abbrev pub proof_text : ProofParts → Text
-proof_text p = number w64 p.start ++ (number w64 p.end ++ (hashes p.path ++ vector w16 p.signatures))
+proof_text p =
+    number w64 p.start ++ (number w64 p.end ++ (hashes p.path ++ vector w16 p.signatures))
 
 pub record IsProof (p : ProofParts) : Type 0 where
   pub start : p.start < 2 ^ 64

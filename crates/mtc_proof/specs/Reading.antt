@@ -55,8 +55,8 @@ abbrev pub signature_then : Result (SigParts × At) ProofError → (At → List 
 signature_then (Ok x) behind = x.0 ∷ behind x.1
 signature_then (Err fault) behind = []
 
--- The signatures from here on, up to the first that doesn't read. The number is at least that of the
--- bytes that are left.
+-- The signatures from here on, up to the first that doesn't read. The number is at least that of
+-- the bytes that are left.
 unfoldable pub signatures_from : ℕ → At → List SigParts
 signatures_from zero a = []
 signatures_from (suc n) a = signature_then (signature_at a) (λ b. signatures_from n b)

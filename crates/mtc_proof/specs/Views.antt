@@ -4,7 +4,12 @@ use Rattle.mtc_proof.specs.declared.proof.Proof.{Proof}
 use Rattle.mtc_proof.specs.declared.proof.SigRef.{SigRef}
 
 abbrev pub proof_parts : Proof → ProofParts
-proof_parts p = record { start = p.start; end = p.end; path = p.path.now; signatures = p.signatures.now }
+proof_parts p = record {
+  start = p.start;
+  end = p.end;
+  path = p.path.now;
+  signatures = p.signatures.now;
+}
 
 abbrev pub sig_parts : SigRef → SigParts
 sig_parts s = record { cosigner = s.cosigner.now; signature = s.signature.now }

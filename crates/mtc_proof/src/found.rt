@@ -54,7 +54,8 @@ impl<'a> Iterator for Signatures<'a> {
 
 // The next signature; none where what is left doesn't read as one.
 fn next_signature<'a>(cursor: &mut Cursor<'a>) -> Option<SigRef<'a>>
-    ensures { MatchOption result ((signatures_left cursor.old ≡ []) × (signatures_left cursor.new ≡ []))
+    ensures { MatchOption result
+        ((signatures_left cursor.old ≡ []) × (signatures_left cursor.new ≡ []))
         (λ s. signatures_left cursor.old ≡ sig_parts s ∷ signatures_left cursor.new) }
 {
     match signature(cursor) {

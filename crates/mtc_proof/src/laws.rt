@@ -1,6 +1,7 @@
 //! Laws of proofs: the clauses are the laws, and the functions do nothing.
 
-ghost use Rattle.std.specs.Prelude.{◌≡◌, ℕ, List, Ok};
+ghost use Rattle.std.specs.Prelude.{◌≡◌, List, Ok};
+ghost use Rattle.byte_forms.specs.Types.{Text};
 ghost use Rattle.std.specs.List.{flat_map, AllByRecursion};
 ghost use Rattle.byte_forms.specs.Places.{IsBytes, at};
 ghost use Rattle.byte_forms.specs.Lists.{up_to_end};
@@ -12,18 +13,21 @@ ghost use Rattle.mtc_proof.specs.Reading.{signature_at, signatures_left, proof_i
 /// where nothing follows.
 pub fn signatures_are_read_as_spelled()
     ensures one { IsForm signature_text IsSignature Anything signature_at }
-    ensures list { IsForm (flat_map signature_text) (AllByRecursion IsSignature) Nothing (up_to_end signature_at) }
+    ensures list { IsForm (flat_map signature_text) (AllByRecursion IsSignature) Nothing
+        (up_to_end signature_at) }
 {}
 
 /// In the spelling of a list of signatures just these are found, in their order.
 pub fn signatures_are_found()
-    ensures { (xs : List SigParts) → AllByRecursion IsSignature xs → signatures_left (at (flat_map signature_text xs) 0) ≡ xs }
+    ensures { (xs : List SigParts) → AllByRecursion IsSignature xs
+        → signatures_left (at (flat_map signature_text xs) 0) ≡ xs }
 {}
 
-/// What is read as a proof is spelled as one, and the spelling of each proof is read as its parts. So
-/// a proof has one spelling.
+/// What is read as a proof is spelled as one, and the spelling of each proof is read as its parts.
+/// So a proof has one spelling.
 pub fn proofs_are_read_as_spelled()
-    ensures only { (bytes : List ℕ) (p : ProofParts) → IsBytes bytes → proof_in bytes ≡ Ok p → (bytes ≡ proof_text p) × IsProof p }
+    ensures only { (bytes : Text) (p : ProofParts) → IsBytes bytes → proof_in bytes ≡ Ok p
+        → (bytes ≡ proof_text p) × IsProof p }
     ensures again { (p : ProofParts) → IsProof p → proof_in (proof_text p) ≡ Ok p }
     ensures one { (p q : ProofParts) → IsProof p → IsProof q → proof_text p ≡ proof_text q → p ≡ q }
 {}

@@ -13,8 +13,8 @@ use crate::found::Signatures;
 use crate::proof::{Proof, SigRef};
 use tls_wire::Cursor;
 
-// One signature: the cosigner's id behind a length of one byte, and the signature behind a length of
-// two bytes. `EmptyId` where the id has no bytes.
+// One signature: the cosigner's id behind a length of one byte, and the signature behind a length
+// of two bytes. `EmptyId` where the id has no bytes.
 #[tactic(auto, unfolding(crate::specs::Reading::signature_at))]
 pub(crate) fn signature<'a>(cursor: &mut Cursor<'a>) -> Result<SigRef<'a>, ProofError>
     ensures exact { Moves sig_parts signature_at cursor.old result cursor.new }
@@ -52,9 +52,9 @@ pub(crate) fn check_from(input: &[u8], place: usize) -> Result<(), ProofError>
     all_signatures(&mut cursor)
 }
 
-/// Whether the bytes are signatures one behind the other, or none. Refuses with `Short` for an id or
-/// a signature that doesn't fit, with the offset of its length, and with `EmptyId` for a signature
-/// whose id has no bytes, with the offset of the signature.
+/// Whether the bytes are signatures one behind the other, or none. Refuses with `Short` for an id
+/// or a signature that doesn't fit, with the offset of its length, and with `EmptyId` for a
+/// signature whose id has no bytes, with the offset of the signature.
 pub fn check_signatures(bytes: &[u8]) -> Result<(), ProofError>
     ensures found { OnOk result (AreSignatures bytes.now) }
     ensures only { AreSignatures bytes.now → IsOk result }

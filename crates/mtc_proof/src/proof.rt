@@ -1,7 +1,7 @@
 //! A proof as its parts.
 
-/// A proof that was read. The interval `[start, end)` holds the entries of the log from `start` up to
-/// `end`, without `end`; whether it is a subtree isn't looked at.
+/// A proof that was read. The interval `[start, end)` holds the entries of the log from `start` up
+/// to `end`, without `end`; whether it is a subtree isn't looked at.
 #[derive(Clone, Copy, Debug)]
 pub struct Proof<'a> {
     pub start: u64,

@@ -33,7 +33,8 @@ fn check_list(bytes: &[u8], behind: usize, signatures: &[u8]) -> Result<(), Proo
     requires within { behind ≤ length bytes.now }
     requires fits { length signatures.now ≤ behind }
     requires ends { drop (behind - length signatures.now) (take behind bytes.now) ≡ signatures.now }
-    ensures { Gives (λ x. x) result (checked (record { place = behind - length signatures.now; rest = signatures.now })) }
+    ensures { Gives (λ x. x) result
+        (checked (record { place = behind - length signatures.now; rest = signatures.now })) }
 {
     check_from(&bytes[..behind], behind - signatures.len())
 }
@@ -56,13 +57,16 @@ fn whole(bytes: &[u8]) -> Result<Proof<'_>, ProofError>
 /// hashes of the path behind their length in two bytes, and the signatures behind their length in
 /// two bytes.
 ///
-/// The first fault from the left is answered: `Short` with the offset of the number, the vector, the
-/// id or the signature that doesn't fit; `HashLength` where the length of the path is no multiple of
-/// 32; `EmptyId` with the offset of a signature whose cosigner's id has no bytes; `Trailing` where
-/// something stands behind the signatures. Offsets count in the bytes of the proof.
+/// The first fault from the left is answered: `Short` with the offset of the number, the vector,
+/// the id or the signature that doesn't fit; `HashLength` where the length of the path is no
+/// multiple of 32; `EmptyId` with the offset of a signature whose cosigner's id has no bytes;
+/// `Trailing` where something stands behind the signatures. Offsets count in the bytes of the
+/// proof.
 pub fn read_proof(bytes: &[u8]) -> Result<Proof<'_>, ProofError>
-    ensures found { IfOk result (λ p. (bytes.now ≡ proof_text (proof_parts p)) × IsProof (proof_parts p)) }
-    ensures only { (p : ProofParts) → IsProof p → bytes.now ≡ proof_text p → Gives proof_parts result (Ok p) }
+    ensures found { IfOk result
+        (λ p. (bytes.now ≡ proof_text (proof_parts p)) × IsProof (proof_parts p)) }
+    ensures only { (p : ProofParts) → IsProof p → bytes.now ≡ proof_text p
+        → Gives proof_parts result (Ok p) }
     ensures exact { Gives proof_parts result (proof_in bytes.now) }
 {
     whole(bytes)

@@ -4,19 +4,19 @@ use Rattle.std.specs.Prelude.{◌≡◌, ℕ, zero, suc, ◌+◌, ◌-◌, ◌*�
 use Rattle.tree_core.specs.declared.spans.Cover.{Cover}
 use Rattle.tree_core.specs.Laws.{IsSubtree}
 
--- the number of binary digits of n; 0 has none
+-- The number of binary digits of n; 0 has none.
 unfoldable pub bit_length : ℕ → ℕ
 bit_length zero = 0
 bit_length (suc n) = if nat_lt (suc n) (2 ^ bit_length n) then bit_length n else bit_length n + 1
 
--- n with its k lowest bits cleared
+-- n with its k lowest bits cleared.
 abbrev pub clear_low : ℕ → ℕ → ℕ
 clear_low n k = n / 2 ^ k * 2 ^ k
 
--- the interval itself, where it holds one entry. Else split is the highest bit in which the first
--- place and the last one differ, the second subtree begins where that bit of the last place is
--- set and no lower one, and the first begins at start without its low bits up to the highest one
--- below split that it lacks
+-- The interval itself, where it holds one entry. Else split is the highest bit in which the first
+-- place and the last one differ, the second subtree begins where that bit of the last place is set
+-- and no lower one, and the first begins at start without its low bits up to the highest one below
+-- split that it lacks.
 unfoldable pub cover_of : ℕ → ℕ → Cover
 cover_of start end =
     let last = end - 1 in
@@ -32,12 +32,13 @@ cover_of start end =
       second = Some (record { start = middle; end = end });
     }
 
--- the first is a subtree that begins no later than the interval. Where there is no second, it
--- ends with the interval. Else it holds the interval's first entry, and the second is a subtree
--- that begins where the first ends, and ends with the interval
+-- The first is a subtree that begins no later than the interval. Where there is no second, it ends
+-- with the interval. Else it holds the interval's first entry, and the second is a subtree that
+-- begins where the first ends, and ends with the interval.
 pub record CoversInterval (start end : ℕ) (cover : Cover) : Type 0 where
   pub begins : cover.first.start ≤ start
   pub holds : start < cover.first.end
   pub first : IsSubtree cover.first.start cover.first.end
   pub rest : MatchOption cover.second (cover.first.end ≡ end)
-      (λ second. (second.start ≡ cover.first.end) × ((second.end ≡ end) × IsSubtree second.start second.end))
+      (λ second.
+      (second.start ≡ cover.first.end) × ((second.end ≡ end) × IsSubtree second.start second.end))

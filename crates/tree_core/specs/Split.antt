@@ -1,11 +1,11 @@
 -- Where a list of entries is split, and the powers of two around a number.
 use Rattle.std.specs.Prelude.{ℕ, zero, suc, ◌*◌, nat_lt, nat_le, if◌then◌else◌}
 
--- the largest power of two below n, for n above 1 (RFC 9162, section 2.1.1); 1 for 0 and 1
+-- The largest power of two below n, for n above 1 (RFC 9162, section 2.1.1); 1 for 0 and 1.
 unfoldable pub split_of : ℕ → ℕ
 split_of zero = 1
 split_of (suc n) = if nat_lt (2 * split_of n) (suc n) then 2 * split_of n else split_of n
 
--- the least power of two that is not below n
+-- The least power of two that is not below n.
 unfoldable pub power_over : ℕ → ℕ
 power_over n = if nat_le n 1 then 1 else 2 * split_of n

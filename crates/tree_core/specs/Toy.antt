@@ -1,6 +1,7 @@
 -- The hash function for tests.
 use Rattle.std.specs.Prelude.{ℕ, ◌%◌, List, ◌∷◌, sum, replicate}
+use Rattle.byte_forms.specs.Types.{HashFunction}
 
--- the sum of the bytes modulo 256, and 31 bytes 0
-abbrev pub toy_hash : List ℕ → List ℕ
+-- The sum of the bytes modulo 256, and 31 bytes 0.
+abbrev pub toy_hash : HashFunction
 toy_hash bytes = sum bytes % 256 ∷ replicate 31 0

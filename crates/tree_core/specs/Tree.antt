@@ -1,20 +1,21 @@
 -- The tree hash of a list of entries (RFC 9162, section 2.1.1). The hash function h is the first
 -- argument of each definition, and a hash is a list of 32 bytes.
 use Rattle.std.specs.Prelude.{ℕ, zero, suc, List, [], ◌∷◌, ◌++◌, length, take, drop, map}
+use Rattle.byte_forms.specs.Types.{Hash, HashFunction, Text}
 use Rattle.tree_core.specs.Split.{split_of}
 
--- the hash of an entry as a leaf
-abbrev pub leaf_hash : (List ℕ → List ℕ) → List ℕ → List ℕ
+-- The hash of an entry as a leaf.
+abbrev pub leaf_hash : HashFunction → Text → Hash
 leaf_hash h entry = h (0 ∷ entry)
 
--- the hash of the node above two nodes
-abbrev pub pair_hash : (List ℕ → List ℕ) → List ℕ → List ℕ → List ℕ
+-- The hash of the node above two nodes.
+abbrev pub pair_hash : HashFunction → Hash → Hash → Hash
 pair_hash h left right = h (1 ∷ left ++ right)
 
--- the root over leaf hashes: of none it is the hash of no bytes, of one that leaf hash, and of
--- more the pair of the roots of the first split_of of them and of the rest. The first number
--- bounds the depth
-unfoldable pub root_within : ℕ → (List ℕ → List ℕ) → List (List ℕ) → List ℕ
+-- The root over leaf hashes: of none it is the hash of no bytes, of one that leaf hash, and of more
+-- the pair of the roots of the first split_of of them and of the rest. The first number bounds the
+-- depth.
+unfoldable pub root_within : ℕ → HashFunction → List Hash → Hash
 root_within zero h leaves = h []
 root_within (suc depth) h [] = h []
 root_within (suc depth) h (x ∷ []) = x
@@ -23,10 +24,10 @@ root_within (suc depth) h (x ∷ y ∷ rest) =
     let k = split_of (length leaves) in
     pair_hash h (root_within depth h (take k leaves)) (root_within depth h (drop k leaves))
 
--- the root over leaf hashes
-unfoldable pub root_of : (List ℕ → List ℕ) → List (List ℕ) → List ℕ
+-- The root over leaf hashes.
+unfoldable pub root_of : HashFunction → List Hash → Hash
 root_of h leaves = root_within (length leaves) h leaves
 
--- the tree hash of a list of entries, MTH of the standard
-abbrev pub tree_hash : (List ℕ → List ℕ) → List (List ℕ) → List ℕ
+-- The tree hash of a list of entries, MTH of the standard.
+abbrev pub tree_hash : HashFunction → List Text → Hash
 tree_hash h entries = root_of h (map (leaf_hash h) entries)

@@ -1,3 +1,5 @@
+//! The subtrees that cover an interval.
+
 ghost use Rattle.std.specs.Prelude.{◌≡◌, ◌-◌, ◌^◌, ◌<◌, ◌≤◌, bit_and, bit_xor};
 ghost use Rattle.tree_core.specs.Cover.{CoversInterval, bit_length, clear_low, cover_of};
 

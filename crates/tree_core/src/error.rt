@@ -1,3 +1,5 @@
+//! Why a path has no value.
+
 /// Why a path has no value at a place. The tests are made in this order.
 #[derive(Clone, Copy, PartialEq, Eq, Debug)]
 pub enum EvalError {

@@ -1,4 +1,7 @@
-ghost use Rattle.std.specs.Prelude.{◌≡◌, ℕ, List, [], ◌++◌, length};
+//! The hash function of a tree, and the hashes of leaves and of pairs.
+
+ghost use Rattle.std.specs.Prelude.{◌≡◌, [], ◌++◌, length};
+ghost use Rattle.byte_forms.specs.Types.{HashFunction, Text};
 ghost use Rattle.tree_core.specs.Tree.{leaf_hash, pair_hash};
 
 // The byte before an entry, and the one before the two hashes of a pair, so that an entry and a
@@ -10,10 +13,10 @@ const PAIR: u8 = 1;
 /// The hash function of a tree, as a running hash: a value stands for the bytes added so far.
 pub trait TreeHash: Sized {
     /// The value stands for these bytes.
-    ghost stands_for: { Self → List ℕ → Type 0 };
+    ghost stands_for: { Self → Text → Type 0 };
 
     /// The type's one function from bytes to a hash.
-    ghost hash: { List ℕ → List ℕ };
+    ghost hash: { HashFunction };
 
     /// A running hash of no bytes.
     fn begin() -> Self
@@ -21,14 +24,14 @@ pub trait TreeHash: Sized {
 
     /// Adds bytes behind those so far.
     fn add(&mut self, piece: &[u8])
-        ensures { (b : List ℕ) → stands_for self.old b → stands_for self.new (b ++ piece.now) };
+        ensures { (b : Text) → stands_for self.old b → stands_for self.new (b ++ piece.now) };
 
     /// The hash of all bytes so far.
     fn end(self) -> [u8; 32]
-        ensures { (b : List ℕ) → stands_for self b → result ≡ hash b };
+        ensures { (b : Text) → stands_for self b → result ≡ hash b };
 
     /// A hash has 32 bytes.
-    ghost sized: { (b : List ℕ) → length (hash b) ≡ 32 };
+    ghost sized: { (b : Text) → length (hash b) ≡ 32 };
 }
 
 /// The hash of an entry as a leaf of a tree: of the byte 0 and the entry (RFC 9162, section

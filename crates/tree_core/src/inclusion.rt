@@ -1,3 +1,5 @@
+//! What an inclusion path evaluates to.
+
 ghost use Rattle.std.specs.Prelude.{◌≡◌, ◌≤◌, length, OnOk};
 ghost use Rattle.tree_core.specs.Evaluation.{evaluation, parent_hash};
 

@@ -1,4 +1,6 @@
-ghost use Rattle.std.specs.Prelude.{ℕ, List};
+//! Laws of the definitions: the clauses are the laws, and the functions do nothing.
+
+ghost use Rattle.byte_forms.specs.Types.{HashFunction};
 ghost use Rattle.tree_core.specs.Laws.{IsTreeHash, SplitsAtLargestPower, SubtreesByPower};
 ghost use Rattle.tree_core.specs.PathLaws.{IsInclusionPath, PathsByLength, PathsEvaluate, SubtreePathsEvaluate};
 ghost use Rattle.tree_core.specs.PathLaws.{WrongLengthByPath};
@@ -6,7 +8,7 @@ ghost use Rattle.tree_core.specs.PathLaws.{WrongLengthByPath};
 /// The law of the tree hash, for every hash function: the hash of no entries, of one, and of more
 /// by their split at the largest power of two below their number (RFC 9162, section 2.1.1).
 pub fn tree_hash_by_clauses()
-    ensures hash { (h : List ℕ → List ℕ) → IsTreeHash h }
+    ensures hash { (h : HashFunction) → IsTreeHash h }
     ensures split { SplitsAtLargestPower }
 {}
 
@@ -20,9 +22,9 @@ pub fn subtrees_by_power()
 /// more by their split at the largest power of two below their number (RFC 9162, section 2.1.3.1);
 /// it evaluates to the tree hash, and a path has a value exactly where it is as long as that one.
 pub fn inclusion_paths_evaluate()
-    ensures path { (h : List ℕ → List ℕ) → IsInclusionPath h }
-    ensures evaluates { (h : List ℕ → List ℕ) → PathsEvaluate h }
-    ensures lengths { (h : List ℕ → List ℕ) → PathsByLength h }
-    ensures in_subtrees { (h : List ℕ → List ℕ) → SubtreePathsEvaluate h }
-    ensures wrong_length { (h : List ℕ → List ℕ) → WrongLengthByPath h }
+    ensures path { (h : HashFunction) → IsInclusionPath h }
+    ensures evaluates { (h : HashFunction) → PathsEvaluate h }
+    ensures lengths { (h : HashFunction) → PathsByLength h }
+    ensures in_subtrees { (h : HashFunction) → SubtreePathsEvaluate h }
+    ensures wrong_length { (h : HashFunction) → WrongLengthByPath h }
 {}

@@ -1,3 +1,5 @@
+//! SHA-256 as the hash function of a tree.
+
 ghost use Rattle.sha2.specs.Sha256.{sha256};
 
 use crate::TreeHash;

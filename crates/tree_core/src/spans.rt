@@ -1,3 +1,5 @@
+//! Intervals of a list of entries.
+
 /// An interval of a list of entries: those from `start` up to `end`, without `end`.
 #[derive(Clone, Copy, PartialEq, Eq, Debug)]
 pub struct Span {

@@ -1,3 +1,5 @@
+//! Which intervals are subtrees.
+
 ghost use Rattle.std.specs.Prelude.{◌≡◌};
 ghost use Rattle.tree_core.specs.Subtree.{is_subtree};
 

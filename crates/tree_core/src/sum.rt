@@ -1,3 +1,5 @@
+//! A hash function for tests.
+
 ghost use Rattle.std.specs.Prelude.{◌≡◌, ℕ, List, ◌%◌, sum};
 ghost use Rattle.tree_core.specs.Toy.{toy_hash};
 

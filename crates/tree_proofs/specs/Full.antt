@@ -3,7 +3,7 @@ use Rattle.std.specs.Prelude.{◌≡◌, ℕ, ◌+◌, ◌-◌, ◌*◌, ◌/◌
 use Rattle.tree_core.specs.Split.{split_of}
 use Rattle.tree_core.specs.Subtree.{is_subtree}
 
--- a subtree of more than one entry is split at middle, and both halves are subtrees
+-- A subtree of more than one entry is split at middle, and both halves are subtrees.
 pub record HasHalves (start middle end : ℕ) : Type 0 where
   pub split : middle ≡ start + split_of (end - start)
   pub from : start < middle
@@ -11,8 +11,8 @@ pub record HasHalves (start middle end : ℕ) : Type 0 where
   pub left : is_subtree start middle ≡ true
   pub right : is_subtree middle end ≡ true
 
--- a subtree begins with a full one of this level that ends at middle: 2^level entries from a
--- multiple of 2^level on. The rest, where there is one, is the part behind the subtree's split
+-- A subtree begins with a full one of this level that ends at middle: 2^level entries from a
+-- multiple of 2^level on. The rest, where there is one, is the part behind the subtree's split.
 pub record BeginsFull (start end level middle : ℕ) : Type 0 where
   pub low : level < 64
   pub inside : start < middle

@@ -1,7 +1,8 @@
 -- What a list of leaf hashes is to a caller.
 use Rattle.std.specs.Prelude.{ℕ, List}
+use Rattle.byte_forms.specs.Types.{Hash}
 
--- the leaf hashes, and how many more need no memory
+-- The leaf hashes, and how many more need no memory.
 pub record Leaves : Type 0 where
-  pub leaves : List (List ℕ)
+  pub leaves : List Hash
   pub spare : ℕ

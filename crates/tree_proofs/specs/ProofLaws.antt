@@ -1,5 +1,6 @@
 -- What holds of consistency proofs, for a hash function h.
 use Rattle.std.specs.Prelude.{◌≡◌, ◌≢◌, ℕ, ◌-◌, ◌<◌, ◌≤◌, ◌↔◌, Bool, true, false, List, [], ◌∷◌, ◌++◌, length, take, drop, Ok, Err}
+use Rattle.byte_forms.specs.Types.{Hash, HashFunction, Text}
 use Rattle.tree_core.specs.Laws.{IsLargestPowerBelow, IsSubtree}
 use Rattle.tree_core.specs.Path.{part_of}
 use Rattle.tree_core.specs.Tree.{tree_hash}
@@ -7,47 +8,50 @@ use Rattle.tree_proofs.specs.declared.error.ConsistError.TheVariants.{WrongLengt
 use Rattle.tree_proofs.specs.Consistency.{Checks, consistency}
 use Rattle.tree_proofs.specs.Proof.{consistency_proof, proof_of}
 
--- the consistency proof of the whole list has no hash where the reader knows its tree hash, and else
--- that one. Of more entries, for k the largest power of two below their number: where the interval
--- ends by k, it is the proof in the first k and then the tree hash of the rest; where it starts from
--- k on, the proof in the rest and then the tree hash of the first k; and where it starts with the
--- list, ends above k and is not the whole, the proof of its part in the rest, whose hash the reader
--- doesn't know, and then the tree hash of the first k
-pub record IsConsistencyProof (h : List ℕ → List ℕ) : Type 0 where
-  pub known : (entries : List (List ℕ)) → 0 < length entries
+-- The consistency proof of the whole list has no hash where the reader knows its tree hash, and
+-- else that one. Of more entries, for k the largest power of two below their number: where the
+-- interval ends by k, it is the proof in the first k and then the tree hash of the rest; where it
+-- starts from k on, the proof in the rest and then the tree hash of the first k; and where it
+-- starts with the list, ends above k and is not the whole, the proof of its part in the rest, whose
+-- hash the reader doesn't know, and then the tree hash of the first k.
+pub record IsConsistencyProof (h : HashFunction) : Type 0 where
+  pub known : (entries : List Text) → 0 < length entries
       → consistency_proof h 0 (length entries) true entries ≡ []
-  pub whole : (entries : List (List ℕ)) → 0 < length entries
+  pub whole : (entries : List Text) → 0 < length entries
       → consistency_proof h 0 (length entries) false entries ≡ tree_hash h entries ∷ []
-  pub left : (entries : List (List ℕ)) (start end k : ℕ) (known : Bool)
+  pub left : (entries : List Text) (start end k : ℕ) (known : Bool)
       → IsLargestPowerBelow (length entries) k → start < end → end ≤ k
       → consistency_proof h start end known entries
       ≡ consistency_proof h start end known (take k entries) ++ tree_hash h (drop k entries) ∷ []
-  pub right : (entries : List (List ℕ)) (start end k : ℕ) (known : Bool)
+  pub right : (entries : List Text) (start end k : ℕ) (known : Bool)
       → IsLargestPowerBelow (length entries) k → start < end → end ≤ length entries → k ≤ start
       → consistency_proof h start end known entries
-      ≡ consistency_proof h (start - k) (end - k) known (drop k entries) ++ tree_hash h (take k entries) ∷ []
-  pub over : (entries : List (List ℕ)) (end k : ℕ) (known : Bool)
+      ≡ consistency_proof h (start - k) (end - k) known (drop k entries)
+      ++ tree_hash h (take k entries) ∷ []
+  pub over : (entries : List Text) (end k : ℕ) (known : Bool)
       → IsLargestPowerBelow (length entries) k → k < end → end < length entries
       → consistency_proof h 0 end known entries
       ≡ consistency_proof h 0 (end - k) false (drop k entries) ++ tree_hash h (take k entries) ∷ []
 
--- in a list of entries, for each subtree in it: its consistency proof checks for the tree hash of
--- the subtree and the one of the list
-abbrev pub ProofsCheck : (List ℕ → List ℕ) → Type 0
-ProofsCheck h = (entries : List (List ℕ)) (start end : ℕ)
+-- In a list of entries, for each subtree in it: its consistency proof checks for the tree hash of
+-- the subtree and the one of the list.
+abbrev pub ProofsCheck : HashFunction → Type 0
+ProofsCheck h = (entries : List Text) (start end : ℕ)
     → IsSubtree start end → end ≤ length entries
     → let proof = consistency_proof h start end true entries in
-    Checks h start end (length entries) (tree_hash h (part_of entries start end)) (tree_hash h entries) proof
+    let node = tree_hash h (part_of entries start end) in
+    Checks h start end (length entries) node (tree_hash h entries) proof
 
--- a proof passes exactly where it checks
-abbrev pub PassesWhereChecks : (List ℕ → List ℕ) → Type 0
-PassesWhereChecks h = (start end size : ℕ) (node root : List ℕ) (proof : List (List ℕ))
-    → (consistency h start end size node root proof ≡ Ok tt) ↔ Checks h start end size node root proof
+-- A proof passes exactly where it checks.
+abbrev pub PassesWhereChecks : HashFunction → Type 0
+PassesWhereChecks h = (start end size : ℕ) (node root : Hash) (proof : List Hash)
+    → (consistency h start end size node root proof ≡ Ok tt)
+    ↔ Checks h start end size node root proof
 
--- for a subtree within the size, the answer is WrongLength exactly where the proof is not as long
--- as the consistency proof of that subtree, whatever the leaves and hashes are
-abbrev pub WrongLengthByProof : (List ℕ → List ℕ) → Type 0
-WrongLengthByProof h = (leaves proof : List (List ℕ)) (start end : ℕ) (node root : List ℕ)
+-- For a subtree within the size, the answer is WrongLength exactly where the proof is not as long
+-- as the consistency proof of that subtree, whatever the leaves and hashes are.
+abbrev pub WrongLengthByProof : HashFunction → Type 0
+WrongLengthByProof h = (leaves proof : List Hash) (start end : ℕ) (node root : Hash)
     → IsSubtree start end → end ≤ length leaves
     → (consistency h start end (length leaves) node root proof ≡ Err WrongLength)
     ↔ (length proof ≢ length (proof_of h start end true leaves))

@@ -25,8 +25,10 @@ fn consist_in<N: Nodes>(
     requires some { start < end }
     requires inside { end ≤ high }
     requires within { high ≤ N.count nodes.old }
-    ensures proof { OnOk result (IsProofIn N.H.hash (N.leaves nodes.old) low high start end known out.new) }
-    ensures short { OnOk result ((height : ℕ) → high - low ≤ 2 ^ height → length out.new ≤ height + 1) }
+    ensures proof { OnOk result
+        (IsProofIn N.H.hash (N.leaves nodes.old) low high start end known out.new) }
+    ensures short { OnOk result
+        ((height : ℕ) → high - low ≤ 2 ^ height → length out.new ≤ height + 1) }
     ensures list { N.leaves nodes.new ≡ N.leaves nodes.old }
     ensures count { N.count nodes.new ≡ N.count nodes.old }
     ensures stays { N.stays nodes.old nodes.new }

@@ -1,3 +1,5 @@
+//! Why a consistency proof does not pass.
+
 /// Why a consistency proof of a subtree does not pass. The tests are made in this order.
 #[derive(Clone, Copy, PartialEq, Eq, Debug)]
 pub enum ConsistError {

@@ -25,7 +25,8 @@ pub fn include<N: Nodes>(
     requires below { index < end }
     requires within { end ≤ N.count nodes.old }
     ensures path { OnOk result (IsPathOf N.H.hash (N.leaves nodes.old) index start end out.new) }
-    ensures short { OnOk result ((height : ℕ) → end - start ≤ 2 ^ height → length out.new ≤ height) }
+    ensures short { OnOk result
+        ((height : ℕ) → end - start ≤ 2 ^ height → length out.new ≤ height) }
     ensures list { N.leaves nodes.new ≡ N.leaves nodes.old }
     ensures count { N.count nodes.new ≡ N.count nodes.old }
     ensures stays { N.stays nodes.old nodes.new }

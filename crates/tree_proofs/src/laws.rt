@@ -1,16 +1,16 @@
 //! The law of consistency proofs: the clauses are the law, and the function does nothing.
 
-ghost use Rattle.std.specs.Prelude.{ℕ, List};
+ghost use Rattle.byte_forms.specs.Types.{HashFunction};
 ghost use Rattle.tree_proofs.specs.ProofLaws.{IsConsistencyProof, PassesWhereChecks, ProofsCheck, WrongLengthByProof};
 
 /// The law of consistency proofs, for every hash function: the proof of an interval by the split of
-/// its list (the draft on Merkle Tree Certificates, where it makes subtree consistency proofs); that
-/// of a subtree checks for the tree hashes of the subtree and of the list; a proof passes exactly
-/// where it checks; and the answer is `WrongLength` exactly where the proof is not as long as the
+/// its list (the draft on Merkle Tree Certificates, where it makes subtree consistency proofs).
+/// That of a subtree checks for the tree hashes of the subtree and of the list, a proof passes exactly
+/// where it checks, and the answer is `WrongLength` exactly where the proof is not as long as the
 /// made one.
 pub fn consistency_proofs_check()
-    ensures proof { (h : List ℕ → List ℕ) → IsConsistencyProof h }
-    ensures checks { (h : List ℕ → List ℕ) → ProofsCheck h }
-    ensures passes { (h : List ℕ → List ℕ) → PassesWhereChecks h }
-    ensures wrong_length { (h : List ℕ → List ℕ) → WrongLengthByProof h }
+    ensures proof { (h : HashFunction) → IsConsistencyProof h }
+    ensures checks { (h : HashFunction) → ProofsCheck h }
+    ensures passes { (h : HashFunction) → PassesWhereChecks h }
+    ensures wrong_length { (h : HashFunction) → WrongLengthByProof h }
 {}

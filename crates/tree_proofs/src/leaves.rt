@@ -1,3 +1,5 @@
+//! A list of leaf hashes as nodes.
+
 ghost use Rattle.std.specs.Prelude.{◌≡◌, ℕ, ◌+◌, ◌-◌, ◌*◌, ◌^◌, ◌<◌, ◌≤◌, List, [], ◌∷◌, ◌++◌, length, take, Some, refl, vec_len, vec_capacity, OnOk, OnErr};
 ghost use Rattle.std.proofs.Common.{◌∙◌};
 ghost use Rattle.tree_core.specs.Path.{part_of};
@@ -24,7 +26,8 @@ pub struct Listed<H: TreeHash> {
 impl<H: TreeHash> Model for Listed<H> {
     ghost Value = { Leaves };
 
-    ghost view = { λ l. record { leaves = l.items.items; spare = vec_capacity l.items - vec_len l.items } };
+    ghost view = { λ l.
+        record { leaves = l.items.items; spare = vec_capacity l.items - vec_len l.items } };
 }
 
 impl<H: TreeHash> Listed<H> {
@@ -38,8 +41,8 @@ impl<H: TreeHash> Listed<H> {
         }
     }
 
-    /// Makes room for at least `count` more leaves. It is refused only where fewer are spare. The list
-    /// stays as it was, also then.
+    /// Makes room for at least `count` more leaves. It is refused only where fewer are spare. The
+    /// list stays as it was, also then.
     pub fn reserve(&mut self, count: usize) -> Result<(), Memory>
         ensures list { self.new.leaves ≡ self.old.leaves }
         ensures spare { OnOk result (count ≤ self.new.spare) }
@@ -72,7 +75,8 @@ impl<H: TreeHash> Listed<H> {
     /// The hash of the `2^level` leaves from `place * 2^level` on. It takes no memory.
     pub fn node_at(&self, level: u32, place: u64) -> [u8; 32]
         requires { (place + 1) * 2 ^ level ≤ length self.now.leaves }
-        ensures { result ≡ root_of H.hash (part_of self.now.leaves (place * 2 ^ level) ((place + 1) * 2 ^ level)) }
+        ensures { result ≡ root_of H.hash
+            (part_of self.now.leaves (place * 2 ^ level) ((place + 1) * 2 ^ level)) }
     {
         let leaves = self.items.as_slice();
         let from = (place << level) as usize;

@@ -1,4 +1,7 @@
+//! Nodes of a tree as they are asked for.
+
 ghost use Rattle.std.specs.Prelude.{◌≡◌, ℕ, ◌+◌, ◌*◌, ◌^◌, ◌≤◌, true, List, length, Option, IfSome, IfOk};
+ghost use Rattle.byte_forms.specs.Types.{Hash};
 ghost use Rattle.mtc_io.specs.Counts.{HasCause};
 ghost use Rattle.tree_core.specs.Subtree.{is_subtree};
 ghost use Rattle.tree_proofs.specs.Full.{BeginsFull};
@@ -13,7 +16,7 @@ pub trait Nodes {
     type H: TreeHash;
 
     /// The leaf hashes, where it tells them.
-    ghost leaves: { Self → Option (List (List ℕ)) };
+    ghost leaves: { Self → Option (List Hash) };
 
     /// How many leaves there are.
     ghost count: { Self → ℕ };
@@ -29,10 +32,11 @@ pub trait Nodes {
         ensures { result ≡ count self.now };
 
     /// The hash of the `2^level` leaves from `place * 2^level` on. `Failed` comes only where the
-    /// count of faults rose. The list stays as it was, also then, and so does all that `stays` says.
+    /// count of faults rose. The list stays as it was, also then, and so does what `stays` says.
     fn node(&mut self, level: u32, place: u64) -> Result<[u8; 32], Failed>
         requires { (place + 1) * 2 ^ level ≤ count self.old }
-        ensures value { IfOk result (IsRootOf Self.H.hash (leaves self.old) (place * 2 ^ level) ((place + 1) * 2 ^ level)) }
+        ensures value { IfOk result
+            (IsRootOf Self.H.hash (leaves self.old) (place * 2 ^ level) ((place + 1) * 2 ^ level)) }
         ensures list { leaves self.new ≡ leaves self.old }
         ensures count { count self.new ≡ count self.old }
         ensures stays { stays self.old self.new }

@@ -1,3 +1,5 @@
+//! What a consistency proof gives.
+
 /// What a consistency proof gives: the hash of the subtree and the root of the list.
 #[derive(Clone, Copy, PartialEq, Eq, Debug)]
 pub struct Opened {

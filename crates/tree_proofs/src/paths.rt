@@ -1,11 +1,12 @@
 //! The hashes of a path or a proof.
 
-ghost use Rattle.std.specs.Prelude.{◌≡◌, ℕ, List, [], ◌∷◌, ◌++◌, ◌<◌, ◌≤◌, length, take};
+ghost use Rattle.std.specs.Prelude.{◌≡◌, List, [], ◌∷◌, ◌++◌, ◌<◌, ◌≤◌, length, take};
+ghost use Rattle.byte_forms.specs.Types.{Hash};
 
 use std::marker::Model;
 
-/// The hashes of a path or a proof, in an array of a fixed size. It has 128 hashes, and a proof in a
-/// tree of 64 levels at most 65. Contracts see it as the list of its hashes.
+/// The hashes of a path or a proof, in an array of a fixed size. It has room for 128, and a proof
+/// in a tree of 64 levels has at most 65. Contracts see it as the list of its hashes.
 #[derive(Drop)]
 pub struct Path {
     hashes: [[u8; 32]; 128],
@@ -13,7 +14,7 @@ pub struct Path {
 }
 
 impl Model for Path {
-    ghost Value = { List (List ℕ) };
+    ghost Value = { List Hash };
 
     ghost view = { λ p. take p.length p.hashes };
 

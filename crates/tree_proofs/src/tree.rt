@@ -1,3 +1,5 @@
+//! Where lists are split, and their tree hashes.
+
 ghost use Rattle.std.specs.Prelude.{◌≡◌, ◌+◌, ◌<◌, true};
 ghost use Rattle.tree_core.specs.Split.{split_of};
 ghost use Rattle.tree_core.specs.Subtree.{is_subtree};
