@@ -37,6 +37,15 @@ awk '
                 return 1
         return 0
     }
+    # So that the order of the lines of crates.txt is no matter.
+    function sort_by_name(at, place, name) {
+        for (at = 2; at <= crates; at++) {
+            name = order[at]
+            for (place = at; place > 1 && order[place - 1] > name; place--)
+                order[place] = order[place - 1]
+            order[place] = name
+        }
+    }
     FNR == NR {
         sub(/#.*/, "")
         if (/:/) {
@@ -50,8 +59,9 @@ awk '
         print
         visit("mtc_main")
         print "```mermaid\nflowchart TD"
-        for (high = crates; high >= 1; high--)
-            for (low = crates; low >= 1; low--)
+        sort_by_name()
+        for (high = 1; high <= crates; high++)
+            for (low = 1; low <= crates; low++)
                 if ((order[high], order[low]) in named && !is_short_cut(order[high], order[low]))
                     print "    " order[high] " --> " order[low]
         print "```"
