@@ -1,4 +1,4 @@
-// A disk as its user sees it: what a read gives, and what a crash leaves.
+//! A disk as its user sees it: what a read gives, and what a crash leaves.
 ghost use Rattle.std.specs.Prelude.{◌≡◌, ℕ, ◌+◌, ◌^◌, ◌<◌, ◌≤◌, max, Bool, true, false, List, length, Option, is_some, is_ok, option_map, Some, IfSome, IfOk, OnOk, OnErr, MatchResult};
 ghost use Rattle.mtc_io.specs.Counts.{Rose, HasCause};
 ghost use Rattle.disk_core.specs.Disk.{overwritten, part, Torn, Follows, NoNew, Only, Elapses};

@@ -1,4 +1,4 @@
-// An open file as a disk.
+//! An open file as a disk.
 ghost use Rattle.std.specs.Prelude.{◌≡◌, ◌≤◌, None, IfOk, OnOk};
 ghost use Rattle.mtc_io.specs.Counts.{Rose, HasCause};
 ghost use Rattle.disk_core.specs.File.{file_of, file_faults, file_known, file_moment};

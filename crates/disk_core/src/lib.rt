@@ -15,8 +15,6 @@ mod fuse;
 mod laws;
 mod memory;
 mod steps;
-#[cfg(test)]
-mod tests;
 
 pub use disk::Disk;
 pub use file::FileDisk;

@@ -1,4 +1,4 @@
-// A disk in memory.
+//! A disk in memory.
 mod call;
 mod copies;
 mod crash;

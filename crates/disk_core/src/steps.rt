@@ -1,4 +1,4 @@
-// The two kinds of step that a user of a disk takes: it looks, or it writes and syncs.
+//! The two kinds of step that a user of a disk takes: it looks, or it writes and syncs.
 ghost use Rattle.std.specs.Prelude.{◌≡◌, ℕ, ◌+◌, ◌^◌, ◌<◌, ◌≤◌, max, List, length, is_some, option_map, IfSome, IfOk, OnOk, MatchResult};
 ghost use Rattle.mtc_io.specs.Counts.{Rose, HasCause};
 ghost use Rattle.disk_core.specs.Disk.{overwritten, part, Torn, Only};

@@ -1,4 +1,4 @@
-// What the calls of a journal refuse.
+//! What the calls of a journal refuse.
 ghost use Rattle.journal_core.specs.declared.error.StartError.TheVariants.{Failed as StartFailed, Memory as StartMemory};
 ghost use Rattle.journal_core.specs.declared.error.OpenError.TheVariants.{Failed as OpenFailed, Memory as OpenMemory};
 ghost use Rattle.journal_core.specs.declared.error.AppendError.TheVariants.{Failed as AppendFailed};

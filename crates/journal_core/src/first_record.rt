@@ -1,4 +1,4 @@
-// The first record of a journal.
+//! The first record of a journal.
 ghost use Rattle.std.specs.Prelude.{◌≡◌, ◌≤◌, ◌+◌, List, ℕ, [], ◌∷◌, length, max, is_some, option_map, IfSome, IfOk, IfErr, OnOk};
 ghost use Rattle.mtc_io.specs.Counts.{HasCause};
 ghost use Rattle.disk_core.specs.Disk.{overwritten, Only};

@@ -1,4 +1,4 @@
-// The bytes of a journal.
+//! The bytes of a journal.
 ghost use Rattle.std.specs.Prelude.{◌≡◌, ◌+◌, ◌≤◌, ◌++◌, length, take, IfOk};
 ghost use Rattle.journal_core.specs.Format.{header, tail_of, first_of};
 

@@ -1,4 +1,4 @@
-// A journal that is open for more records.
+//! A journal that is open for more records.
 ghost use Rattle.std.specs.Prelude.{◌≡◌, ◌↔◌, ◌≤◌, ◌<◌, ◌+◌, ◌^◌, ℕ, List, length, take, true, false, is_some, Some, IsTrue, IsErrOf, IfSome, OnOk};
 ghost use Rattle.std.proofs.Props.{props};
 ghost use Rattle.mtc_io.specs.Counts.{HasCause};

@@ -16,8 +16,6 @@ mod journal;
 mod laws;
 mod opening;
 mod record;
-#[cfg(test)]
-mod tests;
 
 pub use error::{AppendError, OpenError, Refused, StartError};
 pub use first_record::start;

@@ -1,4 +1,4 @@
-// A file that is read as a journal.
+//! A file that is read as a journal.
 ghost use Rattle.std.specs.Prelude.{◌≡◌, ◌≢◌, ◌+◌, ◌<◌, ◌≤◌, ℕ, List, [], length, take, true, false, MatchBool, MatchOption, Some, None, option_map, IfSome, IfOk, IfErr, OnOk};
 ghost use Rattle.std.proofs.Props.{props};
 ghost use Rattle.mtc_io.specs.Counts.{HasCause};

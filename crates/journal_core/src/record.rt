@@ -1,4 +1,4 @@
-// One record of a file.
+//! One record of a file.
 ghost use Rattle.std.specs.Prelude.{◌≡◌, ◌≢◌, ◌≤◌, ◌<◌, ◌+◌, ◌^◌, ℕ, List, length, take, slice_index, IfSome, IfOk, IfErr, OnOk, MatchOption};
 ghost use Rattle.std.specs.Int.{w32, to_be_bytes};
 ghost use Rattle.mtc_io.specs.Counts.{HasCause};

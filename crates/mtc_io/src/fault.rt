@@ -1,4 +1,4 @@
-// The two answers that have their cause outside the program.
+//! The two answers that have their cause outside the program.
 ghost use Rattle.std.specs.Prelude.{⊤, ◌≡◌};
 
 use std::alloc::{AllocError, AllocFailed};

@@ -11,8 +11,6 @@ mod memory;
 mod sink;
 mod source;
 mod std_streams;
-#[cfg(test)]
-mod tests;
 
 pub use bytes::Bytes;
 pub use fault::{Failed, Memory};

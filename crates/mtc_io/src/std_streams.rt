@@ -1,4 +1,4 @@
-// Adapters of std's readers and writers.
+//! Adapters of std's readers and writers.
 ghost use Rattle.std.specs.Prelude.{◌≡◌, ℕ, List, Option, None, ◌≤◌, ◌<◌, length, IfOk};
 
 use crate::fault::Failed;

@@ -1,3 +1,4 @@
+//! Why a room does not lend.
 use thiserror::Error;
 
 /// Why a room doesn't lend.

@@ -8,8 +8,6 @@
 mod error;
 mod memory;
 mod room;
-#[cfg(test)]
-mod tests;
 
 pub use error::RoomError;
 pub use memory::MemRoom;

@@ -1,4 +1,4 @@
-// A room in memory.
+//! A room in memory.
 ghost use Rattle.std.specs.Prelude.{◌≡◌, ◌≢◌, ⊤, ℕ, ◌+◌, ◌<◌, ◌^◌, List, [], Option, Result, Ok, Some, None, IfOk, OnOk, OnErr, IsErrOf, IsSome, IfErr, IsErr, ◌≤◌, length};
 ghost use Rattle.std.specs.Option.{option_copied, IsSomeAnd};
 ghost use Rattle.mtc_io.specs.Counts.{with_count};

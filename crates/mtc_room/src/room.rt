@@ -1,3 +1,4 @@
+//! What the program asks of the files that it may reach.
 ghost use Rattle.std.specs.Prelude.{◌≡◌, ℕ, ◌+◌, ◌<◌, ◌^◌, List, [], Option, None, Some, IsSome, IfOk, OnOk, OnErr, IsErrOf};
 ghost use Rattle.std.specs.Option.{IsSomeAnd};
 

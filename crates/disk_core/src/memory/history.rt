@@ -1,4 +1,4 @@
-// What a disk in memory held at first, and its calls since: all that it tells is read off these.
+//! What a disk in memory held at first, and its calls since: all that it tells is read off these.
 ghost use Rattle.std.specs.Prelude.{◌≡◌, ◌+◌, ◌<◌, ◌≤◌, ◌++◌, [], ◌∷◌, ℕ, List, length, true, false, if◌then◌else◌, is_ok, IfOk, OnOk, OnErr};
 ghost use Rattle.disk_core.specs.Disk.{overwritten, Torn, Follows, NoNew, Only, Elapses};
 ghost use Rattle.disk_core.specs.Replay.{State, after_call, state_now, IsImage, LeftSince};

@@ -1,4 +1,4 @@
-// Which calls of a disk in memory fail, and how many have.
+//! Which calls of a disk in memory fail, and how many have.
 ghost use Rattle.std.specs.Prelude.{◌≡◌, ◌+◌, ◌≤◌, ◌↔◌, min, false, Contains, IsTrue};
 ghost use Rattle.mtc_io.specs.Counts.{last_count, Rose};
 

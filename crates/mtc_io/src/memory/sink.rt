@@ -1,4 +1,4 @@
-// A sink in memory.
+//! A sink in memory.
 ghost use Rattle.std.specs.Prelude.{◌≡◌, ℕ, List, Option, Some, [], ◌+◌, ◌==◌, ◌≤◌, ◌<◌, ◌&&◌, not, if◌then◌else◌, length, min, IfOk, IsTrue, is_err};
 ghost use Rattle.std.specs.List.{list_any};
 ghost use Rattle.std.specs.Io.KnownBytes.{WriteAppends};

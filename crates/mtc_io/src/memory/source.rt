@@ -1,4 +1,4 @@
-// A source in memory.
+//! A source in memory.
 ghost use Rattle.std.specs.Prelude.{◌≡◌, ◌↔◌, ℕ, List, Option, Some, ◌+◌, ◌==◌, ◌≤◌, ◌<◌, length, take, min, drop, IfOk, IsTrue, is_err};
 ghost use Rattle.std.specs.List.{list_any};
 ghost use Rattle.std.specs.Io.KnownBytes.{ReadConsumes};

@@ -1,0 +1,17 @@
+//! Cases over the streams, the disks, the journals and the rooms.
+#![tactic(auto)]
+
+#[cfg(test)]
+mod disks;
+#[cfg(test)]
+mod files;
+#[cfg(test)]
+mod journals;
+#[cfg(test)]
+mod readings;
+#[cfg(test)]
+mod rooms;
+#[cfg(test)]
+mod stops;
+#[cfg(test)]
+mod streams;

@@ -1,0 +1,128 @@
+//! The streams, and the loops over them.
+use mtc_io::{
+    Bytes, Failed, MemSink, MemSource, Memory, ReadError, Sink, Source, StdSink, StdSource,
+    read_all, write_all, write_pieces,
+};
+use std::alloc::Global;
+use std::test::Fail;
+
+// Whether a source of these bytes is read whole, or refused so, by a limit.
+fn reads(
+    alloc: Global,
+    bytes: &[u8],
+    failing: &[u64],
+    limit: u64,
+    refusal: Option<ReadError>,
+) -> Result<bool, Memory> {
+    let failing = Vec::from_slice(alloc, failing)?;
+    let mut source = MemSource::new(Bytes::copy_of(alloc, bytes)?, failing);
+    match read_all(alloc, &mut source, limit) {
+        Ok(read) => Ok(refusal.is_none() && read.as_slice() == bytes && source.faults() == 0),
+        Err(why) => Ok(Some(why) == refusal),
+    }
+}
+
+#[test]
+fn a_source_is_read_to_its_end_or_refused(rt: HostRuntime) -> Result<(), Fail> {
+    let long = [7; 5000];
+    let cases: [(&[u8], &[u64], u64, Option<ReadError>); 9] = [
+        (b"", &[], 0, None),
+        (b"abc", &[], 3, None),
+        (b"abc", &[], 2, Some(ReadError::TooLong)),
+        (b"abc", &[0], 3, Some(ReadError::Failed)),
+        (b"abc", &[1], 3, Some(ReadError::Failed)),
+        (b"abc", &[1], 2, Some(ReadError::TooLong)),
+        (b"abc", &[2], 3, None),
+        (&long, &[], 5000, None),
+        (&long, &[], 4999, Some(ReadError::TooLong)),
+    ];
+    for (bytes, failing, limit, refusal) in cases {
+        assert!(rt;
+            reads(rt.alloc(), bytes, failing, limit, refusal)?,
+            "limit {limit}"
+        );
+    }
+    Ok(())
+}
+
+// Whether a sink that takes so much a call answers so, and has so much at the end.
+fn writes(
+    alloc: Global,
+    per_call: usize,
+    failing: &[u64],
+    pieces: &[&[u8]],
+    answer: Result<(), Failed>,
+    taken: &[u8],
+) -> Result<bool, Memory> {
+    if per_call == 0 {
+        return Ok(false);
+    }
+    let mut sink = MemSink::new(alloc, per_call, Vec::from_slice(alloc, failing)?);
+    let made = match pieces {
+        [whole] => write_all(&mut sink, whole),
+        _ => write_pieces(&mut sink, pieces),
+    };
+    Ok(made == answer && sink.taken() == taken && sink.starved() == 0)
+}
+
+#[test]
+fn a_sink_takes_the_whole_or_a_prefix(rt: HostRuntime) -> Result<(), Fail> {
+    let cases: [(usize, &[u64], Result<(), Failed>, &[u8]); 5] = [
+        (100, &[], Ok(()), b"member 0\n"),
+        (1, &[], Ok(()), b"member 0\n"),
+        (3, &[1], Err(Failed), b"mem"),
+        (1, &[7], Err(Failed), b"member "),
+        (1, &[9], Ok(()), b"member 0\n"),
+    ];
+    let whole: [&[u8]; 1] = [b"member 0\n"];
+    let parts: [&[u8]; 4] = [b"mem", b"", b"ber 0", b"\n"];
+    for (per_call, failing, answer, taken) in cases {
+        for pieces in [whole.as_slice(), parts.as_slice()] {
+            assert!(rt; writes(rt.alloc(), per_call, failing, pieces, answer, taken)?);
+        }
+    }
+    Ok(())
+}
+
+// Whether a reader of five bytes gives them, and then its end.
+fn reader_is_read() -> bool {
+    let mut reader = StdSource::new(b"entry".as_slice());
+    let mut into = [0; 8];
+    let first = reader.read(&mut into);
+    let given = into == *b"entry\0\0\0";
+    first == Ok(5) && given && reader.read(&mut into) == Ok(0) && reader.faults() == 0
+}
+
+// A writer with room for two bytes takes no more, which is a fault for a piece that isn't empty.
+fn full_writer_fails() -> bool {
+    let mut room = [0; 2];
+    let mut full = StdSink::new(room.as_mut_slice());
+    write_all(&mut full, b"root") == Err(Failed) && full.write(b"") == Ok(0)
+}
+
+#[test]
+fn readers_and_writers_are_adapted(rt: HostRuntime) -> Result<(), Fail> {
+    assert!(rt; reader_is_read());
+    let mut writer = StdSink::new(Vec::new(rt.alloc()));
+    assert!(rt; writer.write(b"root") == Ok(4));
+    assert!(rt; full_writer_fails());
+    Ok(())
+}
+
+// Bytes that were put one behind the other, and cut off again.
+fn bytes_are_kept(alloc: Global) -> Result<bool, Memory> {
+    let mut bytes = Bytes::copy_of(alloc, b"log")?;
+    bytes.append(b" ")?;
+    bytes.append_both(b"en", b"try")?;
+    let grown = bytes.as_slice() == b"log entry".as_slice();
+    bytes.truncate(3);
+    let cut = bytes.len() == 3 && !bytes.is_empty();
+    let again = Bytes::from_vec(bytes.into_vec());
+    Ok(grown && cut && again.as_slice() == b"log".as_slice())
+}
+
+#[test]
+fn bytes_grow_and_shrink(rt: HostRuntime) -> Result<(), Fail> {
+    assert!(rt; bytes_are_kept(rt.alloc())?);
+    Ok(())
+}
