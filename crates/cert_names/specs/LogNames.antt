@@ -36,7 +36,8 @@ second x = x.1
 
 -- The text behind the identifier.
 unfoldable pub parts_at : Reading Text CertError
-parts_at = mapped_at second (tested_at is_log_id BadName (both_at (contents_at 0x06) (contents_at 0x0C)))
+parts_at =
+    mapped_at second (tested_at is_log_id BadName (both_at (contents_at 0x06) (contents_at 0x0C)))
 
 -- The text in the attribute, in its set, in the name.
 unfoldable pub attribute_at : Reading Text CertError

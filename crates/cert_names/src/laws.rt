@@ -10,6 +10,7 @@ ghost use Rattle.cert_names.specs.LogNames.{IsLogName, name_with, log_in};
 /// The name of each anchor id is a log's, and a log's name is read exactly from its spelling.
 pub fn log_names_are_read_as_spelled()
     ensures ids { (id : Text) → IsAnchorId id → IsLogName (name_with (text_of id)) (text_of id) }
-    ensures read { (name text : Text) → IsBytes name → log_in name ≡ Some text → IsLogName name text }
+    ensures read { (name text : Text) → IsBytes name → log_in name ≡ Some text
+        → IsLogName name text }
     ensures again { (name text : Text) → IsLogName name text → log_in name ≡ Some text }
 {}

@@ -76,7 +76,8 @@ fn whole(bytes: &[u8]) -> Result<&[u8], CertError>
 // The text, where it is that of an id.
 #[tactic(auto, unfolding(crate::specs::LogNames::log_in))]
 fn id_in(bytes: &[u8]) -> Option<&[u8]>
-    ensures { MatchOption result (log_in bytes.now ≡ None) (λ text. log_in bytes.now ≡ Some text.now) }
+    ensures { MatchOption result (log_in bytes.now ≡ None)
+        (λ text. log_in bytes.now ≡ Some text.now) }
 {
     match whole(bytes) {
         Ok(text) if AnchorId::is_text(text) => Some(text),
@@ -87,9 +88,11 @@ fn id_in(bytes: &[u8]) -> Option<&[u8]>
 /// The id of the log whose issuer name this is, as its text in dotted decimal; `None` exactly
 /// where it isn't the name of a log. It takes no memory.
 pub fn log_of(name: &[u8]) -> Option<&[u8]>
-    ensures exact { MatchOption result (log_in name.now ≡ None) (λ text. log_in name.now ≡ Some text.now) }
+    ensures exact { MatchOption result (log_in name.now ≡ None)
+        (λ text. log_in name.now ≡ Some text.now) }
     ensures found { IfSome result (λ text. IsLogName name.now text.now) }
-    ensures only { (text : Text) → IsLogName name.now text → MatchOption result ⊥ (λ id. id.now ≡ text) }
+    ensures only { (text : Text) → IsLogName name.now text
+        → MatchOption result ⊥ (λ id. id.now ≡ text) }
 {
     id_in(name)
 }

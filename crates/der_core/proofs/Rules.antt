@@ -3,6 +3,7 @@ use Rattle.std.proofs.Common.{◌≤◌, ◌++◌, flat_map, ◌≡◌, ◌≢�
 use Rattle.std.specs.Prelude.{if◌then◌else◌, ◌==◌, nat_le, nat_lt}
 use Rattle.std.specs.List.{AllByRecursion}
 use Rattle.std.proofs.lemmas.Bool.{cases_lt}
+use Rattle.std.proofs.lemmas.Bool.{and_parts}
 use Rattle.byte_forms.specs.Places.{IsBytes}
 use Rattle.byte_forms.specs.Forms.{itself}
 use Rattle.byte_forms.proofs.Steps.{guard_ok, pass_ok, chosen, ok_is}
@@ -110,16 +111,12 @@ oid_again place x f =
 pub oid_contents : IsContents itself IsOid oid_of
 oid_contents = record { takes = oid_takes; again = oid_again }
 
-and_true : (a b : Bool) → (a && b) ≡ true → (a ≡ true) × (b ≡ true)
-and_true true b e = (refl, e)
-and_true false b e = absurd cc
-
 bits_takes : (place : ℕ) (contents : List ℕ) (x : ℕ × List ℕ) → IsBytes contents → bits_of place contents ≡ Ok x → (contents ≡ bit_string x) × IsBitString x
 unfolding bits_of
 bits_takes place [] x h e = absurd cc
 bits_takes place (unused ∷ bytes) x h e =
     let p = pass_ok (nat_le unused 7 && are_unused unused bytes) (Ok (unused, bytes)) (BadBits place) x e in
-    let t = and_true (nat_le unused 7) (are_unused unused bytes) p.0 in
+    let t = and_parts (nat_le unused 7) (are_unused unused bytes) p.0 in
     let P : ℕ × List ℕ → Type 0 = λ v. (unused ∷ bytes ≡ bit_string v) × IsBitString v in
     subst P (ok_is DerError (unused, bytes) x p.1) (refl, record { few = leb-true unused 7 t.0; zero = t.1 })
 

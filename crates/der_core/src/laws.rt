@@ -1,10 +1,10 @@
 //! Laws of the encoding: the clauses are the laws, and the functions do nothing.
 
-ghost use Rattle.std.specs.Prelude.{◌≡◌, ℕ, ◌+◌, ◌^◌, ◌<◌, [], ◌++◌, length, Some, Result, Ok};
+ghost use Rattle.std.specs.Prelude.{◌≡◌, ℕ, ◌+◌, ◌^◌, ◌<◌, [], ◌++◌, length, Some, Ok};
 ghost use Rattle.std.specs.List.{flat_map};
 ghost use Rattle.byte_forms.specs.Types.{Text};
 ghost use Rattle.byte_forms.specs.Places.{At, IsBytes};
-ghost use Rattle.byte_forms.specs.Forms.{IsForm, Anything, Nothing, FitsEach, itself};
+ghost use Rattle.byte_forms.specs.Forms.{IsForm, Nothing, FitsEach, itself};
 ghost use Rattle.der_core.specs.Elements.{element, FitsElement};
 ghost use Rattle.der_core.specs.Items.{Item};
 ghost use Rattle.der_core.specs.Reading.{element_at, wanted_at};
@@ -19,13 +19,15 @@ pub fn elements_are_read_as_spelled()
     ensures read { (a : At) (e : Item) (b : At) → IsBytes a.rest → element_at a ≡ Ok (e, b)
         → IsRead a e b }
     ensures again { (tag : ℕ) (contents : Text) (place : ℕ) (rest : Text)
-        → FitsElement tag contents → element_at (record { place = place; rest = element tag contents ++ rest })
+        → FitsElement tag contents
+        → element_at (record { place = place; rest = element tag contents ++ rest })
         ≡ Ok (
           element_item tag contents place,
           record { place = place + length (element tag contents); rest = rest },
         ) }
     ensures wanted { (tag : ℕ) (contents : Text) (place : ℕ) (rest : Text)
-        → FitsElement tag contents → wanted_at tag (record { place = place; rest = element tag contents ++ rest })
+        → FitsElement tag contents
+        → wanted_at tag (record { place = place; rest = element tag contents ++ rest })
         ≡ Ok (
           element_item tag contents place,
           record { place = place + length (element tag contents); rest = rest },

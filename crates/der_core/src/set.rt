@@ -28,7 +28,8 @@ pub fn set_in_order(e: &Element) -> Result<(), DerError>
 // The next element of the set at this place, which isn't below the encoding before it.
 #[tactic(auto, unfolding(crate::specs::Sets::risen_at))]
 fn risen<'a>(reader: &mut Reader<'a>, place: usize, before: &[u8]) -> Result<&'a [u8], DerError>
-    ensures exact { Moves (λ bytes. bytes.now) (risen_at place before.now) reader.old result reader.new }
+    ensures exact { Moves (λ bytes. bytes.now) (risen_at place before.now)
+        reader.old result reader.new }
     ensures forward { OnOk result (length reader.new.rest < length reader.old.rest) }
 {
     let next = reader.element()?;

@@ -1,12 +1,13 @@
 -- Numbers in decimal, and numbers with dots between them.
-use Rattle.std.proofs.Common.{◌≡◌, ◌≢◌, ℕ, zero, suc, ◌+◌, ◌-◌, ◌*◌, ◌/◌, ◌%◌, ◌^◌, ◌<◌, ◌≤◌, Bool, true, false, List, [], ◌∷◌, ◌++◌, length, drop, Result, Ok, Err, refl, sym, ap, subst, ◌∙◌, append_assoc, append-nil, arith, inl, inr, eq-eqb, ne_eqb, eqb-true, leb-true, leb-false, le-leb, div-add-mod', decimal, true≢false}
-use Rattle.std.specs.Prelude.{if◌then◌else◌, ◌==◌, nat_le, ◌&&◌}
+use Rattle.std.proofs.Common.{◌≡◌, ◌≢◌, ℕ, zero, suc, ◌+◌, ◌-◌, ◌*◌, ◌/◌, ◌%◌, ◌^◌, ◌<◌, ◌≤◌, true, false, List, [], ◌∷◌, ◌++◌, length, drop, Result, Ok, Err, refl, sym, ap, subst, ◌∙◌, append_assoc, append-nil, arith, inl, inr, eq-eqb, ne_eqb, eqb-true, leb-true, leb-false, le-leb, div-add-mod', decimal, true≢false}
+use Rattle.std.specs.Prelude.{if◌then◌else◌, ◌==◌, nat_le}
 use Rattle.std.specs.Char.{is_ascii_digit}
 use Rattle.std.specs.List.{AllByRecursion}
 use Rattle.std.proofs.lemmas.Bool.{lt-leb}
 use Rattle.std.proofs.lemmas.Nat.{div-mul-add, mod-mul-add}
 use Rattle.std.proofs.lemmas.List.{length-append, nil_from_length}
 use Rattle.std.proofs.lemmas.Fmt.{decimal_digit, decimal_step, decimal_by_steps}
+use Rattle.std.proofs.lemmas.Bool.{and_parts}
 use Rattle.byte_forms.specs.Places.{At, IsBytes, after}
 use Rattle.byte_forms.specs.Readings.{◌>>=◌}
 use Rattle.byte_forms.specs.Forms.{Stands}
@@ -21,12 +22,8 @@ abbrev pub EndsNumber : List ℕ → Type 0
 EndsNumber [] = Unit {0}
 EndsNumber (c ∷ rest) = c ≡ 46
 
-and_true : (a b : Bool) → (a && b) ≡ true → (a ≡ true) × (b ≡ true)
-and_true true b e = (refl, e)
-and_true false b e = absurd cc
-
 digit_is : (c : ℕ) → is_ascii_digit c ≡ true → (48 ≤ c) × (c ≤ 57)
-digit_is c e = let t = and_true (nat_le 48 c) (nat_le c 57) e in (leb-true 48 c t.0, leb-true c 57 t.1)
+digit_is c e = let t = and_parts (nat_le 48 c) (nat_le c 57) e in (leb-true 48 c t.0, leb-true c 57 t.1)
 
 is_digit : (c : ℕ) → 48 ≤ c → c ≤ 57 → is_ascii_digit c ≡ true
 is_digit c low high = rw (le-leb 48 c low, le-leb c 57 high) refl

@@ -27,7 +27,8 @@ pub(crate) fn read_arc(bytes: &[u8], start: usize) -> Result<(u64, usize), Ancho
 // The digits of the arc at this offset.
 fn digits(bytes: &[u8], start: usize) -> Result<(u64, usize), AnchorBytesError>
     requires { start < length bytes.now }
-    ensures exact { Gives (λ x. (x.0, at bytes.now x.1)) result (arc_from start 0 start (drop start bytes.now)) }
+    ensures exact { Gives (λ x. (x.0, at bytes.now x.1)) result
+        (arc_from start 0 start (drop start bytes.now)) }
     ensures forward { IfOk result (λ x. (start < x.1) × (x.1 ≤ length bytes.now)) }
 {
     let mut n: u64 = 0;

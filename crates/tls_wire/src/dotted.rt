@@ -72,7 +72,8 @@ pub(crate) fn text_of_arcs(alloc: Global, bytes: &[u8]) -> Result<Bytes, Memory>
 
 // Puts a number behind the text, and a dot before it where there is a number already.
 fn put_number(text: &mut String, dot: bool, n: u64) -> Result<(), Memory>
-    ensures { OnOk result (string_bytes text.new ≡ string_bytes text.old ++ (if dot then dot_decimal n else decimal n)) }
+    ensures { OnOk result
+        (string_bytes text.new ≡ string_bytes text.old ++ (if dot then dot_decimal n else decimal n)) }
 {
     if dot {
         text.push('.')?;
@@ -98,7 +99,8 @@ pub(crate) fn read_decimal(text: &[u8], start: usize) -> Result<(u64, usize), An
 // The number at this offset, which begins with this digit.
 fn digits(text: &[u8], start: usize, first: u8) -> Result<(u64, usize), AnchorError>
     requires { start < length text.now }
-    ensures exact { Gives (λ x. (x.0, at text.now x.1)) result (decimal_from start first (start + 1) (drop (start + 1) text.now)) }
+    ensures exact { Gives (λ x. (x.0, at text.now x.1)) result
+        (decimal_from start first (start + 1) (drop (start + 1) text.now)) }
     ensures forward { IfOk result (λ x. (start < x.1) × (x.1 ≤ length text.now)) }
 {
     let mut n = first as u64;

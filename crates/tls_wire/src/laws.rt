@@ -1,6 +1,6 @@
 //! Laws of the forms: the clauses are the laws, and the functions do nothing.
 
-ghost use Rattle.std.specs.Prelude.{◌≡◌, ◌<◌, ◌^◌, ℕ, flat_map, Ok, Result};
+ghost use Rattle.std.specs.Prelude.{◌≡◌, ◌<◌, ◌^◌, ℕ, flat_map, Ok};
 ghost use Rattle.std.specs.List.{AllByRecursion};
 ghost use Rattle.std.specs.Int.{w8, w16, w32, w64};
 ghost use Rattle.byte_forms.specs.Types.{Text};
@@ -37,7 +37,8 @@ pub fn hashes_are_read_as_spelled()
 /// bytes.
 pub fn anchor_ids_are_read_as_spelled()
     ensures arcs { IsForm (flat_map arc) (AllByRecursion IsArc) Nothing (up_to_end arc_at) }
-    ensures read { (bytes id : Text) → IsBytes bytes → anchor_of bytes ≡ Ok id → (id ≡ bytes) × IsAnchorId bytes }
+    ensures read { (bytes id : Text) → IsBytes bytes → anchor_of bytes ≡ Ok id
+        → (id ≡ bytes) × IsAnchorId bytes }
     ensures again { (bytes : Text) → IsAnchorId bytes → anchor_of bytes ≡ Ok bytes }
 {}
 
@@ -45,5 +46,6 @@ pub fn anchor_ids_are_read_as_spelled()
 /// what was read.
 pub fn anchor_texts_are_read_as_written()
     ensures again { (id : Text) → IsAnchorId id → anchor_text (text_of id) ≡ Ok id }
-    ensures read { (text id : Text) → IsBytes text → anchor_text text ≡ Ok id → IsAnchorId id × (text_of id ≡ text) }
+    ensures read { (text id : Text) → IsBytes text → anchor_text text ≡ Ok id
+        → IsAnchorId id × (text_of id ≡ text) }
 {}
