@@ -11,5 +11,6 @@ ghost use Rattle.byte_forms.specs.Numbers.{value, digits, AreDigits};
 /// one number.
 pub fn numbers_have_one_spelling()
     ensures again { (base k n : ℕ) → 0 < base → n < base ^ k → value base (digits base k n) ≡ n }
-    ensures one { (base : ℕ) (ds : List ℕ) → AreDigits base ds → digits base (length ds) (value base ds) ≡ ds }
+    ensures one { (base : ℕ) (ds : List ℕ) → AreDigits base ds
+        → digits base (length ds) (value base ds) ≡ ds }
 {}

@@ -72,8 +72,8 @@ pub(crate) fn text_of_arcs(alloc: Global, bytes: &[u8]) -> Result<Bytes, Memory>
 
 // Puts a number behind the text, and a dot before it where there is a number already.
 fn put_number(text: &mut String, dot: bool, n: u64) -> Result<(), Memory>
-    ensures { OnOk result
-        (string_bytes text.new ≡ string_bytes text.old ++ (if dot then dot_decimal n else decimal n)) }
+    ensures { OnOk result (string_bytes text.new
+        ≡ string_bytes text.old ++ (if dot then dot_decimal n else decimal n)) }
 {
     if dot {
         text.push('.')?;
