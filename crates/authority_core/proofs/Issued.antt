@@ -1,5 +1,5 @@
 -- What is issued is an entry of the log, to which the key of the request belongs.
-use Rattle.std.proofs.Common.{◌≡◌, ℕ, ◌<◌, ◌≤◌, true, false, List, [], ◌∷◌, ◌++◌, length, Option, Some, None, IfSome, Ok, refl, sym, ap, ◌∙◌, append-nil, arith, lit<, inr}
+use Rattle.std.proofs.Common.{◌≡◌, ℕ, ◌<◌, ◌≤◌, true, false, List, [], ◌∷◌, length, Option, Some, None, IfSome, Ok, refl, sym, ap, ◌∙◌, append-nil, arith, lit<, inr}
 use Rattle.std.specs.Prelude.{is_none, map}
 use Rattle.std.specs.List.{flat_map, list_any, AllByRecursion}
 use Rattle.std.proofs.lemmas.List.{length-append}
@@ -13,6 +13,8 @@ use Rattle.der_core.specs.Forms.{IsElement, IsArc, IsOid, IsNext}
 use Rattle.der_core.proofs.Elements.{element-longer, element-short}
 use Rattle.der_core.proofs.Fields.{tag_of}
 use Rattle.cert_names.specs.LogNames.{log_id, name_with}
+use Rattle.cert_names.specs.Names.{attribute_contents, set_contents, name_contents, name_of}
+use Rattle.cert_names.proofs.Sizes.{attribute-size}
 use Rattle.cert_fields.specs.Identifiers.{subject_alt_name}
 use Rattle.cert_fields.specs.AltNames.{dns_name, names_in}
 use Rattle.cert_fields.specs.Extensions.{ExtensionFields, extensions_in, alt_name_octets, dns_names_in, has_unknown_critical, is_unknown_critical}
@@ -28,7 +30,8 @@ use Rattle.authority_core.specs.Hosts.{IsHostName}
 use Rattle.authority_core.specs.Requests.{IsCommonName, CanBeIssued}
 use Rattle.authority_core.specs.Issuing.{common_name_id, subject_of, dns_names, alt_name_of, extensions_of, tbs_for, entry_for}
 use Rattle.authority_core.specs.declared.requests.parts.Request.{Request}
-use Rattle.authority_core.proofs.Sizes.{one_extension, attribute-size, names-short, contents-short, extension-short}
+use Rattle.authority_core.proofs.Labels.{host-short, host-ascii}
+use Rattle.authority_core.proofs.Sizes.{one_extension, names-short, contents-short, extension-short}
 
 -- ---- object identifiers
 
@@ -81,15 +84,6 @@ log_oid = record {
 
 -- ---- names of one attribute
 
-abbrev attribute_text : List ℕ → List ℕ → List ℕ
-attribute_text identifier text = element 6 identifier ++ element 12 text
-
-abbrev attribute_with : List ℕ → List ℕ → List ℕ
-attribute_with identifier text = element 48 (attribute_text identifier text)
-
-abbrev set_with : List ℕ → List ℕ → List ℕ
-set_with identifier text = element 49 (attribute_with identifier text)
-
 text_element : (text : List ℕ) → length text ≤ 5355 → IsElement (element 12 text)
 text_element text few = record {
   tag = 12;
@@ -99,37 +93,37 @@ text_element text few = record {
 }
 
 module _ (identifier text : List ℕ) (oid : IsOid identifier) (small : length identifier ≤ 10) (few : length text ≤ 5355) where
-  fields-few : length (attribute_text identifier text) ≤ 5375
+  fields-few : length (attribute_contents identifier text) ≤ 5375
   fields-few = omega (arith, small, few, attribute-size identifier text)
 
-  attribute-few : length (attribute_with identifier text) ≤ 5380
-  attribute-few = omega (arith, fields-few, element-short 48 (attribute_text identifier text))
+  attribute-few : length (set_contents identifier text) ≤ 5380
+  attribute-few = omega (arith, fields-few, element-short 48 (attribute_contents identifier text))
 
-  set-few : length (set_with identifier text) ≤ 5385
-  set-few = omega (arith, attribute-few, element-short 49 (attribute_with identifier text))
+  set-few : length (name_contents identifier text) ≤ 5385
+  set-few = omega (arith, attribute-few, element-short 49 (set_contents identifier text))
 
-  attribute_is : IsAttribute (attribute_with identifier text)
+  attribute_is : IsAttribute (set_contents identifier text)
   attribute_is = ((identifier, element 12 text), (((oid, omega (arith, small)), text_element text few), omega (arith, fields-few)), refl)
 
-  first_of_set : IsNext [] (attribute_with identifier text)
+  first_of_set : IsNext [] (set_contents identifier text)
   unfolding element
   first_of_set = record {
     is_element = record {
       tag = 48;
-      contents = attribute_text identifier text;
+      contents = attribute_contents identifier text;
       fits = record { is_tag = tag_of 48 (lit< tt) refl; short = omega (arith, fields-few) };
       spelled = refl;
     };
     risen = refl;
   }
 
-  set_is : IsSet (set_with identifier text)
+  set_is : IsSet (name_contents identifier text)
   set_is =
-      let alone : flat_map itself (attribute_with identifier text ∷ []) ≡ attribute_with identifier text = append-nil (attribute_with identifier text) in (
-        attribute_with identifier text ∷ [],
+      let alone : flat_map itself (set_contents identifier text ∷ []) ≡ set_contents identifier text = append-nil (set_contents identifier text) in (
+        set_contents identifier text ∷ [],
         (
           record {
-            some = omega (arith, ap length alone, element-longer 48 (attribute_text identifier text));
+            some = omega (arith, ap length alone, element-longer 48 (attribute_contents identifier text));
             each = (attribute_is, tt);
             rise = (first_of_set, tt);
           },
@@ -138,10 +132,10 @@ module _ (identifier text : List ℕ) (oid : IsOid identifier) (small : length i
         ap (element 49) (sym alone),
       )
 
-  name_is : IsName (element 48 (set_with identifier text))
+  name_is : IsName (name_of identifier text)
   name_is =
-      let alone : flat_map itself (set_with identifier text ∷ []) ≡ set_with identifier text = append-nil (set_with identifier text) in
-      (set_with identifier text ∷ [], ((set_is, tt), omega (arith, ap length alone, set-few)), ap (element 48) (sym alone))
+      let alone : flat_map itself (name_contents identifier text ∷ []) ≡ name_contents identifier text = append-nil (name_contents identifier text) in
+      (name_contents identifier text ∷ [], ((set_is, tt), omega (arith, ap length alone, set-few)), ap (element 48) (sym alone))
 
 issuer_is : (id : List ℕ) → IsAnchorId id → IsName (name_with (text_of id))
 unfolding name_with
@@ -158,8 +152,8 @@ host_is : (name : List ℕ) → IsHostName name → IsGeneralName (element dns_n
 host_is name f = record {
   tag = dns_name;
   contents = name;
-  fits = record { is_tag = tag_of 130 (lit< tt) refl; short = omega (arith, f.short) };
-  allowed = f.ascii;
+  fits = record { is_tag = tag_of 130 (lit< tt) refl; short = omega (arith, host-short name f) };
+  allowed = host-ascii name f;
   spelled = refl;
 }
 
@@ -241,7 +235,7 @@ name_texts names = flat_map-map name_text as_name names
 
 names_fit : (names : List (List ℕ)) → AllByRecursion IsHostName names → AllByRecursion FitsName (map as_name names)
 names_fit [] f = tt
-names_fit (name ∷ names) f = (record { is_tag = tag_of 130 (lit< tt) refl; short = omega (arith, f.0.short) }, names_fit names f.1)
+names_fit (name ∷ names) f = (record { is_tag = tag_of 130 (lit< tt) refl; short = omega (arith, host-short name f.0) }, names_fit names f.1)
 
 only_names : (names : List (List ℕ)) → dns_only (map as_name names) ≡ names
 only_names [] = refl

@@ -1,6 +1,4 @@
 mod Labels
-mod PublicKeys
 mod Items
 mod Sizes
 mod Issued
-mod Grown

@@ -1,5 +1,5 @@
 -- How long the parts of an entry that is issued are at most.
-use Rattle.std.proofs.Common.{◌≡◌, ℕ, ◌+◌, ◌*◌, ◌≤◌, Bool, true, false, List, [], ◌∷◌, ◌++◌, length, arith, append-nil}
+use Rattle.std.proofs.Common.{◌≡◌, ℕ, ◌*◌, ◌≤◌, Bool, true, false, List, [], ◌∷◌, ◌++◌, length, arith, append-nil}
 use Rattle.std.specs.List.{flat_map, AllByRecursion}
 use Rattle.std.proofs.lemmas.List.{length-append}
 use Rattle.der_core.specs.Elements.{element}
@@ -8,31 +8,18 @@ use Rattle.cert_fields.specs.Extensions.{ExtensionFields}
 use Rattle.cert_fields.specs.Grammar.{mark, extension, extension_contents}
 use Rattle.authority_core.specs.Hosts.{IsHostName}
 use Rattle.authority_core.specs.Requests.{CanBeIssued}
-use Rattle.authority_core.specs.Issuing.{common_name_id, attribute_parts, set_parts, name_parts, dns_names, alt_name_of}
+use Rattle.authority_core.specs.Issuing.{dns_names, alt_name_of}
 use Rattle.authority_core.specs.declared.requests.parts.Request.{Request}
+use Rattle.authority_core.proofs.Labels.{host-short}
 
 -- One extension alone.
 pub one_extension : (x : ExtensionFields) → flat_map extension (x ∷ []) ≡ extension x
 one_extension x = append-nil (extension x)
 
--- An attribute, for any identifier and text.
-pub attribute-size : (identifier text : List ℕ) → length (element 6 identifier ++ element 12 text) ≤ length identifier + length text + 10
-attribute-size identifier text =
-    omega (arith, length-append (element 6 identifier) (element 12 text), element-short 6 identifier, element-short 12 text)
-
-pub attribute-short : (text : List ℕ) → length text ≤ 64 → length (attribute_parts text) ≤ 77
-attribute-short text few = omega (arith, few, attribute-size common_name_id text)
-
-pub set-short : (text : List ℕ) → length text ≤ 64 → length (set_parts text) ≤ 82
-set-short text few = omega (arith, attribute-short text few, element-short 48 (attribute_parts text))
-
-pub name-short : (text : List ℕ) → length text ≤ 64 → length (name_parts text) ≤ 87
-name-short text few = omega (arith, set-short text few, element-short 49 (set_parts text))
-
 pub names-size : (names : List (List ℕ)) → AllByRecursion IsHostName names → length (dns_names names) ≤ 258 * length names
 names-size [] hosts = omega arith
 names-size (name ∷ names) hosts =
-    omega (arith, names-size names hosts.1, hosts.0.short, element-short 130 name, length-append (element 130 name) (dns_names names))
+    omega (arith, names-size names hosts.1, host-short name hosts.0, element-short 130 name, length-append (element 130 name) (dns_names names))
 
 pub names-short : (names : List (List ℕ)) → AllByRecursion IsHostName names → length names ≤ 100 → length (dns_names names) ≤ 25800
 names-short names hosts few = omega (arith, names-size names hosts, few)

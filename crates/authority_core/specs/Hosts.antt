@@ -1,50 +1,49 @@
--- Host names: labels with dots between them (RFC 1034, section 3.5; RFC 1123, section 2.1), of which the first may be
--- a star (RFC 6125, section 6.4.3).
+-- Host names: labels with dots between them (RFC 1034, section 3.5; RFC 1123, section 2.1), of
+-- which the first may be a star (RFC 6125, section 6.4.3).
 use Rattle.std.specs.Prelude.{◌≡◌, ℕ, ◌-◌, ◌≤◌, ◌==◌, ◌&&◌, ◌||◌, not, nat_le, Bool, true, false, List, [], ◌∷◌, length, codes, bytes_eq, slice_index}
 use Rattle.std.specs.List.{join_with_byte, list_all, slice_split}
 use Rattle.std.specs.Char.{is_ascii_alphanumeric}
-use Rattle.cert_fields.specs.AltNames.{is_ascii}
+use Rattle.byte_forms.specs.Types.{Text}
 
--- a letter, a digit or a hyphen
+-- A letter, a digit or a hyphen.
 abbrev pub is_label_byte : ℕ → Bool
 is_label_byte b = is_ascii_alphanumeric b || (b == 45)
 
--- 1 to 63 of these, with no hyphen at the ends
-unfoldable pub is_label : List ℕ → Bool
+-- 1 to 63 of these, with no hyphen at the ends.
+unfoldable pub is_label : Text → Bool
 is_label l =
-    nat_le 1 (length l) && nat_le (length l) 63 && not (slice_index l 0 == 45) && not (slice_index l (length l - 1) == 45)
+    nat_le 1 (length l) && nat_le (length l) 63
+    && not (slice_index l 0 == 45) && not (slice_index l (length l - 1) == 45)
     && list_all is_label_byte l
 
--- a label; the first one may be a star
-abbrev pub is_label_at : Bool → List ℕ → Bool
+-- A label; the first one may be a star.
+abbrev pub is_label_at : Bool → Text → Bool
 is_label_at true l = is_label l || bytes_eq l (codes "*")
 is_label_at false l = is_label l
 
-abbrev pub are_labels : Bool → List (List ℕ) → Bool
+abbrev pub are_labels : Bool → List Text → Bool
 are_labels first [] = true
 are_labels first (l ∷ ls) = is_label_at first l && are_labels false ls
 
--- what a dot is, and the parts between dots
+-- A dot, and the parts between dots.
 abbrev pub is_dot : ℕ → Bool
 is_dot b = b == 46
 
-unfoldable pub labels_of : List ℕ → List (List ℕ)
+unfoldable pub labels_of : Text → List Text
 labels_of text = slice_split is_dot text
 
--- 1 to 253 bytes, whose parts between dots are labels
-unfoldable pub is_host_name : List ℕ → Bool
-is_host_name text = nat_le 1 (length text) && nat_le (length text) 253 && are_labels true (labels_of text)
+-- 1 to 253 bytes, whose parts between dots are labels.
+unfoldable pub is_host_name : Text → Bool
+is_host_name text =
+    nat_le 1 (length text) && nat_le (length text) 253 && are_labels true (labels_of text)
 
--- a host name, with what follows for it as a name in a certificate
-pub record IsHostName (name : List ℕ) : Type 0 where
-  pub labels : is_host_name name ≡ true
-  pub some : 1 ≤ length name
-  pub short : length name ≤ 253
-  pub ascii : is_ascii name ≡ true
+-- The text is a host name.
+pub record IsHostName (text : Text) : Type 0 where
+  pub labels : is_host_name text ≡ true
 
--- labels, one or more, with dots between them: 1 to 253 bytes
-pub record AreJoined (text : List ℕ) : Type 0 where
-  pub labels : List (List ℕ)
+-- The text is labels, one or more, with dots between them: 1 to 253 bytes.
+pub record AreJoined (text : Text) : Type 0 where
+  pub labels : List Text
   pub one : 1 ≤ length labels
   pub each : are_labels true labels ≡ true
   pub joined : text ≡ join_with_byte 46 labels

@@ -1,6 +1,8 @@
 -- What issuing answers, beside what the log answers when an entry is added.
-use Rattle.std.specs.Prelude.{ℕ, List, Option, Result, Ok, Err}
+use Rattle.std.specs.Prelude.{ℕ, Option, Result, Ok, Err}
+use Rattle.byte_forms.specs.Types.{Text, HashFunction}
 use Rattle.issuance_log.specs.Folds.{LogState}
+use Rattle.issuance_log.specs.Records.{entry_record}
 use Rattle.issuance_log.specs.Refusals.{KeepsTo}
 use Rattle.issuance_log.specs.declared.error.LogError.{LogError}
 use Rattle.issuance_log.specs.declared.error.LogError.TheVariants as log_error
@@ -9,16 +11,21 @@ use Rattle.authority_core.specs.declared.issuing.error.IssueError.{IssueError}
 use Rattle.authority_core.specs.declared.issuing.error.IssueError.TheVariants.{Log}
 use Rattle.authority_core.specs.declared.requests.parts.Request.{Request}
 
--- The entry of a request in a log: under the id in the log's settings.
-abbrev pub entry_in : (List ℕ → List ℕ) → LogState → Request → List ℕ
-entry_in h s r = entry_for h s.settings.id r
+-- The entry that is issued for a request: under the id in the log's settings.
+abbrev pub issued_entry : HashFunction → LogState → Request → Text
+issued_entry h s r = entry_for h s.settings.id r
+
+-- The record of that entry with the key of the request.
+abbrev pub issued_record : HashFunction → LogState → Request → Text
+issued_record h s r = entry_record (issued_entry h s r) r.key
 
 -- The answer as one of the log.
 abbrev pub of_log : Result ℕ IssueError → Result ℕ LogError
 of_log (Ok index) = Ok index
 of_log (Err (Log why)) = Err why
 
--- The answer keeps to the refusal that the log's state and journal settle, where memory may be refused before any test.
+-- The answer keeps to the refusal that the log's state and journal settle, where memory may be
+-- refused before any test.
 abbrev pub KeepsToOrMemory : Option LogError → Result ℕ LogError → Type 0
 KeepsToOrMemory wanted (Ok index) = KeepsTo wanted (Ok index)
 KeepsToOrMemory wanted (Err log_error.Full) = KeepsTo wanted (Err log_error.Full)

@@ -1,10 +1,12 @@
 -- What is issued: the entry that a request makes in the log of the authority.
-use Rattle.std.specs.Prelude.{ℕ, List, [], ◌∷◌, ◌++◌, Option, Some, None, is_none}
+use Rattle.std.specs.Prelude.{List, [], ◌∷◌, Option, Some, None, is_none}
 use Rattle.std.specs.List.{flat_map}
+use Rattle.byte_forms.specs.Types.{Text, HashFunction}
 use Rattle.tls_wire.specs.Anchors.{text_of}
 use Rattle.der_core.specs.Elements.{element}
 use Rattle.cert_time.specs.Times.{validity_element}
 use Rattle.cert_names.specs.LogNames.{name_with}
+use Rattle.cert_names.specs.Names.{name_of}
 use Rattle.cert_fields.specs.Identifiers.{subject_alt_name}
 use Rattle.cert_fields.specs.AltNames.{dns_name}
 use Rattle.cert_fields.specs.Extensions.{ExtensionFields}
@@ -15,28 +17,18 @@ use Rattle.authority_core.specs.declared.requests.parts.Request.{Request}
 -- ---- the subject (RFC 5280, sections 4.1.2.4 and 4.1.2.6)
 
 -- id-at-commonName, 2.5.4.3.
-abbrev pub common_name_id : List ℕ
-common_name_id = 85 ∷ 4 ∷ 3 ∷ []
-
--- The identifier and a UTF8String, as they stand in the attribute; the attribute in its set; the set in the name.
-abbrev pub attribute_parts : List ℕ → List ℕ
-attribute_parts text = element 6 common_name_id ++ element 12 text
-
-abbrev pub set_parts : List ℕ → List ℕ
-set_parts text = element 48 (attribute_parts text)
-
-abbrev pub name_parts : List ℕ → List ℕ
-name_parts text = element 49 (set_parts text)
+abbrev pub common_name_id : Text
+common_name_id = 0x55 ∷ 0x04 ∷ 0x03 ∷ []
 
 -- A name of one common name, or the empty name.
-unfoldable pub subject_of : Option (List ℕ) → List ℕ
-subject_of None = element 48 []
-subject_of (Some text) = element 48 (name_parts text)
+unfoldable pub subject_of : Option Text → Text
+subject_of None = element 0x30 []
+subject_of (Some text) = name_of common_name_id text
 
 -- ---- the extensions (RFC 5280, section 4.2.1.6)
 
 -- The names as dNSNames, in their order.
-abbrev pub dns_names : List (List ℕ) → List ℕ
+abbrev pub dns_names : List Text → Text
 dns_names names = flat_map (element dns_name) names
 
 -- subjectAltName. It is critical exactly where the subject is empty.
@@ -44,17 +36,17 @@ abbrev pub alt_name_of : Request → ExtensionFields
 alt_name_of r = record {
   identifier = subject_alt_name;
   critical = is_none r.common_name;
-  octets = element 48 (dns_names r.names);
+  octets = element 0x30 (dns_names r.names);
 }
 
 -- The extensions field: subjectAltName alone.
-unfoldable pub extensions_of : Request → List ℕ
+unfoldable pub extensions_of : Request → Text
 extensions_of r = extensions_text (alt_name_of r ∷ [])
 
 -- ---- the entry
 
 -- The fields of the entry of a request in the log with this id, under the hash function h.
-abbrev pub tbs_for : (List ℕ → List ℕ) → List ℕ → Request → TbsParts
+abbrev pub tbs_for : HashFunction → Text → Request → TbsParts
 tbs_for h id r = record {
   issuer = name_with (text_of id);
   validity = r.validity;
@@ -65,5 +57,5 @@ tbs_for h id r = record {
 }
 
 -- The entry: of type 1, with these fields.
-unfoldable pub entry_for : (List ℕ → List ℕ) → List ℕ → Request → List ℕ
+unfoldable pub entry_for : HashFunction → Text → Request → Text
 entry_for h id r = tbs_text (tbs_for h id r)

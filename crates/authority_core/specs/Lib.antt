@@ -1,5 +1,4 @@
 pub mod Hosts
-pub mod Keys
 pub mod Requests
 pub mod Files
 pub mod Issuing

@@ -1,18 +1,19 @@
 -- Requests that can be issued.
-use Rattle.std.specs.Prelude.{ℕ, ◌≤◌, ◌≤ℤ◌, List, length}
+use Rattle.std.specs.Prelude.{◌≤◌, ◌≤ℤ◌, length}
 use Rattle.std.specs.List.{AllByRecursion}
 use Rattle.std.specs.Option.{IfSome}
+use Rattle.byte_forms.specs.Types.{Text}
 use Rattle.cert_fields.specs.Grammar.{IsPublicKey}
 use Rattle.cert_time.specs.Calendar.{IsMoment}
 use Rattle.authority_core.specs.Hosts.{IsHostName}
 use Rattle.authority_core.specs.declared.requests.parts.Request.{Request}
 
--- the length of a common name
-abbrev pub IsCommonName : List ℕ → Type 0
+-- The length of a common name.
+abbrev pub IsCommonName : Text → Type 0
 IsCommonName name = (1 ≤ length name) × (length name ≤ 64)
 
--- the dates are moments in their order, the names are 1 to 100 host names, the common name has 1 to 64 bytes, and the
--- key is one subjectPublicKeyInfo
+-- The dates are moments in their order, the names are 1 to 100 host names, the common name has 1 to
+-- 64 bytes, and the key is one subjectPublicKeyInfo.
 pub record CanBeIssued (r : Request) : Type 0 where
   pub not_before : IsMoment r.validity.not_before
   pub not_after : IsMoment r.validity.not_after

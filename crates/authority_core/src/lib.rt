@@ -1,15 +1,18 @@
 //! The authority: what it is asked to issue, and the entries that it issues.
 //!
-//! A request file is TOML with the dates between which the certificate is to be valid, the host names that it is for,
-//! a public key, and maybe a common name. [`read_request`] reads it and answers only what can be issued.
-//! [`entry_of_request`] makes the entry of a request in the log of the authority.
+//! A request file is TOML with the dates between which the certificate is to be valid, the host
+//! names that it is for, a public key, and maybe a common name. [`read_request`] reads it and
+//! answers only what can be issued. [`entry_of_request`] makes the entry of a request in the log of
+//! the authority, and [`issue`] adds it to the log with the key.
 #![tactic(auto)]
 
 mod issuing;
 mod requests;
 
-pub use issuing::{IssueError, entries_say_what_was_asked, entry_of_request, issue};
+pub use issuing::{
+    IssueError, entries_say_what_was_asked, entry_of_request, issue,
+    issued_entries_keep_to_the_rules,
+};
 pub use requests::{
-    Field, Names, Request, RequestError, host_names_are_joined_labels,
-    public_keys_are_their_grammar, read_request,
+    Field, Names, Request, RequestError, host_names_are_joined_labels, is_host, read_request,
 };

@@ -1,4 +1,4 @@
-mod Adds
+pub mod Adds
 mod Folds
 mod Found
 pub mod Leaves

@@ -2,9 +2,15 @@
 #![tactic(auto)]
 
 #[cfg(test)]
+mod entries;
+#[cfg(test)]
 mod fields;
 #[cfg(test)]
+mod issuing;
+#[cfg(test)]
 mod judgements;
+#[cfg(test)]
+mod requests;
 #[cfg(test)]
 mod stores;
 #[cfg(test)]

@@ -1,14 +1,12 @@
 //! Issuing: the entry of a request is added to the log.
 
-ghost use Rattle.std.specs.Prelude.{◌≡◌, ◌≤◌, ◌++◌, ℕ, List, [], ◌∷◌, None, Ok, IfSome, OnOk, false};
+ghost use Rattle.std.specs.Prelude.{◌≡◌, ◌≤◌, ◌++◌, ℕ, List, [], ◌∷◌, IfSome, OnOk, false};
 ghost use Rattle.disk_core.specs.Moments.{LeavesOnly};
 ghost use Rattle.journal_core.specs.Format.{StandsForEither};
 ghost use Rattle.journal_core.specs.Words.{AllStandFor};
-ghost use Rattle.issuance_log.specs.Folds.{log_of, with_item};
-ghost use Rattle.issuance_log.specs.Records.{entry_record};
 ghost use Rattle.issuance_log.specs.Refusals.{add_refusal};
 ghost use Rattle.issuance_log.specs.Words.{log_disk, log_records, log_end, log_broken, state_of, Leaves};
-ghost use Rattle.authority_core.specs.Issues.{KeepsToOrMemory, entry_in, of_log};
+ghost use Rattle.authority_core.specs.Issues.{KeepsToOrMemory, issued_entry, issued_record, of_log};
 ghost use Rattle.authority_core.specs.Requests.{CanBeIssued};
 
 use crate::issuing::entry::entry_of_request;
@@ -19,35 +17,34 @@ use issuance_log::Log;
 use std::alloc::Global;
 use tree_core::TreeHash;
 
-/// Issues a request: makes its entry under the id of the log, adds it with the key of the request, and answers its index.
-/// At Ok a crash leaves the records with that of the entry; at any moment of the call it leaves the old records, or these
-/// and that one.
+/// Issues a request: makes its entry under the id of the log, adds it with the key of the request,
+/// and answers its index. At Ok a crash leaves the records with that of the entry; at any moment of
+/// the call it leaves the old records, or these and that one.
 ///
-/// Errors: what [`Log::add`] refuses. Its own memory is taken before the log is touched, so `Log(Memory)` may come
-/// before any test, and leaves the log as it was.
+/// Errors: what [`Log::add`] refuses. Its own memory is taken before the log is touched, so
+/// `Log(Memory)` may come before any test, and leaves the log as it was.
 pub fn issue<H: TreeHash, D: Disk>(
     alloc: Global,
     log: &mut Log<H, D>,
     request: &Request,
 ) -> Result<u64, IssueError>
     requires { CanBeIssued request.now }
-    ensures leaves { Leaves (entry_in H.hash (state_of log.old) request.now) request.now.key log.old log.new (of_log result) }
-    ensures answer { KeepsToOrMemory (add_refusal (state_of log.old) (log_broken log.old) (log_end log.old)
-        (entry_in H.hash (state_of log.old) request.now) request.now.key) (of_log result) }
-    ensures kept { OnOk result (IfSome (log_records log.old) (λ list. AllStandFor D.Disk (log_disk log.new)
-        (list ++ entry_record (entry_in H.hash (state_of log.old) request.now) request.now.key ∷ []))) }
+    ensures leaves { Leaves (issued_entry H.hash (state_of log.old) request.now) request.now.key
+        log.old log.new (of_log result) }
+    ensures answer { KeepsToOrMemory
+        (add_refusal (state_of log.old) (log_broken log.old) (log_end log.old)
+        (issued_entry H.hash (state_of log.old) request.now) request.now.key)
+        (of_log result) }
+    ensures kept { OnOk result (IfSome (log_records log.old) (λ list.
+        AllStandFor D.Disk (log_disk log.new)
+        (list ++ issued_record H.hash (state_of log.old) request.now ∷ []))) }
     ensures count { D.faults (log_disk log.old) ≤ D.faults (log_disk log.new) }
     ensures any_moment { log_broken log.old ≡ false → IfSome (log_records log.old) (λ list.
         LeavesOnly D.Disk (log_disk log.old) (log_disk log.new)
-        (StandsForEither list (entry_record (entry_in H.hash (state_of log.old) request.now) request.now.key))) }
-    ensures afterwards { log_broken log.old ≡ false → IfSome (log_records log.old) (λ list. (c : List ℕ)
-        → D.may_leave (log_disk log.new) c
-        → StandsForEither list (entry_record (entry_in H.hash (state_of log.old) request.now) request.now.key) c) }
-    ensures valid { add_refusal (state_of log.old) (log_broken log.old) (log_end log.old)
-        (entry_in H.hash (state_of log.old) request.now) request.now.key ≡ None
-        → IfSome (log_records log.old) (λ list. log_of H.hash
-        (list ++ entry_record (entry_in H.hash (state_of log.old) request.now) request.now.key ∷ [])
-        ≡ Ok (with_item (entry_in H.hash (state_of log.old) request.now) request.now.key (state_of log.old))) }
+        (StandsForEither list (issued_record H.hash (state_of log.old) request.now))) }
+    ensures afterwards { log_broken log.old ≡ false → IfSome (log_records log.old) (λ list.
+        (c : List ℕ) → D.may_leave (log_disk log.new) c
+        → StandsForEither list (issued_record H.hash (state_of log.old) request.now) c) }
 {
     let index = log.size();
     let entry = entry_of_request::<H>(alloc, &log.settings().id, request)?;

@@ -38,10 +38,11 @@ fn written<H: TreeHash>(alloc: Global, id: &AnchorId, request: &Request) -> Resu
     )
 }
 
-/// The entry that a request makes in the log with this id. Its issuer is the name of the log; its subject is empty or the
-/// common name (RFC 5280, section 4.1.2.6); its one extension is subjectAltName with the names in their order as
-/// dNSNames, critical exactly where the subject is empty (section 4.2.1.6). The key of the request belongs to it. Want of
-/// memory is the only refusal.
+/// The entry that a request makes in the log with this id. Its issuer is the name of the log; its
+/// subject is empty or the common name (RFC 5280, section 4.1.2.6); its one extension is
+/// subjectAltName with the names in their order as dNSNames, critical exactly where the subject is
+/// empty (section 4.2.1.6). The key of the request belongs to it. Want of memory is the only
+/// refusal.
 pub fn entry_of_request<H: TreeHash>(
     alloc: Global,
     id: &AnchorId,
@@ -51,7 +52,8 @@ pub fn entry_of_request<H: TreeHash>(
     ensures bytes { IfOk result (λ bytes. bytes ≡ entry_for H.hash id.now request.now) }
     ensures belongs { matches H.hash (entry_for H.hash id.now request.now) request.now.key ≡ true }
 {
-    // The key belongs to the entry since these bytes are an anchor id, whose text is short enough for a name.
+    // The key belongs to the entry since these bytes are an anchor id, whose text is short enough
+    // for a name.
     let _bytes = id.as_bytes();
     written::<H>(alloc, id, request)
 }

@@ -8,20 +8,23 @@ ghost use Rattle.authority_core.specs.Hosts.{IsHostName};
 ghost use Rattle.authority_core.specs.Issuing.{alt_name_of, dns_names, extensions_of};
 ghost use Rattle.authority_core.specs.Requests.{CanBeIssued};
 
-use crate::issuing::elements::element_of;
 use crate::requests::{Names, Request};
-use der_core::put;
+use der_core::tags::{OBJECT_IDENTIFIER, OCTET_STRING, SEQUENCE};
+use der_core::{element_of, put};
 use mtc_io::{Bytes, Memory};
 use std::alloc::Global;
 
-/// subjectAltName, 2.5.29.17.
+// subjectAltName, 2.5.29.17.
 const SUBJECT_ALT_NAME: [u8; 3] = [0x55, 0x1D, 0x11];
 
-/// A BOOLEAN of TRUE.
+// A BOOLEAN of TRUE.
 const CRITICAL: [u8; 3] = [0x01, 0x01, 0xFF];
 
-/// The tag of a dNSName.
+// The tag of a dNSName: context-specific, primitive, 2.
 const DNS_NAME: u8 = 0x82;
+
+// The tag of the extensions field: context-specific, constructed, 3.
+const EXTENSIONS: u8 = 0xA3;
 
 // The names as dNSNames, in their order.
 fn dns_names(alloc: Global, names: &Names) -> Result<Bytes, Memory>
@@ -39,10 +42,10 @@ fn dns_names(alloc: Global, names: &Names) -> Result<Bytes, Memory>
 fn general_names(alloc: Global, names: &Names) -> Result<Bytes, Memory>
     requires hosts { AllByRecursion IsHostName names.now }
     requires few { length names.now ≤ 100 }
-    ensures { IfOk result (λ bytes. bytes ≡ element 48 (dns_names names.now)) }
+    ensures { IfOk result (λ bytes. bytes ≡ element 0x30 (dns_names names.now)) }
 {
     let names = dns_names(alloc, names)?;
-    element_of(alloc, 0x30, names.as_slice())
+    element_of(alloc, SEQUENCE, names.as_slice())
 }
 
 // Puts the mark of a critical extension behind the bytes; no bytes where it is not critical.
@@ -56,16 +59,17 @@ fn put_mark(critical: bool, out: &mut Bytes) -> Result<(), Memory>
     }
 }
 
-// The identifier, the mark and the names. The extension is critical exactly where the subject is empty.
+// The identifier, the mark and the names. The extension is critical exactly where the subject is
+// empty.
 fn alt_name(alloc: Global, request: &Request) -> Result<Bytes, Memory>
     requires { CanBeIssued request.now }
     ensures { IfOk result (λ bytes. bytes ≡ extension_contents (alt_name_of request.now)) }
 {
     let octets = general_names(alloc, &request.names)?;
     let mut out = Bytes::new(alloc);
-    put(0x06, &SUBJECT_ALT_NAME, &mut out)?;
+    put(OBJECT_IDENTIFIER, &SUBJECT_ALT_NAME, &mut out)?;
     put_mark(request.common_name.is_none(), &mut out)?;
-    put(0x04, octets.as_slice(), &mut out)?;
+    put(OCTET_STRING, octets.as_slice(), &mut out)?;
     Ok(out)
 }
 
@@ -76,7 +80,7 @@ pub fn extensions_of(alloc: Global, request: &Request) -> Result<Bytes, Memory>
     ensures { IfOk result (λ bytes. bytes ≡ extensions_of request.now) }
 {
     let contents = alt_name(alloc, request)?;
-    let extension = element_of(alloc, 0x30, contents.as_slice())?;
-    let list = element_of(alloc, 0x30, extension.as_slice())?;
-    element_of(alloc, 0xA3, list.as_slice())
+    let extension = element_of(alloc, SEQUENCE, contents.as_slice())?;
+    let list = element_of(alloc, SEQUENCE, extension.as_slice())?;
+    element_of(alloc, EXTENSIONS, list.as_slice())
 }

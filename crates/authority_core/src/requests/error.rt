@@ -17,8 +17,8 @@ pub enum Field {
     PublicKey,
 }
 
-/// Why a text is no request file. The tests are made in this order, and those of the fields field by field in the
-/// order of [`Field`].
+/// Why a text is no request file. The tests are made in this order, and those of the fields field
+/// by field in the order of [`Field`].
 #[derive(Clone, Copy, Debug, PartialEq, Eq)]
 pub enum RequestError {
     /// The text isn't UTF-8, or isn't TOML.

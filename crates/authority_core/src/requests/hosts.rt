@@ -2,19 +2,20 @@
 
 ghost use Rattle.std.specs.Prelude.{◌≡◌, ◌<◌, true, [], ◌∷◌, length, IfNone, IfSome};
 ghost use Rattle.std.specs.List.{list_all, position};
-ghost use Rattle.authority_core.specs.Hosts.{IsHostName, are_labels, is_dot, is_host_name, is_label, is_label_at, is_label_byte, labels_of};
+ghost use Rattle.authority_core.specs.Hosts.{are_labels, is_dot, is_host_name, is_label, is_label_at, is_label_byte, labels_of};
 
 // A letter, a digit or a hyphen.
-fn may_stand(byte: u8) -> bool
+fn is_label_byte(byte: u8) -> bool
     ensures { result ≡ is_label_byte byte }
 {
     byte.is_ascii_alphanumeric() || byte == b'-'
 }
 
-fn may_all_stand(label: &[u8]) -> bool
+// Each byte may stand in a label.
+fn are_label_bytes(label: &[u8]) -> bool
     ensures { result ≡ list_all is_label_byte label.now }
 {
-    label.iter().all(|byte| may_stand(*byte))
+    label.iter().all(|byte| is_label_byte(*byte))
 }
 
 // Letters, digits and hyphens, with no hyphen at the ends.
@@ -28,7 +29,7 @@ fn is_label(label: &[u8]) -> bool
     if label[0] == b'-' || label[label.len() - 1] == b'-' {
         return false;
     }
-    may_all_stand(label)
+    are_label_bytes(label)
 }
 
 // A label; the first one may be a star.
@@ -77,22 +78,15 @@ fn has_labels(text: &[u8]) -> bool
     is_label_in(first, rest)
 }
 
-// 1 to 253 bytes, whose parts between dots are labels.
+/// The text is a host name: 1 to 253 bytes, whose parts between dots are labels of 1 to 63 letters,
+/// digits and hyphens with no hyphen at the ends (RFC 1034, section 3.5; RFC 1123, section 2.1).
+/// The first label may be a star.
 #[tactic(auto, unfolding(crate::specs::Hosts::is_host_name))]
-fn has_form(text: &[u8]) -> bool
+pub fn is_host(text: &[u8]) -> bool
     ensures { result ≡ is_host_name text.now }
 {
     if text.is_empty() || text.len() > 253 {
         return false;
     }
     has_labels(text)
-}
-
-/// The text is a host name: 1 to 253 bytes, whose parts between dots are labels of 1 to 63 letters, digits and hyphens
-/// with no hyphen at the ends (RFC 1034, section 3.5; RFC 1123, section 2.1). The first label may be a star.
-pub fn is_host(text: &[u8]) -> bool
-    ensures value { result ≡ is_host_name text.now }
-    ensures host { result ≡ true → IsHostName text.now }
-{
-    has_form(text)
 }

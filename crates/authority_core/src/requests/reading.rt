@@ -15,7 +15,7 @@ use std::alloc::Global;
 use toml::Table;
 use toml_fields::{TreeError, keys_are_among, read_tree};
 
-// The request that the root says.
+// The request that the fields of the root say.
 #[tactic(auto, unfolding(crate::specs::Files::request_in, crate::specs::Files::checked))]
 fn request_from(alloc: Global, root: &Table) -> Result<Request, RequestError>
     ensures exact { Answers RequestError.Memory (request_in (table_view root.now)) result }
@@ -44,10 +44,10 @@ fn request_from(alloc: Global, root: &Table) -> Result<Request, RequestError>
     })
 }
 
-/// Reads a request file. It has the texts `not_before` and `not_after` (`YYYY-MM-DDTHH:MM:SSZ`, from 1950 to 9999), the
-/// array `dns` of at most 100 host names, and the text `key`, a subjectPublicKeyInfo element in base64; it may have the
-/// text `common_name` of 1 to 64 bytes. The first fault is answered, in the order of [`RequestError`]; what is answered
-/// can be issued.
+/// Reads a request file. It has the texts `not_before` and `not_after` (`YYYY-MM-DDTHH:MM:SSZ`,
+/// from 1950 to 9999), the array `dns` of at most 100 host names, and the text `key`, a
+/// subjectPublicKeyInfo element in base64; it may have the text `common_name` of 1 to 64 bytes. The
+/// first fault is answered, in the order of [`RequestError`]; what is answered can be issued.
 #[tactic(auto, unfolding(crate::specs::Files::request_of))]
 pub fn read_request(alloc: Global, text: &[u8]) -> Result<Request, RequestError>
     ensures exact { Answers RequestError.Memory (request_of text.now) result }

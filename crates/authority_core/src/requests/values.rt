@@ -2,7 +2,6 @@
 
 ghost use Rattle.std.specs.Prelude.{◌≡◌, ◌≤◌, List, length, codes, IfOk, IfSome};
 ghost use Rattle.std.specs.List.{AllByRecursion};
-ghost use Rattle.byte_forms.specs.Places.{IsBytes};
 ghost use Rattle.byte_forms.specs.Readings.{Answers};
 ghost use Rattle.cert_fields.specs.Grammar.{IsPublicKey};
 ghost use Rattle.cert_time.specs.Calendar.{IsMoment};
@@ -10,20 +9,19 @@ ghost use Rattle.toml.specs.Data.{get_member};
 ghost use Rattle.toml.specs.View.{items_view, table_view, view};
 ghost use Rattle.authority_core.specs.Files.{common_name_data, field, field_or_none, host_data, hosts_in, key_data, names_data, time_data};
 ghost use Rattle.authority_core.specs.Hosts.{IsHostName};
-ghost use Rattle.authority_core.specs.Keys.{is_public_key};
 ghost use Rattle.authority_core.specs.Requests.{IsCommonName};
 
 use crate::requests::error::{Field, RequestError};
 use crate::requests::hosts::is_host;
 use crate::requests::names::Names;
-use cert_fields::check_spki;
+use cert_fields::is_public_key;
 use cert_time::text_to_seconds;
 use mtc_io::{Bytes, Memory};
 use std::alloc::Global;
 use toml::{Table, Value};
 use toml_fields::{bytes_of, value_at};
 
-/// A request has at most so many names.
+// A request has at most so many names.
 const MOST_NAMES: usize = 100;
 
 // A moment, as a text.
@@ -63,10 +61,11 @@ fn host_of(alloc: Global, value: &Value) -> Result<Option<Bytes>, Memory>
     }
 }
 
-// Each item is one.
+// The host names that the items are, each of them.
 fn hosts_of(alloc: Global, values: &[Value]) -> Result<Option<Names>, Memory>
     ensures value { IfOk result (λ o. o ≡ hosts_in (items_view values.now)) }
-    ensures hosts { IfOk result (λ o. IfSome o (λ names. AllByRecursion IsHostName names × (length names ≡ length values.now))) }
+    ensures hosts { IfOk result (λ o. IfSome o (λ names.
+        AllByRecursion IsHostName names × (length names ≡ length values.now))) }
 {
     let mut items = Vec::new(alloc);
     for value in values {
@@ -82,7 +81,8 @@ fn hosts_of(alloc: Global, values: &[Value]) -> Result<Option<Names>, Memory>
 #[tactic(auto, using(crate::proofs::Items::count_of_view), unfolding(crate::specs::Files::names_data))]
 fn names_of(alloc: Global, value: &Value) -> Result<Option<Names>, Memory>
     ensures value { IfOk result (λ o. o ≡ names_data (view value.now)) }
-    ensures hosts { IfOk result (λ o. IfSome o (λ names. AllByRecursion IsHostName names × (length names ≤ 100))) }
+    ensures hosts { IfOk result (λ o. IfSome o (λ names.
+        AllByRecursion IsHostName names × (length names ≤ 100))) }
 {
     let Some(values) = value.as_array() else {
         return Ok(None);
@@ -95,7 +95,8 @@ fn names_of(alloc: Global, value: &Value) -> Result<Option<Names>, Memory>
 
 /// The names of a request.
 pub fn names_at(alloc: Global, table: &Table) -> Result<Names, RequestError>
-    ensures value { Answers RequestError.Memory (field Field.Dns names_data (get_member (codes "dns") (table_view table.now))) result }
+    ensures value { Answers RequestError.Memory
+        (field Field.Dns names_data (get_member (codes "dns") (table_view table.now))) result }
     ensures hosts { IfOk result (λ names. AllByRecursion IsHostName names × (length names ≤ 100)) }
 {
     let Some(value) = value_at(table, "dns") else {
@@ -120,7 +121,9 @@ fn common_name_of(alloc: Global, value: &Value) -> Result<Option<Bytes>, Memory>
 
 /// The common name, which may be absent.
 pub fn common_name_at(alloc: Global, table: &Table) -> Result<Option<Bytes>, RequestError>
-    ensures value { Answers RequestError.Memory (field_or_none Field.CommonName common_name_data (get_member (codes "common_name") (table_view table.now))) result }
+    ensures value { Answers RequestError.Memory
+        (field_or_none Field.CommonName common_name_data
+        (get_member (codes "common_name") (table_view table.now))) result }
     ensures short { IfOk result (λ o. IfSome o IsCommonName) }
 {
     let Some(value) = value_at(table, "common_name") else {
@@ -132,17 +135,6 @@ pub fn common_name_at(alloc: Global, table: &Table) -> Result<Option<Bytes>, Req
     }
 }
 
-// The bytes are one subjectPublicKeyInfo and nothing else.
-#[tactic(auto, unfolding(crate::specs::Keys::is_public_key))]
-fn is_key(bytes: &[u8]) -> bool
-    ensures { result ≡ is_public_key bytes.now }
-{
-    match check_spki(bytes, 0) {
-        Ok(end) => end == bytes.len(),
-        Err(_) => false,
-    }
-}
-
 // A public key, in base64.
 #[tactic(auto, unfolding(crate::specs::Files::key_data))]
 fn key_of(alloc: Global, value: &Value) -> Result<Option<Bytes>, Memory>
@@ -150,14 +142,15 @@ fn key_of(alloc: Global, value: &Value) -> Result<Option<Bytes>, Memory>
     ensures key { IfOk result (λ o. IfSome o IsPublicKey) }
 {
     match bytes_of(alloc, value)? {
-        Some(key) if is_key(key.as_slice()) => Ok(Some(key)),
+        Some(key) if is_public_key(key.as_slice()) => Ok(Some(key)),
         _ => Ok(None),
     }
 }
 
 /// The public key of a request.
 pub fn key_at(alloc: Global, table: &Table) -> Result<Bytes, RequestError>
-    ensures value { Answers RequestError.Memory (field Field.PublicKey key_data (get_member (codes "key") (table_view table.now))) result }
+    ensures value { Answers RequestError.Memory
+        (field Field.PublicKey key_data (get_member (codes "key") (table_view table.now))) result }
     ensures key { IfOk result IsPublicKey }
 {
     let Some(value) = value_at(table, "key") else {

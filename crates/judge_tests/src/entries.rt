@@ -1,16 +1,7 @@
 //! The entries of requests, field by field.
 
-ghost use Rattle.std.specs.Prelude.{◌≤◌, IfOk};
-ghost use Rattle.authority_core.specs.Requests.{CanBeIssued};
-
-use crate::issuing::adding::issue;
-use crate::issuing::entry::entry_of_request;
-use crate::issuing::error::IssueError;
-use crate::requests::{Request, read_request};
-use disk_core::MemDisk;
-use issuance_log::{Log, LogError, LogSettings, create};
-use journal_core::AppendError;
-use mtc_io::Bytes;
+use crate::texts::joined;
+use authority_core::{entry_of_request, read_request};
 use std::alloc::Global;
 use std::test::Fail;
 use tls_wire::AnchorId;
@@ -78,6 +69,7 @@ const TWO_CRITICAL_NAMES: [u8; 42] = [
     0x2E, 0x61, 0x2E, 0x65, 0x78, 0x61, 0x6D, 0x70, 0x6C, 0x65,
 ];
 
+// A request, and the length and the fields of its entry.
 #[derive(Drop)]
 struct Case {
     request: &'static [&'static str],
@@ -114,99 +106,22 @@ const CASES: [Case; 4] = [
     },
 ];
 
-// The request that these lines say.
-fn request(alloc: Global, lines: &[&str]) -> Result<Request, Fail>
-    ensures { IfOk result CanBeIssued }
-{
-    let mut text = String::new(alloc);
-    for line in lines {
-        text.push_str(line)?;
+// The entry of the case's request in the log 32473.1 has its length and is its fields.
+fn has_its_fields(alloc: Global, case: &Case) -> Result<bool, Fail> {
+    let id = AnchorId::from_text(alloc, "32473.1")?;
+    let request = read_request(alloc, joined(alloc, case.request)?.as_bytes())?;
+    let entry = entry_of_request::<Sha>(alloc, &id, &request)?;
+    let mut wanted = Vec::new(alloc);
+    for field in case.fields {
+        wanted.extend_from_slice(field)?;
     }
-    Ok(read_request(alloc, text.as_bytes())?)
+    Ok(entry.len() == case.length && entry.as_slice() == wanted.as_slice())
 }
 
 #[test]
 fn entries_have_their_fields(rt: HostRuntime) -> Result<(), Fail> {
-    let alloc = rt.alloc();
-    let id = AnchorId::from_text(alloc, "32473.1")?;
     for case in &CASES {
-        let entry = entry_of_request::<Sha>(alloc, &id, &request(alloc, case.request)?)?;
-        assert_eq!(rt; entry.len(), case.length);
-        let mut wanted = Vec::new(alloc);
-        for field in case.fields {
-            wanted.extend_from_slice(field)?;
-        }
-        assert_eq!(rt; entry.as_slice(), wanted.as_slice());
+        assert!(rt; has_its_fields(rt.alloc(), case)?, "{}", case.length);
     }
-    Ok(())
-}
-
-// A disk with a new log that has this limit.
-fn new_log(alloc: Global, limit: u32) -> Result<MemDisk, Fail>
-    requires some { 2 ≤ limit }
-    requires few { limit ≤ 1048576 }
-{
-    let settings = LogSettings {
-        id: AnchorId::from_text(alloc, "32473.1")?,
-        max_active: 2,
-        limit,
-    };
-    match create(alloc, MemDisk::new(alloc, Vec::new(alloc)), &settings) {
-        Ok(journal) => Ok(journal.into_disk()),
-        Err(_) => Err(Fail::from("no new log")),
-    }
-}
-
-fn open(alloc: Global, disk: MemDisk) -> Result<Log<Sha, MemDisk>, Fail> {
-    match Log::<Sha, MemDisk>::open(alloc, disk) {
-        Ok(log) => Ok(log),
-        Err(_) => Err(Fail::from("no log")),
-    }
-}
-
-#[test]
-fn an_entry_is_issued(rt: HostRuntime) -> Result<(), Fail> {
-    let alloc = rt.alloc();
-    let asked = request(alloc, CASES[0].request)?;
-    let mut log = open(alloc, new_log(alloc, 2)?)?;
-    assert_eq!(rt; issue(alloc, &mut log, &asked), Ok(1));
-    assert_eq!(rt;
-        issue(alloc, &mut log, &asked),
-        Err(IssueError::Log(LogError::Full))
-    );
-    let written = log.into_disk();
-    assert_eq!(rt; written.bytes().len(), 221);
-    let log = open(alloc, written)?;
-    let entry = entry_of_request::<Sha>(alloc, &log.settings().id, &asked)?;
-    let [_, found] = log.entries() else {
-        return Err(Fail::from("another number of entries"));
-    };
-    assert_eq!(rt; found.as_slice(), entry.as_slice());
-    Ok(())
-}
-
-// One call of the disk fails, of the opening or of the append.
-#[test]
-fn a_failure_of_the_disk_is_told(rt: HostRuntime) -> Result<(), Fail> {
-    let alloc = rt.alloc();
-    let asked = request(alloc, CASES[1].request)?;
-    let bytes = Bytes::copy_of(alloc, new_log(alloc, 64)?.bytes())?;
-    let mut failed = false;
-    for call in 0..16u64 {
-        let disk = MemDisk::over(
-            alloc,
-            Bytes::copy_of(alloc, bytes.as_slice())?,
-            Vec::from_slice(alloc, &[call])?,
-        );
-        if let Ok(mut log) = Log::<Sha, MemDisk>::open(alloc, disk) {
-            if issue(alloc, &mut log, &asked)
-                == Err(IssueError::Log(LogError::Append(AppendError::Failed)))
-            {
-                failed = true;
-                assert_eq!(rt; log.size(), 1);
-            }
-        }
-    }
-    assert!(rt; failed);
     Ok(())
 }
