@@ -16,8 +16,6 @@ mod laws;
 mod names;
 mod parts;
 mod repeats;
-#[cfg(test)]
-mod tests;
 mod times;
 mod writing;
 

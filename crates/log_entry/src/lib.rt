@@ -13,8 +13,6 @@ mod hashing;
 mod laws;
 mod matching;
 mod reading;
-#[cfg(test)]
-mod tests;
 mod writing;
 
 pub use entry::{Entry, EntryParts, TbsEntry};

@@ -1,17 +1,19 @@
 //! The entry of the certificate of one name that a log with id 32473.1 issues, and what is told of changes to it.
 
-use crate::{
-    Entry, EntryError, EntryParts, entry_hash, entry_of, key_hash, key_matches, read_entry,
-    write_entry,
-};
 use cert_fields::Cert;
 use cert_time::Validity;
 use der_core::{CertError, DerError};
+use log_entry::{
+    Entry, EntryError, EntryParts, entry_hash, entry_of, key_hash, key_matches, read_entry,
+    write_entry,
+};
+use mtc_io::{Bytes, Memory};
+use std::alloc::Global;
 use std::test::Fail;
 use tree_core::{Sha, TreeHash};
 
-/// Issuer of log 32473.1, 2026-01-01 to 2026-01-08, no subject, the SHA-256 of an Ed25519 key of zeros, one critical
-/// subjectAltName with `a.example`.
+// Issuer of log 32473.1, 2026-01-01 to 2026-01-08, no subject, the SHA-256 of an Ed25519 key of zeros, one critical
+// subjectAltName with `a.example`.
 const ENTRY: [u8; 131] = [
     0x00, 0x01, 0xA0, 0x03, 0x02, 0x01, 0x02, 0x30, 0x19, 0x31, 0x17, 0x30, 0x15, 0x06, 0x0A, 0x2B,
     0x06, 0x01, 0x04, 0x01, 0x82, 0xDA, 0x4B, 0x2F, 0x01, 0x0C, 0x07, 0x33, 0x32, 0x34, 0x37, 0x33,
@@ -24,13 +26,13 @@ const ENTRY: [u8; 131] = [
     0x70, 0x6C, 0x65,
 ];
 
-/// Its hash as a leaf.
+// Its hash as a leaf.
 const LEAF_HASH: [u8; 32] = [
     0x7E, 0xDF, 0xD5, 0xE2, 0x31, 0x8A, 0x6D, 0xE0, 0x81, 0xFE, 0x8E, 0xE5, 0xE0, 0xA6, 0x29, 0x33,
     0x5E, 0x6F, 0x6F, 0xD8, 0x25, 0xFB, 0xE9, 0xF7, 0x11, 0x1B, 0xE6, 0xA8, 0xD2, 0x43, 0xD1, 0x61,
 ];
 
-/// The Ed25519 key of zeros, as a subjectPublicKeyInfo.
+// The Ed25519 key of zeros, as a subjectPublicKeyInfo.
 const KEY: [u8; 44] = [
     0x30, 0x2A, 0x30, 0x05, 0x06, 0x03, 0x2B, 0x65, 0x70, 0x03, 0x21, 0x00, 0x00, 0x00, 0x00, 0x00,
     0x00, 0x00, 0x00, 0x00, 0x00, 0x00, 0x00, 0x00, 0x00, 0x00, 0x00, 0x00, 0x00, 0x00, 0x00, 0x00,
@@ -42,7 +44,7 @@ const WEEK: Validity = Validity {
     not_after: 1_767_830_400,
 };
 
-/// The entry with another byte at one place.
+// The entry with another byte at one place.
 fn changed(place: usize, byte: u8) -> [u8; 131] {
     let mut bytes = ENTRY;
     if let Some(old) = bytes.get_mut(place) {
@@ -51,23 +53,37 @@ fn changed(place: usize, byte: u8) -> [u8; 131] {
     bytes
 }
 
-/// The fault that is told of these bytes.
+// The fault that is told of these bytes.
 fn fault_of(bytes: &[u8]) -> Option<EntryError> {
     read_entry(bytes).err()
 }
 
+fn fields_are_parts() -> bool {
+    match read_entry(&ENTRY) {
+        Ok(Entry::Tbs(tbs)) => {
+            tbs.issuer == &ENTRY[7..34]
+                && tbs.validity == WEEK
+                && tbs.validity_der == &ENTRY[34..66]
+                && tbs.subject == &ENTRY[66..68]
+                && tbs.key_hash == &ENTRY[70..102]
+                && tbs.extensions == &ENTRY[102..]
+        }
+        _ => false,
+    }
+}
+
+fn is_null(bytes: &[u8]) -> bool {
+    matches!(read_entry(bytes), Ok(Entry::Null))
+}
+
 #[test]
-fn entries_and_changes(rt: HostRuntime) -> Result<(), Fail> {
-    assert_eq!(rt; matches!(read_entry(&[0, 0]), Ok(Entry::Null)), true);
-    let Ok(Entry::Tbs(tbs)) = read_entry(&ENTRY) else {
-        return Err("the entry".into());
-    };
-    assert_eq!(rt; tbs.issuer, &ENTRY[7..34]);
-    assert_eq!(rt; tbs.validity, WEEK);
-    assert_eq!(rt; tbs.validity_der, &ENTRY[34..66]);
-    assert_eq!(rt; tbs.subject, &ENTRY[66..68]);
-    assert_eq!(rt; tbs.key_hash, &ENTRY[70..102]);
-    assert_eq!(rt; tbs.extensions, &ENTRY[102..]);
+fn the_fields_of_an_entry_are_parts_of_its_bytes(rt: HostRuntime) {
+    assert!(rt; fields_are_parts());
+    assert!(rt; is_null(&[0, 0]));
+}
+
+#[test]
+fn each_change_of_an_entry_has_its_fault(rt: HostRuntime) {
     let faults: [(usize, u8, EntryError); 12] = [
         (0, 0x01, EntryError::UnknownType(257)),
         (1, 0x02, EntryError::UnknownType(2)),
@@ -99,21 +115,29 @@ fn entries_and_changes(rt: HostRuntime) -> Result<(), Fail> {
         (115, 0x00, EntryError::Body(CertError::BadExtension)),
     ];
     for (place, byte, fault) in faults {
-        assert_eq!(rt; fault_of(&changed(place, byte)), Some(fault));
+        assert!(rt;
+            fault_of(&changed(place, byte)) == Some(fault),
+            "of {place}"
+        );
     }
-    assert_eq!(rt; fault_of(b""), Some(EntryError::Short));
-    assert_eq!(rt; fault_of(&[0]), Some(EntryError::Short));
-    assert_eq!(rt; fault_of(&[0, 0, 0]), Some(EntryError::NullHasBody));
-    assert_eq!(rt;
-        fault_of(&[0, 1]),
-        Some(EntryError::Body(CertError::BadVersion))
-    );
-    assert_eq!(rt; fault_of(&ENTRY[..102]), None);
-    Ok(())
 }
 
 #[test]
-fn entries_of_certificates_and_of_parts(rt: HostRuntime) -> Result<(), Fail> {
+fn short_entries_have_their_faults(rt: HostRuntime) {
+    let faults: [(&[u8], Option<EntryError>); 5] = [
+        (b"", Some(EntryError::Short)),
+        (&[0], Some(EntryError::Short)),
+        (&[0, 0, 0], Some(EntryError::NullHasBody)),
+        (&[0, 1], Some(EntryError::Body(CertError::BadVersion))),
+        (&ENTRY[..102], None),
+    ];
+    for (bytes, fault) in faults {
+        assert!(rt; fault_of(bytes) == fault, "of {bytes:?}");
+    }
+}
+
+// The entry of a certificate with these fields, and its hash as a leaf.
+fn made_of_certificate(alloc: Global) -> Result<(Bytes, [u8; 32]), Memory> {
     let cert = Cert {
         serial: 1,
         issuer: &ENTRY[7..34],
@@ -125,27 +149,39 @@ fn entries_of_certificates_and_of_parts(rt: HostRuntime) -> Result<(), Fail> {
         algorithm: &[],
         proof: &[],
     };
-    assert_eq!(rt;
-        entry_of::<Sha>(rt.alloc(), &cert)?.as_slice(),
-        ENTRY.as_slice()
-    );
-    assert_eq!(rt; entry_hash::<Sha>(&cert), LEAF_HASH);
+    Ok((entry_of::<Sha>(alloc, &cert)?, entry_hash::<Sha>(&cert)))
+}
+
+fn made_of_parts(alloc: Global) -> Result<Bytes, Memory> {
     let key = key_hash::<Sha>(&KEY);
     let parts = EntryParts {
-        issuer: cert.issuer,
+        issuer: &ENTRY[7..34],
         validity: WEEK,
-        subject: cert.subject,
+        subject: &ENTRY[66..68],
         key_hash: &key,
-        extensions: cert.extensions,
+        extensions: &ENTRY[102..],
     };
-    assert_eq!(rt;
-        write_entry(rt.alloc(), &parts)?.as_slice(),
-        ENTRY.as_slice()
-    );
-    assert_eq!(rt; key_matches::<Sha>(&ENTRY, &KEY), true);
-    assert_eq!(rt; key_matches::<Sha>(&changed(70, 0x73), &KEY), false);
-    assert_eq!(rt; key_matches::<Sha>(&changed(69, 0x1F), &KEY), false);
-    assert_eq!(rt; key_matches::<Sha>(&ENTRY, &KEY[..43]), false);
-    assert_eq!(rt; key_matches::<Sha>(&[0, 0], &[]), false);
+    write_entry(alloc, &parts)
+}
+
+#[test]
+fn an_entry_is_made_of_a_certificate_and_of_parts(rt: HostRuntime) -> Result<(), Fail> {
+    let (entry, hash) = made_of_certificate(rt.alloc())?;
+    assert!(rt; entry.as_slice() == ENTRY.as_slice());
+    assert!(rt; hash == LEAF_HASH);
+    assert!(rt; made_of_parts(rt.alloc())?.as_slice() == ENTRY.as_slice());
     Ok(())
+}
+
+fn is_matched(entry: &[u8], key: &[u8]) -> bool {
+    key_matches::<Sha>(entry, key)
+}
+
+#[test]
+fn a_key_matches_its_entry_alone(rt: HostRuntime) {
+    assert!(rt; is_matched(&ENTRY, &KEY));
+    assert!(rt; !is_matched(&changed(70, 0x73), &KEY));
+    assert!(rt; !is_matched(&changed(69, 0x1F), &KEY));
+    assert!(rt; !is_matched(&ENTRY, &KEY[..43]));
+    assert!(rt; !is_matched(&[0, 0], &[]));
 }

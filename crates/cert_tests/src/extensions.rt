@@ -1,0 +1,56 @@
+//! Lists of so many extensions that their identifiers are compared in a block.
+
+use cert_fields::check_extensions;
+use der_core::{CertError, DerError};
+use mtc_io::{Bytes, Memory};
+use std::alloc::Global;
+use std::test::Fail;
+
+// The extensions field with 69 extensions of nine bytes each, whose identifiers differ in their last byte, and this one behind
+// them, at offset 629.
+fn field(alloc: Global, last: &[u8; 9]) -> Result<Bytes, Memory> {
+    let mut out = Bytes::copy_of(alloc, &[0xA3, 0x82, 0x02, 0x7A, 0x30, 0x82, 0x02, 0x76])?;
+    for number in 0..69u8 {
+        out.append(&[0x30, 0x07, 0x06, 0x03, 0x55, 0x1E, number, 0x04, 0x00])?;
+    }
+    out.append(last)?;
+    Ok(out)
+}
+
+fn end_of_field(alloc: Global, last: &[u8; 9]) -> Result<Result<usize, CertError>, Memory> {
+    Ok(check_extensions(field(alloc, last)?.as_slice(), 0))
+}
+
+#[test]
+fn a_repetition_among_many_is_told_at_its_turn(rt: HostRuntime) -> Result<(), Fail> {
+    let cases: [(&[u8; 9], Result<usize, CertError>); 6] = [
+        (&[0x30, 7, 0x06, 3, 0x55, 0x1E, 69, 0x04, 0], Ok(638)),
+        (
+            &[0x30, 7, 0x06, 3, 0x55, 0x1E, 0, 0x04, 0],
+            Err(CertError::RepeatedExtension),
+        ),
+        (
+            &[0x30, 7, 0x06, 3, 0x55, 0x1E, 68, 0x05, 0],
+            Err(CertError::RepeatedExtension),
+        ),
+        (
+            &[0x30, 7, 0x06, 3, 0x55, 0x1E, 69, 0x05, 0],
+            Err(CertError::Der(DerError::WrongTag(636))),
+        ),
+        (
+            &[0x30, 7, 0x06, 3, 0x55, 0x1E, 0x80, 0x04, 0],
+            Err(CertError::Der(DerError::BadOid(631))),
+        ),
+        (
+            &[0x31, 7, 0x06, 3, 0x55, 0x1E, 0, 0x04, 0],
+            Err(CertError::Der(DerError::WrongTag(629))),
+        ),
+    ];
+    for (last, wanted) in cases {
+        assert!(rt;
+            end_of_field(rt.alloc(), last)? == wanted,
+            "behind {last:?}"
+        );
+    }
+    Ok(())
+}
