@@ -10,8 +10,8 @@ ghost use Rattle.cert_fields.specs.Views.{texts, AreSorted};
 use der_core::tags::{OBJECT_IDENTIFIER, SEQUENCE};
 use der_core::{DerError, Reader};
 
-/// The identifiers of a block: 256 KiB of places, on the stack.
-const BLOCK: usize = 16384;
+/// The identifiers of a block: slices of 512 KiB together, on the stack.
+const BLOCK: usize = 32768;
 
 /// The identifier of the next extension, whose other parts aren't looked into.
 #[tactic(auto, unfolding(crate::specs::Extensions::head_at))]
