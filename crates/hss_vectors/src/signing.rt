@@ -66,8 +66,8 @@ pub fn tree_answer(alloc: Global, rest: &str) -> Result<String> {
     }
 }
 
-// Signs a message, and answers with the number used, the signature's length and SHA-256, and whether
-// it verifies.
+// Signs a message, and answers with the number used, the signature's length and SHA-256, and
+// whether it verifies.
 fn signed(alloc: Global, key: &mut Key, message: &[u8]) -> Result<String> {
     ensure!(key.left() != 0, "no one-time key is left");
     let used = key.next();

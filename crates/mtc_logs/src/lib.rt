@@ -1,7 +1,9 @@
-//! The commands on the journal of a log: `init-log`, `issue`, `checkpoint`, `entries`, `consist` and `subtree`.
+//! The commands on the journal of a log: `init-log`, `issue`, `checkpoint`, `entries`, `consist`
+//! and `subtree`.
 //!
-//! A journal is lent by the room, opened as a log, worked on and put back ([`on_journal`]); what is done with the log
-//! is a [`Work`]. What each command has to answer, and what it leaves of the journal, are definitions in `specs/`.
+//! A journal is lent by the room, opened as a log, worked on and put back ([`on_journal`]); what is
+//! done with the log is a [`Work`]. What each command has to answer, and what it leaves of the
+//! journal, are definitions in `specs/`.
 #![tactic(auto)]
 
 mod checkpoint;
@@ -9,8 +11,6 @@ pub mod init_log;
 pub mod issue;
 mod log_command;
 mod requests;
-#[cfg(test)]
-mod tests;
 mod work;
 
 pub use log_command::on_journal;

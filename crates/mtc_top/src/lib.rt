@@ -1,14 +1,13 @@
 //! The one call that does all that the program does: [`run`].
 //!
-//! It reads the words of a command, reads the named files from a room, decides, and writes the outcome. What a
-//! command has to answer is one definition over its words and the room's files (`specs/Outcome.antt`), and the
-//! contract of `run` says that this is what comes out, or that something outside failed.
+//! It reads the words of a command, reads the named files from a room, decides, and writes the
+//! outcome. What a command has to answer is one definition over its words and the room's files
+//! (`specs/Outcome.antt`), and the contract of `run` says that this is what comes out, or that
+//! something outside failed.
 #![tactic(auto)]
 
 mod finish;
 mod refused_words;
-#[cfg(test)]
-mod tests;
 mod top;
 
 pub use mtc_room::{MemRoom, Room, RoomError};

@@ -1,7 +1,8 @@
-//! The words of a command: which command they name, whether they are in their form, and what they say.
+//! The words of a command: which command they name, whether they are in their form, and what they
+//! say.
 //!
-//! All words are positional, and there are no options. Words outside their form are refused, the first fault in
-//! the order of [`WordError`]'s variants.
+//! All words are positional, and there are no options. Words outside their form are refused, the
+//! first fault in the order of [`WordError`]'s variants.
 #![tactic(auto)]
 
 mod building;
@@ -10,8 +11,6 @@ mod error;
 mod name;
 mod number;
 mod reading;
-#[cfg(test)]
-mod tests;
 
 pub use command::Command;
 pub use error::WordError;

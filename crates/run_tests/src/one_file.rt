@@ -1,28 +1,31 @@
-// Words over one file, with streams that fail: what comes of each.
-use super::desk::Desk;
-use super::{bytes_of, owned_words};
+//! Words over one file, with streams that fail: what comes of each.
+use crate::certificates::CERTIFICATE;
+use crate::desk::{Desk, bytes_of, owned_words};
 use mtc_io::{Bytes, MemSink};
 use std::alloc::Global;
 use std::test::Fail;
 
-/// One run: the words, the file `f` in hexadecimal, the calls of its source, of `out` and of `err` that fail, and
-/// how many bytes `out` takes a call; then the status and what `out` and `err` took.
-#[derive(Drop)]
-pub struct Case {
-    pub words: &'static [&'static str],
-    pub file: &'static [&'static str],
-    pub source_fails: &'static [u64],
-    pub out_takes: usize,
-    pub out_fails: &'static [u64],
-    pub err_fails: &'static [u64],
-    pub status: u8,
-    pub out: &'static [u8],
-    pub err: &'static [u8],
+// One run: the words, the file `f` in hexadecimal, of which the bytes behind `cut` go, the calls of
+// its source, of `out` and of `err` that fail, and how many bytes `out` takes a call; then the
+// status and what `out` and `err` took.
+#[derive(Clone, Copy)]
+struct Case {
+    words: &'static [&'static str],
+    file: &'static [&'static str],
+    cut: usize,
+    source_fails: &'static [u64],
+    out_takes: usize,
+    out_fails: &'static [u64],
+    err_fails: &'static [u64],
+    status: u8,
+    out: &'static [u8],
+    err: &'static [u8],
 }
 
-pub const MEMBER: Case = Case {
+const MEMBER: Case = Case {
     words: &["member", "f"],
     file: &FIRST,
+    cut: 1_000_000,
     source_fails: &[],
     out_takes: 100,
     out_fails: &[],
@@ -39,13 +42,21 @@ const KEYGEN: Case = Case {
     ..MEMBER
 };
 
+// A byte more than the certificate, which is cut.
+const SHOW: Case = Case {
+    words: &["show", "f"],
+    file: &[CERTIFICATE, "00"],
+    out: b"",
+    ..MEMBER
+};
+
 // The bytes from 0 to 47.
 const SECRET_BEGINS: &str = "000102030405060708090a0b0c0d0e0f1011121314151617";
 
 const SECRET_ENDS: &str = "18191a1b1c1d1e1f202122232425262728292a2b2c2d2e2f";
 
-// The nodes of a list of eight entries, of which the first is empty and the second is the byte 0: the hash of the
-// first, of the third and the fourth, of the last four, and of all.
+// The nodes of a list of eight entries, of which the first is empty and the second is the byte 0:
+// the hash of the first, of the third and the fourth, of the last four, and of all.
 const NODE_0_1: &str = "6e340b9cffb37a989ca544e6bb780a2c78901d3fb33738768511a30617afa01d";
 
 const NODE_2_4: &str = "5f083f0a1a33ca076a95279832580db3e0ef4584bdff1f54c8a360f50de3031e";
@@ -63,7 +74,7 @@ const FIRST: [&str; 5] = [
     "0000",
 ];
 
-const CASES: [Case; 34] = [
+const CASES: [Case; 40] = [
     MEMBER,
     Case {
         file: &[
@@ -342,28 +353,91 @@ const CASES: [Case; 34] = [
         err: b"mtc: keygen: g: Absent\n",
         ..KEYGEN
     },
+    Case {
+        cut: 230,
+        status: 2,
+        err: b"mtc: show: f: Truncated 0\n",
+        ..SHOW
+    },
+    Case {
+        cut: 232,
+        status: 2,
+        err: b"mtc: show: f: Trailing 231\n",
+        ..SHOW
+    },
+    Case {
+        cut: 231,
+        out_takes: 1,
+        out_fails: &[7],
+        status: 6,
+        out: b"serial ",
+        err: b"mtc: show: OutputFailed\n",
+        ..SHOW
+    },
+    Case {
+        cut: 231,
+        words: &["show", "g"],
+        status: 7,
+        err: b"mtc: show: g: Absent\n",
+        ..SHOW
+    },
+    Case {
+        cut: 231,
+        source_fails: &[0],
+        status: 5,
+        err: b"mtc: show: f: Failed\n",
+        ..SHOW
+    },
+    Case {
+        cut: 231,
+        words: &["show", "a", "b"],
+        status: 1,
+        err: b"mtc: show: WrongCount 2 1\n",
+        ..SHOW
+    },
 ];
 
-pub fn outcome(alloc: Global, case: &Case, file: Vec<u8>) -> Result<(u8, MemSink, MemSink), Fail> {
-    let words = owned_words(alloc, case.words)?;
+fn desk_of(alloc: Global, case: &Case) -> Result<Desk, Fail> {
+    let mut file = bytes_of(alloc, case.file)?;
+    file.truncate(case.cut);
     let mut desk = Desk::new(alloc);
     let failing = Vec::from_slice(alloc, case.source_fails)?;
     desk.place("f", Bytes::from_vec(file), failing)?;
+    Ok(desk)
+}
+
+fn passes(alloc: Global, case: &Case) -> Result<bool, Fail> {
+    let words = owned_words(alloc, case.words)?;
+    let mut desk = desk_of(alloc, case)?;
     let failing = Vec::from_slice(alloc, case.out_fails)?;
     let mut out = MemSink::new(alloc, case.out_takes.max(1), failing);
     let mut err = MemSink::new(alloc, 100, Vec::from_slice(alloc, case.err_fails)?);
     let status = desk.run(alloc, &words, &mut out, &mut err);
-    Ok((status, out, err))
+    Ok(status == case.status && out.taken() == case.out && err.taken() == case.err)
 }
 
 #[test]
-fn answers_words_and_files(rt: HostRuntime) -> Result<(), Fail> {
+fn answers_words_and_a_file(rt: HostRuntime) -> Result<(), Fail> {
     for (i, case) in CASES.iter().enumerate() {
-        let file = bytes_of(rt.alloc(), case.file)?;
-        let (status, out, err) = outcome(rt.alloc(), case, file)?;
-        assert_eq!(rt; status, case.status, "status of case {i}");
-        assert_eq!(rt; out.taken(), case.out, "standard output of case {i}");
-        assert_eq!(rt; err.taken(), case.err, "standard error of case {i}");
+        assert!(rt; passes(rt.alloc(), case)?, "case {i}");
     }
+    Ok(())
+}
+
+fn answer_over_the_limit(alloc: Global) -> Result<bool, Fail> {
+    let mut desk = Desk::new(alloc);
+    let bytes = Bytes::from_vec(vec![in alloc; 0; 16_777_217]?);
+    desk.place("f", bytes, Vec::new(alloc))?;
+    let words = owned_words(alloc, &["member", "f"])?;
+    let mut out = MemSink::new(alloc, 100, Vec::new(alloc));
+    let mut err = MemSink::new(alloc, 100, Vec::new(alloc));
+    let status = desk.run(alloc, &words, &mut out, &mut err);
+    let line = b"mtc: member: f: TooLong\n".as_slice();
+    Ok(status == 9 && out.taken().is_empty() && err.taken() == line)
+}
+
+#[test]
+fn refuses_a_file_over_its_limit(rt: HostRuntime) -> Result<(), Fail> {
+    assert!(rt; answer_over_the_limit(rt.alloc())?);
     Ok(())
 }

@@ -1,0 +1,16 @@
+//! Tests of the program over a room in memory: the words of commands, and what each command answers
+//! to its files and leaves of them.
+#![tactic(auto)]
+
+#[cfg(test)]
+mod certificates;
+#[cfg(test)]
+mod desk;
+#[cfg(test)]
+mod logs;
+#[cfg(test)]
+mod one_file;
+#[cfg(test)]
+mod scripts;
+#[cfg(test)]
+mod words;
