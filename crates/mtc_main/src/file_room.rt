@@ -1,4 +1,5 @@
-ghost use Rattle.std.specs.Prelude.{◌≡◌, ◌≤◌, None, IfErr};
+//! The files of the system as a room.
+ghost use Rattle.std.specs.Prelude.{◌≡◌, ◌≤◌, None};
 ghost use Rattle.mtc_io.specs.Counts.{Rose};
 
 use disk_core::{Disk, FileDisk};

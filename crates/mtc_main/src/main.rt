@@ -1,5 +1,6 @@
-//! The program `mtc`: a certification authority, its cosigners and its relying party for Merkle Tree
-//! Certificates. All that it does is done by [`mtc_top::run`]; here stand the real files and streams.
+//! The program `mtc`: a certification authority, its cosigners and its relying party for Merkle
+//! Tree Certificates. All that it does is done by [`mtc_top::run`]; here stand the real files and
+//! streams.
 #![tactic(auto)]
 
 mod file_room;

@@ -1,3 +1,4 @@
+//! The room of real files, and the program's own statuses.
 use crate::file_room::FileRoom;
 use disk_core::Disk;
 use mtc_io::read_all;
@@ -17,7 +18,7 @@ fn lends_the_files_of_the_system(rt: HostRuntime) -> Result<(), Fail> {
         Ok(mut source) => {
             let bytes = read_all(rt.alloc(), &mut source, 5);
             room.done(source);
-            assert_eq!(rt; bytes?.as_slice(), b"entry".as_slice());
+            assert!(rt; bytes?.as_slice() == b"entry".as_slice());
         }
         Err(why) => assert!(rt; false, "{why}"),
     }
@@ -27,7 +28,7 @@ fn lends_the_files_of_the_system(rt: HostRuntime) -> Result<(), Fail> {
             room.done(source);
             assert!(rt; false, "lent a file that isn't there");
         }
-        Err(why) => assert_eq!(rt; why, RoomError::Absent),
+        Err(why) => assert!(rt; why == RoomError::Absent),
     }
     Ok(())
 }
@@ -43,19 +44,28 @@ fn makes_files_and_opens_them_again(rt: HostRuntime) -> Result<(), Fail> {
     let mut room = FileRoom::new(&rt);
     assert!(rt; matches!(room.disk(name), Err(RoomError::Absent)));
     let mut disk = room.fresh(name).expect(&rt, "a new file");
-    assert_eq!(rt; disk.len(), Ok(0));
-    assert_eq!(rt; disk.write_at(0, b"entry"), Ok(()));
-    assert_eq!(rt; disk.sync(), Ok(()));
+    assert!(rt; disk.len() == Ok(0) && disk.write_at(0, b"entry") == Ok(()) && disk.sync() == Ok(()));
     room.keep(name, disk);
     assert!(rt; matches!(room.fresh(name), Err(RoomError::Exists)));
 
     let mut disk = room.disk(name).expect(&rt, "the file");
-    assert_eq!(rt; disk.len(), Ok(5));
-    assert_eq!(rt; disk.write_at(5, b" 1"), Ok(()));
+    assert!(rt; disk.len() == Ok(5) && disk.write_at(5, b" 1") == Ok(()));
     room.keep(name, disk);
     let bytes = fs::read(&rt, &path)?;
-    assert_eq!(rt; bytes.as_slice(), b"entry 1".as_slice());
+    assert!(rt; bytes.as_slice() == b"entry 1".as_slice());
     fs::remove_file(&rt, &path)?;
     assert!(rt; matches!(room.disk(name), Err(RoomError::Absent)));
+    Ok(())
+}
+
+// The system's error is another one than that of a name that has a file.
+#[test]
+fn a_new_file_in_no_folder_is_a_fault(rt: HostRuntime) -> Result<(), Fail> {
+    let mut path = env::temp_dir(&rt)?;
+    path.push("mtc-no-such-folder")?;
+    path.push("new")?;
+    let name = path.to_str().expect(&rt, "a path in UTF-8");
+    let mut room = FileRoom::new(&rt);
+    assert!(rt; matches!(room.fresh(name), Err(RoomError::Failed)));
     Ok(())
 }
