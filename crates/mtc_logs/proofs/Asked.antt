@@ -1,8 +1,8 @@
 -- The parts of requests, from the leaf hashes of the entries.
-use Rattle.std.proofs.Common.{◌≡◌, ◌-◌, ℕ, ◌<◌, ◌==◌, true, false, List, [], take, sym, ap, subst, ◌∙◌, Result, IfOk, if◌then◌else◌, arith}
+use Rattle.std.proofs.Common.{◌≡◌, ◌-◌, ℕ, ◌<◌, ◌==◌, true, false, List, [], length, take, refl, sym, ap, subst, ◌∙◌, Result, IfOk, if◌then◌else◌, arith}
 use Rattle.std.specs.Prelude.{map, Bool}
 use Rattle.std.proofs.Math.Nat.{zero-mod}
-use Rattle.std.proofs.lemmas.List.{take-map}
+use Rattle.std.proofs.lemmas.List.{take_all, take-map}
 use Rattle.cosigner_core.specs.Requests.{AdvanceParts, SubtreeParts, advance_text, subtree_text}
 use Rattle.issuance_log.proofs.Leaves.{part_root}
 use Rattle.issuance_log.specs.Folds.{LogState}
@@ -23,6 +23,13 @@ first_subtree n some = is_subtree-from 0 n (record { inhabited = some; aligned =
 module _ (h : List ℕ → List ℕ) (entries : List (List ℕ)) where
   hash_is : (start end : ℕ) (node : List ℕ) → node ≡ root_of h (part_of (map (leaf_hash h) entries) start end) → node ≡ tree_hash h (part_of entries start end)
   hash_is start end node is = is ∙ sym (part_root h entries start end)
+
+  -- all entries
+  pub all_entries : (size : ℕ) (node : List ℕ) → size ≡ length entries
+      → node ≡ root_of h (part_of (map (leaf_hash h) entries) 0 size) → node ≡ tree_hash h entries
+  all_entries size node all is =
+      let most : size - 0 ≡ length entries = omega (arith, all) in
+      hash_is 0 size node is ∙ ap (λ n. tree_hash h (take n entries)) most ∙ ap (tree_hash h) (take_all (length entries) entries (omega arith))
 
   proof_is : (start end size : ℕ) (proof : List (List ℕ)) → proof ≡ proof_of h start end true (take size (map (leaf_hash h) entries)) → proof ≡ proof_at h entries start end size
   proof_is start end size proof is = is ∙ ap (proof_of h start end true) (take-map (leaf_hash h) size entries)

@@ -6,7 +6,7 @@ use Rattle.mtc_logs.specs.IssueOutcome.{with_request}
 use Rattle.mtc_logs.specs.Works.{journal_outcome}
 use Rattle.mtc_logs.specs.declared.work.Work.TheVariants.{Issue}
 
--- the request is read, and then its entry is added
+-- The request is read, and then its entry is added.
 unfoldable pub request_says : (List ℕ → List ℕ) → List ℕ → List ℕ → Option (List ℕ) → List ℕ → Outcome
 request_says h journal request file bytes =
     with_request (codes "issue") request (request_of bytes) (λ r. journal_outcome h (codes "issue") journal file (Issue r))

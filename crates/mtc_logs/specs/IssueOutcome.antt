@@ -1,7 +1,7 @@
 -- The outcome of `issue J REQUEST`.
 use Rattle.std.specs.Prelude.{ℕ, ◌+◌, false, List, ◌++◌, length, codes, Option, Some, None, Result, Ok, Err}
 use Rattle.std.specs.Fmt.{decimal}
-use Rattle.journal_core.specs.Format.{behind}
+use Rattle.journal_core.specs.Format.{end_behind}
 use Rattle.journal_core.specs.declared.error.AppendError.TheVariants as append_error
 use Rattle.issuance_log.specs.Openings.{FoundLog}
 use Rattle.issuance_log.specs.Records.{entry_record}
@@ -25,7 +25,7 @@ field_text Dns = codes "Dns"
 field_text CommonName = codes "CommonName"
 field_text PublicKey = codes "PublicKey"
 
--- why a file is no request
+-- Why a file is no request.
 abbrev pub request_fault_text : RequestError → List ℕ
 request_fault_text NotToml = codes "NotToml"
 request_fault_text UnknownKey = codes "UnknownKey"
@@ -35,12 +35,12 @@ request_fault_text DatesReversed = codes "DatesReversed"
 request_fault_text NoNames = codes "NoNames"
 request_fault_text Memory = codes "Memory"
 
--- a file is read as a request, and then comes the rest of the command
+-- A file is read as a request, and then comes the rest of the command.
 abbrev pub with_request : List ℕ → List ℕ → Result Request RequestError → (Request → Outcome) → Outcome
 with_request command file (Ok request) next = next request
 with_request command file (Err why) next = stops BadForm (file_line command file (request_fault_text why))
 
--- why a log takes no entry more
+-- Why a log takes no entry more.
 abbrev pub log_fault_text : LogError → List ℕ
 log_fault_text log_error.Full = codes "Full"
 log_fault_text log_error.TooLarge = codes "TooLarge"
@@ -53,14 +53,14 @@ log_fault_text log_error.Memory = codes "Memory"
 abbrev pub issued_text : ℕ → List ℕ
 issued_text index = codes "issued " ++ (decimal index ++ codes "\n")
 
--- an entry with its key is added, unless the log refuses it
+-- An entry with its key is added, unless the log refuses it.
 abbrev pub issued : FoundLog → List ℕ → List ℕ → Option LogError → Outcome
 issued found entry key None = appends found.records (entry_record entry key) (issued_text (length found.state.entries))
 issued found entry key (Some why) = stops_on found.records Beyond (command_line (codes "issue") (log_fault_text why))
 
 abbrev pub item_says : List ℕ → List ℕ → FoundLog → Outcome
-item_says entry key found = issued found entry key (add_refusal found.state false (behind 16 found.records + 1) entry key)
+item_says entry key found = issued found entry key (add_refusal found.state false (end_behind found.records) entry key)
 
--- the entry of a request, with the log's name
+-- The entry of a request, with the log's name.
 abbrev pub issue_says : (List ℕ → List ℕ) → Request → FoundLog → Outcome
 issue_says h r found = item_says (entry_for h found.state.settings.id r) r.key found

@@ -44,7 +44,7 @@ items_text [] keys = []
 items_text (entry ∷ entries) [] = []
 items_text (entry ∷ entries) (key ∷ keys) = vector w16 entry ++ (vector w16 key ++ items_text entries keys)
 
--- the asked size is above that of the log
+-- The asked size is above that of the log.
 abbrev pub beyond : List ℕ → ℕ → Answer
 beyond command size = Stops Refused (command_line command (codes "Beyond " ++ decimal size))
 

@@ -11,7 +11,7 @@ use Rattle.mtc_answers.specs.declared.input.NoInput.TheVariants.{Absent}
 use Rattle.mtc_answers.specs.Lines.{file_line}
 use Rattle.mtc_answers.specs.Steps.{Outcome, stops, no_input_says}
 
--- why a file is no log
+-- Why a file is no log.
 abbrev pub open_fault_text : LogOpenError → List ℕ
 open_fault_text (BadRecord number) = codes "BadRecord " ++ decimal number
 open_fault_text (Open open_error.NotJournal) = codes "NotJournal"
@@ -23,7 +23,7 @@ open_fault_text (Open open_error.Memory) = codes "Memory"
 abbrev pub no_log_says : List ℕ → List ℕ → LogOpenError → Outcome
 no_log_says command file why = stops BadForm (file_line command file (open_fault_text why))
 
--- a log was found, with its records
+-- A log was found, with its records.
 abbrev pub found_log : List (List ℕ) → LogState → FoundLog
 found_log list state = record { records = list; state = state }
 
@@ -31,7 +31,7 @@ abbrev pub on_log : List ℕ → List ℕ → Result FoundLog LogOpenError → (
 on_log command file (Ok found) next = next found
 on_log command file (Err why) next = no_log_says command file why
 
--- a journal is opened as a log, and then comes the rest of the command
+-- A journal is opened as a log, and then comes the rest of the command.
 abbrev pub with_log : (List ℕ → List ℕ) → List ℕ → List ℕ → Option (List ℕ) → (FoundLog → Outcome) → Outcome
 with_log h command file None next = no_input_says command file Absent
 with_log h command file (Some bytes) next = on_log command file (log_read h bytes) next

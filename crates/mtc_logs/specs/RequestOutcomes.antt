@@ -15,16 +15,16 @@ use Rattle.mtc_answers.specs.Lines.{command_line}
 use Rattle.mtc_logs.specs.LogOutcomes.{beyond}
 use Rattle.mtc_answers.specs.Steps.{Outcome, answers_on}
 
--- the state of the log doesn't allow the request
+-- The state of the log doesn't allow the request.
 abbrev pub refuses : List ℕ → List ℕ → Answer
 refuses command refusal = Stops Refused (command_line command refusal)
 
--- the consistency proof of the subtree [start, end) in the first size entries
+-- The consistency proof of the subtree [start, end) in the first size entries.
 abbrev pub proof_at : (List ℕ → List ℕ) → List (List ℕ) → ℕ → ℕ → ℕ → List (List ℕ)
 proof_at h entries start end size = proof_of h start end true (map (leaf_hash h) (take size entries))
 
--- The first new entries: the id of the log, their number, their tree hash, and the proof that the first old ones are
--- among them. Of no old ones there is nothing to prove.
+-- The first new entries: the id of the log, their number, their tree hash, and the proof that the
+-- first old ones are among them. Of no old ones there is nothing to prove.
 
 abbrev pub growth_at : (List ℕ → List ℕ) → List (List ℕ) → ℕ → ℕ → List (List ℕ)
 growth_at h entries old new = if old == 0 then [] else proof_at h entries 0 old new
@@ -37,7 +37,7 @@ advance_of h s old new = record {
   proof = growth_at h s.entries old new;
 }
 
--- there must be more of them than old ones, and the log must have them
+-- There must be more of them than old ones, and the log must have them.
 abbrev pub consist_answer : (List ℕ → List ℕ) → ℕ → ℕ → LogState → Answer
 consist_answer h old new s =
     if nat_le new old then refuses (codes "consist") (codes "NothingNew")
@@ -47,8 +47,8 @@ consist_answer h old new s =
 abbrev pub consist_says : (List ℕ → List ℕ) → ℕ → ℕ → FoundLog → Outcome
 consist_says h old new found = answers_on found.records (consist_answer h old new found.state)
 
--- A subtree: the id of the log, the interval, the tree hash of its entries, and its consistency proof in the first size
--- entries.
+-- A subtree: the id of the log, the interval, the tree hash of its entries, and its consistency
+-- proof in the first size entries.
 
 abbrev pub subtree_of : (List ℕ → List ℕ) → LogState → ℕ → ℕ → ℕ → SubtreeParts
 subtree_of h s start end size = record {
@@ -59,7 +59,8 @@ subtree_of h s start end size = record {
   proof = proof_at h s.entries start end size;
 }
 
--- the interval must be a subtree, the log must have so many entries, and the subtree must lie among them
+-- The interval must be a subtree, the log must have so many entries, and the subtree must lie among
+-- them.
 abbrev pub subtree_answer : (List ℕ → List ℕ) → ℕ → ℕ → ℕ → LogState → Answer
 subtree_answer h start end size s =
     if not (is_subtree start end) then refuses (codes "subtree") (codes "BadSubtree")

@@ -1,18 +1,15 @@
-// The commands `checkpoint` and `entries`: what a log holds.
-ghost use Rattle.std.specs.Prelude.{◌≡◌, ◌≢◌, ◌≤◌, ◌+◌, ◌++◌, false, length, codes, IfOk, IfErr, IfSome, IsOk, OnOk};
+//! The commands `checkpoint` and `entries`: what a log holds.
+ghost use Rattle.std.specs.Prelude.{◌≡◌, ◌++◌, length, codes, IfOk, OnOk};
 ghost use Rattle.std.specs.Fmt.{decimal};
 ghost use Rattle.std.specs.Int.{w16};
-ghost use Rattle.mtc_io.specs.Counts.{Rose};
-ghost use Rattle.journal_core.specs.Format.{behind};
-ghost use Rattle.issuance_log.specs.Words.{log_disk, log_records, log_end, log_broken, state_of};
-ghost use Rattle.mtc_answers.specs.Answers.{status_of};
-ghost use Rattle.mtc_logs.specs.LogSteps.{found_log};
-ghost use Rattle.mtc_answers.specs.Made.{IsOpen, Adds};
-ghost use Rattle.mtc_logs.specs.Works.{FallenOnly, HasFallen, HasWorked, IsReady};
+ghost use Rattle.issuance_log.specs.Words.{state_of};
+ghost use Rattle.mtc_logs.specs.Works.{HasWorked, IsReady};
 ghost use Rattle.tls_wire.specs.Spelling.{vector};
+ghost use Rattle.tree_core.specs.Tree.{tree_hash};
 ghost use Rattle.mtc_answers.specs.Lines.{command_line};
 ghost use Rattle.mtc_logs.specs.LogOutcomes.{checkpoint_text, checkpoint_says, items_text, entries_answer, entries_says};
 
+use crate::requests::hash_of;
 use crate::work::Fallen;
 use disk_core::Disk;
 use issuance_log::Log;
@@ -21,11 +18,26 @@ use mtc_io::{Bytes, Memory};
 use std::alloc::Global;
 use tree_core::TreeHash;
 
-// The size, and the tree hash in hexadecimal.
-fn checkpoint_answer<H: TreeHash, D: Disk>(alloc: Global, log: &Log<H, D>) -> Result<Answer, Memory>
-    ensures { IfOk result (λ answer. answer ≡ Answer.Says Said.Done (checkpoint_text H.hash (state_of log.now).entries)) }
+// The tree hash of all entries (RFC 9162, section 2.1.1).
+fn root_of<H: TreeHash, D: Disk>(log: &mut Log<H, D>) -> [u8; 32]
+    ensures hash { result ≡ tree_hash H.hash (state_of log.old).entries }
+    ensures same { log.new ≡ log.old }
 {
-    let hash = hex::encode(alloc, &log.root())?;
+    let size = log.size();
+    hash_of(log, 0, size)
+}
+
+// The size, and the tree hash in hexadecimal.
+fn checkpoint_answer<H: TreeHash, D: Disk>(
+    alloc: Global,
+    log: &mut Log<H, D>,
+) -> Result<Answer, Memory>
+    ensures answer { IfOk result (λ answer. answer
+        ≡ Answer.Says Said.Done (checkpoint_text H.hash (state_of log.old).entries)) }
+    ensures same { log.new ≡ log.old }
+{
+    let root = root_of(log);
+    let hash = hex::encode(alloc, &root)?;
     let text = format!(in alloc; "size {}\nroot {hash}\n", log.size())?;
     Ok(Answer::Says {
         status: Said::Done,
@@ -36,12 +48,12 @@ fn checkpoint_answer<H: TreeHash, D: Disk>(alloc: Global, log: &Log<H, D>) -> Re
 /// The work of `checkpoint J`.
 pub fn checkpoint<H: TreeHash, D: Disk>(
     alloc: Global,
-    log: Log<H, D>,
+    mut log: Log<H, D>,
 ) -> (D, Result<Answer, Fallen>)
     requires { IsReady log }
     ensures { HasWorked (checkpoint_says H.hash) log result }
 {
-    match checkpoint_answer(alloc, &log) {
+    match checkpoint_answer(alloc, &mut log) {
         Ok(answer) => (log.into_disk(), Ok(answer)),
         Err(Memory) => (log.into_disk(), Err(Fallen::Memory)),
     }

@@ -1,16 +1,13 @@
-// The command `init-log`: a new log.
-ghost use Rattle.std.specs.Prelude.{◌≡◌, ◌≢◌, ◌≤◌, ◌<◌, ◌^◌, ℕ, List, [], ◌∷◌, true, IfOk, IfErr, IsOk, IsErrOf, Some, codes};
+//! The command `init-log`: a new log.
+ghost use Rattle.std.specs.Prelude.{◌≡◌, ◌≢◌, ◌≤◌, ◌<◌, ◌^◌, ℕ, List, [], ◌∷◌, true, IfOk, IsOk, IsErrOf, Some, codes};
 ghost use Rattle.mtc_io.specs.Counts.{Rose};
 ghost use Rattle.mtc_words.specs.Commands.{is_active, is_limit};
 ghost use Rattle.journal_core.specs.Format.{StandsFor};
 ghost use Rattle.issuance_log.specs.Records.{settings_record};
-ghost use Rattle.mtc_answers.specs.Answers.{status_of, IsEarly};
 ghost use Rattle.mtc_answers.specs.Lines.{file_line};
 ghost use Rattle.mtc_logs.specs.LogOutcomes.{log_line, init_log_outcome};
-ghost use Rattle.mtc_answers.specs.Made.{Kept, MadeOf, untouched};
+ghost use Rattle.mtc_answers.specs.Made.{Kept};
 ghost use Rattle.mtc_answers.specs.Served.{HasServed};
-ghost use Rattle.mtc_answers.specs.Settled.{SettledBut, FailedOnly, LeftOf};
-ghost use Rattle.mtc_answers.specs.Steps.{with_fresh};
 
 use disk_core::Disk;
 use issuance_log::{LogSettings, create};

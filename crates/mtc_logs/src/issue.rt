@@ -1,20 +1,13 @@
-// The command `issue`: the entry of a request is added to a log.
-ghost use Rattle.std.specs.Prelude.{◌≡◌, ◌≢◌, ◌≤◌, ◌<◌, ◌^◌, ◌+◌, true, false, length, codes, string_bytes, IfOk, IfErr, IfSome, IsOk};
-ghost use Rattle.mtc_io.specs.Counts.{Rose};
-ghost use Rattle.authority_core.specs.Issuing.{entry_for};
+//! The command `issue`: the entry of a request is added to a log.
+ghost use Rattle.std.specs.Prelude.{◌≡◌, ◌<◌, ◌^◌, true, length, codes, string_bytes, IfOk, IfErr};
 ghost use Rattle.authority_core.specs.Requests.{CanBeIssued};
-ghost use Rattle.journal_core.specs.Format.{behind};
 ghost use Rattle.log_entry.specs.Matching.{matches};
-ghost use Rattle.issuance_log.specs.Words.{log_disk, log_records, log_end, log_broken, state_of};
-ghost use Rattle.mtc_answers.specs.Answers.{status_of, IsEarly};
+ghost use Rattle.issuance_log.specs.Words.{state_of};
 ghost use Rattle.mtc_logs.specs.IssueOutcome.{field_text, request_fault_text, issued_text, item_says, issue_says};
 ghost use Rattle.mtc_answers.specs.Lines.{command_line, file_line};
-ghost use Rattle.mtc_logs.specs.LogSteps.{found_log};
-ghost use Rattle.mtc_answers.specs.Made.{IsOpen, Adds, MadeOf, untouched};
 ghost use Rattle.mtc_logs.specs.IssueCommand.{issue_outcome, request_says};
 ghost use Rattle.mtc_answers.specs.Served.{HasServed};
-ghost use Rattle.mtc_answers.specs.Settled.{SettledBut, FailedOnly, LeftOf};
-ghost use Rattle.mtc_logs.specs.Works.{FallenOnly, HasFallen, HasWorked, IsReady};
+ghost use Rattle.mtc_logs.specs.Works.{HasWorked, IsReady};
 
 use crate::log_command::on_journal;
 use crate::work::{Fallen, Work};

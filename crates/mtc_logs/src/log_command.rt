@@ -1,12 +1,12 @@
-// The commands on a log that has a journal: the journal is lent, opened, worked on and put back.
+//! The commands on a log that has a journal: the journal is lent, opened, worked on and put back.
 ghost use Rattle.std.specs.Prelude.{◌≡◌, ◌≢◌, ◌≤◌, ◌<◌, ◌^◌, IfOk, IfErr, IfSome, IsOk, string_bytes};
 ghost use Rattle.mtc_io.specs.Counts.{Rose};
 ghost use Rattle.issuance_log.specs.Openings.{log_read};
 ghost use Rattle.mtc_answers.specs.Answers.{status_of, IsEarly};
 ghost use Rattle.mtc_logs.specs.LogSteps.{open_fault_text, on_log};
-ghost use Rattle.mtc_answers.specs.Made.{HasMade, MadeOf, untouched};
+ghost use Rattle.mtc_answers.specs.Made.{HasMade, untouched};
 ghost use Rattle.mtc_answers.specs.Served.{HasServed};
-ghost use Rattle.mtc_answers.specs.Settled.{SettledBut, FailedOnly, LeftBy, LeftOf};
+ghost use Rattle.mtc_answers.specs.Settled.{FailedOnly, LeftBy};
 ghost use Rattle.mtc_logs.specs.Works.{Refuses, Names, CanBeDone, work_says, journal_outcome};
 
 use crate::work::{Fallen, Work, carry_out};
@@ -32,7 +32,8 @@ fn open_fault(alloc: Global, why: LogOpenError) -> Result<String, AllocError>
     }
 }
 
-// The answer where a journal isn't opened as a log. A fault of the device and want of memory have no answer.
+// The answer where a journal isn't opened as a log. A fault of the device and want of memory have
+// no answer.
 fn refuse_log<'a>(
     alloc: Global,
     command: &str,

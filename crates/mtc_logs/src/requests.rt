@@ -1,18 +1,13 @@
-// The commands `consist` and `subtree`: requests to a cosigner of a log.
-ghost use Rattle.std.specs.Prelude.{◌≡◌, ◌≢◌, ◌<◌, ◌≤◌, ◌+◌, ◌==◌, [], true, false, length, map, take, if◌then◌else◌, IfOk, IfErr, IfSome, IsOk};
-ghost use Rattle.mtc_io.specs.Counts.{Rose};
+//! The commands `consist` and `subtree`: requests to a cosigner of a log.
+ghost use Rattle.std.specs.Prelude.{◌≡◌, ◌<◌, ◌≤◌, ◌==◌, [], true, length, map, take, if◌then◌else◌, IfOk};
 ghost use Rattle.cosigner_core.specs.Requests.{advance_text, subtree_text};
-ghost use Rattle.journal_core.specs.Format.{behind};
-ghost use Rattle.issuance_log.specs.Words.{log_disk, log_records, log_end, log_broken, state_of};
+ghost use Rattle.issuance_log.specs.Words.{state_of};
 ghost use Rattle.tree_core.specs.Path.{part_of};
 ghost use Rattle.tree_core.specs.Subtree.{is_subtree};
 ghost use Rattle.tree_core.specs.Tree.{leaf_hash, root_of};
 ghost use Rattle.tree_proofs.specs.Proof.{proof_of};
-ghost use Rattle.mtc_answers.specs.Answers.{status_of};
-ghost use Rattle.mtc_logs.specs.LogSteps.{found_log};
-ghost use Rattle.mtc_answers.specs.Made.{IsOpen, Adds};
 ghost use Rattle.mtc_logs.specs.RequestOutcomes.{refuses, advance_of, consist_answer, consist_says, subtree_of, subtree_answer, subtree_says};
-ghost use Rattle.mtc_logs.specs.Works.{FallenOnly, HasFallen, HasWorked, IsReady};
+ghost use Rattle.mtc_logs.specs.Works.{HasWorked, IsReady};
 
 use crate::checkpoint::beyond;
 use crate::work::Fallen;
@@ -36,7 +31,7 @@ fn refuse(alloc: Global, command: &str, refusal: &str) -> Result<Answer, Memory>
 }
 
 // The hash of the subtree `[start, end)` of the entries.
-fn hash_of<H: TreeHash, D: Disk>(log: &mut Log<H, D>, start: u64, end: u64) -> [u8; 32]
+pub(crate) fn hash_of<H: TreeHash, D: Disk>(log: &mut Log<H, D>, start: u64, end: u64) -> [u8; 32]
     requires valid { is_subtree start end ≡ true }
     requires within { end ≤ length (state_of log.old).entries }
     ensures hash { result ≡ root_of H.hash (part_of (map (leaf_hash H.hash) (state_of log.old).entries) start end) }
@@ -63,7 +58,8 @@ fn proof_of<H: TreeHash, D: Disk>(log: &mut Log<H, D>, start: u64, end: u64, siz
     }
 }
 
-// The proof that the first `old` entries are among the first `new` ones. Of none there is nothing to prove.
+// The proof that the first `old` entries are among the first `new` ones. Of none there is nothing
+// to prove.
 fn growth_of<H: TreeHash, D: Disk>(log: &mut Log<H, D>, old: u64, new: u64) -> Path
     requires more { old < new }
     requires within { new ≤ length (state_of log.old).entries }
@@ -120,14 +116,13 @@ fn consist_answer<H: TreeHash, D: Disk>(
 /// The work of `consist J OLD NEW`.
 pub fn ask_advance<H: TreeHash, D: Disk>(
     alloc: Global,
-    log: Log<H, D>,
+    mut log: Log<H, D>,
     old: u64,
     new: u64,
 ) -> (D, Result<Answer, Fallen>)
     requires { IsReady log }
     ensures { HasWorked (consist_says H.hash old new) log result }
 {
-    let mut log = log;
     match consist_answer(alloc, &mut log, old, new) {
         Ok(answer) => (log.into_disk(), Ok(answer)),
         Err(Memory) => (log.into_disk(), Err(Fallen::Memory)),
@@ -182,7 +177,7 @@ fn subtree_answer<H: TreeHash, D: Disk>(
 /// The work of `subtree J START END SIZE`.
 pub fn ask_subtree<H: TreeHash, D: Disk>(
     alloc: Global,
-    log: Log<H, D>,
+    mut log: Log<H, D>,
     start: u64,
     end: u64,
     size: u64,
@@ -190,7 +185,6 @@ pub fn ask_subtree<H: TreeHash, D: Disk>(
     requires { IsReady log }
     ensures { HasWorked (subtree_says H.hash start end size) log result }
 {
-    let mut log = log;
     match subtree_answer(alloc, &mut log, start, end, size) {
         Ok(answer) => (log.into_disk(), Ok(answer)),
         Err(Memory) => (log.into_disk(), Err(Fallen::Memory)),

@@ -1,13 +1,7 @@
-// The work of a command on a log whose journal is open: its own refusals, its text, and at most one append, which is its
-// last step.
-ghost use Rattle.std.specs.Prelude.{◌≡◌, ◌≢◌, ◌≤◌, ◌+◌, false, IfOk, IfErr, IfSome, IsOk};
-ghost use Rattle.mtc_io.specs.Counts.{Rose};
-ghost use Rattle.journal_core.specs.Format.{behind};
-ghost use Rattle.issuance_log.specs.Words.{log_disk, log_records, log_end, log_broken, state_of};
-ghost use Rattle.mtc_answers.specs.Answers.{status_of};
-ghost use Rattle.mtc_logs.specs.LogSteps.{found_log};
-ghost use Rattle.mtc_answers.specs.Made.{IsOpen, Adds};
-ghost use Rattle.mtc_logs.specs.Works.{CanBeDone, FallenOnly, HasFallen, HasWorked, IsReady, work_says};
+//! The work of a command on a log whose journal is open: its own refusals, its text, and at most
+//! one append, which is its last step.
+ghost use Rattle.std.specs.Prelude.{◌≡◌};
+ghost use Rattle.mtc_logs.specs.Works.{CanBeDone, HasWorked, IsReady, work_says};
 
 use crate::checkpoint::{checkpoint, entries};
 use crate::issue::issue_on;
@@ -50,7 +44,8 @@ pub enum Work {
     Issue(Request),
     /// The request to hold the first `.1` entries, of a cosigner that holds the first `.0`.
     Consist(u64, u64),
-    /// The request to sign the subtree from the first number up to the second one, of so many of the first entries.
+    /// The request to sign the subtree from the first number up to the second one, of so many of
+    /// the first entries.
     Subtree(u64, u64, u64),
 }
 
