@@ -18,21 +18,21 @@ stopped_code Refused = 4
 stopped_code Missing = 7
 stopped_code Beyond = 9
 
--- the status
+-- The status.
 abbrev pub status_of : Answer → ℕ
 status_of (Says status text) = said_code status
 status_of (Stops why line) = stopped_code why
 
--- what goes to standard output
+-- What goes to standard output.
 abbrev pub out_of : Answer → List ℕ
 out_of (Says status text) = text
 out_of (Stops why line) = []
 
--- what goes to standard error
+-- What goes to standard error.
 abbrev pub err_of : Answer → List ℕ
 err_of (Says status text) = []
 err_of (Stops why line) = line
 
--- the statuses of a command that may not have opened its journal
+-- The statuses of a command that may not have opened its journal.
 abbrev pub IsEarly : ℕ → Type 0
 IsEarly status = (status ≡ 1) ⊎ ((status ≡ 2) ⊎ ((status ≡ 5) ⊎ ((status ≡ 7) ⊎ ((status ≡ 8) ⊎ (status ≡ 9)))))

@@ -1,23 +1,24 @@
--- What a command leaves of its journal: the images that a crash may leave of it now, and since the call began.
+-- What a command leaves of its journal: the images that a crash may leave of it now, and since the
+-- call began.
 use Rattle.std.specs.Prelude.{◌≡◌, ◌⊎◌, ℕ, List, [], ◌∷◌, ◌++◌, Option, None, Some}
 use Rattle.disk_core.specs.Moments.{LeavesOnly}
 use Rattle.disk_core.specs.declared.disk.Disk.{Ghosts}
 use Rattle.journal_core.specs.Format.{StandsFor, StandsForEither}
 use Rattle.journal_core.specs.Words.{AllStandFor}
 
--- what a command does with its journal
+-- What a command does with its journal.
 pub data Journaled : Type 0 where
-  -- it isn't opened
+  -- It isn't opened.
   untouched : Journaled
-  -- it is opened, these records are found, and no record is added
+  -- It is opened, these records are found, and no record is added.
   reads : List (List ℕ) → Journaled
-  -- these records are found, and one is added
+  -- These records are found, and one is added.
   appended : List (List ℕ) → List ℕ → Journaled
-  -- it is a new journal with this first record
+  -- It is a new journal with this first record.
   started : List ℕ → Journaled
 
--- A name's device: its images, its moment and the images since a moment. A file that isn't there is like an empty one at
--- moment 0.
+-- A name's device: its images, its moment and the images since a moment. A file that isn't there is
+-- like an empty one at moment 0.
 module _ {D : Type 0} (g : Ghosts D) where
   abbrev pub images_of : Option D → List ℕ → Type 0
   images_of None c = c ≡ []
@@ -31,43 +32,43 @@ module _ {D : Type 0} (g : Ghosts D) where
   left_of None t c = c ≡ []
   left_of (Some d) t c = g.left_since d t c
 
--- nothing new is left: each image, now and since the call began, is one from before
+-- Nothing new is left: each image, now and since the call began, is one from before.
 pub record Kept (before now since : List ℕ → Type 0) : Type 0 where
   pub now_is : (c : List ℕ) → now c → before c
   pub since_is : (c : List ℕ) → since c → before c
 
--- what was read is an image from before, and stands for these records
+-- What was read is an image from before, and stands for these records.
 pub record WasRead (before : List ℕ → Type 0) (list : List (List ℕ)) : Type 0 where
   pub bytes : List ℕ
   pub image : before bytes
   pub stands : StandsFor bytes list
 
--- the records that were read are on the disk, and nothing else
+-- The records that were read are on the disk, and nothing else.
 pub record HasRead (list : List (List ℕ)) (before now since : List ℕ → Type 0) : Type 0 where
   pub read : WasRead before list
   pub now_is : (c : List ℕ) → now c → StandsFor c list
   pub since_is : (c : List ℕ) → since c → before c
 
--- each image now has the new record
+-- Each image now has the new record.
 pub record HasAdded (list : List (List ℕ)) (body : List ℕ) (before now since : List ℕ → Type 0) : Type 0 where
   pub read : WasRead before list
   pub now_is : (c : List ℕ) → now c → StandsFor c (list ++ body ∷ [])
   pub since_is : (c : List ℕ) → since c → before c ⊎ StandsForEither list body c
 
--- each image now has the records that were read, or these and the new one
+-- Each image now has the records that were read, or these and the new one.
 pub record MayHaveAdded (list : List (List ℕ)) (body : List ℕ) (before now since : List ℕ → Type 0) : Type 0 where
   pub read : WasRead before list
   pub now_is : (c : List ℕ) → now c → StandsForEither list body c
   pub since_is : (c : List ℕ) → since c → before c ⊎ StandsForEither list body c
 
--- what a command has left of its journal that ends without a fault of the room or want of memory
+-- What a command has left of its journal that ends without a fault of the room or want of memory.
 abbrev pub HasMade : Journaled → (List ℕ → Type 0) → (List ℕ → Type 0) → (List ℕ → Type 0) → Type 0
 HasMade untouched before now since = Kept before now since
 HasMade (reads list) before now since = HasRead list before now since
 HasMade (appended list body) before now since = HasAdded list body before now since
 HasMade (started body) before now since = (c : List ℕ) → now c → StandsFor c (body ∷ [])
 
--- and one that a fault of the room has ended
+-- And one that a fault of the room has ended.
 abbrev pub MayHaveMade : Journaled → (List ℕ → Type 0) → (List ℕ → Type 0) → (List ℕ → Type 0) → Type 0
 MayHaveMade untouched before now since = Kept before now since
 MayHaveMade (reads list) before now since = Kept before now since
@@ -76,7 +77,7 @@ MayHaveMade (started body) before now since = Unit {0}
 
 -- The same over a device as it was opened and as it is afterwards.
 module _ {D : Type 0} (g : Ghosts D) where
-  -- it was opened and stands for these records
+  -- It was opened and stands for these records.
   pub record IsOpen (mid : D) (list : List (List ℕ)) : Type 0 where
     pub bytes : List ℕ
     pub told : g.told mid ≡ Some bytes

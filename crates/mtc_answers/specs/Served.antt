@@ -10,9 +10,9 @@ use Rattle.mtc_answers.specs.Steps.{Outcome}
 use Rattle.mtc_answers.specs.declared.answer.Answer.{Answer}
 use Rattle.mtc_answers.specs.declared.answer.Stop.{Stop}
 
--- A command that only reads files and has to give that outcome left the room so, and ended so. All that was lent is given
--- back, and each file stays. Without a fault of the room or want of memory it gave the outcome's answer, where the room tells
--- its files.
+-- A command that only reads files and has to give that outcome left the room so, and ended so. All
+-- that was lent is given back, and each file stays. Without a fault of the room or want of memory
+-- it gave the outcome's answer, where the room tells its files.
 pub record HasAnswered {R S D : Type 0} (rooms : Rooms R S D) (wanted : Outcome) (old new : R) (result : Result Answer Stop) : Type 0 where
   pub settled : Settled (rooms.lent old) (rooms.lent new) (rooms.faults old) (rooms.faults new)
       (rooms.file old) (rooms.file new) (rooms.device old) (rooms.device new)
@@ -22,9 +22,10 @@ pub record HasAnswered {R S D : Type 0} (rooms : Rooms R S D) (wanted : Outcome)
   pub fault : IfErr result (FailedOnly (Rose (rooms.faults old) (rooms.faults new)))
 
 module _ {R S D : Type 0} (rooms : Rooms R S D) (disks : Disks D) where
-  -- A command on the journal of this name that has to give that outcome left the room so, and ended so. All that was lent
-  -- is given back, and each other file stays. Without a fault of the room or want of memory it gave the outcome's answer, and
-  -- did with the journal what the outcome says, where the room tells its files.
+  -- A command on the journal of this name that has to give that outcome left the room so, and ended
+  -- so. All that was lent is given back, and each other file stays. Without a fault of the room or
+  -- want of memory it gave the outcome's answer, and did with the journal what the outcome says,
+  -- where the room tells its files.
   pub record HasServed (name : List ℕ) (wanted : Outcome) (old new : R) (result : Result Answer Stop) : Type 0 where
     pub settled : SettledBut (rooms.lent old) (rooms.lent new) (rooms.faults old) (rooms.faults new)
         (rooms.file old) (rooms.file new) (rooms.device old) (rooms.device new) (λ other. other ≡ name)
@@ -34,5 +35,5 @@ module _ {R S D : Type 0} (rooms : Rooms R S D) (disks : Disks D) where
     pub fault : IfErr result (FailedOnly (Rose (rooms.faults old) (rooms.faults new)))
     pub made : IsOk result → rooms.tells old → MadeOf disks wanted.journal (rooms.device old name) (rooms.device new name)
     pub left : IfErr result (λ stop. rooms.tells old → LeftOf disks stop wanted.journal (rooms.device old name) (rooms.device new name))
-    -- an answer to which no journal belongs has one of the statuses that come before
+    -- An answer to which no journal belongs has one of the statuses that come before.
     pub early : IfOk result (λ answer. rooms.tells old → wanted.journal ≡ untouched → IsEarly (status_of answer))

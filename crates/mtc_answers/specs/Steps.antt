@@ -11,24 +11,24 @@ use Rattle.mtc_answers.specs.declared.input.NoInput.TheVariants.{Absent, TooLong
 use Rattle.mtc_answers.specs.Lines.{file_line}
 use Rattle.mtc_answers.specs.Made.{Journaled, untouched, reads, appended, started}
 
--- what a command answers, and what it does with its journal
+-- What a command answers, and what it does with its journal.
 pub record Outcome : Type 0 where
   pub answer : Answer
   pub journal : Journaled
 
--- the bytes of each name's file, or none where there is no such file
+-- The bytes of each name's file, or none where there is no such file.
 abbrev pub Files : Type 0
 Files = List ℕ → Option (List ℕ)
 
--- the command did its work or judged, and this goes to standard output
+-- The command did its work or judged, and this goes to standard output.
 abbrev pub says : Said → List ℕ → Outcome
 says status text = record { answer = Says status text; journal = untouched }
 
--- the command is refused, and this line goes to standard error
+-- The command is refused, and this line goes to standard error.
 abbrev pub stops : Stopped → List ℕ → Outcome
 stops why line = record { answer = Stops why line; journal = untouched }
 
--- the same behind the opening of a journal, where these records were found
+-- The same behind the opening of a journal, where these records were found.
 abbrev pub answers_on : List (List ℕ) → Answer → Outcome
 answers_on list answer = record { answer = answer; journal = reads list }
 
@@ -38,26 +38,26 @@ says_on list status text = record { answer = Says status text; journal = reads l
 abbrev pub stops_on : List (List ℕ) → Stopped → List ℕ → Outcome
 stops_on list why line = record { answer = Stops why line; journal = reads list }
 
--- one record more, and this goes to standard output
+-- One record more, and this goes to standard output.
 abbrev pub appends : List (List ℕ) → List ℕ → List ℕ → Outcome
 appends list body text = record { answer = Says Done text; journal = appended list body }
 
--- a new journal with this first record
+-- A new journal with this first record.
 abbrev pub starts : List ℕ → List ℕ → Outcome
 starts body text = record { answer = Says Done text; journal = started body }
 
--- a file that isn't there, or is too long
+-- A file that isn't there, or is too long.
 abbrev pub no_input_says : List ℕ → List ℕ → NoInput → Outcome
 no_input_says command file Absent = stops Missing (file_line command file (codes "Absent"))
 no_input_says command file TooLong = stops Beyond (file_line command file (codes "TooLong"))
 
--- an input file of at most so many bytes is read, and then comes the rest of the command
+-- An input file of at most so many bytes is read, and then comes the rest of the command.
 abbrev pub with_bytes : ℕ → List ℕ → List ℕ → Option (List ℕ) → (List ℕ → Outcome) → Outcome
 with_bytes limit command file None next = no_input_says command file Absent
 with_bytes limit command file (Some bytes) next =
     if nat_lt limit (length bytes) then no_input_says command file TooLong else next bytes
 
--- a new journal: its name has no file
+-- A new journal: its name has no file.
 abbrev pub with_fresh : List ℕ → List ℕ → Option (List ℕ) → Outcome → Outcome
 with_fresh command file None next = next
 with_fresh command file (Some bytes) next = stops Missing (file_line command file (codes "Exists"))

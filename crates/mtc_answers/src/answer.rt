@@ -1,3 +1,4 @@
+//! What a command answers.
 ghost use Rattle.std.specs.Prelude.{◌≡◌};
 
 use mtc_io::{Bytes, Memory};

@@ -1,5 +1,5 @@
-// The input files of a command.
-ghost use Rattle.std.specs.Prelude.{◌≡◌, ℕ, ◌<◌, ◌≤◌, ◌^◌, Some, None, length, IfOk, IfErr, IsErrOf, IsSomeAnd, OnErr};
+//! The input files of a command.
+ghost use Rattle.std.specs.Prelude.{◌≡◌, ◌<◌, ◌≤◌, ◌^◌, Some, None, length, IfOk, IfErr, IsErrOf, IsSomeAnd};
 ghost use Rattle.mtc_io.specs.Counts.{Rose};
 ghost use Rattle.mtc_answers.specs.Settled.{Settled, FailedOnly};
 

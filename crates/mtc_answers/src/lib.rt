@@ -1,7 +1,8 @@
-//! What a command answers, and what it does with its journal: the answer and its line, the input files, and the
-//! outcome of which each command's own definition is made (`specs/Steps.antt`).
+//! What a command answers, and what it does with its journal: the answer and its line, the input
+//! files, and the outcome of which each command's own definition is made (`specs/Steps.antt`).
 //!
-//! A command answers with an [`Answer`], or ends with a [`Stop`] where the room failed or memory was refused.
+//! A command answers with an [`Answer`], or ends with a [`Stop`] where the room failed or memory
+//! was refused.
 #![tactic(auto)]
 
 mod answer;

@@ -1,4 +1,4 @@
-// The lines on standard error.
+//! The lines on standard error.
 ghost use Rattle.std.specs.Prelude.{◌≡◌, IfOk};
 ghost use Rattle.mtc_answers.specs.Lines.{bare_line, command_line, file_line};
 ghost use Rattle.mtc_answers.specs.Steps.{no_input_says};

@@ -6,7 +6,7 @@ use Rattle.der_core.specs.declared.fault.DerError.TheVariants.{Truncated, LongFo
 use Rattle.der_core.specs.declared.fault.CertError.{CertError}
 use Rattle.der_core.specs.declared.fault.CertError.TheVariants.{Der, BadVersion, BadSerial, BadTime, AlgorithmsDiffer, RepeatedExtension, UniqueId, BadExtension, BadName}
 
--- a fault of an element, with the element's offset
+-- A fault of an element, with the element's offset.
 abbrev pub der_fault_text : DerError → List ℕ
 der_fault_text (Truncated place) = codes "Truncated " ++ decimal place
 der_fault_text (LongForm place) = codes "LongForm " ++ decimal place

@@ -13,18 +13,18 @@ use Rattle.mtc_answers.specs.declared.answer.Stopped.TheVariants.{BadForm}
 use Rattle.mtc_answers.specs.Lines.{file_line}
 use Rattle.mtc_answers.specs.Steps.{Outcome, Files, says, stops, with_bytes}
 
--- the type of a tree by its height, 5 or 10, and of its one-time keys by their width, 1, 2, 4 or 8
+-- The type of a tree by its height, 5 or 10, and of its one-time keys by their width, 1, 2, 4 or 8.
 abbrev pub lms_type : ℕ → LmsType
 lms_type n = if n == 5 then H5 else H10
 
 abbrev pub ots_type : ℕ → OtsType
 ots_type n = if n == 1 then W1 else (if n == 2 then W2 else (if n == 4 then W4 else W8))
 
--- the public key of a secret, in base64
+-- The public key of a secret, in base64.
 abbrev pub public_text : ℕ → ℕ → List ℕ → List ℕ
 public_text height width secret = encode_of standard (one_level_public (private_key (lms_type height) (ots_type width) secret))
 
--- a secret file has 48 bytes: 16 of identifier and 32 of seed
+-- A secret file has 48 bytes: 16 of identifier and 32 of seed.
 abbrev pub keygen_says : ℕ → ℕ → List ℕ → List ℕ → Outcome
 keygen_says height width file secret =
     if nat_lt (length secret) 48 then stops BadForm (file_line (codes "keygen") file (codes "Short 0"))

@@ -15,7 +15,8 @@ use Rattle.mtc_reads.specs.declared.member.judgement.MemberRefusal.{MemberRefusa
 use Rattle.mtc_reads.specs.declared.member.judgement.MemberRefusal.TheVariants.{HashDiffers}
 use Rattle.mtc_reads.specs.MemberNames.{member_fault, member_refusal}
 
--- what a member file holds: an entry's index, a subtree and its hash, the inclusion path, and the entry
+-- What a member file holds: an entry's index, a subtree and its hash, the inclusion path, and the
+-- entry.
 pub record Member : Type 0 where
   pub index : ℕ
   pub start : ℕ
@@ -27,11 +28,12 @@ pub record Member : Type 0 where
 abbrev pub member_view : MemberFile → Member
 member_view m = record { index = m.index; start = m.start; end = m.end; hash = m.hash.now; path = m.path.now; entry = m.entry.now }
 
--- a form that doesn't fit is a fault of the file at its offset
+-- A form that doesn't fit is a fault of the file at its offset.
 abbrev pub fitting : {A : Type 0} → Result A Short → Result A MemberError
 fitting answer = lifted (λ short. NotFitting short.place) answer
 
--- the grammar: index, start and end in eight bytes each, a hash, a vector of hashes, and the entry to the end
+-- The grammar: index, start and end in eight bytes each, a hash, a vector of hashes, and the entry
+-- to the end.
 unfoldable pub member_file : List ℕ → Result Member MemberError
 member_file bytes = do
   index ← fitting (number_at w64 (at bytes 0))
@@ -41,11 +43,11 @@ member_file bytes = do
   path ← lifted member_fault (hashes_at hash.1)
   Ok (record { index = index.0; start = start.0; end = end.0; hash = hash.0; path = path.0; entry = path.1.rest })
 
--- the evaluated hash has to be the file's
+-- The evaluated hash has to be the file's.
 abbrev pub compared : Member → Result (List ℕ) EvalError → Result ℕ MemberRefusal
 compared m (Err e) = Err (member_refusal e)
 compared m (Ok hash) = if bytes_eq hash m.hash then Ok m.index else Err HashDiffers
 
--- the judgement: the index of the member, or the first refusal
+-- The judgement: the index of the member, or the first refusal.
 unfoldable pub judged : (List ℕ → List ℕ) → Member → Result ℕ MemberRefusal
 judged h m = compared m (evaluation h (leaf_hash h m.entry) m.index m.start m.end m.path)

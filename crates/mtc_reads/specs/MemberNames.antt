@@ -9,12 +9,12 @@ use Rattle.mtc_reads.specs.declared.member.judgement.MemberError.TheVariants.{Sh
 use Rattle.mtc_reads.specs.declared.member.judgement.MemberRefusal.{MemberRefusal}
 use Rattle.mtc_reads.specs.declared.member.judgement.MemberRefusal.TheVariants.{BadSubtree, Outside, WrongLength, HashDiffers}
 
--- a fault of the hashes, as one of the file
+-- A fault of the hashes, as one of the file.
 abbrev pub member_fault : HashesError → MemberError
 member_fault (HashesShort short) = Short short.place
 member_fault HashesHashLength = HashLength
 
--- a refusal of the evaluation, as a judgement against
+-- A refusal of the evaluation, as a judgement against.
 abbrev pub member_refusal : EvalError → MemberRefusal
 member_refusal EvalBadSubtree = BadSubtree
 member_refusal EvalOutside = Outside

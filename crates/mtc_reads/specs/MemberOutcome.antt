@@ -26,6 +26,6 @@ member_form_says h file (Err why) = stops BadForm (file_line (codes "member") fi
 abbrev pub member_says : (List ℕ → List ℕ) → List ℕ → List ℕ → Outcome
 member_says h file bytes = member_form_says h file (member_file bytes)
 
--- the file is read, at most 16 MiB of it, cut into its parts, and judged
+-- The file is read, at most 16 MiB of it, cut into its parts, and judged.
 abbrev pub member_outcome : (List ℕ → List ℕ) → List ℕ → Files → Outcome
 member_outcome h file files = with_bytes 16777216 (codes "member") file (files file) (member_says h file)

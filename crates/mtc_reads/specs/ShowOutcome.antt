@@ -21,16 +21,16 @@ use Rattle.mtc_reads.specs.CertFaults.{cert_fault_text}
 use Rattle.mtc_answers.specs.Lines.{file_line}
 use Rattle.mtc_answers.specs.Steps.{Outcome, Files, says, stops, with_bytes}
 
--- the log id that an issuer name holds, or `other`
+-- The log id that an issuer name holds, or `other`.
 abbrev pub issuer_text : Option (List ℕ) → List ℕ
 issuer_text (Some id) = id
 issuer_text None = codes "other"
 
--- a subject without a name is the empty SEQUENCE
+-- A subject without a name is the empty SEQUENCE.
 abbrev pub subject_text : List ℕ → List ℕ
 subject_text subject = if bytes_eq subject (48 ∷ 0 ∷ []) then codes "empty" else encode_lower subject
 
--- printable ASCII without the blank
+-- Printable ASCII without the blank.
 abbrev pub is_graphic : ℕ → Bool
 is_graphic byte = nat_le 33 byte && nat_le byte 126
 
@@ -48,7 +48,7 @@ fields_text p =
     ++ (codes "\nsubject " ++ (subject_text p.subject
     ++ (codes "\nkey " ++ (encode_lower p.spki ++ codes "\n")))))))))))
 
--- a cosigner's id as text, or in hexadecimal where it is no anchor id
+-- A cosigner's id as text, or in hexadecimal where it is no anchor id.
 abbrev pub cosigner_text : List ℕ → Result (List ℕ) AnchorBytesError → List ℕ
 cosigner_text bytes (Ok id) = text_of_id id
 cosigner_text bytes (Err why) = codes "hex:" ++ encode_lower bytes
@@ -57,21 +57,21 @@ abbrev pub signature_line : SigParts → List ℕ
 signature_line s =
     codes "signature " ++ (cosigner_text s.cosigner (anchor_of s.cosigner) ++ (codes " " ++ (decimal (length s.signature) ++ codes "\n")))
 
--- the interval, and the length of the path
+-- The interval, and the length of the path.
 abbrev pub interval_text : ProofParts → List ℕ
 interval_text p =
     codes "interval " ++ (decimal p.start ++ (codes " " ++ (decimal p.end ++ (codes "\npath " ++ (decimal (length p.path) ++ codes "\n")))))
 
--- these, and a line for each signature
+-- These, and a line for each signature.
 abbrev pub proof_lines : Result ProofParts ProofError → List ℕ
 proof_lines (Ok p) = interval_text p ++ flat_map signature_line (signatures_left (at p.signatures 0))
 proof_lines (Err why) = codes "proof none\n"
 
--- a certificate of another algorithm has no proof
+-- A certificate of another algorithm has no proof.
 abbrev pub proof_text : Parts → List ℕ
 proof_text p = if bytes_eq p.algorithm mtc_proof then proof_lines (proof_in p.proof) else codes "proof none\n"
 
--- the lines of a certificate: its fields, one for each dNSName, and the proof
+-- The lines of a certificate: its fields, one for each dNSName, and the proof.
 abbrev pub show_text : Parts → List ℕ
 show_text p = fields_text p ++ (flat_map name_line (dns_names_in p.extensions) ++ proof_text p)
 

@@ -28,7 +28,7 @@ key_text End = codes "End"
 key_text Hash = codes "Hash"
 key_text Table = codes "Table"
 
--- why a file is no store
+-- Why a file is no store.
 abbrev pub store_fault_text : StoreError → List ℕ
 store_fault_text NotToml = codes "NotToml"
 store_fault_text UnknownKey = codes "UnknownKey"
@@ -38,7 +38,7 @@ store_fault_text RepeatedSubtree = codes "RepeatedSubtree"
 store_fault_text BadRange = codes "BadRange"
 store_fault_text Memory = codes "Memory"
 
--- why bytes are no proof
+-- Why bytes are no proof.
 abbrev pub proof_fault_text : ProofError → List ℕ
 proof_fault_text (proof_error.Short place) = codes "Short " ++ decimal place
 proof_fault_text proof_error.HashLength = codes "HashLength"
@@ -50,7 +50,8 @@ shape_text eval_error.BadSubtree = codes "BadSubtree"
 shape_text eval_error.Outside = codes "Outside"
 shape_text eval_error.WrongLength = codes "WrongLength"
 
--- A refusal: bytes that are no certificate or no proof are faults of the file, and all others are told as a judgement.
+-- A refusal: bytes that are no certificate or no proof are faults of the file, and all others are
+-- told as a judgement.
 abbrev pub refused : List ℕ → List ℕ → Refusal → Outcome
 refused command cert (Grammar why) = stops BadForm (file_line command cert (cert_fault_text why))
 refused command cert Algorithm = says Against (codes "refused Algorithm\n")
@@ -68,7 +69,7 @@ abbrev pub judged : List ℕ → Result Accepted Refusal → Outcome
 judged cert (Ok accepted) = says Done (codes "accepted " ++ (decimal accepted.index ++ codes "\n"))
 judged cert (Err why) = refused (codes "verify") cert why
 
--- a file is read as a store, and then comes the rest of the command
+-- A file is read as a store, and then comes the rest of the command.
 abbrev pub with_store : List ℕ → List ℕ → Result Store StoreError → (Store → Outcome) → Outcome
 with_store command file (Ok store) next = next store
 with_store command file (Err why) next = stops BadForm (file_line command file (store_fault_text why))

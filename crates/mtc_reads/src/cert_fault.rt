@@ -1,4 +1,4 @@
-// The texts of a certificate's faults.
+//! The texts of a certificate's faults.
 ghost use Rattle.std.specs.Prelude.{◌≡◌, IfOk, string_bytes};
 ghost use Rattle.mtc_reads.specs.CertFaults.{der_fault_text, cert_fault_text};
 

@@ -1,10 +1,8 @@
-// The command `keygen`: the public key of a secret.
-ghost use Rattle.std.specs.Prelude.{◌≡◌, ◌≢◌, ◌<◌, ◌^◌, true, ◌++◌, IfOk, IfErr, codes, string_bytes};
+//! The command `keygen`: the public key of a secret.
+ghost use Rattle.std.specs.Prelude.{◌≡◌, ◌<◌, ◌^◌, true, ◌++◌, IfOk, codes, string_bytes};
 ghost use Rattle.base64.specs.GeneralPurpose.{encode_of};
 ghost use Rattle.base64.specs.Engines.{standard};
-ghost use Rattle.mtc_io.specs.Counts.{Rose};
 ghost use Rattle.mtc_words.specs.Commands.{is_height, is_width};
-ghost use Rattle.mtc_answers.specs.Answers.{status_of};
 ghost use Rattle.mtc_reads.specs.KeygenOutcome.{lms_type, ots_type, public_text, keygen_says, keygen_outcome};
 ghost use Rattle.mtc_answers.specs.Lines.{file_line};
 ghost use Rattle.mtc_answers.specs.Served.{HasAnswered};

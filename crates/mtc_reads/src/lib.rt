@@ -1,6 +1,7 @@
 //! The commands that only read files: `member`, `show`, `verify` and `keygen`.
 //!
-//! What each has to answer is a definition over its words and the room's files, in a file of `specs/` of its own.
+//! What each has to answer is a definition over its words and the room's files, in a file of
+//! `specs/` of its own.
 #![tactic(auto)]
 
 mod cert_fault;

@@ -1,4 +1,4 @@
-// The command `member`: the inclusion path of a file, evaluated.
+//! The command `member`: the inclusion path of a file, evaluated.
 mod command;
 mod file;
 mod judgement;

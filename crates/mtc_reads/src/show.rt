@@ -1,5 +1,5 @@
-// The command `show`: what a certificate says.
-ghost use Rattle.std.specs.Prelude.{◌≡◌, ◌≢◌, ◌<◌, ◌^◌, ◌++◌, IfOk, IfErr, OnOk, codes, string_bytes};
+//! The command `show`: what a certificate says.
+ghost use Rattle.std.specs.Prelude.{◌≡◌, ◌<◌, ◌^◌, ◌++◌, IfOk, OnOk, codes, string_bytes};
 ghost use Rattle.std.specs.List.{list_all, flat_map};
 ghost use Rattle.cert_names.specs.LogNames.{log_in};
 ghost use Rattle.cert_time.specs.Calendar.{IsMoment};
@@ -7,16 +7,14 @@ ghost use Rattle.cert_fields.specs.Certificate.{parts_of};
 ghost use Rattle.cert_fields.specs.Views.{parts};
 ghost use Rattle.tls_wire.specs.Anchors.{anchor_of};
 ghost use Rattle.mtc_proof.specs.Views.{proof_parts, sig_parts};
-ghost use Rattle.mtc_io.specs.Counts.{Rose};
 ghost use Rattle.mtc_io.specs.Streams.{joined};
-ghost use Rattle.mtc_answers.specs.Answers.{status_of};
 ghost use Rattle.mtc_reads.specs.CertFaults.{cert_fault_text};
 ghost use Rattle.mtc_answers.specs.Lines.{file_line};
 ghost use Rattle.mtc_answers.specs.Served.{HasAnswered};
 ghost use Rattle.mtc_reads.specs.ShowOutcome.{issuer_text, subject_text, is_graphic, name_line, fields_text, cosigner_text, signature_line, interval_text, proof_text, show_text, shown, show_outcome};
 
 use crate::cert_fault::cert_fault;
-use cert_fields::{Cert, DnsNames, dns_names, parse};
+use cert_fields::{Cert, DnsNames, MTC_PROOF, dns_names, parse};
 use cert_names::log_of;
 use cert_time::seconds_to_text;
 use der_core::CertError;
@@ -26,11 +24,6 @@ use mtc_proof::{Proof, SigRef, Signatures, read_proof, signatures};
 use mtc_room::Room;
 use std::alloc::{AllocError, Global};
 use tls_wire::{AnchorBytesError, AnchorId};
-
-/// The AlgorithmIdentifier of Merkle tree proofs, 1.3.6.1.4.1.44363.47.0, without parameters.
-const MTC_PROOF: [u8; 14] = [
-    0x30, 0x0C, 0x06, 0x0A, 0x2B, 0x06, 0x01, 0x04, 0x01, 0x82, 0xDA, 0x4B, 0x2F, 0x00,
-];
 
 // Puts pieces behind the bytes, one behind the other.
 fn append_all(out: &mut Bytes, pieces: &[&[u8]]) -> Result<(), Memory>

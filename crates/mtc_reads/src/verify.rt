@@ -1,8 +1,6 @@
-// The command `verify`: a certificate is judged by a store.
-ghost use Rattle.std.specs.Prelude.{◌≡◌, ◌≢◌, ◌<◌, ◌≤◌, ◌^◌, ◌++◌, pos, true, IfOk, IfErr, codes, string_bytes};
-ghost use Rattle.mtc_io.specs.Counts.{Rose};
+//! The command `verify`: a certificate is judged by a store.
+ghost use Rattle.std.specs.Prelude.{◌≡◌, ◌<◌, ◌^◌, true, IfOk, string_bytes};
 ghost use Rattle.mtc_words.specs.Commands.{is_time};
-ghost use Rattle.mtc_answers.specs.Answers.{status_of};
 ghost use Rattle.mtc_answers.specs.Lines.{file_line};
 ghost use Rattle.mtc_answers.specs.Served.{HasAnswered};
 ghost use Rattle.mtc_reads.specs.VerifyOutcome.{key_text, store_fault_text, proof_fault_text, shape_text, refused, judged, verify_says, verify_outcome};

@@ -1,11 +1,12 @@
--- A node's journal as a state of a history, and how a command may end: which steps of the history it was.
+-- A node's journal as a state of a history, and how a command may end: which steps of the history
+-- it was.
 use Rattle.std.specs.Prelude.{◌≡◌, ◌⊎◌, ℕ, ◌<◌, Bool, true, false, List, [], ◌∷◌, ◌++◌, length, Option, None, Some, IfSome, if◌then◌else◌}
 use Rattle.journal_core.specs.Format.{StandsFor}
 use Rattle.mtc_answers.specs.Answers.{IsEarly}
 use Rattle.mtc_answers.specs.Made.{Journaled, untouched, reads, appended, started}
 
--- the first record of a node, those that are settled behind it, at most one that is pending, the numbers of those that were
--- handed out, and whether the last one may be
+-- The first record of a node, those that are settled behind it, at most one that is pending, the
+-- numbers of those that were handed out, and whether the last one may be.
 pub record NodeState : Type 0 where
   pub start : List ℕ
   pub settled : List (List ℕ)
@@ -17,14 +18,15 @@ abbrev pub with_pending : List (List ℕ) → Option (List ℕ) → List (List �
 with_pending list None = list
 with_pending list (Some body) = list ++ body ∷ []
 
--- the bytes stand for its settled records, or for these and the pending one
+-- The bytes stand for its settled records, or for these and the pending one.
 abbrev pub StandsForNode : NodeState → List ℕ → Type 0
 StandsForNode n c = StandsFor c (n.start ∷ n.settled) ⊎ StandsFor c (n.start ∷ with_pending n.settled n.pending)
 
 abbrev pub AllStandForNode : NodeState → (List ℕ → Type 0) → Type 0
 AllStandForNode n images = (c : List ℕ) → images c → StandsForNode n c
 
--- the steps: a stop, after which a pending record is settled or gone; a record begun; settled; handed out
+-- The steps: a stop, after which a pending record is settled or gone; a record begun; settled;
+-- handed out.
 abbrev pub stop : Bool → NodeState → NodeState
 stop kept n = record {
   start = n.start;
@@ -46,7 +48,8 @@ hand n = record { start = n.start; settled = n.settled; pending = n.pending; han
 abbrev pub fresh_node : List ℕ → NodeState
 fresh_node start = record { start = start; settled = []; pending = None; handed = []; may_hand = false }
 
--- how a command may end: without a step, with a stop, and then with a record begun, settled and handed out
+-- How a command may end: without a step, with a stop, and then with a record begun, settled and
+-- handed out.
 pub data End : Type 0 where
   same : End
   stopped : Bool → End
@@ -61,11 +64,11 @@ after (begun kept body) n = begin body (stop kept n)
 after (has_settled kept body) n = settle (begin body (stop kept n))
 after (has_handed kept body) n = hand (settle (begin body (stop kept n)))
 
--- the command adds this record
+-- The command adds this record.
 abbrev pub IsRecord : Journaled → List ℕ → Type 0
 IsRecord did body = (list : List (List ℕ)) × (did ≡ appended list body)
 
--- the ends that a status allows, in view of whether a byte went out
+-- The ends that a status allows, in view of whether a byte went out.
 abbrev pub MayEnd : Journaled → ℕ → Type 0 → End → Type 0
 MayEnd did status took same = IsEarly status
 MayEnd did status took (stopped kept) = Unit {0}
@@ -73,28 +76,28 @@ MayEnd did status took (begun kept body) = IsRecord did body × (status ≡ 5)
 MayEnd did status took (has_settled kept body) = IsRecord did body × (took → ⊥)
 MayEnd did status took (has_handed kept body) = IsRecord did body × took
 
--- the command works on a journal that was there
+-- The command works on a journal that was there.
 abbrev pub IsOnOld : Journaled → Type 0
 IsOnOld untouched = Unit {0}
 IsOnOld (reads list) = Unit {0}
 IsOnOld (appended list body) = Unit {0}
 IsOnOld (started body) = ⊥
 
--- the bytes stand for the state before, or for one with the command's record begun behind a stop
+-- The bytes stand for the state before, or for one with the command's record begun behind a stop.
 abbrev pub IsOneOf : Journaled → NodeState → List ℕ → Type 0
 IsOneOf did n c = StandsForNode n c ⊎ ((kept : Bool) × ((body : List ℕ) × (IsRecord did body × StandsForNode (begin body (stop kept n)) c)))
 
--- a byte went out, where the sink tells
+-- A byte went out, where the sink tells.
 abbrev pub TookSome : Option (List ℕ) → Option (List ℕ) → Type 0
 TookSome None new = ⊥
 TookSome (Some old) None = ⊥
 TookSome (Some old) (Some new) = length old < length new
 
--- a command's end, over a state of the node for which each image before stands
+-- A command's end, over a state of the node for which each image before stands.
 pub record EndsWell (did : Journaled) (status : ℕ) (took : Type 0) (n : NodeState) (now since : List ℕ → Type 0) (file : Option (List ℕ)) : Type 0 where
   pub end : End
   pub may : MayEnd did status took end
   pub stands : AllStandForNode (after end n) now
   pub each : (c : List ℕ) → since c → IsOneOf did n c
-  -- so does what the room tells of the file
+  -- So does what the room tells of the file.
   pub as_read : IfSome file (StandsForNode (after end n))

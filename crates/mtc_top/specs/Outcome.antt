@@ -1,5 +1,6 @@
--- The outcome: what the program has to answer, as a function of the words and the room's files. One line for each
--- command; each command's own outcome stands in a file of its own, in mtc_reads or mtc_logs.
+-- The outcome: what the program has to answer, as a function of the words and the room's files. One
+-- line for each command; each command's own outcome stands in a file of its own, in mtc_reads or
+-- mtc_logs.
 use Rattle.std.specs.Prelude.{◌≡◌, ℕ, List, codes, Result, Ok, Err}
 use Rattle.mtc_words.specs.declared.error.WordError.{WordError}
 use Rattle.mtc_words.specs.Commands.{CommandValue, member, show, verify, init_log, issue, checkpoint, entries, consist, subtree, keygen}
@@ -15,7 +16,7 @@ use Rattle.mtc_top.specs.WordsOutcome.{words_say, first_word}
 use Rattle.mtc_logs.specs.Works.{journal_outcome}
 use Rattle.mtc_logs.specs.declared.work.Work.TheVariants.{Checkpoint, Entries, Consist, Subtree}
 
--- what a command answers over these files
+-- What a command answers over these files.
 abbrev pub command_outcome : (List ℕ → List ℕ) → CommandValue → Files → Outcome
 command_outcome h (member file) files = member_outcome h file files
 command_outcome h (show file) files = show_outcome file files
@@ -28,7 +29,7 @@ command_outcome h (consist journal old new) files = journal_outcome h (codes "co
 command_outcome h (subtree journal start end size) files = journal_outcome h (codes "subtree") journal (files journal) (Subtree start end size)
 command_outcome h (keygen height width file) files = keygen_outcome height width file files
 
--- what is answered where the words say this
+-- What is answered where the words say this.
 abbrev pub spoken_outcome : (List ℕ → List ℕ) → List ℕ → Result CommandValue WordError → Files → Outcome
 spoken_outcome h first (Ok command) files = command_outcome h command files
 spoken_outcome h first (Err why) files = words_say first why
@@ -36,7 +37,7 @@ spoken_outcome h first (Err why) files = words_say first why
 abbrev pub outcome : (List ℕ → List ℕ) → List (List ℕ) → Files → Outcome
 outcome h words files = spoken_outcome h (first_word words) (command_of words) files
 
--- the files that a command may change: its journal
+-- The files that a command may change: its journal.
 abbrev pub Touches : CommandValue → List ℕ → Type 0
 Touches (member file) name = ⊥
 Touches (show file) name = ⊥
@@ -49,7 +50,7 @@ Touches (consist journal old new) name = name ≡ journal
 Touches (subtree journal start end size) name = name ≡ journal
 Touches (keygen height width file) name = ⊥
 
--- and those that words may
+-- And those that words may.
 abbrev pub MayChange : Result CommandValue WordError → List ℕ → Type 0
 MayChange (Ok command) name = Touches command name
 MayChange (Err why) name = ⊥

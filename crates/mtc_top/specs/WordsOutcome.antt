@@ -11,7 +11,7 @@ abbrev pub first_word : List (List ℕ) → List ℕ
 first_word [] = []
 first_word (w ∷ ws) = w
 
--- a fault of the words, with its numbers
+-- A fault of the words, with its numbers.
 abbrev pub word_fault_text : WordError → List ℕ
 word_fault_text NoCommand = codes "NoCommand"
 word_fault_text UnknownCommand = codes "UnknownCommand"
@@ -21,7 +21,7 @@ word_fault_text (BadNumber place) = codes "BadNumber " ++ decimal place
 word_fault_text (BadId place) = codes "BadId " ++ decimal place
 word_fault_text Memory = codes "Memory"
 
--- the line of a fault of the words: behind the first word, unless that is no command
+-- The line of a fault of the words: behind the first word, unless that is no command.
 abbrev pub words_line : List ℕ → WordError → List ℕ
 words_line first NoCommand = bare_line (word_fault_text NoCommand)
 words_line first UnknownCommand = bare_line (word_fault_text UnknownCommand)

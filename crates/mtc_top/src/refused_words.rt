@@ -1,4 +1,4 @@
-// The answer to words that are no command.
+//! The answer to words that are no command.
 ghost use Rattle.std.specs.Prelude.{◌≡◌, IfOk, string_bytes};
 ghost use Rattle.mtc_top.specs.WordsOutcome.{word_fault_text, words_line, words_say};
 

@@ -1,3 +1,4 @@
+//! The program's one call: the words, the work, and what goes out.
 ghost use Rattle.std.specs.Prelude.{◌≡◌, ◌≢◌, ◌<◌, ◌^◌, ℕ, List, [], ◌≤◌, map, string_bytes, codes, Some, IfOk, IfErr, IsErr, IsOk, ◌∷◌, ◌++◌};
 ghost use Rattle.std.specs.Io.KnownBytes.{Appends};
 ghost use Rattle.mtc_io.specs.Counts.{Rose};
@@ -124,13 +125,16 @@ fn answer<'a, H: TreeHash, R: Room>(
     }
 }
 
-/// Does all that the program does: reads the words of a command, carries it out over a room, and writes its text
-/// to `out` or a line to `err`. Everything that the room lends is given back, and each file stays as it was.
+/// Does all that the program does: reads the words of a command, carries it out over a room, and
+/// writes its text to `out` or a line to `err`. Everything that the room lends is given back, and
+/// each file but the command's journal stays as it was.
 ///
-/// Answers the status: 0 the command did its work, and 3 the judgement is against; both wrote to `out`. 1 the words
-/// are no command, 2 a named file isn't in its grammar, 5 the room failed, 6 `out` failed, 7 a named file isn't
-/// there, 8 memory was refused, 9 an input is over its limit; these wrote a line to `err`. Tests come in the order
-/// of the program's steps: the words, then each file in the order of the words, then its grammar, then the
+/// Answers the status. 0 the command did its work, and 3 the judgement is against: both wrote to
+/// `out`. The others wrote a line to `err`: 1 the words are no command; 2 a named file isn't in its
+/// grammar; 4 the log doesn't allow what is asked; 5 the room failed; 6 `out` failed; 7 a named
+/// file isn't there, or that of a new journal is there already; 8 memory was refused; 9 an input is
+/// over its limit, or the log or its journal takes no more. Tests come in the order of the
+/// program's steps: the words, then each file in the order of the words, then its grammar, then the
 /// command's own. A fault of `err` changes no status.
 pub fn run<H: TreeHash, R: Room, O: Sink, E: Sink>(
     alloc: Global,
@@ -182,8 +186,8 @@ pub fn run<H: TreeHash, R: Room, O: Sink, E: Sink>(
     ensures count { R.faults room.old ≤ R.faults room.new }
     ensures tells { R.tells room.old → R.tells room.new }
 
-    // The images of the command's journal, now and since the call began: without a failure, after want of memory, and
-    // after a fault of the room.
+    // The images of the command's journal, now and since the call began: without a failure, after
+    // want of memory, and after a fault of the room.
     ensures made { R.tells room.old → result ≢ 5 → result ≢ 8 → (j : List ℕ) → MayChange (command_of (map string_bytes words.now)) j
         → MadeOf R.Dsk.Disk (outcome H.hash (map string_bytes words.now) (R.file room.old)).journal (R.device room.old j) (R.device room.new j) }
     ensures no_memory { R.tells room.old → result ≡ 8 → (j : List ℕ) → MayChange (command_of (map string_bytes words.now)) j
@@ -193,7 +197,8 @@ pub fn run<H: TreeHash, R: Room, O: Sink, E: Sink>(
     ensures early { R.tells room.old → result ≢ 5 → result ≢ 8 → (j : List ℕ) → MayChange (command_of (map string_bytes words.now)) j
         → (outcome H.hash (map string_bytes words.now) (R.file room.old)).journal ≡ untouched → IsEarly result }
 
-    // The same as steps of a node for whose state each image stood before: one of five ends, with the statuses of each.
+    // The same as steps of a node for whose state each image stood before: one of five ends, with
+    // the statuses of each.
     ensures ends { R.tells room.old → (xs : List ℕ) → O.taken out.old ≡ Some xs
         → (j : List ℕ) → MayChange (command_of (map string_bytes words.now)) j → IsOnOld (outcome H.hash (map string_bytes words.now) (R.file room.old)).journal
         → (n : NodeState) → AllStandForNode n (images_of R.Dsk.Disk (R.device room.old j))

@@ -4,7 +4,7 @@ use Rattle.mtc_words.specs.declared.command.Command.{Command}
 use Rattle.mtc_words.specs.declared.command.Command.TheVariants.{Member, Show, Verify, InitLog, Issue, Checkpoint, Entries, Consist, Subtree, Keygen}
 use Rattle.mtc_words.specs.declared.error.WordError.{WordError}
 
--- a command with the values of its words: a text is the list of its bytes, and so is an id
+-- A command with the values of its words: a text is the list of its bytes, and so is an id.
 pub data CommandValue : Type 0 where
   member : List ℕ → CommandValue
   show : List ℕ → CommandValue
@@ -17,7 +17,7 @@ pub data CommandValue : Type 0 where
   subtree : List ℕ → ℕ → ℕ → ℕ → CommandValue
   keygen : ℕ → ℕ → List ℕ → CommandValue
 
--- the values of a command's words
+-- The values of a command's words.
 abbrev pub command_value : Command → CommandValue
 command_value (Member file) = member file.now
 command_value (Show file) = show file.now
@@ -30,34 +30,34 @@ command_value (Consist journal old new) = consist journal.now old new
 command_value (Subtree journal start end size) = subtree journal.now start end size
 command_value (Keygen height width secret) = keygen height width secret.now
 
--- the answer, with the command seen by its values
+-- The answer, with the command seen by its values.
 abbrev pub said : Result Command WordError → Result CommandValue WordError
 said (Ok command) = Ok (command_value command)
 said (Err why) = Err why
 
--- the heights and the widths of keys that are made
+-- The heights and the widths of keys that are made.
 abbrev pub is_height : ℕ → Bool
 is_height n = (n == 5) || (n == 10)
 
 abbrev pub is_width : ℕ → Bool
 is_width n = (n == 1) || ((n == 2) || ((n == 4) || (n == 8)))
 
--- the moments up to the end of the year 9999, in seconds since 1970-01-01T00:00:00Z
+-- The moments up to the end of the year 9999, in seconds since 1970-01-01T00:00:00Z.
 abbrev pub is_time : ℕ → Bool
 is_time n = nat_le n 253402300799
 
--- the numbers of active landmarks that a log may have, and of entries
+-- The numbers of active landmarks that a log may have, and of entries.
 abbrev pub is_active : ℕ → Bool
 is_active n = nat_le 1 n && nat_le n 10000
 
 abbrev pub is_limit : ℕ → Bool
 is_limit n = nat_le 2 n && nat_le n 1048576
 
--- every number
+-- Every number.
 abbrev pub is_any : ℕ → Bool
 is_any n = true
 
--- the numbers lie in the ranges of their command
+-- The numbers lie in the ranges of their command.
 abbrev pub IsInRange : CommandValue → Type 0
 IsInRange (member file) = Unit {0}
 IsInRange (show file) = Unit {0}

@@ -3,7 +3,7 @@ use Rattle.std.specs.Prelude.{ℕ, List, Option, Some, None, codes, bytes_eq, if
 use Rattle.mtc_words.specs.declared.name.Name.{Name}
 use Rattle.mtc_words.specs.declared.name.Name.TheVariants.{Member, Show, Verify, InitLog, Issue, Checkpoint, Entries, Consist, Subtree, Keygen}
 
--- the command that a word names
+-- The command that a word names.
 unfoldable pub name_of : List ℕ → Option Name
 name_of word =
     if bytes_eq word (codes "member") then Some Member
@@ -18,7 +18,7 @@ name_of word =
     else (if bytes_eq word (codes "keygen") then Some Keygen
     else None)))))))))
 
--- how many words stand behind a command
+-- How many words stand behind a command.
 abbrev pub count_of : Name → ℕ
 count_of Member = 1
 count_of Show = 1

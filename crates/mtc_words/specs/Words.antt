@@ -1,4 +1,5 @@
--- The words of a command, and what they say: the first fault in the order of the tests, or the command.
+-- The words of a command, and what they say: the first fault in the order of the tests, or the
+-- command.
 use Rattle.std.specs.Prelude.{ℕ, ◌+◌, ◌==◌, Bool, true, List, [], ◌∷◌, length, Option, Some, None, Result, Ok, Err, slice_index_or, is_some, if◌then◌else◌}
 use Rattle.byte_forms.specs.Readings.{◌>>=◌, blamed}
 use Rattle.tls_wire.specs.Anchors.{anchor_text}
@@ -10,30 +11,30 @@ use Rattle.mtc_words.specs.Commands.{CommandValue, member, show, verify, init_lo
 use Rattle.mtc_words.specs.Names.{name_of, count_of}
 use Rattle.mtc_words.specs.Numbers.{number_of}
 
--- empty, or begins with a hyphen
+-- Empty, or begins with a hyphen.
 abbrev pub is_bad_word : List ℕ → Bool
 is_bad_word [] = true
 is_bad_word (first ∷ rest) = first == 45
 
--- the number of the first bad word, where k is that of the first one
+-- The number of the first bad word, where k is that of the first one.
 abbrev pub bad_word : ℕ → List (List ℕ) → Option ℕ
 bad_word k [] = None
 bad_word k (w ∷ ws) = if is_bad_word w then Some k else bad_word (k + 1) ws
 
--- the fault by the count, which is told only where there is no bad word
+-- The fault by the count, which is told only where there is no bad word.
 abbrev pub count_fault : ℕ → ℕ → Option ℕ → Option WordError
 count_fault have want (Some k) = Some (BadWord k)
 count_fault have want None = if have == want then None else Some (WrongCount have want)
 
--- the fault of the words behind a command that wants so many
+-- The fault of the words behind a command that wants so many.
 unfoldable pub word_fault : ℕ → List (List ℕ) → Option WordError
 word_fault want ws = count_fault (length ws) want (bad_word 1 ws)
 
--- the word at a place, counted from 0
+-- The word at a place, counted from 0.
 abbrev pub word : List (List ℕ) → ℕ → List ℕ
 word ws k = slice_index_or ws k []
 
--- a number that passes a test; else the word of this number is a bad one
+-- A number that passes a test; else the word of this number is a bad one.
 abbrev pub ranged : ℕ → (ℕ → Bool) → Option ℕ → Result ℕ WordError
 ranged place test None = Err (BadNumber place)
 ranged place test (Some n) = if test n then Ok n else Err (BadNumber place)
@@ -41,11 +42,11 @@ ranged place test (Some n) = if test n then Ok n else Err (BadNumber place)
 abbrev pub number_at : ℕ → (ℕ → Bool) → List ℕ → Result ℕ WordError
 number_at place test w = ranged place test (number_of w)
 
--- the anchor id with this text; else the word of this number is a bad one
+-- The anchor id with this text; else the word of this number is a bad one.
 abbrev pub id_at : ℕ → List ℕ → Result (List ℕ) WordError
 id_at place w = blamed (BadId place) (anchor_text w)
 
--- the command of this name with its words, of which there are as many as it wants
+-- The command of this name with its words, of which there are as many as it wants.
 abbrev pub command_from : Name → List (List ℕ) → Result CommandValue WordError
 command_from Member ws = Ok (member (word ws 0))
 command_from Show ws = Ok (show (word ws 0))
@@ -76,22 +77,22 @@ command_from Keygen ws = do
   width ← number_at 2 is_width (word ws 1)
   Ok (keygen height width (word ws 2))
 
--- the fault, or else the command
+-- The fault, or else the command.
 abbrev pub unless_fault : {A : Type 0} → Option WordError → Result A WordError → Result A WordError
 unless_fault (Some fault) wanted = Err fault
 unless_fault None wanted = wanted
 
--- what the words behind a name say
+-- What the words behind a name say.
 abbrev pub command_named : Option Name → List (List ℕ) → Result CommandValue WordError
 command_named None ws = Err UnknownCommand
 command_named (Some name) ws = unless_fault (word_fault (count_of name) ws) (command_from name ws)
 
--- what words say
+-- What words say.
 unfoldable pub command_of : List (List ℕ) → Result CommandValue WordError
 command_of [] = Err NoCommand
 command_of (w ∷ ws) = command_named (name_of w) ws
 
--- the first word where it is a command, and else no bytes
+-- The first word where it is a command, and else no bytes.
 abbrev pub known_word : List (List ℕ) → List ℕ
 known_word [] = []
 known_word (w ∷ ws) = if is_some (name_of w) then w else []

@@ -1,17 +1,19 @@
+//! The commands and what their words say.
 use tls_wire::AnchorId;
 
-/// A command with its words, in their order: a file word is a text, a number a `u64`, and an id an anchor id.
+/// A command with its words, in their order: a file word is a text, a number a `u64`, and an id an
+/// anchor id.
 #[derive(Debug, Drop)]
 pub enum Command<'a> {
     /// `member FILE`: evaluate the inclusion path that the file holds.
     Member(&'a str),
     /// `show CERT`: print what a certificate says.
     Show(&'a str),
-    /// `verify CERT STORE NOW`: judge a certificate by a store at a moment, in seconds since 1970-01-01T00:00:00Z, at most
-    /// 253402300799.
+    /// `verify CERT STORE NOW`: judge a certificate by a store at a moment, in seconds since
+    /// 1970-01-01T00:00:00Z, at most 253402300799.
     Verify(&'a str, &'a str, u64),
-    /// `init-log J LOGID MAXACTIVE LIMIT`: make the journal of a log, with 1 to 10,000 active landmarks and at most 2 to
-    /// 1,048,576 entries.
+    /// `init-log J LOGID MAXACTIVE LIMIT`: make the journal of a log, with 1 to 10,000 active
+    /// landmarks and at most 2 to 1,048,576 entries.
     InitLog(&'a str, AnchorId, u64, u64),
     /// `issue J REQUEST`: add the entry of a request to the log.
     Issue(&'a str, &'a str),
@@ -19,10 +21,12 @@ pub enum Command<'a> {
     Checkpoint(&'a str),
     /// `entries J SIZE`: write the first entries of the log with their keys.
     Entries(&'a str, u64),
-    /// `consist J OLD NEW`: write a request to a cosigner to advance from one size of the log to another.
+    /// `consist J OLD NEW`: write a request to a cosigner to advance from one size of the log to
+    /// another.
     Consist(&'a str, u64, u64),
     /// `subtree J START END SIZE`: write a request to a cosigner to sign a subtree.
     Subtree(&'a str, u64, u64, u64),
-    /// `keygen HEIGHT WIDTH SECRET`: print the public key of a secret. The height is 5 or 10, the width 1, 2, 4 or 8.
+    /// `keygen HEIGHT WIDTH SECRET`: print the public key of a secret. The height is 5 or 10, the
+    /// width 1, 2, 4 or 8.
     Keygen(u64, u64, &'a str),
 }

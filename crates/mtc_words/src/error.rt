@@ -1,7 +1,8 @@
+//! Why words are no command.
 use thiserror::Error;
 
-/// Why words are no command. The tests are made in this order. A word's number is counted from 1 behind the
-/// command.
+/// Why words are no command. The tests are made in this order. A word's number is counted from 1
+/// behind the command.
 #[derive(Clone, Copy, Debug, Error, PartialEq, Eq)]
 pub enum WordError {
     /// There is no word.

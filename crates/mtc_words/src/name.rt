@@ -1,3 +1,4 @@
+//! The names of the commands.
 ghost use Rattle.std.specs.Prelude.{◌≡◌};
 ghost use Rattle.mtc_words.specs.Names.{name_of, count_of};
 

@@ -1,3 +1,4 @@
+//! Numbers in words.
 ghost use Rattle.std.specs.Prelude.{◌≡◌};
 ghost use Rattle.std.specs.Str.{all_ascii_digits};
 ghost use Rattle.mtc_words.specs.Numbers.{is_decimal, number_of};
@@ -26,7 +27,8 @@ fn has_decimal_form(word: &str) -> bool
     bytes[0] != b'0'
 }
 
-// The number that a word is, if it is one: decimal, without a sign or a leading zero, and at most 2^63 - 1.
+// The number that a word is, if it is one: decimal, without a sign or a leading zero, and at most
+// 2^63 - 1.
 #[tactic(auto, unfolding(crate::specs::Numbers::number_of))]
 pub fn read_number(word: &str) -> Option<u64>
     ensures { result ≡ number_of word.now }

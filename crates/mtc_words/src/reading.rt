@@ -1,3 +1,4 @@
+//! The command that words name and describe.
 ghost use Rattle.std.specs.Prelude.{◌≡◌, length, map, string_bytes, IfNone, IfOk};
 ghost use Rattle.byte_forms.specs.Readings.{Answers};
 ghost use Rattle.mtc_words.specs.Commands.{command_value, said, IsInRange};
@@ -44,9 +45,10 @@ fn fault(words: &[String], want: usize) -> Option<WordError>
     }
 }
 
-/// Reads the words of a command. Refuses, the first that holds: `NoCommand`, `UnknownCommand`, `BadWord` with the
-/// number of the first word that is empty or begins with a hyphen, `WrongCount`, `BadNumber` with the number of the
-/// first number word that is none, or lies outside its range, `BadId` with that of the first id word that is no anchor id.
+/// Reads the words of a command. Refuses, the first that holds: `NoCommand`, `UnknownCommand`,
+/// `BadWord` with the number of the first word that is empty or begins with a hyphen, `WrongCount`,
+/// `BadNumber` with the number of the first number word that is none, or lies outside its range,
+/// `BadId` with that of the first id word that is no anchor id.
 #[tactic(auto, unfolding(crate::specs::Words::command_of))]
 pub fn read_words<'a>(alloc: Global, words: &'a [String]) -> Result<Command<'a>, WordError>
     ensures exact { Answers WordError.Memory (command_of (map string_bytes words.now)) (said result) }
@@ -64,7 +66,8 @@ pub fn read_words<'a>(alloc: Global, words: &'a [String]) -> Result<Command<'a>,
     }
 }
 
-/// The first word where it is a command, and else an empty text: what a line about the command begins with.
+/// The first word where it is a command, and else an empty text: what a line about the command
+/// begins with.
 pub fn command_word(words: &[String]) -> &str
     ensures { result.now ≡ known_word (map string_bytes words.now) }
 {
