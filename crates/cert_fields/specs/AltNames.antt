@@ -15,11 +15,12 @@ use Rattle.der_core.specs.declared.fault.CertError.TheVariants.{BadExtension}
 abbrev pub dns_name : ℕ
 dns_name = 0x82
 
--- A GeneralName that the contents allow: rfc822Name, dNSName, uniformResourceIdentifier, iPAddress, registeredID, otherName,
--- x400Address, directoryName or ediPartyName.
+-- A GeneralName that the contents allow: rfc822Name, dNSName, uniformResourceIdentifier, iPAddress,
+-- registeredID, otherName, x400Address, directoryName or ediPartyName.
 abbrev pub is_name_tag : ℕ → Bool
 is_name_tag tag =
-    tag == 0x81 || tag == 0x82 || tag == 0x86 || tag == 0x87 || tag == 0x88 || tag == 0xA0 || tag == 0xA3 || tag == 0xA4 || tag == 0xA5
+    tag == 0x81 || tag == 0x82 || tag == 0x86 || tag == 0x87 || tag == 0x88 || tag == 0xA0
+    || tag == 0xA3 || tag == 0xA4 || tag == 0xA5
 
 -- The bytes are ASCII.
 abbrev pub is_ascii : List ℕ → Bool
@@ -27,11 +28,14 @@ is_ascii bytes = list_all (λ b. nat_lt b 0x80) bytes
 
 -- One of these tags; a dNSName is ASCII.
 abbrev pub is_general_name : ℕ → List ℕ → Bool
-is_general_name tag contents = is_name_tag tag && (if tag == dns_name then is_ascii contents else true)
+is_general_name tag contents =
+    is_name_tag tag && (if tag == dns_name then is_ascii contents else true)
 
 -- GeneralName.
 unfoldable pub general_name_at : At → Result (List ℕ × At) CertError
-general_name_at a = der (element_at a) >>= λ e. if is_general_name e.0.tag e.0.contents then Ok (e.0.whole, e.1) else Err BadExtension
+general_name_at a =
+    der (element_at a) >>= λ e.
+    if is_general_name e.0.tag e.0.contents then Ok (e.0.whole, e.1) else Err BadExtension
 
 -- GeneralNames: a SEQUENCE of names, at least one.
 unfoldable pub general_names_at : At → Result (List ℕ × At) CertError
@@ -46,8 +50,8 @@ abbrev pub name_then : Result (Item × At) DerError → (At → List (List ℕ))
 name_then (Ok e) behind = if e.0.tag == dns_name then e.0.contents ∷ behind e.1 else behind e.1
 name_then (Err fault) behind = []
 
--- The dNSNames among elements one behind the other, up to the first that doesn't read. The number is at least that of the
--- bytes that are left.
+-- The dNSNames among elements one behind the other, up to the first that doesn't read. The number
+-- is at least that of the bytes that are left.
 unfoldable pub names_from : ℕ → At → List (List ℕ)
 names_from zero a = []
 names_from (suc n) a = name_then (element_at a) (λ b. names_from n b)

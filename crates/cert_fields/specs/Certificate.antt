@@ -1,4 +1,5 @@
--- A certificate (RFC 5280, section 4.1): its fields one behind the other, with the first fault from the left.
+-- A certificate (RFC 5280, section 4.1): its fields one behind the other, with the first fault from
+-- the left.
 use Rattle.std.specs.Prelude.{ℕ, nat_lt, ◌==◌, ◌||◌, Bool, List, Result}
 use Rattle.std.specs.Str.{bytes_eq}
 use Rattle.byte_forms.specs.Places.{At, begins_with}
@@ -12,8 +13,8 @@ use Rattle.cert_fields.specs.Names.{name_at}
 use Rattle.cert_fields.specs.Times.{validity_at}
 use Rattle.cert_fields.specs.Extensions.{extensions_at}
 
--- The parts of a certificate. Each list of bytes but the proof is a whole element; the extensions are absent where their list
--- is empty. The proof is the bytes of the signature.
+-- The parts of a certificate. Each list of bytes but the proof is a whole element; the extensions
+-- are absent where their list is empty. The proof is the bytes of the signature.
 pub record Parts : Type 0 where
   pub serial : ℕ
   pub algorithm : List ℕ
@@ -30,23 +31,30 @@ nothing n = tt
 
 -- Version: 2 stands for version 3 (4.1.2.1). It isn't the default, so it is written.
 unfoldable pub version_at : At → Result (Unit {0} × At) CertError
-version_at = mapped_at nothing (headed_at 0xA0 BadVersion (inside_at 0xA0 (tested_at (λ n. n == 2) BadVersion (unsigned_at BadVersion))))
+version_at =
+    mapped_at nothing (headed_at 0xA0 BadVersion
+    (inside_at 0xA0 (tested_at (λ n. n == 2) BadVersion (unsigned_at BadVersion))))
 
 -- The serial number (4.1.2.2): from 1 to 2 ^ 64 - 1.
 unfoldable pub serial_at : At → Result (ℕ × At) CertError
 serial_at = tested_at (λ n. nat_lt 0 n) BadSerial (unsigned_at BadSerial)
 
--- A unique identifier of the issuer or the subject (4.1.2.8), in the primitive or the constructed form.
+-- A unique identifier of the issuer or the subject (4.1.2.8), in the primitive or the constructed
+-- form.
 abbrev pub is_unique_id : List ℕ → Bool
-is_unique_id rest = begins_with 0x81 rest || begins_with 0x82 rest || begins_with 0xA1 rest || begins_with 0xA2 rest
+is_unique_id rest =
+    begins_with 0x81 rest || begins_with 0x82 rest
+    || begins_with 0xA1 rest || begins_with 0xA2 rest
 
--- The fields behind the serial number: algorithm, issuer, validity, subject, public key, extensions.
+-- The fields behind the serial number: algorithm, issuer, validity, subject, public key,
+-- extensions.
 abbrev pub Body : Type 0
 Body = List ℕ × (List ℕ × ((List ℕ × Validity) × (List ℕ × (List ℕ × List ℕ))))
 
 unfoldable pub body_at : At → Result (Body × At) CertError
 body_at =
-    both_at algorithm_at (both_at name_at (both_at validity_at (both_at name_at (both_at spki_at (refused_at is_unique_id UniqueId extensions_at)))))
+    both_at algorithm_at (both_at name_at (both_at validity_at (both_at name_at
+    (both_at spki_at (refused_at is_unique_id UniqueId extensions_at)))))
 
 -- TBSCertificate: what is signed.
 unfoldable pub tbs_at : At → Result ((Unit {0} × (ℕ × Body)) × At) CertError
@@ -78,6 +86,7 @@ to_parts x =
 unfoldable pub certificate_at : At → Result (Parts × At) CertError
 certificate_at = mapped_at to_parts (inside_at 0x30 (both_at signed_at signature_at))
 
--- The parts of the certificate that these bytes are, or the first fault from the left, an outer element before its parts.
+-- The parts of the certificate that these bytes are, or the first fault from the left, an outer
+-- element before its parts.
 unfoldable pub parts_of : List ℕ → Result Parts CertError
 parts_of = all_of certificate_at

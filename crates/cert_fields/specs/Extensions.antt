@@ -27,11 +27,16 @@ is_among bytes seen = list_any (λ other. bytes_eq other bytes) seen
 
 -- The identifier, which isn't among those before it.
 unfoldable pub new_identifier_at : List (List ℕ) → At → Result (List ℕ × At) CertError
-new_identifier_at seen = tested_at (λ identifier. not (is_among identifier seen)) RepeatedExtension (decoded_at 0x06 oid_of)
+new_identifier_at seen =
+    tested_at (λ identifier. not (is_among identifier seen)) RepeatedExtension
+    (decoded_at 0x06 oid_of)
 
--- The mark of a critical extension: TRUE. FALSE is the default, and a default isn't written (X.690, section 11.5).
+-- The mark of a critical extension: TRUE. FALSE is the default, and a default isn't written (X.690,
+-- section 11.5).
 unfoldable pub critical_at : At → Result (Bool × At) CertError
-critical_at = mapped_at is_some (optional_at 0x01 (tested_at (λ b. b) BadExtension (decoded_at 0x01 boolean_of)))
+critical_at =
+    mapped_at is_some (optional_at 0x01 (tested_at (λ b. b) BadExtension
+    (decoded_at 0x01 boolean_of)))
 
 abbrev pub to_extension : List ℕ × (Bool × List ℕ) → ExtensionFields
 to_extension x = record { identifier = x.0; critical = x.1.0; octets = x.1.1 }
@@ -47,7 +52,8 @@ has_its_form x = if is_alt_name x then are_general_names x.octets else true
 unfoldable pub extension_at : List (List ℕ) → At → Result (ExtensionFields × At) CertError
 extension_at seen =
     inside_at 0x30 (tested_at has_its_form BadExtension
-    (mapped_at to_extension (both_at (new_identifier_at seen) (both_at critical_at (contents_at 0x04)))))
+    (mapped_at to_extension
+    (both_at (new_identifier_at seen) (both_at critical_at (contents_at 0x04)))))
 
 abbrev pub identifier_of : ExtensionFields → List ℕ
 identifier_of x = x.identifier
@@ -68,7 +74,9 @@ extensions_at = or_nothing_at 0xA3 (whole_at 0xA3 extension_sequence_at)
 
 -- The identifier of the extension that stands here.
 unfoldable pub head_at : At → Result (List ℕ × At) DerError
-head_at a = wanted_at 0x30 a >>= λ e. wanted_at 0x06 (inside e.0) >>= λ identifier. Ok (identifier.0.contents, e.1)
+head_at a =
+    wanted_at 0x30 a >>= λ e.
+    wanted_at 0x06 (inside e.0) >>= λ identifier. Ok (identifier.0.contents, e.1)
 
 -- A value, and those behind it.
 abbrev pub value_then : {X E : Type 0} → Result (X × At) E → (At → List X) → List X
@@ -99,7 +107,9 @@ extensions_left a = extensions_from (length a.rest) a
 
 -- The place of the first extension in the bytes of the field.
 unfoldable pub list_in : List ℕ → Result At DerError
-list_in bytes = wanted_at 0xA3 (at bytes 0) >>= λ field. wanted_at 0x30 (inside field.0) >>= λ list. Ok (inside list.0)
+list_in bytes =
+    wanted_at 0xA3 (at bytes 0) >>= λ field.
+    wanted_at 0x30 (inside field.0) >>= λ list. Ok (inside list.0)
 
 abbrev pub extensions_behind : Result At DerError → List ExtensionFields
 extensions_behind (Ok a) = extensions_left a

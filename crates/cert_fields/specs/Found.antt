@@ -1,4 +1,5 @@
--- The extensions field of a certificate, spelled from its extensions, and the names that are found in it.
+-- The extensions field of a certificate, spelled from its extensions, and the names that are found
+-- in it.
 use Rattle.std.specs.Prelude.{◌≡◌, ℕ, ◌^◌, ◌<◌, ◌⊎◌, ◌==◌, List, [], ◌∷◌, length, if◌then◌else◌}
 use Rattle.std.specs.List.{flat_map, AllByRecursion}
 use Rattle.der_core.specs.Elements.{element, FitsElement}
@@ -17,7 +18,8 @@ extensions_text xs = element 0xA3 (sequence_text xs)
 -- The extensions of a certificate whose field is this: none where it is absent.
 abbrev pub AreExtensionsOf : List ℕ → List ExtensionFields → Type 0
 AreExtensionsOf field xs =
-    ((field ≡ []) × (xs ≡ [])) ⊎ (AreExtensions xs × (length (sequence_text xs) < 2 ^ 24) × (field ≡ extensions_text xs))
+    ((field ≡ []) × (xs ≡ []))
+    ⊎ (AreExtensions xs × (length (sequence_text xs) < 2 ^ 24) × (field ≡ extensions_text xs))
 
 -- A general name by its tag and its contents.
 abbrev pub name_text : ℕ × List ℕ → List ℕ

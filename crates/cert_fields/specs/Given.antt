@@ -4,9 +4,12 @@ use Rattle.cert_time.specs.Times.{validity_element}
 use Rattle.cert_fields.specs.Certificate.{Parts}
 use Rattle.cert_fields.specs.declared.parts.CertParts.{CertParts}
 
--- The AlgorithmIdentifier of Merkle tree proofs: the object identifier 1.3.6.1.4.1.44363.47.0, without parameters.
+-- The AlgorithmIdentifier of Merkle tree proofs: the object identifier 1.3.6.1.4.1.44363.47.0,
+-- without parameters.
 abbrev pub mtc_proof : List ℕ
-mtc_proof = 0x30 ∷ 0x0C ∷ 0x06 ∷ 0x0A ∷ 0x2B ∷ 0x06 ∷ 0x01 ∷ 0x04 ∷ 0x01 ∷ 0x82 ∷ 0xDA ∷ 0x4B ∷ 0x2F ∷ 0x00 ∷ []
+mtc_proof =
+    0x30 ∷ 0x0C ∷ 0x06 ∷ 0x0A ∷ 0x2B ∷ 0x06 ∷ 0x01 ∷ 0x04 ∷ 0x01 ∷ 0x82 ∷ 0xDA ∷ 0x4B ∷ 0x2F ∷ 0x00
+    ∷ []
 
 abbrev pub given : CertParts → Parts
 given p = record {
@@ -23,4 +26,5 @@ given p = record {
 
 -- The bytes of all parts together.
 abbrev pub size_of : CertParts → ℕ
-size_of p = length p.issuer + length p.subject + length p.spki + length p.extensions + length p.proof
+size_of p =
+    length p.issuer + length p.subject + length p.spki + length p.extensions + length p.proof

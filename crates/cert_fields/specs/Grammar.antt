@@ -14,7 +14,8 @@ use Rattle.cert_fields.specs.Spelling.{certificate_fields}
 
 -- The bytes are one element with this tag, and its contents spell a value.
 abbrev pub IsElementOf : {X : Type 0} → ℕ → (X → List ℕ) → (X → Type 0) → List ℕ → Type 0
-IsElementOf tag spell Fits = IsSpelling (λ x. element tag (spell x)) (λ x. Fits x × (length (spell x) < 2 ^ 24))
+IsElementOf tag spell Fits =
+    IsSpelling (λ x. element tag (spell x)) (λ x. Fits x × (length (spell x) < 2 ^ 24))
 
 -- The contents of an object identifier's element.
 abbrev pub IsIdentifier : List ℕ → Type 0
@@ -26,7 +27,8 @@ IsElementOrNothing bytes = (bytes ≡ []) ⊎ IsElement bytes
 
 -- AlgorithmIdentifier (4.1.1.2): a SEQUENCE of an object identifier and at most one element.
 abbrev pub IsAlgorithm : List ℕ → Type 0
-IsAlgorithm = IsElementOf 0x30 (both (element 0x06) itself) (FitsBoth IsIdentifier IsElementOrNothing)
+IsAlgorithm =
+    IsElementOf 0x30 (both (element 0x06) itself) (FitsBoth IsIdentifier IsElementOrNothing)
 
 -- The number of unused bits and the bytes of a BIT STRING's element.
 abbrev pub IsBits : ℕ × List ℕ → Type 0
@@ -34,7 +36,8 @@ IsBits b = IsBitString b × (length (bit_string b) < 2 ^ 24)
 
 -- SubjectPublicKeyInfo (4.1.2.7): a SEQUENCE of an algorithm and a BIT STRING.
 abbrev pub IsPublicKey : List ℕ → Type 0
-IsPublicKey = IsElementOf 0x30 (both itself (λ b. element 0x03 (bit_string b))) (FitsBoth IsAlgorithm IsBits)
+IsPublicKey =
+    IsElementOf 0x30 (both itself (λ b. element 0x03 (bit_string b))) (FitsBoth IsAlgorithm IsBits)
 
 -- AttributeTypeAndValue (4.1.2.4): a SEQUENCE of an object identifier and one element.
 abbrev pub IsAttribute : List ℕ → Type 0
@@ -60,7 +63,8 @@ pub record IsValidity (v : List ℕ × Validity) : Type 0 where
   pub not_after : IsMoment v.1.not_after
   pub spelled : v.0 ≡ validity_element v.1.not_before v.1.not_after
 
--- The bytes of a signature (4.1.1.3): as a BIT STRING they are short enough for a length of three bytes.
+-- The bytes of a signature (4.1.1.3): as a BIT STRING they are short enough for a length of three
+-- bytes.
 abbrev pub IsSignature : List ℕ → Type 0
 IsSignature proof = length (0 ∷ proof) < 2 ^ 24
 
@@ -74,7 +78,9 @@ pub record IsGeneralName (bytes : List ℕ) : Type 0 where
 
 -- GeneralNames (4.2.1.6): a SEQUENCE of them, at least one.
 abbrev pub IsGeneralNames : List ℕ → Type 0
-IsGeneralNames = IsElementOf 0x30 (flat_map itself) (λ names. AllByRecursion IsGeneralName names × (0 < length (flat_map itself names)))
+IsGeneralNames =
+    IsElementOf 0x30 (flat_map itself)
+    (λ names. AllByRecursion IsGeneralName names × (0 < length (flat_map itself names)))
 
 -- The mark of a critical extension: a BOOLEAN of TRUE, or nothing.
 abbrev pub mark : Bool → List ℕ
@@ -108,7 +114,8 @@ IsExtensionSequence = IsElementOf 0x30 (flat_map extension) AreExtensions
 abbrev pub IsExtensionsField : List ℕ → Type 0
 IsExtensionsField = IsElementOf 0xA3 itself IsExtensionSequence
 
--- Certificate (4.1): each part is in its grammar, and the whole is short enough for a length of three bytes.
+-- Certificate (4.1): each part is in its grammar, and the whole is short enough for a length of
+-- three bytes.
 pub record IsCertificate (p : Parts) : Type 0 where
   pub positive : 0 < p.serial
   pub serial : p.serial < 2 ^ 64

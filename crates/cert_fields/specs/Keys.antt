@@ -1,4 +1,5 @@
--- Algorithms, public keys and the signature's bits (RFC 5280, sections 4.1.1.2, 4.1.1.3 and 4.1.2.7).
+-- Algorithms, public keys and the signature's bits (RFC 5280, sections 4.1.1.2, 4.1.1.3 and
+-- 4.1.2.7).
 use Rattle.std.specs.Prelude.{ℕ, ◌==◌, Bool, List, Result, Ok, Err, if◌then◌else◌}
 use Rattle.byte_forms.specs.Places.{At}
 use Rattle.byte_forms.specs.Readings.{◌>>=◌, both_at, last_at, is_read}
@@ -22,7 +23,8 @@ is_public_key bytes = is_read (all_of spki_at bytes)
 
 -- A BIT STRING of whole bytes: no bit of it is unused.
 unfoldable pub whole_bits_of : ℕ → List ℕ → Result (List ℕ) DerError
-whole_bits_of place contents = bits_of place contents >>= λ b. if b.0 == 0 then Ok b.1 else Err (BadBits place)
+whole_bits_of place contents =
+    bits_of place contents >>= λ b. if b.0 == 0 then Ok b.1 else Err (BadBits place)
 
 -- The signature: the bytes of a BIT STRING.
 unfoldable pub signature_at : At → Result (List ℕ × At) CertError

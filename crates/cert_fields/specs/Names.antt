@@ -15,13 +15,15 @@ use Rattle.der_core.specs.declared.fault.CertError.TheVariants.{BadName}
 unfoldable pub attribute_at : At → Result (List ℕ × At) CertError
 attribute_at = whole_at 0x30 (both_at (decoded_at 0x06 oid_of) any_at)
 
--- RelativeDistinguishedName: a SET OF attributes, at least one, in rising order. First it is not empty, then its elements
--- rise, then each is an attribute.
+-- RelativeDistinguishedName: a SET OF attributes, at least one, in rising order. First it is not
+-- empty, then its elements rise, then each is an attribute.
 unfoldable pub set_at : At → Result (List ℕ × At) CertError
 set_at a =
     der (wanted_at 0x31 a) >>= λ e.
     (if length e.0.contents == 0 then Err BadName
-    else (der (order_of e.0) >>= λ risen. discarded (up_to_end attribute_at (inside e.0)) >>= λ b. der (end_at b) >>= λ done. Ok (e.0.whole, e.1)))
+    else (der (order_of e.0) >>= λ risen.
+    discarded (up_to_end attribute_at (inside e.0)) >>= λ b.
+    der (end_at b) >>= λ done. Ok (e.0.whole, e.1)))
 
 -- Name: sets one behind the other, or none.
 unfoldable pub name_at : At → Result (List ℕ × At) CertError

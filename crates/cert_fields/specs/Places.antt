@@ -9,6 +9,7 @@ place_behind (Ok x) = Ok x.1.place
 place_behind (Err e) = Err e
 
 -- The moments that were read, and the offset behind them.
-abbrev pub moments_behind : {E : Type 0} → Result ((List ℕ × Validity) × At) E → Result (Validity × ℕ) E
+abbrev pub moments_behind : {E : Type 0} → Result ((List ℕ × Validity) × At) E
+    → Result (Validity × ℕ) E
 moments_behind (Ok x) = Ok (x.0.1, x.1.place)
 moments_behind (Err e) = Err e

@@ -11,7 +11,8 @@ version = 0xA0 ∷ 0x03 ∷ 0x02 ∷ 0x01 ∷ 0x02 ∷ []
 -- The fields that are signed.
 abbrev pub tbs_fields : Parts → List ℕ
 tbs_fields p =
-    version ++ (element 0x02 (integer p.serial) ++ (p.algorithm ++ (p.issuer ++ (p.validity_der ++ (p.subject ++ (p.spki ++ p.extensions))))))
+    version ++ (element 0x02 (integer p.serial) ++ (p.algorithm ++ (p.issuer
+    ++ (p.validity_der ++ (p.subject ++ (p.spki ++ p.extensions))))))
 
 -- What is signed, the algorithm again, and the signature as a BIT STRING without unused bits.
 abbrev pub certificate_fields : Parts → List ℕ

@@ -16,7 +16,8 @@ tag_wanted rest = if begins_with 0x18 rest then 0x18 else 0x17
 -- Time: the moment that its contents name.
 unfoldable pub time_at : At → Result (ℤ × At) CertError
 time_at a =
-    der (wanted_at (tag_wanted a.rest) a) >>= λ e. some_or BadTime (time_moment (tag_wanted a.rest) e.0.contents) >>= λ z. Ok (z, e.1)
+    der (wanted_at (tag_wanted a.rest) a) >>= λ e.
+    some_or BadTime (time_moment (tag_wanted a.rest) e.0.contents) >>= λ z. Ok (z, e.1)
 
 abbrev pub from_to : ℤ × ℤ → Validity
 from_to v = record { not_before = v.0; not_after = v.1 }

@@ -24,10 +24,20 @@ parts c = record {
 }
 
 abbrev pub body : Fields → Body
-body f = (f.algorithm.now, (f.issuer.now, ((f.validity_der.now, f.validity), (f.subject.now, (f.spki.now, f.extensions.now)))))
+body f = (
+  f.algorithm.now,
+  (
+    f.issuer.now,
+    (
+      (f.validity_der.now, f.validity),
+      (f.subject.now, (f.spki.now, f.extensions.now)),
+    ),
+  ),
+)
 
 abbrev pub extension_fields : Extension → ExtensionFields
-extension_fields x = record { identifier = x.identifier.now; critical = x.critical; octets = x.octets.now }
+extension_fields x =
+    record { identifier = x.identifier.now; critical = x.critical; octets = x.octets.now }
 
 -- The bytes of each slice.
 abbrev pub texts : List (Bor (List ℕ)) → List (List ℕ)

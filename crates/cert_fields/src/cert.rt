@@ -2,8 +2,8 @@
 
 use cert_time::Validity;
 
-/// The fields of a certificate that was read. Each slice lies in the bytes that were read, and all but the proof are whole
-/// elements: tag, length and contents.
+/// The fields of a certificate that was read. Each slice lies in the bytes that were read, and all
+/// but the proof are whole elements: tag, length and contents.
 #[derive(Clone, Copy, Debug)]
 pub struct Cert<'a> {
     /// From 1 on.

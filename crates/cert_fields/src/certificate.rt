@@ -110,7 +110,8 @@ fn tbs<'a>(reader: &mut Reader<'a>) -> Result<(u64, Fields<'a>), CertError>
 /// What is signed, with the algorithm beside it, which has to be the same.
 #[tactic(auto, unfolding(crate::specs::Certificate::signed_at))]
 fn signed<'a>(reader: &mut Reader<'a>) -> Result<(u64, Fields<'a>, &'a [u8]), CertError>
-    ensures { Moves (λ s. ((tt, (s.0, body s.1)), s.2.now)) signed_at reader.old result reader.new }
+    ensures { Moves (λ s. ((tt, (s.0, body s.1)), s.2.now)) signed_at
+        reader.old result reader.new }
 {
     let (serial, fields) = tbs(reader)?;
     let algorithm = reader.wanted(SEQUENCE)?.whole;
@@ -157,16 +158,20 @@ fn whole<'a>(bytes: &'a [u8]) -> Result<Cert<'a>, CertError>
 
 /// Reads a certificate, without taking memory.
 ///
-/// The first fault from the left is answered, an outer element before its parts. Beside the faults of elements these are, in
-/// the order of the fields: `BadVersion` where the version is absent or isn't 3; `BadSerial` where the serial number isn't from
-/// 1 to 2 ^ 64 - 1; `BadName` where a set of a name is empty; `BadTime` where a time is out of its form; `UniqueId` where a
-/// unique identifier stands behind the public key; `RepeatedExtension` and `BadExtension` as in
-/// [`check_extensions`](crate::check_extensions); `AlgorithmsDiffer` where the algorithm beside the signature isn't the one
-/// that is signed; `BadBits` where the signature has unused bits; `Trailing` with the offset of what stands behind the last
-/// field of a constructed element or of the certificate.
+/// The first fault from the left is answered, an outer element before its parts. Beside the faults
+/// of elements these are, in the order of the fields: `BadVersion` where the version is absent or
+/// isn't 3; `BadSerial` where the serial number isn't from 1 to 2 ^ 64 - 1; `BadName` where a set
+/// of a name is empty; `BadTime` where a time is out of its form; `UniqueId` where a unique
+/// identifier stands behind the public key; `RepeatedExtension` and `BadExtension` as in
+/// [`check_extensions`](crate::check_extensions); `AlgorithmsDiffer` where the algorithm beside the
+/// signature isn't the one that is signed; `BadBits` where the signature has unused bits;
+/// `Trailing` with the offset of what stands behind the last field of a constructed element or of
+/// the certificate.
 pub fn parse<'a>(bytes: &'a [u8]) -> Result<Cert<'a>, CertError>
-    ensures found { IfOk result (λ c. (bytes.now ≡ certificate (parts c)) × IsCertificate (parts c)) }
-    ensures only { (p : Parts) → IsCertificate p → bytes.now ≡ certificate p → Gives parts result (Ok p) }
+    ensures found { IfOk result
+        (λ c. (bytes.now ≡ certificate (parts c)) × IsCertificate (parts c)) }
+    ensures only { (p : Parts) → IsCertificate p → bytes.now ≡ certificate p
+        → Gives parts result (Ok p) }
     ensures exact { Gives parts result (parts_of bytes.now) }
 {
     whole(bytes)

@@ -54,7 +54,8 @@ fn new_identifier<'a>(
     list: &Reader,
     count: usize,
 ) -> Result<&'a [u8], CertError>
-    ensures { Moves (λ bytes. bytes.now) (new_identifier_at (identifiers count list.now)) reader.old result reader.new }
+    ensures { Moves (λ bytes. bytes.now) (new_identifier_at (identifiers count list.now))
+        reader.old result reader.new }
 {
     let element = reader.wanted(OBJECT_IDENTIFIER)?;
     let identifier = oid(&element)?;
@@ -95,7 +96,8 @@ fn one_extension<'a>(
     list: &Reader,
     count: usize,
 ) -> Result<Extension<'a>, CertError>
-    ensures exact { Moves extension_fields (extension_at (identifiers count list.now)) reader.old result reader.new }
+    ensures exact { Moves extension_fields (extension_at (identifiers count list.now))
+        reader.old result reader.new }
     ensures forward { OnOk result (length reader.new.rest < length reader.old.rest) }
 {
     let outer = reader.wanted(SEQUENCE)?;
@@ -130,8 +132,9 @@ fn few_extensions(reader: &mut Reader) -> Result<(), CertError>
     Ok(())
 }
 
-/// The same of many extensions. First each is read, whatever its identifier, up to the first fault; then the identifiers are
-/// compared, that of the fault's extension too, since a repetition is told before what stands behind the identifier.
+/// The same of many extensions. First each is read, whatever its identifier, up to the first fault;
+/// then the identifiers are compared, that of the fault's extension too, since a repetition is told
+/// before what stands behind the identifier.
 fn many_extensions(reader: &mut Reader) -> Result<(), CertError>
     requires { length reader.old.rest < 2 ^ 64 }
     ensures ok { OnOk result (discarded (extension_list_at reader.old) ≡ Ok reader.new) }
@@ -154,7 +157,8 @@ fn many_extensions(reader: &mut Reader) -> Result<(), CertError>
 
 /// The fault of the last of `count` extensions, unless one of them has the identifier of another.
 fn first_fault(list: &Reader, count: usize, fault: CertError) -> CertError
-    ensures { result ≡ (if are_repeated (identifiers count list.now) then RepeatedExtension else fault) }
+    ensures { result ≡
+        (if are_repeated (identifiers count list.now) then RepeatedExtension else fault) }
 {
     if has_repeats(list, count) {
         CertError::RepeatedExtension
@@ -237,8 +241,9 @@ fn list_of(extensions: &[u8]) -> Result<Reader<'_>, DerError>
     Ok(Reader::inside(&list))
 }
 
-/// Whether the bytes of the extensions field hold a critical extension other than subjectAltName, basicConstraints, keyUsage
-/// and extKeyUsage. Bytes that aren't in the field's grammar are looked at up to the first extension that doesn't read.
+/// Whether the bytes of the extensions field hold a critical extension other than subjectAltName,
+/// basicConstraints, keyUsage and extKeyUsage. Bytes that aren't in the field's grammar are looked
+/// at up to the first extension that doesn't read.
 pub fn unknown_critical(extensions: &[u8]) -> bool
     ensures { result ≡ has_unknown_critical extensions.now }
 {
@@ -267,7 +272,8 @@ fn any_unknown_critical(list: Reader) -> bool
     false
 }
 
-/// The dNSNames of a certificate in their order (RFC 5280, section 4.2.1.6); none where it has no subjectAltName.
+/// The dNSNames of a certificate in their order (RFC 5280, section 4.2.1.6); none where it has no
+/// subjectAltName.
 pub fn dns_names<'a>(cert: &Cert<'a>) -> DnsNames<'a>
     ensures { result ≡ dns_names_in cert.now.extensions.now }
 {

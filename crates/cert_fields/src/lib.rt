@@ -1,8 +1,11 @@
-//! X.509 certificates of version 3 (RFC 5280, section 4.1) in the distinguished encoding rules: reading a certificate as a
-//! struct of borrowed fields, with the first fault from the left, and writing one.
+//! X.509 certificates of version 3 (RFC 5280, section 4.1) in the distinguished encoding rules:
+//! reading a certificate as a struct of borrowed fields, with the first fault from the left, and
+//! writing one.
 //!
-//! It is stricter than the standard: serial numbers are below 2 ^ 64, unique identifiers are refused, and an element whose
-//! type isn't fixed by the standard's grammar is one element whose contents aren't looked into.
+//! It is stricter than the standard: serial numbers are below 2 ^ 64, and unique identifiers are
+//! refused. It is laxer where the standard leaves a type open: the contents of such an element
+//! aren't looked into, nor are those of the algorithm beside the signature. The order of both times
+//! and an empty subject are left to the caller.
 #![tactic(auto)]
 
 mod alt_names;

@@ -1,5 +1,6 @@
-//! Whether extensions have one identifier twice. The identifiers are taken in blocks: a block is sorted, and what stands behind
-//! it is looked up there, so that no memory is taken, and the time grows with the square of the number of blocks alone.
+//! Whether extensions have one identifier twice. The identifiers are taken in blocks: a block is
+//! sorted, and what stands behind it is looked up there, so that no memory is taken, and the time
+//! grows with the square of the number of blocks alone.
 
 ghost use Rattle.std.specs.Prelude.{◌≡◌, ℕ, ◌+◌, ◌<◌, ◌≤◌, ◌++◌, [], length, take, OnOk};
 ghost use Rattle.std.specs.List.Sorted.{IsPermutation};
@@ -25,12 +26,13 @@ pub fn head<'a>(reader: &mut Reader<'a>) -> Result<&'a [u8], DerError>
     Ok(identifier.contents)
 }
 
-/// Takes the identifiers of extensions one behind the other into a block, as many as it holds, at most so many, and up to one
-/// that doesn't read. Answers their number.
+/// Takes the identifiers of extensions one behind the other into a block, as many as it holds, at
+/// most so many, and up to one that doesn't read. Answers their number.
 fn take_block<'a>(reader: &mut Reader<'a>, block: &mut [&'a [u8]], most: usize) -> usize
     ensures len { length block.new ≡ length block.old }
     ensures within { (result ≤ most) × (result ≤ length block.new) }
-    ensures read { (n : ℕ) → identifiers (result + n) reader.old ≡ texts (take result block.new) ++ identifiers n reader.new }
+    ensures read { (n : ℕ) → identifiers (result + n) reader.old
+        ≡ texts (take result block.new) ++ identifiers n reader.new }
     ensures none { result ≡ 0 → 0 < most → 0 < length block.new → identifiers most reader.old ≡ [] }
 {
     let mut taken = 0;
@@ -81,7 +83,8 @@ fn is_in(block: &[&[u8]], identifier: &[u8]) -> bool
     block.binary_search(&identifier).is_ok()
 }
 
-/// Whether one of the first `count` extensions of the list has an identifier of the block, whose identifiers are in order.
+/// Whether one of the first `count` extensions of the list has an identifier of the block, whose
+/// identifiers are in order.
 fn is_met(block: &[&[u8]], list: &Reader, count: usize) -> bool
     requires { AreSorted block.now }
     ensures { result ≡ any_among (texts block.now) (identifiers count list.now) }

@@ -17,17 +17,19 @@ use std::alloc::Global;
 
 const VERSION: [u8; 5] = [0xA0, 0x03, 0x02, 0x01, 0x02];
 
-/// Writes a certificate (RFC 5280, section 4.1) whose algorithm is that of Merkle tree proofs. Want of memory is the only
-/// refusal.
+/// Writes a certificate (RFC 5280, section 4.1) whose algorithm is that of Merkle tree proofs. Want
+/// of memory is the only refusal.
 ///
-/// The parts are put together as they are. Where they are those of a certificate, which has a serial number from 1 on and
-/// elements in the grammar of their fields, [`parse`](crate::parse) reads them again from what is written.
+/// The parts are put together as they are. Where they are those of a certificate, which has a
+/// serial number from 1 on and elements in the grammar of their fields, [`parse`](crate::parse)
+/// reads them again from what is written.
 pub fn write(alloc: Global, parts: &CertParts) -> Result<Bytes, Memory>
     requires not_before { IsMoment parts.now.validity.not_before }
     requires not_after { IsMoment parts.now.validity.not_after }
     requires short { size_of parts.now ≤ 16000000 }
     ensures exact { IfOk result (λ bytes. bytes ≡ certificate (given parts.now)) }
-    ensures read { IsCertificate (given parts.now) → IfOk result (λ bytes. parts_of bytes ≡ Ok (given parts.now)) }
+    ensures read { IsCertificate (given parts.now)
+        → IfOk result (λ bytes. parts_of bytes ≡ Ok (given parts.now)) }
 {
     certificate_element(alloc, parts)
 }

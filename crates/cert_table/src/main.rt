@@ -1,10 +1,12 @@
-//! What reading a certificate answers to every change of one byte, to be compared with the answers of another
-//! implementation of the same grammar.
+//! What reading a certificate answers to every change of one byte, to be compared with the answers
+//! of another implementation of the same grammar.
 //!
-//! A line of the input is `LABEL CERTIFICATE`, the certificate in hexadecimal. It is answered by a line `LABEL SIZE ANSWER` for
-//! the certificate itself, and a line for each offset: the offset, and `FROM-TO ANSWER` for each run of values of the byte there
-//! that have one answer. An answer is `Ok` with the serial number, both moments, the lengths of issuer, subject, public key,
-//! extensions and proof, the number of dNSNames, and 1 where a critical extension isn't known; or the fault and its offset.
+//! A line of the input is `LABEL CERTIFICATE`, the certificate in hexadecimal. It is answered by a
+//! line `LABEL SIZE ANSWER` for the certificate itself, and a line for each offset: the offset, and
+//! `FROM-TO ANSWER` for each run of values of the byte there that have one answer. An answer is
+//! `Ok` with the serial number, both moments, the lengths of issuer, subject, public key,
+//! extensions and proof, the number of dNSNames, and 1 where a critical extension isn't known; or
+//! the fault and its offset.
 #![tactic(auto)]
 
 use anyhow::{Context, Result};

@@ -1,4 +1,5 @@
-//! The certificate of one name that a log with id 32473.1 issues, and what is told of changes to it.
+//! The certificate of one name that a log with id 32473.1 issues, and what is told of changes to
+//! it.
 
 use cert_fields::{
     CertParts, check_algorithm, check_extensions, check_name, check_spki, check_validity,
@@ -10,8 +11,8 @@ use mtc_io::{Bytes, Memory};
 use std::alloc::Global;
 use std::test::Fail;
 
-// Serial number 1, issuer of log 32473.1, 2026-01-01 to 2026-01-08, no subject, an Ed25519 key of zeros, one critical
-// subjectAltName with `a.example`, and 52 bytes of proof.
+// Serial number 1, issuer of log 32473.1, 2026-01-01 to 2026-01-08, no subject, an Ed25519 key of
+// zeros, one critical subjectAltName with `a.example`, and 52 bytes of proof.
 const CERTIFICATE: [u8; 231] = [
     0x30, 0x81, 0xE4, 0x30, 0x81, 0x9C, 0xA0, 0x03, 0x02, 0x01, 0x02, 0x02, 0x01, 0x01, 0x30, 0x0C,
     0x06, 0x0A, 0x2B, 0x06, 0x01, 0x04, 0x01, 0x82, 0xDA, 0x4B, 0x2F, 0x00, 0x30, 0x19, 0x31, 0x17,

@@ -1,4 +1,5 @@
-//! The entry of the certificate of one name that a log with id 32473.1 issues, and what is told of changes to it.
+//! The entry of the certificate of one name that a log with id 32473.1 issues, and what is told of
+//! changes to it.
 
 use cert_fields::Cert;
 use cert_time::Validity;
@@ -12,8 +13,8 @@ use std::alloc::Global;
 use std::test::Fail;
 use tree_core::{Sha, TreeHash};
 
-// Issuer of log 32473.1, 2026-01-01 to 2026-01-08, no subject, the SHA-256 of an Ed25519 key of zeros, one critical
-// subjectAltName with `a.example`.
+// Issuer of log 32473.1, 2026-01-01 to 2026-01-08, no subject, the SHA-256 of an Ed25519 key of
+// zeros, one critical subjectAltName with `a.example`.
 const ENTRY: [u8; 131] = [
     0x00, 0x01, 0xA0, 0x03, 0x02, 0x01, 0x02, 0x30, 0x19, 0x31, 0x17, 0x30, 0x15, 0x06, 0x0A, 0x2B,
     0x06, 0x01, 0x04, 0x01, 0x82, 0xDA, 0x4B, 0x2F, 0x01, 0x0C, 0x07, 0x33, 0x32, 0x34, 0x37, 0x33,

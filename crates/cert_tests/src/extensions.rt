@@ -6,8 +6,8 @@ use mtc_io::{Bytes, Memory};
 use std::alloc::Global;
 use std::test::Fail;
 
-// The extensions field with 69 extensions of nine bytes each, whose identifiers differ in their last byte, and this one behind
-// them, at offset 629.
+// The extensions field with 69 extensions of nine bytes each, whose identifiers differ in their
+// last byte, and this one behind them, at offset 629.
 fn field(alloc: Global, last: &[u8; 9]) -> Result<Bytes, Memory> {
     let mut out = Bytes::copy_of(alloc, &[0xA3, 0x82, 0x02, 0x7A, 0x30, 0x82, 0x02, 0x76])?;
     for number in 0..69u8 {

@@ -1,11 +1,12 @@
--- Entries: how their parts are spelled, one behind the other, and what the parts are, apart from any reader.
+-- Entries: how their parts are spelled, one behind the other, and what the parts are, apart from
+-- any reader.
 use Rattle.std.specs.Prelude.{◌≡◌, ℕ, ◌⊎◌, List, [], ◌∷◌, ◌++◌, length, Option, Some, None}
 use Rattle.cert_time.specs.declared.validity.Validity.{Validity}
 use Rattle.cert_fields.specs.Spelling.{version}
 use Rattle.cert_fields.specs.Grammar.{IsName, IsValidity, IsExtensionsField}
 
--- The parts of an entry of type 1. Issuer, validity, subject and extensions are whole elements; the extensions are absent
--- where their list is empty.
+-- The parts of an entry of type 1. Issuer, validity, subject and extensions are whole elements; the
+-- extensions are absent where their list is empty.
 pub record TbsParts : Type 0 where
   pub issuer : List ℕ
   pub validity : Validity
@@ -20,7 +21,8 @@ hash_text hash = 0x04 ∷ 0x20 ∷ hash
 
 -- The body: the fields as they stand in a certificate, with the hash in the place of the key.
 abbrev pub body_text : TbsParts → List ℕ
-body_text p = version ++ (p.issuer ++ (p.validity_der ++ (p.subject ++ (hash_text p.key_hash ++ p.extensions))))
+body_text p = version ++ (p.issuer ++ (p.validity_der ++
+    (p.subject ++ (hash_text p.key_hash ++ p.extensions))))
 
 -- An entry of type 1: its type in two bytes, and its body.
 unfoldable pub tbs_text : TbsParts → List ℕ

@@ -14,8 +14,9 @@ tbs_with p key_hash = record {
   extensions = p.extensions;
 }
 
--- The entry of a certificate under the hash function h: 00 01, then version, issuer, validity and subject as in the
--- certificate, then 04 20 and the hash of the subjectPublicKeyInfo, then the extensions where there are some.
+-- The entry of a certificate under the hash function h: 00 01, then version, issuer, validity and
+-- subject as in the certificate, then 04 20 and the hash of the subjectPublicKeyInfo, then the
+-- extensions where there are some.
 unfoldable pub entry_of : (List ℕ → List ℕ) → Parts → List ℕ
 entry_of h p = tbs_text (tbs_with p (h p.spki))
 

@@ -13,11 +13,13 @@ holds hash (Ok (Some p)) = bytes_eq p.key_hash hash
 holds hash (Ok None) = false
 holds hash (Err e) = false
 
--- A key matches an entry: the entry reads as type 1, the key is one subjectPublicKeyInfo, and the entry holds its hash.
+-- A key matches an entry: the entry reads as type 1, the key is one subjectPublicKeyInfo, and the
+-- entry holds its hash.
 unfoldable pub matches : (List ℕ → List ℕ) → List ℕ → List ℕ → Bool
 matches h entry spki = holds (h spki) (entry_in entry) && is_public_key spki
 
--- The same in terms of the grammars: the bytes spell an entry of type 1, whose hash is that of a public key.
+-- The same in terms of the grammars: the bytes spell an entry of type 1, whose hash is that of a
+-- public key.
 pub record Matches (h : List ℕ → List ℕ) (entry spki : List ℕ) : Type 0 where
   pub parts : TbsParts
   pub fits : IsTbs parts

@@ -61,7 +61,8 @@ typed kind entry rest =
     else (if kind == 1 then as_tbs (body_of (at entry 2))
     else Err (UnknownType kind))
 
--- The entry that these bytes are: the null entry as none, one of type 1 as its parts. Or the first fault.
+-- The entry that these bytes are: the null entry as none, one of type 1 as its parts. Or the first
+-- fault.
 unfoldable pub entry_in : List ℕ → Result (Option TbsParts) EntryError
 entry_in [] = Err Short
 entry_in (high ∷ []) = Err Short

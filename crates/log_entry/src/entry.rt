@@ -11,8 +11,8 @@ pub enum Entry<'a> {
     Tbs(TbsEntry<'a>),
 }
 
-/// The fields of an entry that was read. Each slice lies in the bytes that were read, and all but the hash are whole
-/// elements: tag, length and contents.
+/// The fields of an entry that was read. Each slice lies in the bytes that were read, and all but
+/// the hash are whole elements: tag, length and contents.
 #[derive(Clone, Copy, Debug)]
 pub struct TbsEntry<'a> {
     pub issuer: &'a [u8],
@@ -25,8 +25,8 @@ pub struct TbsEntry<'a> {
     pub extensions: &'a [u8],
 }
 
-/// The parts of an entry that is to be written. Issuer, subject and extensions are whole elements; no bytes stand for
-/// absent extensions.
+/// The parts of an entry that is to be written. Issuer, subject and extensions are whole elements;
+/// no bytes stand for absent extensions.
 #[derive(Clone, Copy, Debug)]
 pub struct EntryParts<'a> {
     pub issuer: &'a [u8],

@@ -2,15 +2,16 @@
 
 use der_core::{CertError, DerError};
 
-/// Why bytes aren't an entry. First there are too few bytes for a type, then the type is looked at, then the body is read
-/// from the left.
+/// Why bytes aren't an entry. First there are too few bytes for a type, then the type is looked at,
+/// then the body is read from the left.
 #[derive(Clone, Copy, Debug, PartialEq, Eq)]
 pub enum EntryError {
     /// There are fewer than two bytes.
     Short,
     /// The type is neither 0 nor 1.
     UnknownType(u16),
-    /// A fault of a field, or of what stands behind the last one. Offsets count in the bytes of the entry.
+    /// A fault of a field, or of what stands behind the last one. Offsets count in the bytes of the
+    /// entry.
     Body(CertError),
     /// The hash of the public key hasn't 32 bytes.
     BadHashLength,

@@ -11,34 +11,41 @@ ghost use Rattle.log_entry.specs.Matching.{matches};
 
 /// What is read as an entry is spelled as one, and the spelling of each entry is read as its parts.
 pub fn entries_are_read_as_spelled()
-    ensures only { (bytes : List ℕ) (e : Option TbsParts) → IsBytes bytes → entry_in bytes ≡ Ok e → (bytes ≡ entry_text e) × IsEntry e }
+    ensures only { (bytes : List ℕ) (e : Option TbsParts) → IsBytes bytes → entry_in bytes ≡ Ok e
+        → (bytes ≡ entry_text e) × IsEntry e }
     ensures again { (e : Option TbsParts) → IsEntry e → entry_in (entry_text e) ≡ Ok e }
 {}
 
 /// An entry has one spelling, and its bytes are those of one entry alone.
 pub fn entries_have_one_spelling()
-    ensures { (e f : Option TbsParts) → IsEntry e → IsEntry f → entry_text e ≡ entry_text f → e ≡ f }
+    ensures { (e f : Option TbsParts) → IsEntry e → IsEntry f → entry_text e ≡ entry_text f
+        → e ≡ f }
 {}
 
 /// An entry that holds the hash of a public key matches that key, for every hash function.
 pub fn written_entries_match_their_keys()
-    ensures { (h : List ℕ → List ℕ) (p : TbsParts) (spki : List ℕ) → IsTbs p → IsPublicKey spki → p.key_hash ≡ h spki
+    ensures { (h : List ℕ → List ℕ) (p : TbsParts) (spki : List ℕ) → IsTbs p → IsPublicKey spki
+        → p.key_hash ≡ h spki
         → matches h (tbs_text p) spki ≡ true }
 {}
 
-/// The entry of a certificate is an entry with its fields, and matches its key, for every hash function with hashes of 32
-/// bytes.
+/// The entry of a certificate is an entry with its fields, and matches its key, for every hash
+/// function with hashes of 32 bytes.
 pub fn entries_of_certificates()
-    ensures fields { (h : List ℕ → List ℕ) (p : Parts) → ((bytes : List ℕ) → length (h bytes) ≡ 32) → IsCertificate p
+    ensures fields { (h : List ℕ → List ℕ) (p : Parts) → ((bytes : List ℕ) → length (h bytes) ≡ 32)
+        → IsCertificate p
         → entry_in (entry_of h p) ≡ Ok (Some (tbs_with p (h p.spki))) }
-    ensures key { (h : List ℕ → List ℕ) (p : Parts) → ((bytes : List ℕ) → length (h bytes) ≡ 32) → IsCertificate p
+    ensures key { (h : List ℕ → List ℕ) (p : Parts) → ((bytes : List ℕ) → length (h bytes) ≡ 32)
+        → IsCertificate p
         → matches h (entry_of h p) p.spki ≡ true }
 {}
 
-/// An entry is the one of each certificate made of it: of one with its issuer, validity, subject and extensions, and with a
-/// key whose hash it holds.
+/// An entry is the one of each certificate made of it: of one with its issuer, validity, subject
+/// and extensions, and with a key whose hash it holds.
 pub fn entries_are_of_their_certificates()
-    ensures spelled { (h : List ℕ → List ℕ) (t : TbsParts) (p : Parts) → IsTbs t → IsCertificate p → IsMadeOf h t p → entry_of h p ≡ tbs_text t }
-    ensures read { (h : List ℕ → List ℕ) (entry : List ℕ) (t : TbsParts) (p : Parts) → IsBytes entry → entry_in entry ≡ Ok (Some t)
+    ensures spelled { (h : List ℕ → List ℕ) (t : TbsParts) (p : Parts) → IsTbs t → IsCertificate p
+        → IsMadeOf h t p → entry_of h p ≡ tbs_text t }
+    ensures read { (h : List ℕ → List ℕ) (entry : List ℕ) (t : TbsParts) (p : Parts) → IsBytes entry
+        → entry_in entry ≡ Ok (Some t)
         → IsCertificate p → IsMadeOf h t p → entry_of h p ≡ entry }
 {}

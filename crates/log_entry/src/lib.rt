@@ -1,10 +1,12 @@
-//! Entries of a log of certificates: what the log commits to of a certificate, with the hash of its public key in the
-//! place of the key. They are read as a struct of borrowed fields, with the first fault from the left; they are made from
-//! a certificate, or from their parts; and a key is compared with the entry that was made for it.
+//! Entries of a log of certificates: what the log commits to of a certificate, with the hash of its
+//! public key in the place of the key. They are read as a struct of borrowed fields, with the first
+//! fault from the left; they are made from a certificate, or from their parts; and a key is
+//! compared with the entry that was made for it.
 //!
-//! An entry is two bytes of type and a body. Type 0 is the null entry, which has no body. Type 1 is followed by version,
-//! issuer, validity and subject as in the certificate (RFC 5280, section 4.1), an OCTET STRING of 32 bytes with the hash of
-//! the subjectPublicKeyInfo, and the extensions where there are some, without an outer tag and length.
+//! An entry is two bytes of type and a body. Type 0 is the null entry, which has no body. Type 1 is
+//! followed by version, issuer, validity and subject as in the certificate (RFC 5280, section 4.1),
+//! an OCTET STRING of 32 bytes with the hash of the subjectPublicKeyInfo, and the extensions where
+//! there are some, without an outer tag and length.
 #![tactic(auto)]
 
 mod entry;

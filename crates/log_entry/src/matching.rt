@@ -22,8 +22,9 @@ fn compared<H: TreeHash>(entry: &[u8], spki: &[u8]) -> bool
     }
 }
 
-/// Whether this is the key for which the entry was made: the entry reads as type 1, the bytes of the key are one
-/// subjectPublicKeyInfo element (RFC 5280, section 4.1.2.7), and its hash stands in the entry. It takes no memory.
+/// Whether this is the key for which the entry was made: the entry reads as type 1, the bytes of
+/// the key are one subjectPublicKeyInfo element (RFC 5280, section 4.1.2.7), and its hash stands in
+/// the entry. It takes no memory.
 pub fn key_matches<H: TreeHash>(entry: &[u8], spki: &[u8]) -> bool
     ensures exact { result ≡ matches H.hash entry.now spki.now }
     ensures meaning { IsTrue result ↔ Matches H.hash entry.now spki.now }

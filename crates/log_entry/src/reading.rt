@@ -68,14 +68,17 @@ fn whole(bytes: &[u8]) -> Result<Entry<'_>, EntryError>
 
 /// Reads an entry, without taking memory.
 ///
-/// Refuses with `Short` where there are fewer than two bytes, `NullHasBody` where the null entry goes on behind its type,
-/// and `UnknownType` where the type is neither 0 nor 1. In an entry of type 1 the first fault from the left is answered:
-/// `Body` with the fault of a field as [`parse`](cert_fields::parse) has it in a certificate, or with `Trailing` for what
-/// stands behind the last field, its offset counted in these bytes; `BadHashLength` where the hash of the public key is
-/// an OCTET STRING of another length than 32.
+/// Refuses with `Short` where there are fewer than two bytes, `NullHasBody` where the null entry
+/// goes on behind its type, and `UnknownType` where the type is neither 0 nor 1. In an entry of
+/// type 1 the first fault from the left is answered: `Body` with the fault of a field as
+/// [`parse`](cert_fields::parse) has it in a certificate, or with `Trailing` for what stands behind
+/// the last field, its offset counted in these bytes; `BadHashLength` where the hash of the public
+/// key is an OCTET STRING of another length than 32.
 pub fn read_entry(bytes: &[u8]) -> Result<Entry<'_>, EntryError>
-    ensures found { IfOk result (λ e. (bytes.now ≡ entry_text (entry_parts e)) × IsEntry (entry_parts e)) }
-    ensures only { (e : Option TbsParts) → IsEntry e → bytes.now ≡ entry_text e → Gives entry_parts result (Ok e) }
+    ensures found { IfOk result (λ e. (bytes.now ≡ entry_text (entry_parts e))
+        × IsEntry (entry_parts e)) }
+    ensures only { (e : Option TbsParts) → IsEntry e → bytes.now ≡ entry_text e
+        → Gives entry_parts result (Ok e) }
     ensures exact { Gives entry_parts result (entry_in bytes.now) }
 {
     whole(bytes)

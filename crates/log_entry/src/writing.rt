@@ -31,8 +31,8 @@ fn written(alloc: Global, tbs: &TbsEntry) -> Result<Bytes, Memory>
     Ok(out)
 }
 
-/// The entry from which a certificate was made: its version, issuer, validity and subject, the hash of its public key, and
-/// its extensions. Want of memory is the only refusal.
+/// The entry from which a certificate was made: its version, issuer, validity and subject, the hash
+/// of its public key, and its extensions. Want of memory is the only refusal.
 #[tactic(auto, unfolding(crate::specs::EntryOf::entry_of))]
 pub fn entry_of<H: TreeHash>(alloc: Global, cert: &Cert) -> Result<Bytes, Memory>
     ensures { IfOk result (λ bytes. bytes ≡ entry_of H.hash (parts cert.now)) }
@@ -53,14 +53,15 @@ pub fn entry_of<H: TreeHash>(alloc: Global, cert: &Cert) -> Result<Bytes, Memory
 
 /// Writes an entry of type 1. Want of memory is the only refusal.
 ///
-/// The parts are put together as they are. Where issuer, subject and extensions are elements in the grammar of their
-/// fields, [`read_entry`](crate::read_entry) reads them again from what is written, and it matches the key whose hash was
-/// given.
+/// The parts are put together as they are. Where issuer, subject and extensions are elements in the
+/// grammar of their fields, [`read_entry`](crate::read_entry) reads them again from what is
+/// written, and it matches the key whose hash was given.
 pub fn write_entry(alloc: Global, parts: &EntryParts) -> Result<Bytes, Memory>
     requires not_before { IsMoment parts.now.validity.not_before }
     requires not_after { IsMoment parts.now.validity.not_after }
     ensures exact { IfOk result (λ bytes. bytes ≡ tbs_text (given parts.now)) }
-    ensures read { IsTbs (given parts.now) → IfOk result (λ bytes. entry_in bytes ≡ Ok (Some (given parts.now))) }
+    ensures read { IsTbs (given parts.now) → IfOk result
+        (λ bytes. entry_in bytes ≡ Ok (Some (given parts.now))) }
 {
     with_validity(alloc, parts)
 }
