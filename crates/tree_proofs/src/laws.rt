@@ -5,9 +5,9 @@ ghost use Rattle.tree_proofs.specs.ProofLaws.{IsConsistencyProof, PassesWhereChe
 
 /// The law of consistency proofs, for every hash function: the proof of an interval by the split of
 /// its list (the draft on Merkle Tree Certificates, where it makes subtree consistency proofs).
-/// That of a subtree checks for the tree hashes of the subtree and of the list, a proof passes exactly
-/// where it checks, and the answer is `WrongLength` exactly where the proof is not as long as the
-/// made one.
+/// That of a subtree checks for the tree hashes of the subtree and of the list, a proof passes
+/// exactly where it checks, and the answer is `WrongLength` exactly where the proof is not as long
+/// as the made one.
 pub fn consistency_proofs_check()
     ensures proof { (h : HashFunction) → IsConsistencyProof h }
     ensures checks { (h : HashFunction) → ProofsCheck h }
