@@ -1,6 +1,6 @@
 //! A hash function for tests.
 
-ghost use Rattle.std.specs.Prelude.{◌≡◌, ℕ, List, ◌%◌, sum};
+ghost use Rattle.std.specs.Prelude.{◌≡◌, ◌%◌, sum};
 ghost use Rattle.tree_core.specs.Toy.{toy_hash};
 
 use crate::TreeHash;
