@@ -1,9 +1,13 @@
 -- What an item more makes of a log.
-use Rattle.std.proofs.Common.{◌≡◌, ℕ, ◌+◌, ◌<◌, ◌≤◌, ◌==◌, nat_lt, if◌then◌else◌, not, Bool, true, false, List, [], ◌∷◌, ◌++◌, length, Option, Some, None, IfSome, option_map, Ok, refl, sym, ap, ◌∙◌, subst, arith}
+use Rattle.std.proofs.Common.{◌≡◌, inl, ℕ, ◌+◌, ◌<◌, ◌≤◌, ◌==◌, nat_lt, if◌then◌else◌, not, Bool, true, false, List, [], ◌∷◌, ◌++◌, length, Option, Some, None, IfSome, option_map, Ok, refl, sym, ap, ◌∙◌, subst, arith}
 use Rattle.std.proofs.lemmas.Bool.{ltb-true, ltb-false, not-false}
 use Rattle.std.proofs.lemmas.Bool.Decides.{nat_tests}
 use Rattle.disk_core.specs.declared.disk.Disk.{Ghosts}
-use Rattle.journal_core.specs.Format.{records_of}
+use Rattle.disk_core.specs.Moments.{LeavesOnly}
+use Rattle.disk_core.proofs.Moments.{started}
+use Rattle.journal_core.specs.Format.{StandsFor, StandsForEither, records_of}
+use Rattle.journal_core.specs.Settled.{IsSettled}
+use Rattle.journal_core.proofs.Told.{of_records}
 use Rattle.journal_core.specs.Words.{AllStandFor}
 use Rattle.log_entry.specs.Matching.{matches}
 use Rattle.issuance_log.specs.Folds.{LogState, with_item, log_of}
@@ -40,7 +44,7 @@ module _ (h : List ℕ → List ℕ) (s : LogState) (entry key : List ℕ) (belo
       (ap (λ (b : List ℕ). log_of h (list ++ b ∷ [])) body_is ∙ log_added h list s entry key is room few belongs ∙ ap Ok (sym made))
 
   -- the same of an item that is not refused
-  pub added_unrefused : (records : Option (List (List ℕ))) (broken : Bool) (end : ℕ) → (broken ≡ false → IfSome records (λ list. log_of h list ≡ Ok s)) → IsSound s
+  pub added_unrefused : (records : Option (List (List ℕ))) (broken : Bool) (end : ℕ) → (broken ≡ false → IfSome records (λ list. log_of h list ≡ Ok s)) → IsSound h s
       → add_refusal s broken end entry key ≡ None
       → IfSome records (λ list. log_of h (list ++ entry_record entry key ∷ []) ≡ Ok (with_item entry key s))
   unfolding add_refusal
@@ -70,3 +74,19 @@ all_kept {D} g disk told None body record_ news is all = tt
 all_kept {D} g disk None (Some list) body record_ news is all = let wrong : None ≡ Some (list ++ body ∷ []) = news in cc
 all_kept {D} g disk (Some b) (Some list) body record_ news is all =
     subst (AllStandFor g disk) (some_records _ _ news ∙ ap (λ (last : List ℕ). list ++ last ∷ []) is) all
+
+-- a log whose disk had no call
+module _ {D : Type 0} (g : Ghosts D) (disk : D) (end : ℕ) (body : List ℕ)
+    (settled : (b : List ℕ) → g.told disk ≡ Some b → IsSettled b (g.may_leave disk) end) where
+  stands_now : (b : List ℕ) → g.told disk ≡ Some b → (c : List ℕ) → g.may_leave disk c → StandsForEither (records_of b) body c
+  stands_now b told c left =
+      let was = settled b told in
+      inl (subst (λ (bytes : List ℕ). StandsFor bytes (records_of b)) (sym (was.only c left)) was.stands)
+
+  pub untouched_moment : ((c : List ℕ) → g.left_since disk (g.moment disk) c → g.may_leave disk c)
+      → IfSome (option_map records_of (g.told disk)) (λ list. LeavesOnly g disk disk (StandsForEither list body))
+  untouched_moment only_now = of_records (λ list. LeavesOnly g disk disk (StandsForEither list body)) (g.told disk)
+      (λ b told. started g disk _ only_now (stands_now b told))
+
+  pub untouched_after : IfSome (option_map records_of (g.told disk)) (λ list. (c : List ℕ) → g.may_leave disk c → StandsForEither list body c)
+  untouched_after = of_records (λ list. (c : List ℕ) → g.may_leave disk c → StandsForEither list body c) (g.told disk) stands_now

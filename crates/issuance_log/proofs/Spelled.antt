@@ -1,5 +1,6 @@
 -- The records of a log are read as they are spelled.
 use Rattle.std.proofs.Common.{◌≡◌, ℕ, ◌+◌, ◌^◌, ◌<◌, ◌≤◌, ◌&&◌, ◌==◌, nat_lt, if◌then◌else◌, Bool, true, false, List, [], ◌∷◌, ◌++◌, length, Option, Some, None, option_map, option_and_then, Result, Ok, Err, refl, ap, sym, ◌∙◌, arith}
+use Rattle.std.specs.Borrow.{Bor}
 use Rattle.std.specs.Int.{w8, w16, w32}
 use Rattle.std.proofs.lemmas.Bool.{eq-eqb, le-leb, lt-ltb, eqb-true}
 use Rattle.std.proofs.lemmas.List.{length-append, append-nil, nil_from_length}
@@ -19,6 +20,9 @@ use Rattle.tls_wire.proofs.AnchorForm.{anchor_again}
 use Rattle.issuance_log.specs.Folds.{LogState, new_log, with_item, with_entry, by_tag, begun, next_log, log_of}
 use Rattle.log_entry.specs.Matching.{matches}
 use Rattle.issuance_log.specs.Records.{settings_at, entry_at, all_of, are_allowed, AreAllowed, with_id, settings_with, tagged, settings_in, item_in, settings_record, entry_record}
+use Rattle.issuance_log.specs.Results.{Finds, Takes}
+use Rattle.issuance_log.specs.declared.error.RecordError.{RecordError}
+use Rattle.issuance_log.specs.declared.error.RecordError.TheVariants.{Unfit, Memory}
 use Rattle.issuance_log.specs.declared.settings.LogSettings.{LogSettings}
 use Rattle.issuance_log.proofs.Folds.{log_begins, log_next}
 
@@ -102,6 +106,26 @@ unfolding item_in entry_record
 item_takes body entry key bytes is =
     let taken = tagged_takes 2 (omega arith) (both (vector w16) (vector w16)) (FitsBoth ShortVector ShortVector) entry_at entry_form body (entry, key) bytes is in
     (taken.0, taken.1.0, taken.1.1)
+
+-- one record more, as the item that it says
+pub next_item : (h : List ℕ → List ℕ) (s : LogState) (body : List ℕ) → next_log h s body ≡ option_and_then (with_entry h s) (item_in body)
+unfolding next_log item_in
+next_item h s body = go (number_at w8 (at body 0))
+  where
+    chosen : (b : Bool) (o : Option (List ℕ × List ℕ))
+        → (if b then option_and_then (with_entry h s) o else None) ≡ option_and_then (with_entry h s) (if b then o else None)
+    chosen true o = refl
+    chosen false o = refl
+
+    go : (r : Result (ℕ × At) Short) → by_tag h s r ≡ option_and_then (with_entry h s) (tagged 2 entry_at r)
+    go (Ok tag) = chosen (tag.0 == 2) (all_of (entry_at tag.1))
+    go (Err short) = refl
+
+-- a record in which no item is found
+pub refused_item : (h : List ℕ → List ℕ) (s : LogState) (body : List ℕ) (why : RecordError)
+    → Finds {X = Bor (List ℕ) × Bor (List ℕ)} (λ x. (x.0.now, x.1.now)) (item_in body) (Err why) → Takes (next_log h s body) s (Err why) s
+refused_item h s body Unfit none = (next_item h s body ∙ ap (option_and_then (with_entry h s)) none, refl)
+refused_item h s body Memory none = refl
 
 -- ---- a Log
 

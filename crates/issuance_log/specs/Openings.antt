@@ -22,27 +22,36 @@ closing at_gate found = found
 closing (at_bad_length place) found = Err (Open (open_error.BadLength place))
 closing (at_cut place) found = Err (Open (open_error.CutShort place))
 
--- The whole records are tested, and then what stands behind them. No record at all is missed only at a closed gate.
+-- The whole records are tested, and then what stands behind them. No record at all is missed only
+-- at a closed gate.
 abbrev pub log_behind : (List ℕ → List ℕ) → List (List ℕ) → Ending → Result LogState LogOpenError
 log_behind h [] end = closing end (Err (BadRecord 0))
-log_behind h (first ∷ bodies) end = lifted BadRecord (log_of h (first ∷ bodies)) >>= λ s. closing end (Ok s)
+log_behind h (first ∷ bodies) end =
+    lifted BadRecord (log_of h (first ∷ bodies)) >>= λ s. closing end (Ok s)
 
 abbrev pub log_walked : (List ℕ → List ℕ) → Walk → Result FoundLog LogOpenError
-log_walked h walk = log_behind h walk.records walk.end >>= λ s. Ok (record { records = walk.records; state = s })
+log_walked h walk =
+    log_behind h walk.records walk.end >>= λ s. Ok (record { records = walk.records; state = s })
 
 -- The log in a file with these bytes, or the first fault.
 unfoldable pub log_read : (List ℕ → List ℕ) → List ℕ → Result FoundLog LogOpenError
-log_read h bytes = if bytes_eq (take 16 bytes) header then log_walked h (walk_of bytes) else Err (Open open_error.NotJournal)
+log_read h bytes =
+    if bytes_eq (take 16 bytes) header then log_walked h (walk_of bytes)
+    else Err (Open open_error.NotJournal)
 
 -- the bytes that were told are refused so
 abbrev pub AreRefused : (List ℕ → List ℕ) → Option (List ℕ) → LogOpenError → Type 0
 AreRefused h told why = IfSome told (λ bytes. log_read h bytes ≡ Err why)
 
--- the cause of a refusal, over the disk before the call and after it: the bytes, a fault, or want of memory
+-- the cause of a refusal, over the disk before the call and after it: the bytes, a fault, or want
+-- of memory
 abbrev pub HasCauseOf : {D : Type 0} → Ghosts D → (List ℕ → List ℕ) → D → D → LogOpenError → Type 0
 HasCauseOf g h old new (BadRecord k) = AreRefused h (g.told old) (BadRecord k)
-HasCauseOf g h old new (Open open_error.NotJournal) = AreRefused h (g.told old) (Open open_error.NotJournal)
-HasCauseOf g h old new (Open (open_error.BadLength place)) = AreRefused h (g.told old) (Open (open_error.BadLength place))
-HasCauseOf g h old new (Open (open_error.CutShort place)) = AreRefused h (g.told old) (Open (open_error.CutShort place))
+HasCauseOf g h old new (Open open_error.NotJournal) =
+    AreRefused h (g.told old) (Open open_error.NotJournal)
+HasCauseOf g h old new (Open (open_error.BadLength place)) =
+    AreRefused h (g.told old) (Open (open_error.BadLength place))
+HasCauseOf g h old new (Open (open_error.CutShort place)) =
+    AreRefused h (g.told old) (Open (open_error.CutShort place))
 HasCauseOf g h old new (Open open_error.Failed) = Rose (g.faults old) (g.faults new)
 HasCauseOf g h old new (Open open_error.Memory) = Unit {0}

@@ -1,4 +1,5 @@
--- The records of a log's journal: a tag of one byte, and what it says. Numbers have their highest byte first.
+-- The records of a log's journal: a tag of one byte, and what it says. Numbers have their highest
+-- byte first.
 use Rattle.std.specs.Prelude.{ℕ, ◌≤◌, Bool, List, ◌++◌, length, ◌==◌, ◌&&◌, nat_le, Option, Some, None, option_and_then, Result, Ok, Err, if◌then◌else◌}
 use Rattle.std.specs.Int.{w8, w16, w32}
 use Rattle.byte_forms.specs.Places.{At, at}
@@ -12,9 +13,11 @@ use Rattle.issuance_log.specs.declared.settings.LogSettings.{LogSettings}
 
 -- ---- spelled
 
--- Log, with tag 1: the id behind its length of one byte, the most active landmarks and the limit in four bytes each
+-- Log, with tag 1: the id behind its length of one byte, the most active landmarks and the limit in
+-- four bytes each
 unfoldable pub settings_record : LogSettings → List ℕ
-settings_record s = number w8 1 ++ (vector w8 s.id ++ (number w32 s.max_active ++ number w32 s.limit))
+settings_record s =
+    number w8 1 ++ (vector w8 s.id ++ (number w32 s.max_active ++ number w32 s.limit))
 
 -- Entry, with tag 2: the entry and its key, each behind its length of two bytes
 unfoldable pub entry_record : List ℕ → List ℕ → List ℕ
@@ -36,13 +39,15 @@ all_of (Ok x) = if length x.1.rest == 0 then Some x.0 else None
 all_of (Err short) = None
 
 -- what stands behind this tag
-abbrev pub tagged : {X : Type 0} → ℕ → (At → Result (X × At) Short) → Result (ℕ × At) Short → Option X
+abbrev pub tagged : {X : Type 0} → ℕ → (At → Result (X × At) Short) → Result (ℕ × At) Short
+    → Option X
 tagged wanted read (Ok tag) = if tag.0 == wanted then all_of (read tag.1) else None
 tagged wanted read (Err short) = None
 
 -- the numbers that a log may have
 abbrev pub are_allowed : ℕ → ℕ → Bool
-are_allowed active limit = (nat_le 1 active && nat_le active 10000) && (nat_le 2 limit && nat_le limit 1048576)
+are_allowed active limit =
+    (nat_le 1 active && nat_le active 10000) && (nat_le 2 limit && nat_le limit 1048576)
 
 -- the same as facts
 pub record AreAllowed (active limit : ℕ) : Type 0 where

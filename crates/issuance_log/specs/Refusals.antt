@@ -6,18 +6,20 @@ use Rattle.issuance_log.specs.Records.{entry_record}
 use Rattle.issuance_log.specs.declared.error.LogError.{LogError}
 use Rattle.issuance_log.specs.declared.error.LogError.TheVariants.{Full, TooLarge, NoSuchEntry, Append, Memory}
 
--- The refusal of an item that the log's state and journal settle, the first that holds: of a full log, of an entry and key
--- that are too large together, of a journal that an append has broken, and of a journal file that would pass 2^31 bytes.
+-- The refusal of an item that the log's state and journal settle, the first that holds: of a full
+-- log, of an entry and key that are too large together, of a journal that an append has broken, and
+-- of a journal file that would pass 2^31 bytes.
 unfoldable pub add_refusal : LogState → Bool → ℕ → List ℕ → List ℕ → Option LogError
 add_refusal s broken end entry key =
     if length s.entries == s.settings.limit then Some Full
     else (if nat_lt 65535 (length entry + length key) then Some TooLarge
     else (if broken then Some (Append append_error.Broken)
-    else (if nat_lt (2 ^ 31) (end + 5 + length (entry_record entry key)) then Some (Append append_error.Full)
+    else (if nat_lt (2 ^ 31) (end + 5 + length (entry_record entry key))
+    then Some (Append append_error.Full)
     else None)))
 
--- The answer keeps to that refusal. Memory may be refused behind the first two tests, and a fault told where there is no
--- refusal.
+-- The answer keeps to that refusal. Memory may be refused behind the first two tests, and a fault
+-- told where there is no refusal.
 abbrev pub KeepsTo : Option LogError → Result ℕ LogError → Type 0
 KeepsTo wanted (Ok index) = wanted ≡ None
 KeepsTo wanted (Err Full) = wanted ≡ Some Full
@@ -31,9 +33,15 @@ KeepsTo wanted (Err Memory) = (wanted ≢ Some Full) × (wanted ≢ Some TooLarg
 -- the entry and the key at an index
 unfoldable pub item_at : LogState → ℕ → Result (List ℕ × List ℕ) LogError
 item_at s index =
-    if nat_lt index (length s.entries) then Ok (slice_index_or s.entries index [], slice_index_or s.keys index []) else Err NoSuchEntry
+    if nat_lt index (length s.entries)
+    then Ok (slice_index_or s.entries index [], slice_index_or s.keys index [])
+    else Err NoSuchEntry
 
--- two byte strings hold that item; both are empty after a refusal, for which memory alone may be the reason beside it
-abbrev pub GivesItem : Result (List ℕ × List ℕ) LogError → Result (Unit {0}) LogError → List ℕ → List ℕ → Type 0
+-- two byte strings hold that item; both are empty after a refusal, for which memory alone may be
+-- the reason beside it
+abbrev pub GivesItem : Result (List ℕ × List ℕ) LogError → Result (Unit {0}) LogError
+    → List ℕ → List ℕ → Type 0
 GivesItem wanted (Ok done) entry key = wanted ≡ Ok (entry, key)
-GivesItem wanted (Err why) entry key = (why ≢ Memory → wanted ≡ Err why) × (wanted ≡ Err NoSuchEntry → why ≡ NoSuchEntry) × (entry ≡ []) × (key ≡ [])
+GivesItem wanted (Err why) entry key =
+    (why ≢ Memory → wanted ≡ Err why) × (wanted ≡ Err NoSuchEntry → why ≡ NoSuchEntry)
+    × (entry ≡ []) × (key ≡ [])

@@ -6,7 +6,8 @@ use Rattle.issuance_log.specs.Folds.{LogState, new_log, with_item}
 use Rattle.issuance_log.specs.Records.{AreAllowed, settings_record, entry_record}
 use Rattle.issuance_log.specs.declared.settings.LogSettings.{LogSettings}
 
--- The first record is a Log with an anchor id and allowed numbers. It makes a log of the null entry.
+-- The first record is a Log with an anchor id and allowed numbers. It makes a log of the null
+-- entry.
 pub record IsFirst (body : List ℕ) (s : LogState) : Type 0 where
   pub settings : LogSettings
   pub spelled : body ≡ settings_record settings
@@ -14,7 +15,8 @@ pub record IsFirst (body : List ℕ) (s : LogState) : Type 0 where
   pub allowed : AreAllowed settings.max_active settings.limit
   pub made : s ≡ new_log settings
 
--- Each later record is an Entry whose key matches, where the log isn't full. It makes the log with that item.
+-- Each later record is an Entry whose key matches, where the log isn't full. It makes the log with
+-- that item.
 pub record IsNext (h : List ℕ → List ℕ) (s : LogState) (body : List ℕ) (t : LogState) : Type 0 where
   pub entry : List ℕ
   pub key : List ℕ

@@ -1,11 +1,24 @@
--- What holds of every log.
-use Rattle.std.specs.Prelude.{◌≡◌, ◌≤◌, length}
-use Rattle.issuance_log.specs.Folds.{LogState}
+-- What holds of every log, over any disk.
+use Rattle.std.specs.Prelude.{◌≡◌, ℕ, ◌<◌, ◌≤◌, true, List, [], length, slice_index_or}
+use Rattle.log_entry.specs.Matching.{matches}
+use Rattle.issuance_log.specs.Folds.{LogState, null_entry}
 use Rattle.issuance_log.specs.Records.{AreAllowed}
 
--- Its numbers are allowed, it has the null entry at least, its entries are within its limit, and each has a key.
-pub record IsSound (s : LogState) : Type 0 where
+-- An item of a log behind the first: the entry reads as one of type 1, to which the key belongs,
+-- and each has fewer than 2^16 bytes.
+pub record IsItem (h : List ℕ → List ℕ) (entry key : List ℕ) : Type 0 where
+  pub belongs : matches h entry key ≡ true
+  pub short_entry : length entry < 65536
+  pub short_key : length key < 65536
+
+-- Its numbers are allowed, its entries are within its limit, and each has a key: the null entry
+-- none, each later one that which belongs to it.
+pub record IsSound (h : List ℕ → List ℕ) (s : LogState) : Type 0 where
   pub allowed : AreAllowed s.settings.max_active s.settings.limit
   pub some : 1 ≤ length s.entries
   pub few : length s.entries ≤ s.settings.limit
   pub even : length s.keys ≡ length s.entries
+  pub first_entry : slice_index_or s.entries 0 [] ≡ null_entry
+  pub first_key : slice_index_or s.keys 0 [] ≡ []
+  pub items : (i : ℕ) → 1 ≤ i → i < length s.entries
+      → IsItem h (slice_index_or s.entries i []) (slice_index_or s.keys i [])

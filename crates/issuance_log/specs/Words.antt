@@ -52,15 +52,19 @@ module _ {H D : Type 0} {hashes : Hashes H} {g : Ghosts D} where
 
   -- one item more, and a record with it
   pub record HasAdded (entry key : List ℕ) (old new : Log H D hashes g) : Type 0 where
-    pub records : log_records new ≡ option_map (λ list. list ++ entry_record entry key ∷ []) (log_records old)
+    pub records : log_records new
+        ≡ option_map (λ list. list ++ entry_record entry key ∷ []) (log_records old)
     pub state : state_of new ≡ with_item entry key (state_of old)
     pub end : log_end new ≡ log_end old + 5 + length (entry_record entry key)
     pub was_sound : log_broken old ≡ false
     pub sound : log_broken new ≡ false
+    pub fine : g.faults (log_disk new) ≡ g.faults (log_disk old)
 
   -- what `add` leaves, by its answer
-  abbrev pub Leaves : List ℕ → List ℕ → Log H D hashes g → Log H D hashes g → Result ℕ LogError → Type 0
-  Leaves entry key old new (Ok index) = (index ≡ length (state_of old).entries) × HasAdded entry key old new
+  abbrev pub Leaves : List ℕ → List ℕ → Log H D hashes g → Log H D hashes g → Result ℕ LogError
+      → Type 0
+  Leaves entry key old new (Ok index) =
+      (index ≡ length (state_of old).entries) × HasAdded entry key old new
   Leaves entry key old new (Err Full) = IsUntouched old new
   Leaves entry key old new (Err TooLarge) = IsUntouched old new
   Leaves entry key old new (Err NoSuchEntry) = IsUntouched old new

@@ -1,20 +1,19 @@
-// What the records of a journal make of a log, with the leaf hashes of its entries.
-ghost use Rattle.std.specs.Prelude.{◌≡◌, ◌<◌, ◌≤◌, length, map, nat_lt, not, option_and_then, OnOk, OnErr};
+//! What the records of a journal make of a log, with the leaf hashes of its entries.
+ghost use Rattle.std.specs.Prelude.{◌≡◌, ◌<◌, ◌≤◌, length, map, nat_lt, not, OnOk, OnErr};
 ghost use Rattle.issuance_log.specs.Folds.{begun, records_in, next_log, with_entry, with_item, first_items};
-ghost use Rattle.issuance_log.specs.Records.{AreAllowed, all_of, entry_at};
+ghost use Rattle.issuance_log.specs.Records.{AreAllowed};
 ghost use Rattle.issuance_log.specs.Results.{Finds, Takes};
-ghost use Rattle.issuance_log.specs.Sound.{IsSound};
+ghost use Rattle.issuance_log.specs.Sound.{IsItem, IsSound};
 ghost use Rattle.tree_core.specs.Tree.{leaf_hash};
 
 use crate::error::RecordError;
 use crate::items::{Items, NULL_ENTRY};
-use crate::record::{ENTRY, read_entry, read_settings};
+use crate::record::{read_item, read_settings};
 use crate::settings::LogSettings;
 use log_entry::key_matches;
 use mtc_io::{Bytes, Memory};
 use std::alloc::Global;
 use std::marker::Model;
-use tls_wire::Cursor;
 use tree_core::{TreeHash, leaf};
 use tree_proofs::Listed;
 
@@ -39,7 +38,7 @@ impl<H: TreeHash> Model for Contents<H> {
       keys = c.items.keys.items;
     } };
 
-    ghost invariant = { λ c. IsSound (record {
+    ghost invariant = { λ c. IsSound H.TreeHash.hash (record {
       settings = c.settings;
       entries = c.items.entries.items;
       keys = c.items.keys.items;
@@ -63,23 +62,22 @@ impl<H: TreeHash> Contents<H> {
         })
     }
 
-    /// Takes one record more. `Unfit` comes exactly where it breaks the rules, and a refusal leaves the log as it was.
-    #[tactic(auto, unfolding(crate::specs::Folds::next_log))]
+    /// Takes one record more. `Unfit` comes exactly where it breaks the rules, and a refusal leaves
+    /// the log as it was.
     pub(crate) fn take(&mut self, alloc: Global, body: &[u8]) -> Result<(), RecordError>
         ensures { Takes (next_log H.hash self.old body.now) self.old result self.new }
     {
-        let mut cursor = Cursor::new(body);
-        if cursor.u8()? == ENTRY {
-            self.take_entry(alloc, cursor)
-        } else {
-            Err(RecordError::Unfit)
+        match read_item(body) {
+            Ok((entry, key)) => self.take_item(alloc, entry, key),
+            Err(why) => Err(why),
         }
     }
 
-    fn take_entry(&mut self, alloc: Global, cursor: Cursor<'_>) -> Result<(), RecordError>
-        ensures { Takes (option_and_then (with_entry H.hash self.old) (all_of (entry_at cursor.entry))) self.old result self.new }
+    fn take_item(&mut self, alloc: Global, entry: &[u8], key: &[u8]) -> Result<(), RecordError>
+        requires short_entry { length entry.now < 65536 }
+        requires short_key { length key.now < 65536 }
+        ensures { Takes (with_entry H.hash self.old (entry.now, key.now)) self.old result self.new }
     {
-        let (entry, key) = read_entry(cursor)?;
         if self.is_full() || !key_matches::<H>(entry, key) {
             return Err(RecordError::Unfit);
         }
@@ -90,14 +88,14 @@ impl<H: TreeHash> Contents<H> {
     /// The log has as many entries as its limit allows.
     pub(crate) fn is_full(&self) -> bool
         ensures full { result ≡ not (nat_lt (length self.now.entries) self.now.settings.limit) }
-        ensures sound { IsSound self.now }
+        ensures sound { IsSound H.hash self.now }
     {
         self.items.len() as u64 >= self.settings.limit as u64
     }
 
     pub(crate) fn len(&self) -> usize
         ensures value { result ≡ length self.now.entries }
-        ensures sound { IsSound self.now }
+        ensures sound { IsSound H.hash self.now }
     {
         self.items.len()
     }
@@ -138,7 +136,8 @@ impl<H: TreeHash> Contents<H> {
 
     /// Puts an item behind the others. Where memory is refused the log stays as it was.
     pub(crate) fn push(&mut self, alloc: Global, entry: &[u8], key: &[u8]) -> Result<(), Memory>
-        requires { length self.old.entries < self.old.settings.limit }
+        requires room { length self.old.entries < self.old.settings.limit }
+        requires item { IsItem H.hash entry.now key.now }
         ensures ok { OnOk result (self.new ≡ with_item entry.now key.now self.old) }
         ensures err { OnErr result (self.new ≡ self.old) }
     {

@@ -1,4 +1,4 @@
-// The journal of a new log.
+//! The journal of a new log.
 ghost use Rattle.std.specs.Prelude.{◌≡◌, ◌≤◌, ℕ, List, [], ◌∷◌, Ok, IfOk, IfErr};
 ghost use Rattle.journal_core.specs.Starts.{HasStarted, IsNotStarted};
 ghost use Rattle.issuance_log.specs.Folds.{log_of, new_log};
@@ -11,12 +11,12 @@ use journal_core::{Journal, Refused, StartError, start};
 use mtc_io::Memory;
 use std::alloc::Global;
 
-/// Begins the journal of a new log on an empty disk. From 1 to 10,000 landmarks are active at most, and the limit is from
-/// 2 to 1,048,576. At Ok a crash leaves the journal, and its one record makes the log
-/// that has the null entry alone.
+/// Begins the journal of a new log on an empty disk. The settings are to allow from 1 to 10,000
+/// active landmarks, and from 2 to 1,048,576 entries. At Ok a crash leaves the journal, and its one
+/// record makes the log that has the null entry alone.
 ///
-/// Errors, in the order of the tests: `Memory` for the record, `Failed`, `NotEmpty` where the disk holds bytes, `Memory`
-/// for the journal's buffer. The disk is handed back.
+/// Errors, in the order of the tests: `Memory` for the record, `Failed`, `NotEmpty` where the disk
+/// holds bytes, `Memory` for the journal's buffer. The disk is handed back.
 pub fn create<D: Disk>(
     alloc: Global,
     disk: D,
@@ -28,7 +28,8 @@ pub fn create<D: Disk>(
     requires few { settings.now.limit ≤ 1048576 }
     ensures ok { IfOk result (HasStarted (settings_record settings.now) disk) }
     ensures err { IfErr result (λ e. IsNotStarted D.Disk disk e.disk e.why) }
-    ensures valid { (h : List ℕ → List ℕ) → log_of h (settings_record settings.now ∷ []) ≡ Ok (new_log settings.now) }
+    ensures valid { (h : List ℕ → List ℕ)
+        → log_of h (settings_record settings.now ∷ []) ≡ Ok (new_log settings.now) }
 {
     match settings_record(alloc, settings) {
         Ok(record) => start(alloc, disk, record.as_slice()),

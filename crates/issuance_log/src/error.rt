@@ -1,4 +1,4 @@
-// What the calls of a log refuse.
+//! What the calls of a log refuse.
 ghost use Rattle.std.specs.Prelude.{◌≡◌};
 ghost use Rattle.issuance_log.specs.declared.error.LogError.TheVariants.{Append as NotAppended, Memory as LogMemory};
 ghost use Rattle.issuance_log.specs.declared.error.RecordError.TheVariants.{Unfit, Memory as RecordMemory};
@@ -22,16 +22,18 @@ pub(crate) fn hand_back<D>(disk: D, why: LogOpenError) -> LogRefused<D>
     LogRefused { disk, why }
 }
 
-/// Why a file is not opened as a log. The records are read and tested one by one, and the first fault is answered.
+/// Why a file is not opened as a log. The records are read and tested one by one, and the first
+/// fault is answered.
 #[derive(Clone, Copy, Debug, PartialEq, Eq)]
 pub enum LogOpenError {
-    /// The record of this number, counted from 0, breaks the rules of a log's records, or there is no record.
+    /// The record of this number, counted from 0, breaks the rules of a log's records, or there is
+    /// no record.
     BadRecord(u64),
     /// The file is not read as a journal. The disk may have failed, or memory was refused.
     Open(OpenError),
 }
 
-/// What a log refuses, in the order of the tests.
+/// What a log refuses. Each call says in which order it tests.
 #[derive(Clone, Copy, Debug, PartialEq, Eq)]
 pub enum LogError {
     /// The log has as many entries as its limit allows.

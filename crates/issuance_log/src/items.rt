@@ -1,4 +1,4 @@
-// The items of a log: each entry with its key, at its index.
+//! The items of a log: each entry with its key, at its index.
 ghost use Rattle.std.specs.Prelude.{◌≡◌, ◌+◌, ◌≤◌, ◌<◌, List, [], ◌∷◌, ◌++◌, length, take, vec_len, slice_index_or, IfOk, OnOk, OnErr};
 ghost use Rattle.issuance_log.specs.Folds.{null_entry};
 
@@ -49,9 +49,11 @@ impl Items {
         self.keys.as_slice()
     }
 
-    /// Puts a copy of an entry and of its key behind the others. Where memory is refused they stay as they were.
+    /// Puts a copy of an entry and of its key behind the others. Where memory is refused they stay
+    /// as they were.
     pub(crate) fn push(&mut self, alloc: Global, entry: &[u8], key: &[u8]) -> Result<(), Memory>
-        ensures entries { OnOk result (self.new.entries.items ≡ self.old.entries.items ++ entry.now ∷ []) }
+        ensures entries { OnOk result
+            (self.new.entries.items ≡ self.old.entries.items ++ entry.now ∷ []) }
         ensures keys { OnOk result (self.new.keys.items ≡ self.old.keys.items ++ key.now ∷ []) }
         ensures entries_err { OnErr result (self.new.entries.items ≡ self.old.entries.items) }
         ensures keys_err { OnErr result (self.new.keys.items ≡ self.old.keys.items) }

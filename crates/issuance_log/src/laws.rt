@@ -7,7 +7,8 @@ ghost use Rattle.issuance_log.specs.Openings.{FoundLog, log_read};
 ghost use Rattle.issuance_log.specs.Records.{entry_record, item_in};
 ghost use Rattle.issuance_log.specs.Rules.{IsFirst, IsNext};
 
-/// The body of an Entry is read as the entry and the key that it spells, and only what is spelled so is read.
+/// The body of an Entry is read as the entry and the key that it spells, and only what is spelled
+/// so is read.
 pub fn items_are_read_as_spelled()
     ensures again { (entry key : List ℕ) → length entry < 65536 → length key < 65536
         → item_in (entry_record entry key) ≡ Some (entry, key) }
@@ -18,17 +19,22 @@ pub fn items_are_read_as_spelled()
 /// A record begins a log, or makes a log of another one, exactly where it keeps to the rules.
 pub fn records_keep_to_the_rules()
     ensures first { (body : List ℕ) (s : LogState) → IsFirst body s → begun body ≡ Some s }
-    ensures only_first { (body : List ℕ) (s : LogState) → IsBytes body → begun body ≡ Some s → IsFirst body s }
-    ensures next { (h : List ℕ → List ℕ) (s : LogState) (body : List ℕ) (t : LogState) → IsNext h s body t
+    ensures only_first { (body : List ℕ) (s : LogState) → IsBytes body → begun body ≡ Some s
+        → IsFirst body s }
+    ensures next { (h : List ℕ → List ℕ) (s : LogState) (body : List ℕ) (t : LogState)
+        → IsNext h s body t
         → next_log h s body ≡ Some t }
-    ensures only_next { (h : List ℕ → List ℕ) (s : LogState) (body : List ℕ) (t : LogState) → IsBytes body
+    ensures only_next { (h : List ℕ → List ℕ) (s : LogState) (body : List ℕ) (t : LogState)
+        → IsBytes body
         → next_log h s body ≡ Some t → IsNext h s body t }
 {}
 
 /// A file is read as a log exactly where it stands for records that make this log.
 pub fn logs_are_read_from_their_journals()
-    ensures read { (h : List ℕ → List ℕ) (bytes : List ℕ) (list : List (List ℕ)) (s : LogState) → StandsFor bytes list
+    ensures read { (h : List ℕ → List ℕ) (bytes : List ℕ) (list : List (List ℕ)) (s : LogState)
+        → StandsFor bytes list
         → log_of h list ≡ Ok s → log_read h bytes ≡ Ok (record { records = list; state = s }) }
-    ensures only { (h : List ℕ → List ℕ) (bytes : List ℕ) (found : FoundLog) → IsBytes bytes → log_read h bytes ≡ Ok found
+    ensures only { (h : List ℕ → List ℕ) (bytes : List ℕ) (found : FoundLog) → IsBytes bytes
+        → log_read h bytes ≡ Ok found
         → StandsFor bytes found.records × (log_of h found.records ≡ Ok found.state) }
 {}

@@ -1,13 +1,15 @@
 //! The issuance log of a certificate authority, kept in a journal.
 //!
-//! A log is a list of entries with their keys, each at its index, and settings that never change. [`create`] begins the
-//! journal of a new log, which has the null entry at index 0. [`Log::open`] reads and tests the records of a journal one
-//! by one, and [`Log::add`] adds an entry: once it has answered Ok, a crash of the machine leaves the entry.
+//! A log is a list of entries with their keys, each at its index, and settings that never change.
+//! [`create`] begins the journal of a new log, which has the null entry at index 0. [`Log::open`]
+//! reads and tests the records of a journal one by one, and [`Log::add`] adds an entry: once it has
+//! answered Ok, a crash of the machine leaves the entry.
 //!
-//! What the records of a journal make of a log is one function of them. A log keeps to it: unless an append has failed,
-//! its settings and items are what the records on its disk make.
+//! What the records of a journal make of a log is one function of them. A log keeps to it: unless
+//! an append has failed, its settings and items are what the records on its disk make.
 //!
-//! A log is the [`Nodes`](tree_proofs::Nodes) of the tree over its entries: it keeps their leaf hashes.
+//! A log is the [`Nodes`](tree_proofs::Nodes) of the tree over its entries: it keeps their leaf
+//! hashes.
 #![tactic(auto)]
 
 mod contents;
@@ -20,8 +22,6 @@ mod nodes;
 mod reading;
 mod record;
 mod settings;
-#[cfg(test)]
-mod tests;
 
 pub use creation::create;
 pub use error::{LogError, LogOpenError, LogRefused};

@@ -1,16 +1,17 @@
-// A log that is open for more entries.
+//! A log that is open for more entries.
 ghost use Rattle.std.specs.Prelude.{◌≡◌, ◌≢◌, ◌↔◌, ◌≤◌, ◌<◌, ◌+◌, ◌++◌, ℕ, List, [], ◌∷◌, length, map, take, true, false, slice_index_or, Some, None, Ok, IfSome, IfOk, IfErr, OnOk, OnErr, IsErrOf};
 ghost use Rattle.std.proofs.Props.{props};
 ghost use Rattle.disk_core.specs.Moments.{LeavesOnly, Looks};
 ghost use Rattle.mtc_io.specs.Counts.{Rose};
-ghost use Rattle.journal_core.specs.Format.{StandsFor, StandsForEither, behind};
+ghost use Rattle.journal_core.specs.Format.{StandsFor, StandsForEither, end_behind};
 ghost use Rattle.journal_core.specs.Words.{is_broken, records, AllStandFor};
 ghost use Rattle.issuance_log.specs.Folds.{log_of, with_item};
 ghost use Rattle.log_entry.specs.Matching.{matches};
-ghost use Rattle.tree_core.specs.Tree.{leaf_hash, tree_hash};
+ghost use Rattle.tree_core.specs.Tree.{leaf_hash};
 ghost use Rattle.issuance_log.specs.Openings.{HasCauseOf, log_read};
 ghost use Rattle.issuance_log.specs.Records.{AreAllowed, entry_record};
 ghost use Rattle.issuance_log.specs.Refusals.{add_refusal, KeepsTo, item_at, GivesItem};
+ghost use Rattle.issuance_log.specs.Sound.{IsSound};
 
 use crate::contents::Contents;
 use crate::error::{LogError, LogOpenError, LogRefused, hand_back};
@@ -27,8 +28,10 @@ use tree_proofs::Listed;
 // An entry and its key have at most so many bytes together.
 const MAX_ITEM: usize = 65_535;
 
-/// The entries of a log, each with the key to it, and their leaf hashes, over the journal of their records. Unless an append has failed, they
-/// are what the records on the disk make. `H` is the hash function by which a key belongs to an entry.
+/// The entries of a log, each with the key to it, and their leaf hashes, over the journal of their
+/// records. Unless an append has failed, they are what the records on the disk make. `H` is the
+/// hash function by which a key belongs to an entry: it does so for each entry but the first, the
+/// null entry, whatever the disk tells.
 #[derive(Drop)]
 pub struct Log<H: TreeHash, D: Disk> {
     journal: Journal<D>,
@@ -51,18 +54,23 @@ impl<H: TreeHash, D: Disk> Log<H, D> {
 
     /// Opens the log in a journal. Its records are read and tested one by one.
     ///
-    /// Errors, of which the first that is met is answered: what [`Opening::begin`] and [`Opening::next`] refuse, and
-    /// `BadRecord` at the first record that breaks the rules, or where there is none. The disk is handed back, and was
-    /// only looked at.
+    /// Errors, of which the first that is met is answered: what [`Opening::begin`] and
+    /// [`Opening::next`] refuse, and `BadRecord` at the first record that breaks the rules, or
+    /// where there is none. The disk is handed back, and was only looked at.
     pub fn open(alloc: Global, disk: D) -> Result<Log<H, D>, LogRefused<D>>
         ensures sound { IfOk result (λ it. log_broken it ≡ false) }
         ensures looks { IfOk result (λ it. Looks D.Disk disk (log_disk it)) }
+        ensures fine { IfOk result (λ it. D.faults (log_disk it) ≡ D.faults disk) }
         ensures found { IfOk result (λ it. IfSome (D.told disk) (λ b. IfSome (log_records it)
             (λ list. log_read H.hash b ≡ Ok (record { records = list; state = state_of it })))) }
-        ensures valid { IfOk result (λ it. IfSome (log_records it) (λ list. log_of H.hash list ≡ Ok (state_of it))) }
-        ensures stands { IfOk result (λ it. IfSome (D.told (log_disk it)) (λ b. IfSome (log_records it) (StandsFor b))) }
-        ensures all { IfOk result (λ it. IfSome (log_records it) (AllStandFor D.Disk (log_disk it))) }
-        ensures end { IfOk result (λ it. IfSome (log_records it) (λ list. log_end it ≡ behind 16 list + 1)) }
+        ensures valid { IfOk result (λ it. IfSome (log_records it)
+            (λ list. log_of H.hash list ≡ Ok (state_of it))) }
+        ensures stands { IfOk result (λ it. IfSome (D.told (log_disk it))
+            (λ b. IfSome (log_records it) (StandsFor b))) }
+        ensures all { IfOk result
+            (λ it. IfSome (log_records it) (AllStandFor D.Disk (log_disk it))) }
+        ensures end { IfOk result (λ it. IfSome (log_records it)
+            (λ list. log_end it ≡ end_behind list)) }
         ensures err { IfErr result (λ e. Looks D.Disk disk e.disk) }
         ensures cause { IfErr result (λ e. HasCauseOf D.Disk H.hash disk e.disk e.why) }
     {
@@ -79,27 +87,36 @@ impl<H: TreeHash, D: Disk> Log<H, D> {
         }
     }
 
-    /// Adds an entry with the key that belongs to it, and answers its index. At Ok a crash leaves the records with that
-    /// of the entry; at any moment of the call it leaves the old records, or these and that one.
+    /// Adds an entry with the key that belongs to it, and answers its index. At Ok a crash leaves
+    /// the records with that of the entry; at any moment of the call it leaves the old records, or
+    /// these and that one.
     ///
-    /// Errors, in the order of the tests: `Full` where the log has as many entries as its limit allows; `TooLarge` where
-    /// the entry and its key have more than 65,535 bytes together; `Memory`; and what [`Journal::append`] refuses. A
-    /// refusal leaves the log as it was. After `Append(Failed)` it shows what it showed before, and each further call
-    /// that passes the first tests answers `Append(Broken)`.
+    /// Errors, in the order of the tests: `Full` where the log has as many entries as its limit
+    /// allows; `TooLarge` where the entry and its key have more than 65,535 bytes together;
+    /// `Memory`; and what [`Journal::append`] refuses. A refusal leaves the log as it was. After
+    /// `Append(Failed)` it shows what it showed before, and each further call that passes the first
+    /// tests answers `Append(Broken)`.
     #[tactic(auto, unfolding(crate::specs::Refusals::add_refusal))]
     pub fn add(&mut self, alloc: Global, entry: &[u8], spki: &[u8]) -> Result<u64, LogError>
         requires { matches H.hash entry.now spki.now ≡ true }
         ensures leaves { Leaves entry.now spki.now self.old self.new result }
-        ensures answer { KeepsTo (add_refusal (state_of self.old) (log_broken self.old) (log_end self.old) entry.now spki.now) result }
+        ensures answer { KeepsTo (add_refusal (state_of self.old) (log_broken self.old)
+            (log_end self.old) entry.now spki.now) result }
         ensures kept { OnOk result (IfSome (log_records self.old) (λ list.
             AllStandFor D.Disk (log_disk self.new) (list ++ entry_record entry.now spki.now ∷ []))) }
         ensures count { D.faults (log_disk self.old) ≤ D.faults (log_disk self.new) }
         ensures any_moment { log_broken self.old ≡ false → IfSome (log_records self.old) (λ list.
-            LeavesOnly D.Disk (log_disk self.old) (log_disk self.new) (StandsForEither list (entry_record entry.now spki.now))) }
-        ensures afterwards { log_broken self.old ≡ false → IfSome (log_records self.old) (λ list. (c : List ℕ)
-            → D.may_leave (log_disk self.new) c → StandsForEither list (entry_record entry.now spki.now) c) }
-        ensures valid { add_refusal (state_of self.old) (log_broken self.old) (log_end self.old) entry.now spki.now ≡ None
-            → IfSome (log_records self.old) (λ list. log_of H.hash (list ++ entry_record entry.now spki.now ∷ []) ≡ Ok (with_item entry.now spki.now (state_of self.old))) }
+            LeavesOnly D.Disk (log_disk self.old) (log_disk self.new)
+            (StandsForEither list (entry_record entry.now spki.now))) }
+        ensures afterwards { log_broken self.old ≡ false
+            → IfSome (log_records self.old) (λ list. (c : List ℕ)
+            → D.may_leave (log_disk self.new) c
+            → StandsForEither list (entry_record entry.now spki.now) c) }
+        ensures valid { add_refusal (state_of self.old) (log_broken self.old)
+            (log_end self.old) entry.now spki.now ≡ None
+            → IfSome (log_records self.old)
+            (λ list. log_of H.hash (list ++ entry_record entry.now spki.now ∷ [])
+            ≡ Ok (with_item entry.now spki.now (state_of self.old))) }
     {
         let index = self.contents.len();
         if self.contents.is_full() {
@@ -128,18 +145,19 @@ impl<H: TreeHash, D: Disk> Log<H, D> {
         self.contents.len() as u64
     }
 
+    /// What holds of every log, over any disk: the clause says it, and the call does nothing. Each entry but the first
+    /// reads as one of type 1 to which its key belongs, and both have fewer than 2^16 bytes.
+    pub fn sound(&self)
+        ensures { IsSound H.hash (state_of self.now) }
+    {
+        let _ = self.contents.len();
+    }
+
     pub fn settings(&self) -> &LogSettings
         ensures value { result.now ≡ (state_of self.now).settings }
         ensures allowed { AreAllowed result.now.max_active result.now.limit }
     {
         self.contents.settings()
-    }
-
-    /// The tree hash of the entries (RFC 9162, section 2.1.1).
-    pub fn root(&self) -> [u8; 32]
-        ensures { result ≡ tree_hash H.hash (state_of self.now).entries }
-    {
-        self.leaves().root_between(0, self.size())
     }
 
     // The leaf hashes of the entries, each at its index.
@@ -166,8 +184,8 @@ impl<H: TreeHash, D: Disk> Log<H, D> {
 
     /// The entry at an index and its key, in the place of what the two byte strings held.
     ///
-    /// Errors, in the order of the tests: `NoSuchEntry` where the index isn't below the size; `Memory`. After a refusal
-    /// both byte strings are empty.
+    /// Errors, in the order of the tests: `NoSuchEntry` where the index isn't below the size;
+    /// `Memory`. After a refusal both byte strings are empty.
     #[tactic(auto, unfolding(crate::specs::Refusals::item_at))]
     pub fn entry(&mut self, index: u64, entry: &mut Bytes, spki: &mut Bytes) -> Result<(), LogError>
         ensures item { GivesItem (item_at (state_of self.old) index) result entry.new spki.new }

@@ -1,4 +1,4 @@
-// The tree over the entries of a log.
+//! The tree over the entries of a log.
 ghost use Rattle.std.specs.Prelude.{◌≡◌, length, map};
 ghost use Rattle.issuance_log.specs.Words.{state_of};
 ghost use Rattle.tree_core.specs.Tree.{leaf_hash};
@@ -9,8 +9,9 @@ use mtc_io::Failed;
 use tree_core::TreeHash;
 use tree_proofs::Nodes;
 
-/// A log is the nodes of the tree over its entries. It keeps the leaf hashes, makes the hash of a full subtree from them
-/// each time it is asked for, in the time of its size, and never fails. All of the log stays as it was.
+/// A log is the nodes of the tree over its entries. It keeps the leaf hashes, makes the hash of a
+/// full subtree from them each time it is asked for, in the time of its size, and never fails. All
+/// of the log stays as it was.
 impl<H: TreeHash, D: Disk> Nodes for Log<H, D> {
     ghost use Rattle.std.specs.Prelude.{Some, refl};
     ghost use Rattle.std.proofs.Common.{sym, ◌∙◌};

@@ -1,4 +1,4 @@
-// The records of a file that is opened as a log.
+//! The records of a file that is opened as a log.
 ghost use Rattle.std.specs.Prelude.{◌≡◌, ◌<◌, [], false, None, option_map, MatchBool, IfOk, IfErr, OnOk};
 ghost use Rattle.disk_core.specs.Moments.{Looks};
 ghost use Rattle.journal_core.specs.Openings.{opening_disk, read_list, is_ended, refusal, left_of};
@@ -28,11 +28,15 @@ fn read_first<H: TreeHash, D: Disk>(
     alloc: Global,
     opening: &mut Opening<D>,
 ) -> Result<Contents<H>, LogOpenError>
-    requires list { read_list opening.old ≡ option_map (λ _. []) (D.told (opening_disk opening.old)) }
+    requires list { read_list opening.old
+        ≡ option_map (λ _. []) (D.told (opening_disk opening.old)) }
     requires goes_on { (is_ended opening.old ≡ false) × (refusal opening.old ≡ None) }
     ensures folded { IfOk result (λ c. HasFolded H.hash c opening.new) }
-    ensures err { IfErr result (HasCauseOf D.Disk H.hash (opening_disk opening.old) (opening_disk opening.new)) }
+    ensures err { IfErr result (HasCauseOf D.Disk H.hash (opening_disk opening.old)
+        (opening_disk opening.new)) }
     ensures looks { Looks D.Disk (opening_disk opening.old) (opening_disk opening.new) }
+    ensures fine { OnOk result (D.faults (opening_disk opening.new)
+        ≡ D.faults (opening_disk opening.old)) }
 {
     match opening.next() {
         Ok(Some(body)) => match Contents::begin(alloc, body) {
@@ -53,9 +57,13 @@ fn read_next<H: TreeHash, D: Disk>(
     requires { HasFolded H.hash contents.old opening.old }
     ensures more { IfOk result (λ more. MatchBool more (HasFolded H.hash contents.new opening.new)
         (HasFound H.hash contents.new opening.new)) }
-    ensures shorter { IfOk result (λ more. MatchBool more (left_of opening.new < left_of opening.old) (Unit {0})) }
-    ensures err { IfErr result (HasCauseOf D.Disk H.hash (opening_disk opening.old) (opening_disk opening.new)) }
+    ensures shorter { IfOk result
+        (λ more. MatchBool more (left_of opening.new < left_of opening.old) (Unit {0})) }
+    ensures err { IfErr result (HasCauseOf D.Disk H.hash (opening_disk opening.old)
+        (opening_disk opening.new)) }
     ensures looks { Looks D.Disk (opening_disk opening.old) (opening_disk opening.new) }
+    ensures fine { OnOk result (D.faults (opening_disk opening.new)
+        ≡ D.faults (opening_disk opening.old)) }
 {
     let number = contents.records();
     match opening.next() {
@@ -76,8 +84,11 @@ fn read_rest<H: TreeHash, D: Disk>(
 ) -> Result<(), LogOpenError>
     requires { HasFolded H.hash contents.old opening.old }
     ensures found { OnOk result (HasFound H.hash contents.new opening.new) }
-    ensures err { IfErr result (HasCauseOf D.Disk H.hash (opening_disk opening.old) (opening_disk opening.new)) }
+    ensures err { IfErr result (HasCauseOf D.Disk H.hash (opening_disk opening.old)
+        (opening_disk opening.new)) }
     ensures looks { Looks D.Disk (opening_disk opening.old) (opening_disk opening.new) }
+    ensures fine { OnOk result (D.faults (opening_disk opening.new)
+        ≡ D.faults (opening_disk opening.old)) }
 {
     'records: loop {
         if !read_next::<H, D>(alloc, opening, contents)? {
@@ -91,11 +102,15 @@ pub(crate) fn read_log<H: TreeHash, D: Disk>(
     alloc: Global,
     opening: &mut Opening<D>,
 ) -> Result<Contents<H>, LogOpenError>
-    requires list { read_list opening.old ≡ option_map (λ _. []) (D.told (opening_disk opening.old)) }
+    requires list { read_list opening.old
+        ≡ option_map (λ _. []) (D.told (opening_disk opening.old)) }
     requires goes_on { (is_ended opening.old ≡ false) × (refusal opening.old ≡ None) }
     ensures found { IfOk result (λ c. HasFound H.hash c opening.new) }
-    ensures err { IfErr result (HasCauseOf D.Disk H.hash (opening_disk opening.old) (opening_disk opening.new)) }
+    ensures err { IfErr result (HasCauseOf D.Disk H.hash (opening_disk opening.old)
+        (opening_disk opening.new)) }
     ensures looks { Looks D.Disk (opening_disk opening.old) (opening_disk opening.new) }
+    ensures fine { OnOk result (D.faults (opening_disk opening.new)
+        ≡ D.faults (opening_disk opening.old)) }
 {
     let mut contents = read_first::<H, D>(alloc, opening)?;
     read_rest::<H, D>(alloc, opening, &mut contents)?;

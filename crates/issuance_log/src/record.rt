@@ -1,7 +1,7 @@
-// The bodies of a log's records.
-ghost use Rattle.std.specs.Prelude.{◌≡◌, ◌+◌, ◌≤◌, length, true, IfOk};
+//! The bodies of a log's records.
+ghost use Rattle.std.specs.Prelude.{◌≡◌, ◌+◌, ◌<◌, ◌≤◌, length, true, IfOk};
 ghost use Rattle.byte_forms.specs.Readings.{Moves};
-ghost use Rattle.issuance_log.specs.Records.{settings_at, entry_at, all_of, are_allowed, AreAllowed, settings_with, settings_in, settings_record, entry_record};
+ghost use Rattle.issuance_log.specs.Records.{settings_at, entry_at, all_of, are_allowed, AreAllowed, settings_with, settings_in, item_in, settings_record, entry_record};
 ghost use Rattle.issuance_log.specs.Results.{Finds};
 ghost use Rattle.tls_wire.specs.Arcs.{IsAnchorId};
 
@@ -13,8 +13,8 @@ use tls_wire::{AnchorId, Cursor, Short, put_u8, put_u32, put_vec8, put_vec16};
 
 const LOG: u8 = 1;
 
-/// The tag of an Entry.
-pub(crate) const ENTRY: u8 = 2;
+// The tag of an Entry.
+const ENTRY: u8 = 2;
 
 // The settings behind the tag, in their order.
 #[tactic(auto, unfolding(crate::specs::Records::settings_at))]
@@ -82,14 +82,29 @@ pub(crate) fn read_settings(alloc: Global, body: &[u8]) -> Result<LogSettings, R
     settings_with(alloc, id, max_active, limit)
 }
 
-/// The entry and the key in the body of an Entry, behind its tag. They are all that is left.
-pub(crate) fn read_entry<'a>(mut cursor: Cursor<'a>) -> Result<(&'a [u8], &'a [u8]), RecordError>
-    ensures { Finds (λ x. (x.0.now, x.1.now)) (all_of (entry_at cursor.entry)) result }
+// The entry and the key in the body of an Entry.
+#[tactic(auto, unfolding(crate::specs::Records::item_in))]
+fn item_in(body: &[u8]) -> Result<(&[u8], &[u8]), RecordError>
+    ensures { Finds (λ x. (x.0.now, x.1.now)) (item_in body.now) result }
 {
+    let mut cursor = Cursor::new(body);
+    if cursor.u8()? != ENTRY {
+        return Err(RecordError::Unfit);
+    }
     let item = entry_fields(&mut cursor)?;
     if cursor.left() != 0 {
         return Err(RecordError::Unfit);
     }
+    Ok(item)
+}
+
+/// The entry and the key in the body of an Entry. Each has fewer than 2^16 bytes.
+pub(crate) fn read_item(body: &[u8]) -> Result<(&[u8], &[u8]), RecordError>
+    ensures found { Finds (λ x. (x.0.now, x.1.now)) (item_in body.now) result }
+    ensures short_entry { IfOk result (λ x. length x.0.now < 65536) }
+    ensures short_key { IfOk result (λ x. length x.1.now < 65536) }
+{
+    let item = item_in(body)?;
     Ok(item)
 }
 

@@ -1,4 +1,4 @@
-// What is settled when a log begins.
+//! What is settled when a log begins.
 use tls_wire::AnchorId;
 
 /// The settings of a log, which never change.

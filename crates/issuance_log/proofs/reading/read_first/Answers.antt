@@ -1,4 +1,4 @@
-use Rattle.std.proofs.Common.{ap, subst, sym, ◌∙◌, Ok}
+use Rattle.std.proofs.Common.{refl, ap, subst, sym, ◌∙◌, Ok}
 use Rattle.journal_core.specs.Openings.{opening_disk, Nexts}
 use Rattle.issuance_log.specs.Openings.{HasCauseOf}
 use Rattle.issuance_log.proofs.Steps.{folded_first, cause_begun, missing_first, cause_first}
@@ -32,3 +32,10 @@ returns-in-Err-clause-err g c =
     let new = c.next.follows.lender-at-none in
     let refused = subst (Nexts old new) c.in-Err.is c.next.follows.holds-at-none in
     cause_first g.H.TreeHash.hash old new c.in-Err.why c.requires.list c.requires.goes_on.1 refused.1
+
+pub returns-in-Ok-clause-fine : goal.returns-in-Ok-clause-fine
+returns-in-Ok-clause-fine g c =
+    let old = c.args.opening.now in
+    let new = c.next.follows.lender-at-none in
+    let read = subst (Nexts old new) (c.in-Ok-Some.is ∙ ap Ok c.in-Ok-Some.field-0-is) c.next.follows.holds-at-none in
+    read.2.fine refl

@@ -1,4 +1,4 @@
-use Rattle.std.proofs.Common.{ℕ, ap, subst, sym, ◌∙◌, Ok}
+use Rattle.std.proofs.Common.{ℕ, refl, ap, subst, sym, ◌∙◌, Ok}
 use Rattle.journal_core.specs.Openings.{opening_disk, Nexts}
 use Rattle.issuance_log.specs.Faults.{refused}
 use Rattle.issuance_log.specs.Openings.{HasCauseOf}
@@ -34,3 +34,17 @@ returns-in-Err-clause-err g c =
     let new = c.next.follows.lender-at-none in
     let refused = subst (Nexts old new) c.in-Err.is c.next.follows.holds-at-none in
     cause_next g.H.TreeHash.hash old new c.args.contents.now c.in-Err.why c.requires refused.1
+
+pub returns-in-Ok-clause-fine : goal.returns-in-Ok-clause-fine
+returns-in-Ok-clause-fine g c =
+    let old = c.args.opening.now in
+    let new = c.next.follows.lender-at-none in
+    let read = subst (Nexts old new) (c.in-Ok-Some.is ∙ ap Ok c.in-Ok-Some.field-0-is) c.next.follows.holds-at-none in
+    read.2.fine refl
+
+pub returns-in-Ok-None-clause-fine : goal.returns-in-Ok-None-clause-fine
+returns-in-Ok-None-clause-fine g c =
+    let old = c.args.opening.now in
+    let new = c.next.follows.lender-at-none in
+    let ended = subst (Nexts old new) (c.in-Ok-None.is ∙ ap Ok c.in-Ok-None.field-0-is) c.next.follows.holds-at-none in
+    ended.1.fine refl

@@ -3,7 +3,7 @@ use Rattle.journal_core.specs.Format.{StandsForEither}
 use Rattle.journal_core.specs.Words.{disk_of}
 use Rattle.issuance_log.specs.Records.{entry_record}
 use Rattle.issuance_log.specs.Words.{log_records, log_broken, log_end, state_of}
-use Rattle.issuance_log.proofs.Adds.{room_of, record_some, record_few, added_records, added_unrefused, all_kept}
+use Rattle.issuance_log.proofs.Adds.{room_of, record_some, record_few, added_records, added_unrefused, all_kept, untouched_moment, untouched_after}
 use Rattle.issuance_log.proofs.log.Log.add.Goals as goal
 
 pub returns-in_err-record-clause-valid : goal.returns-in_err-record-clause-valid
@@ -47,3 +47,16 @@ returns-in-Ok-clause-kept g c =
     let disk = disk_of c.append.new.self in
     all_kept g.D.Disk disk (g.D.Disk.told disk) (log_records c.args.self.now) c.as_slice.result.now (entry_record c.args.entry.now c.args.spki.now)
     c.in-Ok.ensures.leaves.records (c.as_slice.ensures ∙ c.in_ok-record.ensures) c.in-Ok.ensures.leaves.all
+
+pub returns-clause-afterwards : goal.returns-clause-afterwards
+returns-clause-afterwards g c = λ sound.
+    subst (λ (body : List ℕ). IfSome (log_records c.args.self.now) (λ list. (i : List ℕ) → g.D.Disk.may_leave (disk_of c.append.new.self) i → StandsForEither list body i))
+    (c.as_slice.ensures ∙ c.in_ok-record.ensures) (c.in-Err.ensures.afterwards sound)
+
+pub returns-then-entry-spki-gt-MAX_ITEM-clause-any_moment : goal.returns-then-entry-spki-gt-MAX_ITEM-clause-any_moment
+returns-then-entry-spki-gt-MAX_ITEM-clause-any_moment g c = λ sound.
+    untouched_moment g.D.Disk (disk_of c.args.self.now.journal) _ _ (c.args.self.now.journal.settled sound) (g.met.D.Disk.only_now _)
+
+pub returns-then-entry-spki-gt-MAX_ITEM-clause-afterwards : goal.returns-then-entry-spki-gt-MAX_ITEM-clause-afterwards
+returns-then-entry-spki-gt-MAX_ITEM-clause-afterwards g c = λ sound.
+    untouched_after g.D.Disk (disk_of c.args.self.now.journal) _ _ (c.args.self.now.journal.settled sound)
