@@ -1,0 +1,137 @@
+//! Entries that are added, or refused.
+use crate::journals::{
+    ENTRY, KEY, MemLog, NEW_LOG, add, add_entry, begin, changed, disk, log_in, open, size_of,
+    with_entry,
+};
+use disk_core::MemDisk;
+use issuance_log::{LogError, LogOpenError, LogRefused};
+use journal_core::{AppendError, OpenError};
+use log_entry::key_hash;
+use mtc_io::{Bytes, Memory};
+use std::alloc::Global;
+use std::test::Fail;
+use tree_core::Sha;
+
+// The head of a public key like that one in so many bytes, of which the last ones are 0: the
+// lengths of the whole and of the bits take two bytes each.
+const LONG_KEY: [u8; 16] = [
+    0x30, 0x82, 0x00, 0x00, 0x30, 0x05, 0x06, 0x03, 0x2B, 0x65, 0x70, 0x03, 0x82, 0x00, 0x00, 0x00,
+];
+
+// Whether a log of two entries at most takes one, and no second one.
+fn is_filled(alloc: Global) -> Result<bool, Memory> {
+    let (made, _) = begin(alloc, MemDisk::new(alloc, Vec::new(alloc)), 2)?;
+    let Ok(mut log) = open(alloc, made) else {
+        return Ok(false);
+    };
+    let first = add(alloc, &mut log, &ENTRY, &KEY);
+    let second = add(alloc, &mut log, &ENTRY, &KEY);
+    let answers = first == Ok(1) && second == Err(LogError::Full) && log.size() == 2;
+    Ok(answers && log.into_disk().bytes().len() == 221)
+}
+
+// The journal of the same log with a second entry.
+fn size_of_overfull(alloc: Global) -> Result<Result<u64, LogOpenError>, Memory> {
+    let mut more = changed(alloc, with_entry(alloc)?.as_slice(), 34, 0x02)?;
+    more.truncate(220);
+    add_entry(&mut more)?;
+    size_of(alloc, more.as_slice())
+}
+
+#[test]
+fn a_full_log_takes_no_entry(rt: HostRuntime) -> Result<(), Fail> {
+    assert!(rt; is_filled(rt.alloc())?);
+    assert!(rt; size_of_overfull(rt.alloc())? == Err(LogOpenError::BadRecord(2)));
+    Ok(())
+}
+
+// A public key of so many bytes, from 400 to 65,536.
+fn long_key(alloc: Global, size: usize) -> Result<Bytes, Memory> {
+    let mut key = Vec::from_slice(alloc, &LONG_KEY)?;
+    let (whole, bits) = (size.saturating_sub(4), size.saturating_sub(15));
+    for (place, number) in [(2, whole >> 8), (3, whole), (13, bits >> 8), (14, bits)] {
+        if let Some(byte) = key.get_mut(place) {
+            *byte = (number & 255) as u8;
+        }
+    }
+    for _ in 16..size {
+        key.push(0)?;
+    }
+    Ok(Bytes::from_vec(key))
+}
+
+// The entry with the hash of another key.
+fn entry_for(alloc: Global, key: &[u8]) -> Result<Bytes, Memory> {
+    let mut entry = Vec::from_slice(alloc, &ENTRY)?;
+    for (place, byte) in key_hash::<Sha>(key).iter().enumerate() {
+        if let Some(old) = entry.get_mut(70 + place) {
+            *old = *byte;
+        }
+    }
+    Ok(Bytes::from_vec(entry))
+}
+
+// What a new log answers to an entry whose key has so many bytes; none where the key has other
+// ones.
+fn add_long(alloc: Global, size: usize) -> Result<Option<Result<u64, LogError>>, Memory> {
+    let key = long_key(alloc, size)?;
+    let entry = entry_for(alloc, key.as_slice())?;
+    let Some(mut log) = log_in(alloc, &NEW_LOG)? else {
+        return Ok(None);
+    };
+    if key.len() != size {
+        return Ok(None);
+    }
+    Ok(Some(add(alloc, &mut log, entry.as_slice(), key.as_slice())))
+}
+
+// The entry and its key have 131 bytes more than the key.
+#[test]
+fn an_item_has_65535_bytes_at_most(rt: HostRuntime) -> Result<(), Fail> {
+    let cases: [(usize, Result<u64, LogError>); 2] = [
+        (65_405, Err(LogError::TooLarge)),
+        (65_404, Ok(1)),
+    ];
+    for (size, wanted) in cases {
+        assert!(rt; add_long(rt.alloc(), size)? == Some(wanted), "{size} bytes");
+    }
+    Ok(())
+}
+
+// The log shows its old items, and a crash leaves these, or these and the entry.
+fn shows_the_old_log(alloc: Global, mut log: MemLog) -> Result<bool, Memory> {
+    let broken = Err(LogError::Append(AppendError::Broken));
+    let kept = log.size() == 1 && add(alloc, &mut log, &ENTRY, &KEY) == broken && log.size() == 1;
+    let left = log.into_disk();
+    for pick in 0..16 {
+        let image = left.lend()?.crash(pick)?;
+        if !matches!(size_of(alloc, image.bytes())?, Ok(1 | 2)) {
+            return Ok(false);
+        }
+    }
+    Ok(kept)
+}
+
+// Whether a log of which this call of the disk fails answers that, and stays as it was. Seven calls
+// open the log, and the next four add the entry.
+fn fails_soundly(alloc: Global, call: u64) -> Result<bool, Memory> {
+    match open(alloc, disk(alloc, &NEW_LOG, &[call])?) {
+        Ok(mut log) => {
+            let failed = Err(LogError::Append(AppendError::Failed));
+            let told = call >= 7 && add(alloc, &mut log, &ENTRY, &KEY) == failed;
+            Ok(shows_the_old_log(alloc, log)? && told)
+        }
+        Err(LogRefused { disk, why }) => {
+            let told = call < 7 && why == LogOpenError::Open(OpenError::Failed);
+            Ok(told && disk.bytes() == NEW_LOG.as_slice())
+        }
+    }
+}
+
+#[test]
+fn each_call_of_the_disk_may_fail(rt: HostRuntime) -> Result<(), Fail> {
+    for call in 0..11 {
+        assert!(rt; fails_soundly(rt.alloc(), call)?, "call {call}");
+    }
+    Ok(())
+}

@@ -1,0 +1,11 @@
+//! Cases over logs.
+#![tactic(auto)]
+
+#[cfg(test)]
+mod appends;
+#[cfg(test)]
+mod journals;
+#[cfg(test)]
+mod logs;
+#[cfg(test)]
+mod openings;
