@@ -83,15 +83,6 @@ impl<H: TreeHash> Listed<H> {
         let to = from + (1 << level);
         root_over::<H>(&leaves[from..to])
     }
-
-    /// The tree hash of the leaves from `start` up to `end`. It takes no memory.
-    pub fn root_between(&self, start: u64, end: u64) -> [u8; 32]
-        requires order { start ≤ end }
-        requires within { end ≤ length self.now.leaves }
-        ensures { result ≡ root_of H.hash (part_of self.now.leaves start end) }
-    {
-        root_over::<H>(&self.items[start as usize..end as usize])
-    }
 }
 
 impl<H: TreeHash> Nodes for Listed<H> {
