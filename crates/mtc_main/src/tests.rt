@@ -44,7 +44,9 @@ fn makes_files_and_opens_them_again(rt: HostRuntime) -> Result<(), Fail> {
     let mut room = FileRoom::new(&rt);
     assert!(rt; matches!(room.disk(name), Err(RoomError::Absent)));
     let mut disk = room.fresh(name).expect(&rt, "a new file");
-    assert!(rt; disk.len() == Ok(0) && disk.write_at(0, b"entry") == Ok(()) && disk.sync() == Ok(()));
+    assert!(rt;
+        disk.len() == Ok(0) && disk.write_at(0, b"entry") == Ok(()) && disk.sync() == Ok(())
+    );
     room.keep(name, disk);
     assert!(rt; matches!(room.fresh(name), Err(RoomError::Exists)));
 

@@ -7,6 +7,8 @@ mod certificates;
 #[cfg(test)]
 mod desk;
 #[cfg(test)]
+mod devices;
+#[cfg(test)]
 mod logs;
 #[cfg(test)]
 mod one_file;

@@ -1,15 +1,12 @@
 //! What the commands on the journal of a log answer, and what they leave of it.
-use crate::desk::owned_words;
-use crate::scripts::{FILE, Placed, STEP, Step, desk_with, passed};
-use mtc_io::MemSink;
-use std::alloc::Global;
+use crate::scripts::{FILE, Placed, STEP, Step, passed};
 use std::test::Fail;
 
 // The journal of log 32473.1 with 2 active landmarks and at most 64 entries: its header and its
 // first record without the gate behind it, the gate, and the record of an entry with its key.
 const SETTINGS: &str = "6d74632d6a6f75726e616c2f76310a00010000000e010481fd59010000000200000040";
 
-const GATE: &str = "00";
+pub const GATE: &str = "00";
 
 const LENGTHS: &str = "01000000b4020083";
 
@@ -20,7 +17,7 @@ const KEY: &str =
     "002c302a300506032b6570032100000000000000000000000000000000000000000000000000000000000000000000";
 
 // A new journal, and that with the entry.
-const NEW: &[&str] = &[SETTINGS, GATE];
+pub const NEW: &[&str] = &[SETTINGS, GATE];
 
 const ISSUED: &[&str] = &[SETTINGS, LENGTHS, ENTRY, KEY];
 
@@ -55,7 +52,7 @@ const SIZE_2: &[u8] =
 const ITEMS: &[u8] =
     b"\x00\x02\x00\x00\x00\x00\x00\x83\x00\x01\xa0\x03\x02\x01\x02\x30\x19\x31\x17\x30\x15\x06\x0a\x2b\x06\x01\x04\x01\x82\xda\x4b\x2f\x01\x0c\x0732473.1\x30\x1e\x17\x0d260101000000Z\x17\x0d260108000000Z\x30\x00\x04\x20\x72\x2a\xbd\x12\xe9\x9a\x53\x67\xf3\x75\xae\xb9\x67\x2a\x8e\x07\x71\x2e\x03\xc2\xad\xd1\x6f\xa8\xd6\x91\x4d\x1c\xfa\x2e\xfe\x0c\xa3\x1b\x30\x19\x30\x17\x06\x03\x55\x1d\x11\x01\x01\xff\x04\x0d\x30\x0b\x82\x09a.example\x00\x2c\x30\x2a\x30\x05\x06\x03\x2b\x65\x70\x03\x21\x00\x00\x00\x00\x00\x00\x00\x00\x00\x00\x00\x00\x00\x00\x00\x00\x00\x00\x00\x00\x00\x00\x00\x00\x00\x00\x00\x00\x00\x00\x00\x00\x00";
 
-const J: Placed = Placed {
+pub const J: Placed = Placed {
     name: "j",
     hexadecimal: NEW,
     ..FILE
@@ -66,7 +63,7 @@ const WITH_ENTRY: Placed = Placed {
     ..J
 };
 
-const REQUEST: Placed = Placed {
+pub const REQUEST: Placed = Placed {
     name: "r",
     text: &[REQUEST_TEXT],
     ..FILE
@@ -78,34 +75,34 @@ const INIT: Step = Step {
     ..STEP
 };
 
-const EXISTS: Step = Step {
+pub const EXISTS: Step = Step {
     status: 7,
     out: b"",
     err: b"mtc: init-log: j: Exists\n",
     ..INIT
 };
 
-const INIT_FAILED: Step = Step {
+pub const INIT_FAILED: Step = Step {
     status: 5,
     out: b"",
     err: b"mtc: init-log: j: Failed\n",
     ..INIT
 };
 
-const CHECKPOINT: Step = Step {
+pub const CHECKPOINT: Step = Step {
     words: &["checkpoint", "j"],
     out: SIZE_1,
     ..STEP
 };
 
-const NOT_JOURNAL: Step = Step {
+pub const NOT_JOURNAL: Step = Step {
     status: 2,
     out: b"",
     err: b"mtc: checkpoint: j: NotJournal\n",
     ..CHECKPOINT
 };
 
-const BAD_RECORD: Step = Step {
+pub const BAD_RECORD: Step = Step {
     err: b"mtc: checkpoint: j: BadRecord 0\n",
     ..NOT_JOURNAL
 };
@@ -123,7 +120,7 @@ const BEYOND_2: Step = Step {
     ..STEP
 };
 
-const ISSUE: Step = Step {
+pub const ISSUE: Step = Step {
     words: &["issue", "j", "r"],
     out: b"issued 1\n",
     ..STEP
@@ -254,7 +251,10 @@ const SCRIPTS: [(&[Placed], &[Step]); 6] = [
 #[test]
 fn commands_on_a_log(rt: HostRuntime) -> Result<(), Fail> {
     for (i, (files, steps)) in SCRIPTS.iter().enumerate() {
-        assert!(rt; passed(rt.alloc(), files, &[], steps)? == steps.len(), "script {i}");
+        assert!(rt;
+            passed(rt.alloc(), files, &[], steps)? == steps.len(),
+            "script {i}"
+        );
     }
     Ok(())
 }
@@ -491,139 +491,5 @@ fn words_and_files_outside_of_their_forms(rt: HostRuntime) -> Result<(), Fail> {
     for (i, (files, step)) in BAD_FORMS.iter().enumerate() {
         assert!(rt; passed(rt.alloc(), files, &[], &[*step])? == 1, "case {i}");
     }
-    Ok(())
-}
-
-// The journal with its record's gate closed.
-const CLOSED: &[&str] = &[
-    "6d74632d6a6f75726e616c2f76310a00000000000e010481fd59010000000200000040",
-    GATE,
-];
-
-const NOTHING_LEFT: Step = Step {
-    left: &[("j", Some(&[]))],
-    ..INIT_FAILED
-};
-
-const CLOSED_LEFT: Step = Step {
-    left: &[("j", Some(CLOSED))],
-    ..INIT_FAILED
-};
-
-const NEW_LEFT: Step = Step {
-    left: &[("j", Some(NEW))],
-    ..INIT_FAILED
-};
-
-// The calls of a device that is made: the length is asked for; the record is written and synced;
-// the gate is written and synced.
-const FRESH_FAILS: [(&[u64], [Step; 3]); 5] = [
-    (&[0], [NOTHING_LEFT, NOT_JOURNAL, EXISTS]),
-    (&[1], [NOTHING_LEFT, NOT_JOURNAL, EXISTS]),
-    (&[2], [CLOSED_LEFT, BAD_RECORD, EXISTS]),
-    (&[3], [CLOSED_LEFT, BAD_RECORD, EXISTS]),
-    (&[4], [NEW_LEFT, CHECKPOINT, EXISTS]),
-];
-
-#[test]
-fn a_device_fails_a_new_log(rt: HostRuntime) -> Result<(), Fail> {
-    for (fails, steps) in &FRESH_FAILS {
-        assert!(rt; passed(rt.alloc(), &[], fails, steps)? == 3, "call {fails:?}");
-    }
-    Ok(())
-}
-
-const CHECKPOINT_FAILED: Step = Step {
-    status: 5,
-    out: b"",
-    err: b"mtc: checkpoint: j: Failed\n",
-    ..CHECKPOINT
-};
-
-const CHECKPOINT_KEEPS: Step = Step {
-    left: &[("j", Some(NEW))],
-    ..CHECKPOINT
-};
-
-const FAILED_KEEPS: Step = Step {
-    left: &[("j", Some(NEW))],
-    ..CHECKPOINT_FAILED
-};
-
-// The calls of a checkpoint: a sync, the length, the header, the record's gate, length and body,
-// and the gate behind it. One that has failed once fails no more, and the next call is the first
-// one of the second time.
-const LOOK_FAILS: [(&[u64], [Step; 2]); 8] = [
-    (&[0], [CHECKPOINT_FAILED, CHECKPOINT_KEEPS]),
-    (&[1], [CHECKPOINT_FAILED, CHECKPOINT_KEEPS]),
-    (&[2], [CHECKPOINT_FAILED, CHECKPOINT_KEEPS]),
-    (&[3], [CHECKPOINT_FAILED, CHECKPOINT_KEEPS]),
-    (&[4], [CHECKPOINT_FAILED, CHECKPOINT_KEEPS]),
-    (&[5], [CHECKPOINT_FAILED, CHECKPOINT_KEEPS]),
-    (&[6], [CHECKPOINT_FAILED, CHECKPOINT_KEEPS]),
-    (&[7], [CHECKPOINT, FAILED_KEEPS]),
-];
-
-#[test]
-fn a_device_fails_a_checkpoint(rt: HostRuntime) -> Result<(), Fail> {
-    for (fails, steps) in &LOOK_FAILS {
-        let files = [Placed { fails, ..J }];
-        assert!(rt; passed(rt.alloc(), &files, &[], steps)? == 2, "call {fails:?}");
-    }
-    Ok(())
-}
-
-const CALLS: [&[u64]; 16] = [
-    &[0],
-    &[1],
-    &[2],
-    &[3],
-    &[4],
-    &[5],
-    &[6],
-    &[7],
-    &[8],
-    &[9],
-    &[10],
-    &[11],
-    &[12],
-    &[13],
-    &[14],
-    &[15],
-];
-
-// Whichever call of the device fails, the journal has its old records, or these and the new one.
-// The status, where all is as it has to be.
-fn status_of_issue(alloc: Global, fails: &'static [u64]) -> Result<Option<u8>, Fail> {
-    let mut desk = desk_with(alloc, &[Placed { fails, ..J }, REQUEST])?;
-    let words = owned_words(alloc, ISSUE.words)?;
-    let mut out = MemSink::new(alloc, 100, Vec::new(alloc));
-    let mut err = MemSink::new(alloc, 100, Vec::new(alloc));
-    let status = desk.run(alloc, &words, &mut out, &mut err);
-    let size = desk.bytes("j").map_or(0, |bytes| bytes.len());
-    let said = if status == 5 {
-        out.taken().is_empty() && err.taken() == b"mtc: issue: j: Failed\n".as_slice()
-    } else {
-        out.taken() == ISSUE.out && err.taken().is_empty()
-    };
-    if said && (size == 36 || size == 221) {
-        Ok(Some(status))
-    } else {
-        Ok(None)
-    }
-}
-
-#[test]
-fn a_device_fails_an_issue(rt: HostRuntime) -> Result<(), Fail> {
-    let mut some_fail = false;
-    let mut some_pass = false;
-    for fails in CALLS {
-        match status_of_issue(rt.alloc(), fails)? {
-            None => assert!(rt; false, "call {fails:?}"),
-            Some(5) => some_fail = true,
-            Some(_) => some_pass = true,
-        }
-    }
-    assert!(rt; some_fail && some_pass);
     Ok(())
 }
