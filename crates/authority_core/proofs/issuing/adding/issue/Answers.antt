@@ -5,6 +5,7 @@ use Rattle.journal_core.specs.Words.{AllStandFor}
 use Rattle.issuance_log.specs.Records.{entry_record}
 use Rattle.issuance_log.specs.Words.{log_disk, log_records, state_of}
 use Rattle.issuance_log.specs.declared.settings.LogSettings.{LogSettings}
+use Rattle.issuance_log.proofs.Adds.{untouched_moment}
 use Rattle.authority_core.specs.Issuing.{entry_for}
 use Rattle.authority_core.specs.Issues.{issued_entry}
 use Rattle.authority_core.proofs.issuing.adding.issue.Goals as goal
@@ -32,3 +33,17 @@ returns-clause-afterwards g c = λ sound.
     of_same (λ (entry key : List ℕ). IfSome (log_records log) (λ list. (i : List ℕ) → g.D.Disk.may_leave (log_disk c.add.new.self) i → StandsForEither list (entry_record entry key) i)) _ _ (issued_entry h (state_of log) r) r.key
     (c.as_slice.ensures ∙ c.in_ok-entry.ensures.bytes ∙ ap (λ (s : LogSettings). entry_for h s.id r) c.settings.ensures.value)
     c.as_slice-2.ensures (c.add.ensures.afterwards sound)
+
+pub returns-in_err-add-clause-afterwards : goal.returns-in_err-add-clause-afterwards
+returns-in_err-add-clause-afterwards g c = λ sound.
+    let log = c.args.log.now in
+    let h = g.H.TreeHash.hash in
+    let r = c.args.request.now in
+    of_same (λ (entry key : List ℕ). IfSome (log_records log) (λ list. (i : List ℕ) → g.D.Disk.may_leave (log_disk c.add.new.self) i → StandsForEither list (entry_record entry key) i)) _ _ (issued_entry h (state_of log) r) r.key
+    (c.as_slice.ensures ∙ c.in_ok-entry.ensures.bytes ∙ ap (λ (s : LogSettings). entry_for h s.id r) c.settings.ensures.value)
+    c.as_slice-2.ensures (c.add.ensures.afterwards sound)
+
+pub returns-in_err-entry-clause-any_moment : goal.returns-in_err-entry-clause-any_moment
+returns-in_err-entry-clause-any_moment g c = λ sound.
+    let log = c.args.log.now in
+    untouched_moment g.D.Disk (log_disk log) _ _ (log.journal.settled sound) (g.met.D.Disk.only_now _)
