@@ -1,5 +1,5 @@
 -- Why the work on a journal ends without an answer, and what it leaves.
-use Rattle.std.specs.Prelude.{◌≡◌, ◌≢◌, ◌≤◌, ℕ, ◌+◌, false, List, Option, Result, Ok, Err, IfOk, IfErr, IfSome, IsOk}
+use Rattle.std.specs.Prelude.{◌≡◌, ◌≢◌, ◌≤◌, ℕ, false, List, Option, Result, Ok, Err, IfOk, IfErr, IfSome, IsOk}
 use Rattle.mtc_io.specs.Counts.{Rose}
 use Rattle.journal_core.specs.Format.{end_behind}
 use Rattle.issuance_log.specs.Words.{log_disk, log_records, log_end, log_broken, state_of}

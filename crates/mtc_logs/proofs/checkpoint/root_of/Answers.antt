@@ -1,8 +1,5 @@
-use Rattle.std.proofs.Common.{◌≡◌, ◌-◌, ◌∙◌, length, ap, arith}
-use Rattle.std.specs.Prelude.{map, take}
-use Rattle.std.proofs.lemmas.List.{take_all}
+use Rattle.std.proofs.Common.{arith}
 use Rattle.issuance_log.specs.Words.{state_of}
-use Rattle.tree_core.specs.Tree.{leaf_hash, root_of, tree_hash}
 use Rattle.mtc_logs.proofs.Asked.{all_entries, first_subtree}
 use Rattle.mtc_logs.proofs.checkpoint.root_of.Goals as goal
 
