@@ -101,7 +101,8 @@ fi
 [ "$(offers keygen 5 '')" = "1 2 4 8" ] || complain "the completion of a width"
 [ "$(offers show docs/mtc.b)" = docs/mtc.bash ] || complain "the completion of a file"
 
-# The program and the table.
+# The program and the table. A program that can't be built is not asked again for each command.
+./mtc member examples/first.member >/dev/null || exit 70
 known=" "
 count=0
 while read -r name words; do

@@ -84,7 +84,7 @@ if ! diff -u --label "$page" --label "by crates.txt" "$page" "$new"; then
 fi
 bench/plot.sh --check || wrong=1
 spelled=$(awk '/^## / { is_in = /signature/ } is_in && /^[0-9a-f]+ +/ { printf "%s", $1 }' "$page")
-if [ "$spelled" != "$(tail -c 84 examples/www.cert | od -An -v -tx1 | tr -d ' \n')" ]; then
+if [ -z "$spelled" ] || [ "$spelled" != "$(tail -c 84 examples/www.cert | od -An -v -tx1 | tr -d ' \n')" ]; then
     echo "wrong: the bytes in $page are not the last 84 of examples/www.cert"
     wrong=1
 fi

@@ -8,6 +8,8 @@ root=$(cd "$(dirname "$0")/.." && pwd)
 page=${1:-$root/docs/TOUR.md}
 folder=$(mktemp -d)
 trap 'rm -rf "$folder"' EXIT
+# Else each command of the tour would try to build it anew.
+"$root/mtc" member "$root/examples/first.member" >/dev/null || exit 70
 mkdir "$folder/clone"
 for name in mtc examples; do
     ln -s "$root/$name" "$folder/clone/$name"

@@ -19,13 +19,17 @@ def shown(path, line=None):
 
 @cache
 def tracked():
-    """The files that git keeps; in a copy without git, all but what is made."""
-    listed = subprocess.run(["git", "-C", str(ROOT), "ls-files", "-z"], capture_output=True)
-    names = [name for name in listed.stdout.decode().split("\0") if name]
+    """The files that git keeps; where git isn't there or refuses, all but its own and what is made."""
+    try:
+        listed = subprocess.run(["git", "-C", str(ROOT), "ls-files", "-z"], capture_output=True).stdout
+    except OSError:
+        listed = b""
+    names = [name for name in listed.decode().split("\0") if name]
     if names:
         return [ROOT / name for name in names if (ROOT / name).is_file()]
-    made = {"out", "tour"}
-    return [path for path in sorted(ROOT.rglob("*")) if path.is_file() and not made & set(path.parts)]
+    made = {".git", "out", "tour", "__pycache__"}
+    found = [path for path in sorted(ROOT.rglob("*")) if not made & set(path.relative_to(ROOT).parts)]
+    return [path for path in found if path.is_file()]
 
 
 @cache
