@@ -1,3 +1,4 @@
+#!/usr/bin/env python3
 """What the statement of `run` rests on: the definitions that its contract names, and those that these name.
 
 docs/BELIEFS.md has the counts in a table.

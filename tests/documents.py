@@ -1,3 +1,4 @@
+#!/usr/bin/env python3
 """Checks that the documents say what the sources have, and that both keep the rules of the house.
 
 Prints a line for each check, and below it what is wrong. Nothing is proved or built; it takes some seconds.

@@ -2,4 +2,4 @@
 # Checks that the documents say what the sources have, and that both keep the rules of the house: one line a check.
 # Usage: tests/documents.sh [CHECK ..]
 cd "$(dirname "$0")" || exit 2
-PYTHONDONTWRITEBYTECODE=1 exec python3 documents.py "$@"
+PYTHONUTF8=1 PYTHONDONTWRITEBYTECODE=1 exec python3 documents.py "$@"
