@@ -11,7 +11,7 @@ trap 'rm -rf "$folder"' EXIT
 echo "entries  file bytes  seconds  held bytes  root"
 for count in 1000 10000 100000; do
     python3 "$root/bench/log/make_journal.py" "$count" "$folder/journal"
-    log=$(cd "$folder" && /usr/bin/time -f '%e %M' "$root/mtc" checkpoint journal 2>"$folder/time")
+    log=$(cd "$folder" && /usr/bin/time -f '%e %M' "$root/mtc" checkpoint journal 2>"$folder/time") || { cat "$folder/time"; exit 1; }
     read -r seconds held <"$folder/time"
     printf '%7d  %10d  %7s  %10d  %s\n' "$count" "$(stat -c %s "$folder/journal")" "$seconds" "$((held * 1024))" \
         "$(grep root <<<"$log" | cut -c6-21)"
