@@ -38,6 +38,9 @@ fn lend(alloc: Global, name: &str) -> Result<Lent, Memory> {
     };
     let bytes = read_all(alloc, &mut source, 3);
     room.done(source);
+    if room.starved() != 0 {
+        return Ok(Lent::Other);
+    }
     match bytes {
         Ok(bytes) => match bytes.as_slice() {
             [a, b, c] => Ok(Lent::Read([*a, *b, *c])),

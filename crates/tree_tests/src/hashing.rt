@@ -20,8 +20,6 @@ const NODES: [([u8; 32], u8); 11] = [
     (N0_8, 0xd3),
 ];
 
-/// The same nodes, hashed one after another.
-
 // The same nodes by a hash function.
 fn nodes<H: TreeHash>() -> [[u8; 32]; 11] {
     let n0_1 = leaf::<H>(ENTRIES[0]);

@@ -131,10 +131,12 @@ fn each_inclusion_path_evaluates(rt: HostRuntime) -> Result<(), Fail> {
     Ok(())
 }
 
-// Whether these hashes are made as the path of an entry.
+// Whether these hashes are made as the path of an entry, in place of what the path held.
 fn is_path(nodes: &mut Listed<Sha>, index: u64, start: u64, end: u64, wanted: &[[u8; 32]]) -> bool {
     let mut path = Path::new();
-    make_path(nodes, index, start, end, &mut path) == Some(Ok(())) && path.as_slice() == wanted
+    make_path(nodes, 2, 0, 8, &mut path) == Some(Ok(()))
+        && make_path(nodes, index, start, end, &mut path) == Some(Ok(()))
+        && path.as_slice() == wanted
 }
 
 #[test]
