@@ -9,7 +9,8 @@ last_count = 18446744073709551615
 abbrev pub Rose : ℕ → ℕ → Type 0
 Rose before after = (before < after) ⊎ (last_count ≤ after)
 
--- A call's answer has its cause: the count never falls, an error comes only where it rose, and Ok only where it didn't.
+-- A call's answer has its cause: the count never falls, an error comes only where it rose, and Ok
+-- only where it didn't.
 pub record HasCause {T E : Type 0} (before after : ℕ) (result : Result T E) : Type 0 where
   pub later : before ≤ after
   pub failed : OnErr result (Rose before after)

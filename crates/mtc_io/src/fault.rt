@@ -1,5 +1,4 @@
 //! The two answers that have their cause outside the program.
-ghost use Rattle.std.specs.Prelude.{⊤, ◌≡◌};
 
 use std::alloc::{AllocError, AllocFailed};
 

@@ -1,8 +1,9 @@
 //! Bytes in and out, with faults counted.
 //!
-//! Everything that the program reads from or writes to is handed in as an object that may fail. Each such object
-//! counts its faults, and a call answers [`Failed`] only where that count rose. So a caller always knows whether
-//! an answer has its cause outside, and never mistakes a fault for an end of input.
+//! Everything that the program reads from or writes to is handed in as an object that may fail.
+//! Each such object counts its faults, and a call answers [`Failed`] only where that count rose. So
+//! a caller always knows whether an answer has its cause outside, and never mistakes a fault for an
+//! end of input.
 #![tactic(auto)]
 
 mod bytes;

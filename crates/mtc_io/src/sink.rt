@@ -1,7 +1,7 @@
 //! Where bytes go.
-ghost use Rattle.std.specs.Prelude.{◌≡◌, ℕ, List, Option, ◌≤◌, ◌<◌, length, IfOk, OnOk, OnErr};
+ghost use Rattle.std.specs.Prelude.{ℕ, List, Option, ◌≤◌, ◌<◌, length, IfOk, OnOk};
 ghost use Rattle.std.specs.Io.KnownBytes.{WriteAppends, Appends};
-ghost use Rattle.mtc_io.specs.Counts.{Rose, HasCause};
+ghost use Rattle.mtc_io.specs.Counts.{HasCause};
 ghost use Rattle.mtc_io.specs.Streams.{AppendsPrefix, joined};
 
 use crate::fault::Failed;
@@ -14,8 +14,8 @@ pub trait Sink {
     /// How often it has failed. The count never falls.
     ghost faults: { Self → ℕ };
 
-    /// Takes bytes from the front of a piece, and answers how many: at least 1 where the piece isn't empty.
-    /// `Failed` comes only with a fault, and then nothing was taken.
+    /// Takes bytes from the front of a piece, and answers how many: at least 1 where the piece
+    /// isn't empty. `Failed` comes only with a fault, and then nothing was taken.
     fn write(&mut self, piece: &[u8]) -> Result<usize, Failed>
         ensures bound { IfOk result (λ count. count ≤ length piece.now) }
         ensures some { IfOk result (λ count. 0 < length piece.now → 0 < count) }
@@ -23,7 +23,8 @@ pub trait Sink {
         ensures cause { HasCause (faults self.old) (faults self.new) result };
 }
 
-/// Writes a whole piece. `Failed` comes only with a fault of the sink, and then a prefix of the piece was taken.
+/// Writes a whole piece. `Failed` comes only with a fault of the sink, and then a prefix of the
+/// piece was taken.
 #[tactic(auto, using(crate::proofs::Streams::taken_more))]
 pub fn write_all<O: Sink>(sink: &mut O, piece: &[u8]) -> Result<(), Failed>
     ensures ok { OnOk result (Appends (O.taken sink.old) (O.taken sink.new) piece.now) }
@@ -39,8 +40,8 @@ pub fn write_all<O: Sink>(sink: &mut O, piece: &[u8]) -> Result<(), Failed>
     Ok(())
 }
 
-/// Writes pieces one behind the other. `Failed` comes only with a fault of the sink, and then a prefix of the whole
-/// was taken.
+/// Writes pieces one behind the other. `Failed` comes only with a fault of the sink, and then a
+/// prefix of the whole was taken.
 pub fn write_pieces<O: Sink>(sink: &mut O, pieces: &[&[u8]]) -> Result<(), Failed>
     ensures ok { OnOk result (Appends (O.taken sink.old) (O.taken sink.new) (joined pieces.now)) }
     ensures cause { HasCause (O.faults sink.old) (O.faults sink.new) result }

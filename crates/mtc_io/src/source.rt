@@ -1,5 +1,5 @@
 //! Where bytes come from.
-ghost use Rattle.std.specs.Prelude.{◌≡◌, ℕ, List, Option, ◌≤◌, ◌<◌, length, IfOk, OnOk, OnErr, IfSome, IsErrOf};
+ghost use Rattle.std.specs.Prelude.{◌≡◌, ◌≢◌, ℕ, List, Option, ◌≤◌, ◌<◌, length, IfOk, OnOk, IfSome, IsErrOf, MatchResult};
 ghost use Rattle.std.specs.Io.KnownBytes.{ReadConsumes, Consumes, IsAtEnd};
 ghost use Rattle.mtc_io.specs.Counts.{Rose, HasCause};
 ghost use Rattle.mtc_io.specs.Streams.{ConsumesSome};
@@ -17,8 +17,9 @@ pub trait Source {
     /// How often it has failed. The count never falls.
     ghost faults: { Self → ℕ };
 
-    /// Puts the next bytes into the front of `into`, and answers how many. On an `into` that isn't empty, 0 means
-    /// the end of input. `Failed` comes only with a fault, and then nothing was given.
+    /// Puts the next bytes into the front of `into`, and answers how many. On an `into` that isn't
+    /// empty, 0 means the end of input. `Failed` comes only with a fault, and then nothing was
+    /// given.
     fn read(&mut self, into: &mut [u8]) -> Result<usize, Failed>
         ensures bound { IfOk result (λ count. count ≤ length into.new) }
         ensures bytes { ReadConsumes (left self.old) (left self.new) result into.new }
@@ -55,17 +56,20 @@ impl From<Memory> for ReadError {
 /// So many bytes are asked for at a time.
 const CHUNK: usize = 4096;
 
-/// Reads to the end of input. Refuses with `TooLong` exactly where the source gives more than `limit` bytes; that
-/// is tested before memory is taken for them. `Failed` comes only with a fault of the source.
+/// Reads to the end of input. Refuses with `TooLong` exactly where the source gives more than
+/// `limit` bytes; that is tested before memory is taken for them. `Failed` comes only with a fault
+/// of the source, and no other answer counts one.
 pub fn read_all<S: Source>(alloc: Global, source: &mut S, limit: u64) -> Result<Bytes, ReadError>
     ensures whole { IfOk result (Consumes (S.left source.old) (S.left source.new)) }
     ensures spent { OnOk result (IsAtEnd (S.left source.new)) }
     ensures within { IfOk result (λ bytes. length bytes ≤ limit) }
     ensures too_long { IsErrOf result ReadError.TooLong
         → IfSome (S.left source.old) (λ bytes. limit < length bytes) }
-    ensures failed { IsErrOf result ReadError.Failed → Rose (S.faults source.old) (S.faults source.new) }
+    ensures failed { IsErrOf result ReadError.Failed
+        → Rose (S.faults source.old) (S.faults source.new) }
     ensures count { S.faults source.old ≤ S.faults source.new }
-    ensures fine { OnOk result (S.faults source.new ≡ S.faults source.old) }
+    ensures fine { MatchResult result (λ _. S.faults source.new ≡ S.faults source.old)
+        (λ why. why ≢ ReadError.Failed → S.faults source.new ≡ S.faults source.old) }
 
     // What was read on the way to a refusal is lost, and nothing else.
     ensures rest { ConsumesSome (S.left source.old) (S.left source.new) }

@@ -1,13 +1,13 @@
 //! Adapters of std's readers and writers.
-ghost use Rattle.std.specs.Prelude.{◌≡◌, ℕ, List, Option, None, ◌≤◌, ◌<◌, length, IfOk};
+ghost use Rattle.std.specs.Prelude.{◌≡◌, ◌<◌};
 
 use crate::fault::Failed;
 use crate::sink::Sink;
 use crate::source::Source;
 use std::io::{Read, Write};
 
-/// A reader as a source. It tells the bytes left where the reader does, and counts its errors as faults, an
-/// interruption too.
+/// A reader as a source. It tells the bytes left where the reader does, and counts its errors as
+/// faults, an interruption too.
 #[derive(Drop)]
 pub struct StdSource<R> {
     reader: R,
@@ -47,8 +47,8 @@ impl<R: Read> Source for StdSource<R> {
     }
 }
 
-/// A writer as a sink. It tells the bytes taken where the writer does, and counts its errors as faults. A writer that
-/// takes none of a piece that isn't empty has failed.
+/// A writer as a sink. It tells the bytes taken where the writer does, and counts its errors as
+/// faults. A writer that takes none of a piece that isn't empty has failed.
 #[derive(Drop)]
 pub struct StdSink<W> {
     writer: W,

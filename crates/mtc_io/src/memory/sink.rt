@@ -1,5 +1,5 @@
 //! A sink in memory.
-ghost use Rattle.std.specs.Prelude.{◌≡◌, ℕ, List, Option, Some, [], ◌+◌, ◌==◌, ◌≤◌, ◌<◌, ◌&&◌, not, if◌then◌else◌, length, min, IfOk, IsTrue, is_err};
+ghost use Rattle.std.specs.Prelude.{◌≡◌, Some, [], ◌==◌, ◌≤◌, ◌<◌, ◌&&◌, not, if◌then◌else◌, length, min, IfOk, IsTrue, is_err};
 ghost use Rattle.std.specs.List.{list_any};
 ghost use Rattle.std.specs.Io.KnownBytes.{WriteAppends};
 ghost use Rattle.mtc_io.specs.Counts.{HasCause, with_count};
@@ -11,8 +11,9 @@ use crate::sink::Sink;
 use std::alloc::Global;
 use std::marker::Model;
 
-/// A sink that keeps what it takes, at most `per_call` bytes a call, and fails on the calls whose numbers are
-/// listed, counted from 0. Where it finds no memory it fails too, and counts that apart. It tells the bytes taken.
+/// A sink that keeps what it takes, at most `per_call` bytes a call, and fails on the calls whose
+/// numbers are listed, counted from 0. Where it finds no memory it fails too, and counts that
+/// apart. It tells the bytes taken.
 #[derive(Debug, Drop)]
 pub struct MemSink {
     bytes: Bytes,
@@ -87,7 +88,8 @@ impl Sink for MemSink {
         ensures bytes { WriteAppends (Some self.old.taken) (Some self.new.taken) result piece.now }
         ensures cause { HasCause self.old.faults self.new.faults result }
         ensures most { IfOk result (λ count. count ≡ min self.old.per_call (length piece.now)) }
-        ensures listed { IsTrue (list_any (λ k. k == self.old.calls) self.old.failing) → IsTrue (is_err result) }
+        ensures listed { IsTrue (list_any (λ k. k == self.old.calls) self.old.failing)
+            → IsTrue (is_err result) }
         ensures starved { self.new.starved ≡ (if is_err result
             && not (list_any (λ k. k == self.old.calls) self.old.failing)
             then with_count self.old.starved 1 else self.old.starved) }

@@ -1,5 +1,5 @@
 //! A source in memory.
-ghost use Rattle.std.specs.Prelude.{◌≡◌, ◌↔◌, ℕ, List, Option, Some, ◌+◌, ◌==◌, ◌≤◌, ◌<◌, length, take, min, drop, IfOk, IsTrue, is_err};
+ghost use Rattle.std.specs.Prelude.{◌≡◌, Some, ◌+◌, ◌==◌, ◌≤◌, ◌<◌, length, take, min, drop, IfOk, is_err};
 ghost use Rattle.std.specs.List.{list_any};
 ghost use Rattle.std.specs.Io.KnownBytes.{ReadConsumes};
 ghost use Rattle.mtc_io.specs.Counts.{HasCause, with_count};
@@ -10,8 +10,8 @@ use crate::fault::Failed;
 use crate::source::Source;
 use std::marker::Model;
 
-/// A source over bytes in memory, which fails on the calls whose numbers are listed, counted from 0. It tells the
-/// bytes left.
+/// A source over bytes in memory, which fails on the calls whose numbers are listed, counted from
+/// 0. It tells the bytes left.
 #[derive(Debug, Drop)]
 pub struct MemSource {
     bytes: Bytes,
