@@ -1,37 +1,42 @@
 -- What a `MemDisk` shows.
-use Rattle.std.specs.Prelude.{◌≡◌, ℕ, List, []}
+use Rattle.std.specs.Prelude.{◌≡◌, ℕ, List, [], length}
 use Rattle.disk_core.specs.History.{seen_of, left_of}
 use Rattle.disk_core.specs.declared.memory.call.Made.{Made}
 use Rattle.disk_core.specs.declared.memory.mem_disk.MemDisk.{MemDisk}
 
--- what it held at first, and the record of its calls, the oldest first
+-- what it held at first
 abbrev pub first_of : MemDisk → List ℕ
 first_of m = m.past.first
 
+-- the record of its calls, the oldest first
 abbrev pub calls_of : MemDisk → List Made
 calls_of m = m.past.calls.items
 
--- what a read gives, and what a crash now may leave
+-- what a read gives
 abbrev pub bytes_of : MemDisk → List ℕ
 bytes_of m = seen_of m.past
 
+-- what a crash now may leave
 abbrev pub images_of : MemDisk → List ℕ → Type 0
 images_of m = left_of m.past
 
+-- the known length
 abbrev pub known_of : MemDisk → ℕ
 known_of m = m.known
 
--- the number of the next call, and the numbers of those that fail
+-- how many calls are in the record, which is the number of the next one
 abbrev pub made_of : MemDisk → ℕ
-made_of m = m.plan.made
+made_of m = length (calls_of m)
 
+-- the numbers of the calls that fail
 abbrev pub failing_of : MemDisk → List ℕ
 failing_of m = m.plan.failing.items
 
--- how many calls have failed, and how many of them for want of memory
+-- how many calls have failed
 abbrev pub faults_of : MemDisk → ℕ
 faults_of m = m.plan.faults
 
+-- how many of them found no memory
 abbrev pub starved_of : MemDisk → ℕ
 starved_of m = m.plan.starved
 
@@ -40,6 +45,5 @@ pub record IsFresh (bytes : List ℕ) (m : MemDisk) : Type 0 where
   pub first : first_of m ≡ bytes
   pub calls : calls_of m ≡ []
   pub known : known_of m ≡ 0
-  pub made : made_of m ≡ 0
   pub faults : faults_of m ≡ 0
   pub starved : starved_of m ≡ 0

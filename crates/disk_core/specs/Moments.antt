@@ -8,9 +8,11 @@ pub record LeavesOnly {D : Type 0} (g : Ghosts D) (old new : D) (P : List ℕ �
   pub later : g.moment old ≤ g.moment new
   pub each : (c : List ℕ) → g.left_since new (g.moment old) c → P c
   -- of an earlier moment there is nothing else but what was there before
-  pub before : (t : ℕ) (c : List ℕ) → t ≤ g.moment old → g.left_since new t c → g.left_since old t c ⊎ P c
+  pub before : (t : ℕ) (c : List ℕ) → t ≤ g.moment old → g.left_since new t c
+      → g.left_since old t c ⊎ P c
 
--- Calls that only look at a disk: what it tells stays, and a crash leaves nothing new at any moment.
+-- Calls that only look at a disk: what it tells stays, and a crash leaves nothing new at any
+-- moment.
 pub record Looks {D : Type 0} (g : Ghosts D) (old new : D) : Type 0 where
   pub told : g.told new ≡ g.told old
   pub crash : NoNew (g.may_leave old) (g.may_leave new)

@@ -1,29 +1,29 @@
 -- Which calls of a disk in memory fail, and which are in its record.
-use Rattle.std.specs.Prelude.{◌≡◌, ◌⊎◌, ◌+◌, min, Bool, true, false, [], ◌∷◌, ◌++◌, Contains}
-use Rattle.mtc_io.specs.Counts.{last_count, Rose}
+use Rattle.std.specs.Prelude.{◌≡◌, ◌⊎◌, Bool, false, [], ◌∷◌, ◌++◌, length, Contains}
+use Rattle.mtc_io.specs.Counts.{Rose}
 use Rattle.disk_core.specs.declared.memory.call.Call.{Call}
 use Rattle.disk_core.specs.declared.memory.history.History.{History}
 use Rattle.disk_core.specs.declared.memory.plan.Plan.{Plan}
 
--- One call: it is counted, and where its number is listed it fails. Every other failure is one of want of memory.
-pub record PlanTurn (old : Plan) (ok : Bool) (new : Plan) : Type 0 where
-  pub made : new.made ≡ min (old.made + 1) last_count
-  pub failing : new.failing ≡ old.failing
-  pub listed : Contains old.failing.items old.made → ok ≡ false
-  pub other : ok ≡ false → Contains old.failing.items old.made ⊎ Rose old.starved new.starved
-  pub sound : ok ≡ true → (new.faults ≡ old.faults) × (new.starved ≡ old.starved)
+-- The call is made: it stands in the record behind the others, as it was asked and answered. Its
+-- index there is its number, and it fails exactly where that is listed.
+pub record IsMade (plan : Plan) (past : History) (call : Call) (ok : Bool)
+    (plan' : Plan) (past' : History) : Type 0 where
+  pub calls : past'.calls.items ≡ past.calls.items ++ record { call = call; ok = ok } ∷ []
+  pub listed : Contains plan.failing.items (length past.calls.items) → ok ≡ false
+  pub other : ok ≡ false → Contains plan.failing.items (length past.calls.items)
+  pub starved : plan'.starved ≡ plan.starved
 
--- A call stands in the record behind the others, as it was asked and answered.
-pub record IsNoted (old : History) (call : Call) (ok : Bool) (new : History) : Type 0 where
-  pub first : new.first ≡ old.first
-  pub calls : new.calls.items ≡ old.calls.items ++ record { call = call; ok = ok } ∷ []
+-- The call finds no memory: it fails, takes no number, and is counted.
+pub record IsStarved (plan : Plan) (past : History) (ok : Bool)
+    (plan' : Plan) (past' : History) : Type 0 where
+  pub failed : ok ≡ false
+  pub calls : past'.calls.items ≡ past.calls.items
+  pub starved : Rose plan.starved plan'.starved
 
--- The record stays.
-pub record IsUnnoted (old new : History) : Type 0 where
-  pub first : new.first ≡ old.first
-  pub calls : new.calls.items ≡ old.calls.items
-
--- One call: it is noted, and memory was found; or it fails, the record stays, and want of memory is counted.
-abbrev pub Notes : Plan → History → Call → Bool → Plan → History → Type 0
-Notes plan past call ok plan' past' =
-    ((plan'.starved ≡ plan.starved) × IsNoted past call ok past') ⊎ ((ok ≡ false) × Rose plan.starved plan'.starved × IsUnnoted past past')
+-- One call of a disk in memory.
+pub record PlanTurn (plan : Plan) (past : History) (call : Call) (ok : Bool)
+    (plan' : Plan) (past' : History) : Type 0 where
+  pub first : past'.first ≡ past.first
+  pub failing : plan'.failing ≡ plan.failing
+  pub either : IsMade plan past call ok plan' past' ⊎ IsStarved plan past ok plan' past'

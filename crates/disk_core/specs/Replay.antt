@@ -1,11 +1,12 @@
 -- A disk in memory, as the replay of its calls over what it held at first.
-use Rattle.std.specs.Prelude.{◌≡◌, ℕ, ◌≤◌, Bool, if◌then◌else◌, List, [], ◌∷◌, length, take}
+use Rattle.std.specs.Prelude.{◌≡◌, ℕ, ◌≤◌, Bool, if◌then◌else◌, List, [], ◌∷◌, ◌++◌, length, take}
 use Rattle.disk_core.specs.Disk.{overwritten, Torn}
 use Rattle.disk_core.specs.declared.memory.call.Call.{Call}
 use Rattle.disk_core.specs.declared.memory.call.Call.TheVariants.{Len, Read, Write, Sync}
 use Rattle.disk_core.specs.declared.memory.call.Made.{Made}
 
--- what a read gives, what was there at the last sync, and the place and length of each write since, the newest first
+-- what a read gives, what was there at the last sync, and the place and length of each write since,
+-- the newest first
 pub record State : Type 0 where
   pub seen : List ℕ
   pub base : List ℕ
@@ -15,15 +16,19 @@ pub record State : Type 0 where
 abbrev pub settled : List ℕ → State
 settled bytes = record { seen = bytes; base = bytes; writes = [] }
 
--- A write that is refused is not seen, but a crash may leave of it what it may leave of any write. A sync settles what
--- is seen, unless it is refused.
+-- A write that is refused is not seen, but a crash may leave of it what it may leave of any write.
+-- A sync settles what is seen, unless it is refused.
 abbrev pub after_call : State → Call → Bool → State
 after_call s Len ok = s
 after_call s (Read place size) ok = s
 after_call s (Write place piece) ok =
-    record { seen = if ok then overwritten place piece s.seen else s.seen; base = s.base; writes = (place, length piece) ∷ s.writes }
+    record s {
+      seen = if ok then overwritten place piece s.seen else s.seen;
+      writes = (place, length piece) ∷ s.writes;
+    }
 after_call s Sync ok = if ok then settled s.seen else s
 
+-- one call more of a record
 abbrev pub step : State → Made → State
 step s made = after_call s made.call made.ok
 
@@ -32,21 +37,28 @@ abbrev pub run : State → List Made → State
 run s [] = s
 run s (made ∷ calls) = run (step s made) calls
 
--- now, and after so many of the calls
+-- now
 abbrev pub state_now : List ℕ → List Made → State
 state_now first calls = run (settled first) calls
 
+-- after so many of the calls
 abbrev pub state_at : List ℕ → List Made → ℕ → State
 state_at first calls count = run (settled first) (take count calls)
 
 -- what a crash may leave: what was there at the last sync, with each write since torn in some way
 abbrev pub IsImageOf : List ℕ → List (ℕ × ℕ) → List ℕ → Type 0
 IsImageOf base [] c = c ≡ base
-IsImageOf base (write ∷ writes) c = (d : List ℕ) × IsImageOf base writes d × Torn write.0 write.1 d c
+IsImageOf base (write ∷ writes) c =
+    (d : List ℕ) × IsImageOf base writes d × Torn write.0 write.1 d c
 
 abbrev pub IsImage : State → List ℕ → Type 0
 IsImage s c = IsImageOf s.base s.writes c
 
 -- what a crash may have left after so many of the calls or more
 abbrev pub LeftSince : List ℕ → List Made → ℕ → List ℕ → Type 0
-LeftSince first calls t c = (count : ℕ) × (t ≤ count) × (count ≤ length calls) × IsImage (state_at first calls count) c
+LeftSince first calls t c =
+    (count : ℕ) × (t ≤ count) × (count ≤ length calls) × IsImage (state_at first calls count) c
+
+-- a record with one call more, unless no memory was found for it
+abbrev pub noted : Bool → Call → Bool → List Made → List Made
+noted found call ok calls = if found then calls ++ record { call = call; ok = ok } ∷ [] else calls

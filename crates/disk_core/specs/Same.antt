@@ -2,8 +2,8 @@
 use Rattle.std.specs.Prelude.{◌≡◌, ◌↔◌, ℕ, List}
 use Rattle.disk_core.specs.declared.disk.Disk.{Ghosts}
 
--- They read alike, stand at one moment, and leave the same after a crash. The count of faults and the known length
--- begin anew.
+-- They read alike, stand at one moment, and leave the same after a crash. The count of faults and
+-- the known length begin anew.
 pub record SameDevice {D : Type 0} (g : Ghosts D) (a b : D) : Type 0 where
   pub reads : g.told b ≡ g.told a
   pub time : g.moment b ≡ g.moment a

@@ -10,8 +10,9 @@ abbrev pub IsOutsideAll : ℕ → List (ℕ × ℕ) → Type 0
 IsOutsideAll i [] = Unit {0}
 IsOutsideAll i (write ∷ writes) = IsOutside i write × IsOutsideAll i writes
 
--- Below the old end and outside of the writes each byte is as it was. All else may be any bytes, and the end anywhere
--- from the old end on.
+-- Below the old end and outside of the writes each byte is as it was. All else may be any bytes,
+-- and the end anywhere from the old end on.
 pub record KeepsOthers (writes : List (ℕ × ℕ)) (old new : List ℕ) : Type 0 where
   pub no_shorter : length old ≤ length new
-  pub others : (i : ℕ) → i < length old → IsOutsideAll i writes → slice_index new i ≡ slice_index old i
+  pub others : (i : ℕ) → i < length old → IsOutsideAll i writes
+      → slice_index new i ≡ slice_index old i

@@ -13,30 +13,36 @@ torn_none place count bytes = record {
   after = take_rest bytes (place + count);
 }
 
-pub length-overwritten : (place : ℕ) (piece old : List ℕ) → place ≤ length old → length (overwritten place piece old) ≡ max (place + length piece) (length old)
+pub length-overwritten : (place : ℕ) (piece old : List ℕ) → place ≤ length old
+    → length (overwritten place piece old) ≡ max (place + length piece) (length old)
 length-overwritten place piece old within =
     simp (length-append, length-take, length-drop) (omega arith)
 
 -- a write that begins past the end adds its bytes at the end
-past_end : (place : ℕ) (piece old : List ℕ) → length old ≤ place → overwritten place piece old ≡ old ++ piece
+past_end : (place : ℕ) (piece old : List ℕ) → length old ≤ place
+    → overwritten place piece old ≡ old ++ piece
 past_end place piece old past =
-    rw (take_all place old past, drop_all (place + length piece) old (omega arith)) (append-nil (old ++ piece))
+    rw (take_all place old past, drop_all (place + length piece) old (omega arith))
+    (append-nil (old ++ piece))
 
 -- behind the range nothing changes
 behind : (place count : ℕ) (piece old : List ℕ) → length piece ≤ count → place ≤ length old
     → drop (place + count) (overwritten place piece old) ≡ drop (place + count) old
 behind place count piece old few within =
-    let front : length (take place old ++ piece) ≡ place + length piece = simp (length-append, length-take) (omega arith) in
+    let front : length (take place old ++ piece) ≡ place + length piece
+    = simp (length-append, length-take) (omega arith) in
     let split : place + count ≡ (place + length piece) + (count - length piece) = omega arith in
     rw (
       split,
       ← drop-drop (count - length piece) (place + length piece) (overwritten place piece old),
-      drop_at (take place old ++ piece) (drop (place + length piece) old) (place + length piece) front,
+      drop_at (take place old ++ piece) (drop (place + length piece) old) (place + length piece)
+          front,
     )
     (drop-drop (count - length piece) (place + length piece) old)
 
 -- other bytes over the front of the range, or over all of it
-pub torn_piece : (place count : ℕ) (piece old : List ℕ) → length piece ≤ count → Torn place count old (overwritten place piece old)
+pub torn_piece : (place count : ℕ) (piece old : List ℕ) → length piece ≤ count
+    → Torn place count old (overwritten place piece old)
 torn_piece place count piece old few =
     elim (cases_lt (length old) place) [
       | inl past ↦ record {
@@ -58,14 +64,18 @@ torn_piece place count piece old few =
     ]
 
 -- all of it
-pub torn_all : (place : ℕ) (piece old : List ℕ) → Torn place (length piece) old (overwritten place piece old)
+pub torn_all : (place : ℕ) (piece old : List ℕ)
+    → Torn place (length piece) old (overwritten place piece old)
 torn_all place piece old = torn_piece place (length piece) piece old (omega arith)
 
 -- other bytes behind it, where the range reaches the end
-pub torn_longer : (place count : ℕ) (old new more : List ℕ) → length old ≤ place + count → Torn place count old new → Torn place count old (new ++ more)
+pub torn_longer : (place count : ℕ) (old new more : List ℕ) → length old ≤ place + count
+    → Torn place count old new → Torn place count old (new ++ more)
 torn_longer place count old new more reaches torn = record {
   no_shorter = let a = torn.no_shorter in simp length-append (omega arith);
-  before = rw (take-append-le (min place (length old)) new more (let a = torn.no_shorter in omega arith)) torn.before;
+  before = let within : min place (length old) ≤ length new
+      = let longer = torn.no_shorter in omega arith in
+      rw (take-append-le (min place (length old)) new more within) torn.before;
   after = let none : length old - (place + count) ≡ 0 = omega arith in
       rw (none, drop_all (place + count) old (omega arith)) refl;
 }

@@ -1,5 +1,5 @@
 //! A disk as its user sees it: what a read gives, and what a crash leaves.
-ghost use Rattle.std.specs.Prelude.{◌≡◌, ℕ, ◌+◌, ◌^◌, ◌<◌, ◌≤◌, max, Bool, true, false, List, length, Option, is_some, is_ok, option_map, Some, IfSome, IfOk, OnOk, OnErr, MatchResult};
+ghost use Rattle.std.specs.Prelude.{◌≡◌, ℕ, ◌+◌, ◌^◌, ◌<◌, ◌≤◌, max, Bool, List, length, Option, is_some, is_ok, option_map, Some, IfSome, IfOk, OnOk, OnErr, MatchResult};
 ghost use Rattle.mtc_io.specs.Counts.{Rose, HasCause};
 ghost use Rattle.disk_core.specs.Disk.{overwritten, part, Torn, Follows, NoNew, Only, Elapses};
 ghost use Rattle.disk_core.specs.declared.memory.call.Call.{Call};
@@ -9,8 +9,8 @@ use mtc_io::Failed;
 
 /// One file that keeps bytes over a crash of the machine, or doesn't.
 ///
-/// Between two calls of [`Disk::sync`] nothing is certain: a crash may leave any bytes in each written range and past
-/// the old end. After a `sync` that answers Ok it leaves what a read gives.
+/// Between two calls of [`Disk::sync`] nothing is certain: a crash may leave any bytes in each
+/// written range and past the old end. After a `sync` that answers Ok it leaves what a read gives.
 pub trait Disk {
     /// The bytes that a read gives, where the disk tells them.
     ghost told: { Self → Option (List ℕ) };
@@ -24,14 +24,15 @@ pub trait Disk {
     /// The images that a crash now may leave.
     ghost may_leave: { Self → List ℕ → Type 0 };
 
-    /// The images that a crash at some moment from that one on might have left, during a call or between two.
+    /// The images that a crash at some moment from that one on might have left, during a call or
+    /// between two.
     ghost left_since: { Self → ℕ → List ℕ → Type 0 };
 
     /// How often the disk has failed.
     ghost faults: { Self → ℕ };
 
-    /// What a type says beside the rest of one call: of the disk before it, what was asked, whether it was answered Ok,
-    /// and of the disk after it.
+    /// What a type says beside the rest of one call: of the disk before it, what was asked, whether
+    /// it was answered Ok, and of the disk after it.
     ghost turn: { Self → Call → Bool → Self → Type 0 } = { λ _ _ _ _. Unit {0} };
 
     /// The number of bytes.
@@ -67,7 +68,8 @@ pub trait Disk {
         requires end { place + length bytes.now < 2 ^ 63 }
         ensures written { OnOk result (told self.new ≡ option_map (overwritten place bytes.now)
             (told self.old)) }
-        ensures known { OnOk result (known self.new ≡ max (place + length bytes.now) (known self.old)) }
+        ensures known { OnOk result (known self.new
+            ≡ max (place + length bytes.now) (known self.old)) }
         ensures known_err { OnErr result (known self.new ≡ known self.old) }
         ensures told_err { OnErr result (is_some (told self.new) ≡ is_some (told self.old)) }
         ensures crash { Follows (Torn place (length bytes.now)) (may_leave self.old)

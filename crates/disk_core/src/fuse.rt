@@ -1,12 +1,13 @@
 //! A disk that stops at some call, as the machine does.
-ghost use Rattle.std.specs.Prelude.{◌≡◌, ◌↔◌, ◌+◌, ◌-◌, ◌==◌, ◌&&◌, ◌||◌, true, false, OnOk, OnErr, IsErr, IsTrue};
+ghost use Rattle.std.specs.Prelude.{◌≡◌, ◌↔◌, ◌+◌, ◌-◌, ◌==◌, ◌||◌, true, false, OnOk, OnErr, IsErr, IsTrue};
 ghost use Rattle.mtc_io.specs.Counts.{HasCause};
 
 use crate::disk::Disk;
 use mtc_io::Failed;
 
-/// Passes so many calls of `write_at` and `sync` to the disk inside, and every `len` and `read_at` before the first
-/// call that it fails. From that call on it fails every call, and none reaches the disk inside.
+/// Passes so many calls of `write_at` and `sync` to the disk inside, and every `len` and `read_at`
+/// before the first call that it fails. From that call on it fails every call, and none reaches the
+/// disk inside.
 #[derive(Debug, Drop)]
 pub struct Fuse<D: Disk> {
     disk: D,
@@ -18,7 +19,8 @@ pub struct Fuse<D: Disk> {
 impl<D: Disk> Fuse<D> {
     ghost use Rattle.disk_core.specs.Fuse.{inner_of, passes_of, is_blown, refused_of};
 
-    /// A fuse that has failed no call. It counts the faults of the disk inside, and each call that it fails itself.
+    /// A fuse that has failed no call. It counts the faults of the disk inside, and each call that
+    /// it fails itself.
     pub fn new(disk: D, passes: u64) -> Fuse<D>
         ensures disk { inner_of result ≡ disk }
         ensures passes { passes_of result ≡ passes }
@@ -37,7 +39,8 @@ impl<D: Disk> Fuse<D> {
     /// How many calls it has failed itself, up to the last value of the count.
     pub fn refused(&self) -> u64
         ensures value { result ≡ refused_of self.now }
-        ensures faults { ⟦<Fuse<D> as Disk>⟧.faults self.now ≡ D.faults (inner_of self.now) + result }
+        ensures faults { ⟦<Fuse<D> as Disk>⟧.faults self.now
+            ≡ D.faults (inner_of self.now) + result }
     {
         self.refused
     }

@@ -4,15 +4,16 @@ ghost use Rattle.disk_core.specs.Disk.{Torn};
 ghost use Rattle.disk_core.specs.Replay.{IsImageOf};
 ghost use Rattle.disk_core.specs.Torn.{KeepsOthers};
 
-/// The law of a write that is torn: its images are exactly those that keep each byte outside of its range and below the
-/// old end. The range and all past the old end may hold any bytes, and the image may end anywhere from there on.
+/// The law of a write that is torn: its images are exactly those that keep each byte outside of its
+/// range and below the old end. The range and all past the old end may hold any bytes, and the
+/// image may end anywhere from there on.
 pub fn a_torn_write_keeps_others()
     ensures { (place count : ℕ) (old new : List ℕ)
         → Torn place count old new ↔ KeepsOthers ((place, count) ∷ []) old new }
 {}
 
-/// The law of several writes since a sync: each image of the disk in memory keeps each byte outside of all of them and
-/// below the end at the sync.
+/// The law of several writes since a sync: each image of the disk in memory keeps each byte outside
+/// of all of them and below the end at the sync.
 pub fn torn_writes_keep_others()
     ensures { (base : List ℕ) (writes : List (ℕ × ℕ)) (image : List ℕ) → IsImageOf base writes image
         → KeepsOthers writes base image }

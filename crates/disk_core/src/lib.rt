@@ -1,12 +1,13 @@
 //! A disk, and what a crash may leave of it.
 //!
-//! [`Disk`] is one file as a program sees it: what a read gives now, and which bytes the file may hold after a crash of
-//! the machine, now or at some moment since an earlier one. [`MemDisk`] stands in memory, tells all of this, and can
-//! crash. [`Fuse`] stops a disk at some call, as a machine does. [`FileDisk`] is an open file, which tells nothing: that
-//! the operating system keeps the rules is taken on trust.
+//! [`Disk`] is one file as a program sees it: what a read gives now, and which bytes the file may
+//! hold after a crash of the machine, now or at some moment since an earlier one. [`MemDisk`]
+//! stands in memory, tells all of this, and can crash. [`Fuse`] stops a disk at some call, as a
+//! machine does. [`FileDisk`] is an open file, which tells nothing: that the operating system keeps
+//! the rules is taken on trust.
 //!
-//! A user takes two kinds of step: it looks ([`look_len`], [`look_at`], [`look_settled`]), or it writes and syncs
-//! ([`write_synced`]). What these ensure is all that a layer above needs.
+//! A user takes two kinds of step: it looks ([`look_len`], [`look_at`], [`look_settled`]), or it
+//! writes and syncs ([`write_synced`]). What these ensure is all that a layer above needs.
 #![tactic(auto)]
 
 mod disk;

@@ -7,15 +7,16 @@ ghost use Rattle.disk_core.specs.Moments.{LeavesOnly, Looks};
 use crate::disk::Disk;
 use mtc_io::Failed;
 
-/// Writes, and syncs. At Ok a crash leaves what a read gives; at any moment of the call it leaves an image from before,
-/// or one that this write has torn.
+/// Writes, and syncs. At Ok a crash leaves what a read gives; at any moment of the call it leaves
+/// an image from before, or one that this write has torn.
 pub fn write_synced<D: Disk>(disk: &mut D, place: u64, bytes: &[u8]) -> Result<(), Failed>
     requires place { place ≤ D.known disk.old }
     requires end { place + length bytes.now < 2 ^ 63 }
     ensures written { OnOk result (D.told disk.new ≡ option_map (overwritten place bytes.now)
         (D.told disk.old)) }
     ensures durable { OnOk result (IfSome (D.told disk.new) (λ b. Only b (D.may_leave disk.new))) }
-    ensures known { OnOk result (D.known disk.new ≡ max (place + length bytes.now) (D.known disk.old)) }
+    ensures known { OnOk result (D.known disk.new
+        ≡ max (place + length bytes.now) (D.known disk.old)) }
     ensures known_kept { D.known disk.old ≤ D.known disk.new }
     ensures told { is_some (D.told disk.new) ≡ is_some (D.told disk.old) }
     ensures any_moment { LeavesOnly D.Disk disk.old disk.new
@@ -42,7 +43,8 @@ pub fn look_len<D: Disk>(disk: &mut D) -> Result<u64, Failed>
 /// The bytes from a place on, as [`Disk::read_at`].
 pub fn look_at<D: Disk>(disk: &mut D, place: u64, out: &mut [u8]) -> Result<(), Failed>
     requires { place + length out.old ≤ D.known disk.old }
-    ensures read { OnOk result (IfSome (D.told disk.old) (λ b. out.new ≡ part place (length out.old) b)) }
+    ensures read { OnOk result (IfSome (D.told disk.old)
+        (λ b. out.new ≡ part place (length out.old) b)) }
     ensures known { D.known disk.new ≡ D.known disk.old }
     ensures looks { Looks D.Disk disk.old disk.new }
     ensures clock { OnOk result (Rose (D.moment disk.old) (D.moment disk.new)) }

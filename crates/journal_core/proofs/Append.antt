@@ -5,7 +5,7 @@ use Rattle.std.proofs.lemmas.List.{take-take, drop-take, drop-drop, take_all, ta
 use Rattle.std.proofs.lemmas.Bool.{cases_eq}
 use Rattle.disk_core.specs.Disk.{overwritten, part, Torn}
 use Rattle.disk_core.specs.Writes.{torn_all}
-use Rattle.journal_core.specs.Format.{behind, IsClosedAt, StandsFor, StandsForEither, tail_of, first_of}
+use Rattle.journal_core.specs.Format.{behind, IsClosedAt, StandsFor, StandsForEither, tail_of, new_file_of}
 use Rattle.journal_core.proofs.Records.{part_kept, byte_kept, records_kept, header_kept, stands_kept, behind_later, behind-append, records-append}
 
 -- The write behind the closed gate leaves the list as it was, however it is torn.
@@ -157,7 +157,7 @@ module _ (bytes : List ℕ) (records : List (List ℕ)) (body : List ℕ) (is : 
       (gate_open (overwritten gate (1 ∷ []) bytes) (torn_all gate (1 ∷ []) bytes) some few (λ (shut : _ ≡ 0). let wrong : 1 ≡ 0 = sym one ∙ shut in cc))
 
 -- A new file, after its first write.
-pub first_staged : (body : List ℕ) → IsStaged (first_of body) [] body
+pub first_staged : (body : List ℕ) → IsStaged (new_file_of body) [] body
 first_staged body = record {
   stands = record {
     begins = refl;

@@ -3,7 +3,7 @@ use Rattle.std.proofs.Common.{◌≡◌, ℕ, ◌+◌, ◌≤◌, List, [], ◌�
 use Rattle.std.proofs.lemmas.List.{append-nil, drop_all}
 use Rattle.disk_core.specs.Disk.{overwritten, Only}
 use Rattle.disk_core.specs.declared.disk.Disk.{Ghosts}
-use Rattle.journal_core.specs.Format.{behind, StandsFor, first_of, records_of}
+use Rattle.journal_core.specs.Format.{behind, StandsFor, new_file_of, records_of}
 use Rattle.journal_core.specs.Settled.{IsSettled}
 use Rattle.journal_core.specs.Words.{AllStandFor}
 use Rattle.journal_core.proofs.Records.{records_of-stands}
@@ -12,15 +12,15 @@ use Rattle.journal_core.proofs.Told.{at_told, told_before, of_records}
 
 -- the bytes of a new file of one record
 pub first_stands : (first b : List ℕ) → 1 ≤ length first → length first ≤ 131072
-    → b ≡ overwritten 16 (1 ∷ []) (overwritten 0 (first_of first) []) → StandsFor b (first ∷ [])
+    → b ≡ overwritten 16 (1 ∷ []) (overwritten 0 (new_file_of first) []) → StandsFor b (first ∷ [])
 first_stands first b some few is =
-    let whole : overwritten 0 (first_of first) [] ≡ first_of first
-    = ap (λ (rest : List ℕ). first_of first ++ rest) (drop_all (0 + length (first_of first)) [] (omega arith)) ∙ append-nil (first_of first) in
-    opened (first_of first) [] first (first_staged first) b some few (is ∙ ap (overwritten 16 (1 ∷ [])) whole)
+    let whole : overwritten 0 (new_file_of first) [] ≡ new_file_of first
+    = ap (λ (rest : List ℕ). new_file_of first ++ rest) (drop_all (0 + length (new_file_of first)) [] (omega arith)) ∙ append-nil (new_file_of first) in
+    opened (new_file_of first) [] first (first_staged first) b some few (is ∙ ap (overwritten 16 (1 ∷ [])) whole)
 
 module _ {D : Type 0} (g : Ghosts D) (old new : D) (first piece : List ℕ)
     (empty : IfSome (g.told old) (λ b. b ≡ []))
-    (piece_is : piece ≡ first_of first) (some : 1 ≤ length first) (few : length first ≤ 131072)
+    (piece_is : piece ≡ new_file_of first) (some : 1 ≤ length first) (few : length first ≤ 131072)
     (written : g.told new ≡ option_map (λ b. overwritten 16 (1 ∷ []) (overwritten 0 piece b)) (g.told old))
     (durable : IfSome (g.told new) (λ b. Only b (g.may_leave new))) where
   started_stands : (b : List ℕ) → g.told new ≡ Some b → StandsFor b (first ∷ [])

@@ -1,8 +1,8 @@
 -- The steps of an opening, over its disk.
-use Rattle.std.proofs.Common.{◌≡◌, ℕ, ◌+◌, ◌≤◌, List, [], ◌∷◌, ◌++◌, length, take, Option, Some, None, IfSome, option_map, refl, ap, sym, ◌∙◌, subst, arith}
+use Rattle.std.proofs.Common.{◌≡◌, ℕ, ◌+◌, List, [], ◌∷◌, ◌++◌, length, Option, Some, None, IfSome, option_map, refl, ap, sym, ◌∙◌, subst}
 use Rattle.disk_core.specs.Moments.{Looks}
 use Rattle.disk_core.specs.declared.disk.Disk.{Ghosts}
-use Rattle.journal_core.specs.Format.{header, IsRecordAt, end_behind, IsClosedAt, StandsFor, records_of, records_before, IsBadLengthAt, IsCutShortAt}
+use Rattle.journal_core.specs.Format.{IsRecordAt, end_behind, IsClosedAt, StandsFor, records_of, records_before, IsBadLengthAt, IsCutShortAt}
 use Rattle.journal_core.specs.Opens.{HasReason, IsOfRecord, IsWalkTo}
 use Rattle.journal_core.specs.Walk.{walk_of, at_gate, at_bad_length, at_cut}
 use Rattle.journal_core.specs.Settled.{IsReading, IsSettled}
@@ -10,16 +10,10 @@ use Rattle.journal_core.specs.Words.{AllStandFor}
 use Rattle.journal_core.specs.declared.error.OpenError.{OpenError}
 use Rattle.journal_core.specs.declared.error.OpenError.TheVariants.{NotJournal, BadLength, CutShort, Failed, Memory}
 use Rattle.journal_core.proofs.Told.{if_told, at_told, of_records}
-use Rattle.std.proofs.lemmas.List.{length-take, length_push}
+use Rattle.std.proofs.lemmas.List.{length_push}
 use Rattle.journal_core.proofs.Records.{records_of-stands}
 use Rattle.journal_core.proofs.Walk.{walk_closed, walk_bad, walk_cut}
-use Rattle.journal_core.proofs.ReadOn.{more_list, more_read, read_same, read_all, settled, not_bad, not_cut}
-
-header_length : (bytes : List ℕ) → take 16 bytes ≡ header → 16 ≤ length bytes
-header_length bytes is =
-    let whole : length (take 16 bytes) ≡ 16 = ap length is in
-    let there : length (take 16 bytes) ≤ length bytes = simp length-take (omega arith) in
-    omega arith
+use Rattle.journal_core.proofs.ReadOn.{header_length, more_list, more_read, read_same, read_all, settled, not_bad, not_cut}
 
 module _ {D : Type 0} (g : Ghosts D) (old new : D) (looks : Looks g old new) (place : ℕ)
     (reading : (b : List ℕ) → g.told old ≡ Some b → IsReading b (g.may_leave old) place) where

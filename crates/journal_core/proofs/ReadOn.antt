@@ -1,8 +1,8 @@
 -- A file that is read record by record: one record more, its end, and what can't be.
-use Rattle.std.proofs.Common.{◌≡◌, ◌⊎◌, inl, inr, ℕ, ◌+◌, ◌-◌, ◌≤◌, List, [], ◌∷◌, ◌++◌, length, ap, sym, ◌∙◌, subst, arith}
+use Rattle.std.proofs.Common.{◌≡◌, ◌⊎◌, inl, inr, ℕ, ◌+◌, ◌-◌, ◌≤◌, List, [], ◌∷◌, ◌++◌, length, take, ap, sym, ◌∙◌, subst, arith}
 use Rattle.std.proofs.lemmas.List.{length-take, length-drop}
 use Rattle.disk_core.specs.Disk.{part, Only, NoNew}
-use Rattle.journal_core.specs.Format.{IsRecordAt, AreRecordsAt, behind, IsClosedAt, StandsFor, size_at, records_of, records_before, IsBadLengthAt, IsCutShortAt}
+use Rattle.journal_core.specs.Format.{header, IsRecordAt, AreRecordsAt, behind, IsClosedAt, StandsFor, size_at, records_of, records_before, IsBadLengthAt, IsCutShortAt}
 use Rattle.journal_core.specs.Settled.{IsSettled, IsReading}
 use Rattle.journal_core.proofs.Records.{records-append, behind-append, records_before-are, records_of-stands, size_is, body_found}
 
@@ -12,6 +12,18 @@ record_within bytes place body is =
     let some = is.some in
     let found : length (part (place + 5) (length body) bytes) ≡ length body = ap length is.body_is in
     let there : length (part (place + 5) (length body) bytes) ≤ length bytes - (place + 5) = simp (length-take, length-drop) (omega arith) in
+    omega arith
+
+-- records lie within the bytes
+pub are_within : (bytes : List ℕ) (place : ℕ) (read : List (List ℕ)) → AreRecordsAt bytes place read → place ≤ length bytes → behind place read ≤ length bytes
+are_within bytes place [] are there = there
+are_within bytes place (body ∷ read) are there = are_within bytes (place + 5 + length body) read are.1 (record_within bytes place body are.0)
+
+-- a file that begins with the header has its sixteen bytes
+pub header_length : (bytes : List ℕ) → take 16 bytes ≡ header → 16 ≤ length bytes
+header_length bytes is =
+    let whole : length (take 16 bytes) ≡ 16 = ap length is in
+    let there : length (take 16 bytes) ≤ length bytes = simp length-take (omega arith) in
     omega arith
 
 -- one record more

@@ -1,4 +1,5 @@
--- The two writes of an append as steps of a disk: what its images stand for, at each moment and afterwards.
+-- The two writes of an append as steps of a disk: what its images stand for, at each moment and
+-- afterwards.
 use Rattle.std.proofs.Common.{◌≡◌, inl, inr, ℕ, ◌+◌, ◌-◌, ◌≤◌, List, [], ◌∷◌, ◌++◌, length, Option, Some, None, IfSome, option_map, is_some, true, false, refl, ap, sym, ◌∙◌, subst, arith}
 use Rattle.disk_core.specs.Disk.{overwritten, part, Torn, Only}
 use Rattle.disk_core.specs.Moments.{LeavesOnly}
@@ -137,8 +138,8 @@ module _ {D : Type 0} (g : Ghosts D) (old : D) (place : ℕ) (read : List ℕ)
       found b told ∙ ap (λ (n : ℕ). part place n b) four ∙ ap (λ (n : ℕ). part n 4 b) place_is
       ∙ length_there b 16 front body back (are b _ told list_is))
 
--- Behind writes at each moment of which a crash leaves the old records, or these and one more, the bytes still stand for
--- their records.
+-- Behind writes at each moment of which a crash leaves the old records, or these and one more, the
+-- bytes still stand for their records.
 module _ {D : Type 0} (g : Ghosts D) (old new : D) (body : List ℕ)
     (told_kept : is_some (g.told new) ≡ is_some (g.told old))
     (reads_image : (b : List ℕ) → g.told new ≡ Some b → g.may_leave new b)

@@ -9,7 +9,8 @@ if_told P (Some x) is = is x refl
 pub at_told : {X : Type 0} (P : X → Type 0) (told : Option X) (x : X) → told ≡ Some x → IfSome told P → P x
 at_told {X} P told x is fact = subst (λ (o : Option X). IfSome o P) is fact
 
--- where a disk tells its bytes behind a write, it told them before, and they are the old ones overwritten
+-- where a disk tells its bytes behind a write, it told them before, and they are the old ones
+-- overwritten
 pub told_before : (old new : Option (List ℕ)) (write : List ℕ → List ℕ) (now : List ℕ) → new ≡ option_map write old → new ≡ Some now
     → (was : List ℕ) × (old ≡ Some was) × (now ≡ write was)
 told_before None new write now is told = let wrong : None ≡ Some now = sym is ∙ told in cc

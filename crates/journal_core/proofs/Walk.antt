@@ -4,10 +4,10 @@ use Rattle.std.proofs.lemmas.Bool.{ne_eqb, lt-ltb, le-ltb, cases_lt}
 use Rattle.journal_core.specs.Format.{IsRecordAt, AreRecordsAt, behind, IsClosedAt, size_at, IsBadLengthAt, IsCutShortAt}
 use Rattle.journal_core.specs.Walk.{Ending, at_gate, at_bad_length, at_cut, ends_here, with_record, walk_from, walk_of}
 use Rattle.journal_core.proofs.Records.{size_is, body_found, behind_far}
-use Rattle.journal_core.proofs.ReadOn.{record_within}
+use Rattle.journal_core.proofs.ReadOn.{record_within, are_within}
 
 -- at a record
-walk_record : (most : ℕ) (bytes : List ℕ) (place : ℕ) (body : List ℕ) → IsRecordAt bytes place body
+pub walk_record : (most : ℕ) (bytes : List ℕ) (place : ℕ) (body : List ℕ) → IsRecordAt bytes place body
     → walk_from (suc most) bytes place ≡ with_record body (walk_from most bytes (place + 5 + length body))
 walk_record most bytes place body is =
     let there = record_within bytes place body is in
@@ -30,11 +30,6 @@ walk_read (suc most) bytes place [] end are few ends = ends most
 walk_read (suc most) bytes place (body ∷ read) end are few ends =
     walk_record most bytes place body are.0
     ∙ ap (with_record body) (walk_read most bytes (place + 5 + length body) read end are.1 (omega arith) ends)
-
--- records lie within the bytes
-are_within : (bytes : List ℕ) (place : ℕ) (read : List (List ℕ)) → AreRecordsAt bytes place read → place ≤ length bytes → behind place read ≤ length bytes
-are_within bytes place [] are there = there
-are_within bytes place (body ∷ read) are there = are_within bytes (place + 5 + length body) read are.1 (record_within bytes place body are.0)
 
 module _ (bytes : List ℕ) (read : List (List ℕ)) (place : ℕ) (are : AreRecordsAt bytes 16 read) (place_is : place ≡ behind 16 read) (some : 16 ≤ length bytes) where
   few : length read < length bytes

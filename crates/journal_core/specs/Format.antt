@@ -1,12 +1,17 @@
--- The bytes of a journal: a header of sixteen bytes, and records. A record is a gate of one byte, the length of its
--- body in four bytes, the highest first, and the body. A gate of 0 is closed and ends the records; any other is open.
-use Rattle.std.specs.Prelude.{◌≡◌, ◌≢◌, ◌⊎◌, ℕ, zero, suc, ◌+◌, ◌<◌, ◌≤◌, ◌==◌, nat_lt, if◌then◌else◌, List, [], ◌∷◌, ◌++◌, length, take, slice_index}
+-- The bytes of a journal: a header of sixteen bytes, and records. A record is a gate of one byte,
+-- the length of its body in four bytes, the highest first, and the body. A gate of 0 is closed and
+-- ends the records; any other is open.
+use Rattle.std.specs.Prelude.{◌≡◌, ◌≢◌, ◌⊎◌, ℕ, zero, suc, ◌+◌, ◌^◌, ◌<◌, ◌≤◌, ◌==◌, nat_lt, if◌then◌else◌, List, [], ◌∷◌, ◌++◌, length, take, slice_index}
 use Rattle.std.specs.Int.{w32, to_be_bytes, from_be_bytes}
 use Rattle.disk_core.specs.Disk.{part}
 
 -- `mtc-journal/v1`, 10, 0
 abbrev pub header : List ℕ
 header = 109 ∷ 116 ∷ 99 ∷ 45 ∷ 106 ∷ 111 ∷ 117 ∷ 114 ∷ 110 ∷ 97 ∷ 108 ∷ 47 ∷ 118 ∷ 49 ∷ 10 ∷ 0 ∷ []
+
+-- a journal file has at most so many bytes
+abbrev pub most_bytes : ℕ
+most_bytes = 2 ^ 31
 
 -- at this place stand an open gate, the length of the body and the body
 pub record IsRecordAt (bytes : List ℕ) (place : ℕ) (body : List ℕ) : Type 0 where
@@ -19,15 +24,16 @@ pub record IsRecordAt (bytes : List ℕ) (place : ℕ) (body : List ℕ) : Type 
 -- from this place on stand these records, one behind the other
 abbrev pub AreRecordsAt : List ℕ → ℕ → List (List ℕ) → Type 0
 AreRecordsAt bytes place [] = Unit {0}
-AreRecordsAt bytes place (body ∷ bodies) = IsRecordAt bytes place body × AreRecordsAt bytes (place + 5 + length body) bodies
+AreRecordsAt bytes place (body ∷ bodies) = IsRecordAt bytes place body
+    × AreRecordsAt bytes (place + 5 + length body) bodies
 
 -- the place behind records that begin at a place
 abbrev pub behind : ℕ → List (List ℕ) → ℕ
 behind place [] = place
 behind place (body ∷ bodies) = behind (place + 5 + length body) bodies
 
--- The end of a journal with these records: the place behind the closed gate that ends them. The next body would begin
--- four bytes further on.
+-- The end of a journal with these records: the place behind the closed gate that ends them. The
+-- next body would begin four bytes further on.
 abbrev pub end_behind : List (List ℕ) → ℕ
 end_behind records = behind 16 records + 1
 
@@ -36,7 +42,8 @@ pub record IsClosedAt (bytes : List ℕ) (place : ℕ) : Type 0 where
   pub there : place < length bytes
   pub shut : slice_index bytes place ≡ 0
 
--- The bytes are a journal with these records: the header, the records and a closed gate. Anything may follow.
+-- The bytes are a journal with these records: the header, the records and a closed gate. Anything
+-- may follow.
 pub record StandsFor (bytes : List ℕ) (records : List (List ℕ)) : Type 0 where
   pub begins : take 16 bytes ≡ header
   pub holds : AreRecordsAt bytes 16 records
@@ -44,12 +51,14 @@ pub record StandsFor (bytes : List ℕ) (records : List (List ℕ)) : Type 0 whe
 
 -- the bytes are a journal with these records, or with these and one more
 abbrev pub StandsForEither : List (List ℕ) → List ℕ → List ℕ → Type 0
-StandsForEither records body bytes = StandsFor bytes records ⊎ StandsFor bytes (records ++ body ∷ [])
+StandsForEither records body bytes = StandsFor bytes records
+    ⊎ StandsFor bytes (records ++ body ∷ [])
 
--- the length and the body of the record at a place
+-- the length of the body of the record at a place
 abbrev pub size_at : List ℕ → ℕ → ℕ
 size_at bytes place = from_be_bytes w32 (part (place + 1) 4 bytes)
 
+-- the body of the record at a place
 abbrev pub body_at : List ℕ → ℕ → List ℕ
 body_at bytes place = part (place + 5) (size_at bytes place) bytes
 
@@ -57,7 +66,8 @@ body_at bytes place = part (place + 5) (size_at bytes place) bytes
 abbrev pub records_from : ℕ → List ℕ → ℕ → List (List ℕ)
 records_from zero bytes place = []
 records_from (suc most) bytes place =
-    if slice_index bytes place == 0 then [] else body_at bytes place ∷ records_from most bytes (place + 5 + size_at bytes place)
+    if slice_index bytes place == 0 then []
+    else body_at bytes place ∷ records_from most bytes (place + 5 + size_at bytes place)
 
 -- the records for which the bytes stand, where they stand for any
 abbrev pub records_of : List ℕ → List (List ℕ)
@@ -67,13 +77,16 @@ records_of bytes = records_from (length bytes) bytes 16
 abbrev pub records_to : ℕ → List ℕ → ℕ → ℕ → List (List ℕ)
 records_to zero bytes place end = []
 records_to (suc most) bytes place end =
-    if nat_lt place end then body_at bytes place ∷ records_to most bytes (place + 5 + size_at bytes place) end else []
+    if nat_lt place end
+    then body_at bytes place ∷ records_to most bytes (place + 5 + size_at bytes place) end
+    else []
 
 -- the records that begin before a place
 abbrev pub records_before : List ℕ → ℕ → List (List ℕ)
 records_before bytes place = records_to (length bytes) bytes 16 place
 
--- What stands at a place where no record and no closed gate does. First: a length of 0 or above 131,072.
+-- What stands at a place where no record and no closed gate does. First: a length of 0 or above
+-- 131,072.
 pub record IsBadLengthAt (bytes : List ℕ) (place : ℕ) : Type 0 where
   pub open_gate : slice_index bytes place ≢ 0
   pub there : place + 5 ≤ length bytes
@@ -82,7 +95,8 @@ pub record IsBadLengthAt (bytes : List ℕ) (place : ℕ) : Type 0 where
 -- an open gate, and the file ends within the length or within the body
 abbrev pub IsCutRecordAt : List ℕ → ℕ → Type 0
 IsCutRecordAt bytes place = (slice_index bytes place ≢ 0) × ((length bytes < place + 5)
-    ⊎ ((1 ≤ size_at bytes place) × (size_at bytes place ≤ 131072) × (length bytes < place + 5 + size_at bytes place)))
+    ⊎ ((1 ≤ size_at bytes place) × (size_at bytes place ≤ 131072)
+    × (length bytes < place + 5 + size_at bytes place)))
 
 -- the file ends before the gate, or within the record
 abbrev pub IsCutShortAt : List ℕ → ℕ → Type 0
@@ -93,5 +107,5 @@ abbrev pub tail_of : List ℕ → List ℕ
 tail_of body = to_be_bytes w32 (length body) ++ body ++ 0 ∷ []
 
 -- what the first write of a new file holds
-abbrev pub first_of : List ℕ → List ℕ
-first_of body = header ++ 0 ∷ tail_of body
+abbrev pub new_file_of : List ℕ → List ℕ
+new_file_of body = header ++ 0 ∷ tail_of body

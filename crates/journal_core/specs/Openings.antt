@@ -1,5 +1,5 @@
 -- What the opening of a journal shows, and what a step of it finds.
-use Rattle.std.specs.Prelude.{◌≡◌, ℕ, ◌+◌, ◌-◌, ◌<◌, ◌≤◌, Bool, true, false, List, [], ◌∷◌, ◌++◌, length, take, Option, Some, None, option_map, IfSome, Result, Ok, Err}
+use Rattle.std.specs.Prelude.{◌≡◌, ◌≢◌, ℕ, ◌+◌, ◌-◌, ◌<◌, ◌≤◌, Bool, true, false, List, [], ◌∷◌, ◌++◌, length, take, Option, Some, None, option_map, IfSome, Result, Ok, Err}
 use Rattle.std.specs.Borrow.{Bor}
 use Rattle.disk_core.specs.Moments.{Looks}
 use Rattle.disk_core.specs.declared.disk.Disk.{Ghosts}
@@ -11,6 +11,7 @@ use Rattle.journal_core.specs.declared.error.OpenError.TheVariants.{Failed}
 use Rattle.journal_core.specs.declared.opening.Opening.{Opening}
 
 module _ {D : Type 0} {g : Ghosts D} where
+  -- the disk that is read
   abbrev pub opening_disk : Opening D g → D
   opening_disk opening = opening.disk
 
@@ -35,8 +36,8 @@ module _ {D : Type 0} {g : Ghosts D} where
   last_body opening = take opening.body opening.buffer.items
 
   -- the bytes that are left, which a loop over the records uses up
-  abbrev pub left_of : Opening D g → ℕ
-  left_of opening = opening.size - opening.place
+  abbrev pub bytes_left : Opening D g → ℕ
+  bytes_left opening = opening.size - opening.place
 
   -- A file with the header is to be read from its first record on. All of it is on the disk.
   pub record HasBegun (old : D) (new : Opening D g) : Type 0 where
@@ -53,7 +54,7 @@ module _ {D : Type 0} {g : Ghosts D} where
     pub some : 1 ≤ length (last_body new)
     pub few : length (last_body new) ≤ 131072
     pub place : next_place new ≡ next_place old + 5 + length (last_body new)
-    pub shorter : left_of new < left_of old
+    pub shorter : bytes_left new < bytes_left old
     pub goes_on : (is_ended new ≡ false) × (refusal new ≡ None)
 
   -- the closed gate was read: the file stands for the records that were read
@@ -61,8 +62,10 @@ module _ {D : Type 0} {g : Ghosts D} where
     pub list : read_list new ≡ read_list old
     pub ended : is_ended new ≡ true
     pub goes_on : refusal new ≡ None
-    pub stands : IfSome (g.told (opening_disk new)) (λ bytes. IfSome (read_list new) (StandsFor bytes))
-    pub walk : IfSome (g.told (opening_disk new)) (λ bytes. IfSome (read_list new) (λ list. walk_of bytes ≡ record { records = list; end = at_gate }))
+    pub stands : IfSome (g.told (opening_disk new))
+        (λ bytes. IfSome (read_list new) (StandsFor bytes))
+    pub walk : IfSome (g.told (opening_disk new)) (λ bytes. IfSome (read_list new)
+        (λ list. walk_of bytes ≡ record { records = list; end = at_gate }))
 
   -- the file is not read on, and this refusal is given again
   pub record HasRefused (old new : Opening D g) (why : OpenError) : Type 0 where
@@ -70,19 +73,26 @@ module _ {D : Type 0} {g : Ghosts D} where
     pub kept : refusal new ≡ Some why
     pub goes_on : is_ended new ≡ is_ended old
 
-  -- What every step does. A refusal that was given is given again, and so is the end; a fresh refusal has its cause, and
-  -- on a file that stands for records it is a fault of the disk.
-  pub record HasStepped (old new : Opening D g) (ended : Bool) (why : Option OpenError) : Type 0 where
-    pub again : IfSome (refusal old) (λ kept. (why ≡ Some kept) × (opening_disk new ≡ opening_disk old))
-    pub rests : is_ended old ≡ true → refusal old ≡ None → (ended ≡ true) × (why ≡ None) × (opening_disk new ≡ opening_disk old)
-    pub reason : refusal old ≡ None → IfSome why (HasReason g (opening_disk old) (opening_disk new) (next_place old))
+  -- What every step does. A refusal that was given is given again, and so is the end; a fresh
+  -- refusal has its cause, and on a file that stands for records it is a fault of the disk.
+  pub record HasStepped (old new : Opening D g) (ended : Bool)
+      (why : Option OpenError) : Type 0 where
+    pub again : IfSome (refusal old) (λ kept. (why ≡ Some kept)
+        × (opening_disk new ≡ opening_disk old))
+    pub rests : is_ended old ≡ true → refusal old ≡ None
+        → (ended ≡ true) × (why ≡ None) × (opening_disk new ≡ opening_disk old)
+    pub reason : refusal old ≡ None
+        → IfSome why (HasReason g (opening_disk old) (opening_disk new) (next_place old))
     pub kind : refusal old ≡ None → IfSome why IsOfRecord
     pub whole : refusal old ≡ None
-        → IfSome why (λ e. IfSome (g.told (opening_disk old)) (λ bytes. (list : List (List ℕ)) → StandsFor bytes list → e ≡ Failed))
+        → IfSome why (λ e. IfSome (g.told (opening_disk old)) (λ bytes. (list : List (List ℕ))
+        → StandsFor bytes list → e ≡ Failed))
     pub walk : refusal old ≡ None
-        → IfSome why (λ e. IfSome (g.told (opening_disk old)) (λ bytes. IfSome (read_list old) (IsWalkTo e bytes)))
+        → IfSome why (λ e. IfSome (g.told (opening_disk old))
+        (λ bytes. IfSome (read_list old) (IsWalkTo e bytes)))
     pub looks : Looks g (opening_disk old) (opening_disk new)
-    pub fine : why ≡ None → g.faults (opening_disk new) ≡ g.faults (opening_disk old)
+    pub fine : IfSome why (λ e. e ≢ Failed)
+        → g.faults (opening_disk new) ≡ g.faults (opening_disk old)
 
   -- a step, by its answer: a record, the end, or a refusal
   abbrev pub Steps : Opening D g → Opening D g → Result Bool OpenError → Type 0
@@ -92,6 +102,7 @@ module _ {D : Type 0} {g : Ghosts D} where
 
   -- the same of `next`, which lends the body
   abbrev pub Nexts : Opening D g → Opening D g → Result (Option (Bor (List ℕ))) OpenError → Type 0
-  Nexts old new (Ok (Some body)) = (last_body new ≡ body.now) × HasRead old new × HasStepped old new false None
+  Nexts old new (Ok (Some body)) = (last_body new ≡ body.now) × HasRead old new
+      × HasStepped old new false None
   Nexts old new (Ok None) = HasEnded old new × HasStepped old new true None
   Nexts old new (Err why) = HasRefused old new why × HasStepped old new false (Some why)

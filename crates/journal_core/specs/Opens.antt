@@ -10,8 +10,10 @@ use Rattle.journal_core.specs.declared.error.OpenError.TheVariants.{NotJournal, 
 -- the cause of a refusal at a place, over the disk before the call and after it
 abbrev pub HasReason : {D : Type 0} → Ghosts D → D → D → ℕ → OpenError → Type 0
 HasReason g old new place NotJournal = IfSome (g.told old) (λ bytes. take 16 bytes ≢ header)
-HasReason g old new place (BadLength at) = (at ≡ place) × IfSome (g.told old) (λ bytes. IsBadLengthAt bytes place)
-HasReason g old new place (CutShort at) = (at ≡ place) × IfSome (g.told old) (λ bytes. IsCutShortAt bytes place)
+HasReason g old new place (BadLength at) = (at ≡ place)
+    × IfSome (g.told old) (λ bytes. IsBadLengthAt bytes place)
+HasReason g old new place (CutShort at) = (at ≡ place)
+    × IfSome (g.told old) (λ bytes. IsCutShortAt bytes place)
 HasReason g old new place Failed = Rose (g.faults old) (g.faults new)
 HasReason g old new place Memory = Unit {0}
 
@@ -34,7 +36,8 @@ IsOfHeader Memory = Unit {0}
 -- the walk of the bytes finds these records and ends as the refusal says
 abbrev pub IsWalkTo : OpenError → List ℕ → List (List ℕ) → Type 0
 IsWalkTo NotJournal bytes list = Unit {0}
-IsWalkTo (BadLength at) bytes list = walk_of bytes ≡ record { records = list; end = at_bad_length at }
+IsWalkTo (BadLength at) bytes list =
+    walk_of bytes ≡ record { records = list; end = at_bad_length at }
 IsWalkTo (CutShort at) bytes list = walk_of bytes ≡ record { records = list; end = at_cut at }
 IsWalkTo Failed bytes list = Unit {0}
 IsWalkTo Memory bytes list = Unit {0}

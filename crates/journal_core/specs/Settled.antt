@@ -4,7 +4,8 @@ use Rattle.std.proofs.Props.{props}
 use Rattle.disk_core.specs.Disk.{Only}
 use Rattle.journal_core.specs.Format.{header, IsRecordAt, AreRecordsAt, behind, end_behind, IsClosedAt, StandsFor, records_of, records_before}
 
--- the bytes stand for their records, all of it is on the disk, and `end` is the place behind the closed gate
+-- the bytes stand for their records, all of it is on the disk, and `end` is the place behind the
+-- closed gate
 pub record IsSettled (bytes : List ℕ) (images : List ℕ → Type 0) (end : ℕ) : Type 0 where
   pub stands : StandsFor bytes (records_of bytes)
   pub end_is : end ≡ end_behind (records_of bytes)
@@ -18,25 +19,35 @@ pub record IsReading (bytes : List ℕ) (images : List ℕ → Type 0) (place : 
   pub only : Only bytes images
 
 -- each has one proof at most
-pub IsRecordAt-prop : (bytes : List ℕ) (place : ℕ) (body : List ℕ) → IsProp (IsRecordAt bytes place body)
+pub IsRecordAt-prop : (bytes : List ℕ) (place : ℕ) (body : List ℕ)
+    → IsProp (IsRecordAt bytes place body)
 IsRecordAt-prop bytes place body = hlevel props
 
-pub AreRecordsAt-prop : (bytes : List ℕ) (place : ℕ) (records : List (List ℕ)) → IsProp (AreRecordsAt bytes place records)
+pub AreRecordsAt-prop : (bytes : List ℕ) (place : ℕ) (records : List (List ℕ))
+    → IsProp (AreRecordsAt bytes place records)
 AreRecordsAt-prop bytes place [] = hlevel props
 AreRecordsAt-prop bytes place (body ∷ records) =
-    hlevel (props, IsRecordAt-prop bytes place body, AreRecordsAt-prop bytes (place + 5 + length body) records)
+    hlevel (
+      props,
+      IsRecordAt-prop bytes place body,
+      AreRecordsAt-prop bytes (place + 5 + length body) records,
+    )
 
 pub IsClosedAt-prop : (bytes : List ℕ) (place : ℕ) → IsProp (IsClosedAt bytes place)
 IsClosedAt-prop bytes place = hlevel props
 
 pub StandsFor-prop : (bytes : List ℕ) (records : List (List ℕ)) → IsProp (StandsFor bytes records)
-StandsFor-prop bytes records = hlevel (props, AreRecordsAt-prop bytes 16 records, IsClosedAt-prop bytes (behind 16 records))
+StandsFor-prop bytes records =
+    hlevel (props, AreRecordsAt-prop bytes 16 records, IsClosedAt-prop bytes (behind 16 records))
 
 pub StandsFor-records-prop : (bytes : List ℕ) → IsProp (StandsFor bytes (records_of bytes))
 StandsFor-records-prop bytes = StandsFor-prop bytes (records_of bytes)
 
-pub IsSettled-prop : (bytes : List ℕ) (images : List ℕ → Type 0) (end : ℕ) → IsProp (IsSettled bytes images end)
+pub IsSettled-prop : (bytes : List ℕ) (images : List ℕ → Type 0) (end : ℕ)
+    → IsProp (IsSettled bytes images end)
 IsSettled-prop bytes images end = hlevel (props, StandsFor-prop bytes (records_of bytes))
 
-pub IsReading-prop : (bytes : List ℕ) (images : List ℕ → Type 0) (place : ℕ) → IsProp (IsReading bytes images place)
-IsReading-prop bytes images place = hlevel (props, AreRecordsAt-prop bytes 16 (records_before bytes place))
+pub IsReading-prop : (bytes : List ℕ) (images : List ℕ → Type 0) (place : ℕ)
+    → IsProp (IsReading bytes images place)
+IsReading-prop bytes images place =
+    hlevel (props, AreRecordsAt-prop bytes 16 (records_before bytes place))

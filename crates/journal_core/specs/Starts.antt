@@ -9,7 +9,8 @@ use Rattle.journal_core.specs.declared.error.StartError.TheVariants.{Failed, Not
 use Rattle.journal_core.specs.declared.journal.Journal.{Journal}
 
 -- An empty disk became a journal of one record, and every image of it stands for that record.
-pub record HasStarted {D : Type 0} {g : Ghosts D} (first : List ℕ) (old : D) (new : Journal D g) : Type 0 where
+pub record HasStarted {D : Type 0} {g : Ghosts D} (first : List ℕ) (old : D)
+    (new : Journal D g) : Type 0 where
   pub empty : IfSome (g.told old) (λ bytes. bytes ≡ [])
   pub told : is_some (g.told (disk_of new)) ≡ is_some (g.told old)
   pub list : records new ≡ option_map (λ _. first ∷ []) (g.told old)
@@ -26,5 +27,6 @@ pub record HasFailed {D : Type 0} (g : Ghosts D) (old new : D) : Type 0 where
 -- the disk that is handed back, by the refusal
 abbrev pub IsNotStarted : {D : Type 0} → Ghosts D → D → D → StartError → Type 0
 IsNotStarted g old new Failed = HasFailed g old new
-IsNotStarted g old new NotEmpty = IfSome (g.told old) (λ bytes. bytes ≢ []) × Looks g old new
-IsNotStarted g old new Memory = Looks g old new
+IsNotStarted g old new NotEmpty =
+    IfSome (g.told old) (λ bytes. bytes ≢ []) × Looks g old new × (g.faults new ≡ g.faults old)
+IsNotStarted g old new Memory = Looks g old new × (g.faults new ≡ g.faults old)

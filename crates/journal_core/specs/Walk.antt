@@ -1,4 +1,5 @@
--- The reading of a file as a function of its bytes: its whole records from the first one on, and how it ends.
+-- The reading of a file as a function of its bytes: its whole records from the first one on, and
+-- how it ends.
 use Rattle.std.specs.Prelude.{ℕ, zero, suc, ◌+◌, ◌==◌, ◌||◌, nat_lt, if◌then◌else◌, List, [], ◌∷◌, length, slice_index}
 use Rattle.journal_core.specs.Format.{size_at, body_at}
 
@@ -12,9 +13,11 @@ pub record Walk : Type 0 where
   pub records : List (List ℕ)
   pub end : Ending
 
+-- no record, and this end
 abbrev pub ends_here : Ending → Walk
 ends_here end = record { records = []; end = end }
 
+-- a record before those of a walk
 abbrev pub with_record : List ℕ → Walk → Walk
 with_record body walk = record { records = body ∷ walk.records; end = walk.end }
 
@@ -25,9 +28,11 @@ walk_from (suc most) bytes place =
     if nat_lt place (length bytes)
     then (if slice_index bytes place == 0 then ends_here at_gate
     else (if nat_lt (length bytes) (place + 5) then ends_here (at_cut place)
-    else (if (size_at bytes place == 0) || nat_lt 131072 (size_at bytes place) then ends_here (at_bad_length place)
+    else (if (size_at bytes place == 0) || nat_lt 131072 (size_at bytes place)
+    then ends_here (at_bad_length place)
     else (if nat_lt (length bytes) (place + 5 + size_at bytes place) then ends_here (at_cut place)
-    else with_record (body_at bytes place) (walk_from most bytes (place + 5 + size_at bytes place))))))
+    else with_record (body_at bytes place)
+    (walk_from most bytes (place + 5 + size_at bytes place))))))
     else ends_here (at_cut place)
 
 -- behind the header

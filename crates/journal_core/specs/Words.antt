@@ -13,15 +13,20 @@ use Rattle.journal_core.specs.declared.journal.Journal.{Journal}
 abbrev pub AllStandFor : {D : Type 0} → Ghosts D → D → List (List ℕ) → Type 0
 AllStandFor g disk list = (c : List ℕ) → g.may_leave disk c → StandsFor c list
 
--- Where the range that was read lies within a body of these records, from so many of its bytes on, this is that part of
--- the body. The body behind some of the records begins four bytes behind their end.
+-- Where the range that was read lies within a body of these records, from so many of its bytes on,
+-- this is that part of the body. The body behind some of the records begins four bytes behind their
+-- end.
 abbrev pub HoldsBody : ℕ → List ℕ → List (List ℕ) → Type 0
-HoldsBody place read list = (front : List (List ℕ)) (body : List ℕ) (back : List (List ℕ)) (from : ℕ) → list ≡ front ++ body ∷ back
-    → place ≡ end_behind front + 4 + from → from + length read ≤ length body → read ≡ part from (length read) body
+HoldsBody place read list =
+    (front : List (List ℕ)) (body : List ℕ) (back : List (List ℕ)) (from : ℕ)
+    → list ≡ front ++ body ∷ back
+    → place ≡ end_behind front + 4 + from → from + length read ≤ length body
+    → read ≡ part from (length read) body
 
 -- Where the four bytes before a body were read, these are its length.
 abbrev pub HoldsLength : ℕ → List ℕ → List (List ℕ) → Type 0
-HoldsLength place read list = (front : List (List ℕ)) (body : List ℕ) (back : List (List ℕ)) → list ≡ front ++ body ∷ back
+HoldsLength place read list = (front : List (List ℕ)) (body : List ℕ) (back : List (List ℕ))
+    → list ≡ front ++ body ∷ back
     → place ≡ end_behind front → length read ≡ 4 → read ≡ to_be_bytes w32 (length body)
 
 module _ {D : Type 0} {g : Ghosts D} where

@@ -1,6 +1,6 @@
 //! What the calls of a journal refuse.
-ghost use Rattle.journal_core.specs.declared.error.StartError.TheVariants.{Failed as StartFailed, Memory as StartMemory};
-ghost use Rattle.journal_core.specs.declared.error.OpenError.TheVariants.{Failed as OpenFailed, Memory as OpenMemory};
+ghost use Rattle.journal_core.specs.declared.error.StartError.TheVariants.{Failed as StartFailed};
+ghost use Rattle.journal_core.specs.declared.error.OpenError.TheVariants.{Failed as OpenFailed};
 ghost use Rattle.journal_core.specs.declared.error.AppendError.TheVariants.{Failed as AppendFailed};
 ghost use Rattle.std.specs.Prelude.{◌≡◌};
 
@@ -53,7 +53,8 @@ pub enum AppendError {
     Broken,
     /// The file would pass 2^31 bytes.
     Full,
-    /// The disk failed: the journal holds the old records, or these and the new one, and is to be opened again.
+    /// The disk failed: the journal holds the old records, or these and the new one, and is to be
+    /// opened again.
     Failed,
 }
 

@@ -1,5 +1,5 @@
 //! The first record of a journal.
-ghost use Rattle.std.specs.Prelude.{◌≡◌, ◌≤◌, ◌+◌, List, ℕ, [], ◌∷◌, length, max, is_some, option_map, IfSome, IfOk, IfErr, OnOk};
+ghost use Rattle.std.specs.Prelude.{◌≡◌, ◌≤◌, ◌+◌, [], ◌∷◌, length, is_some, option_map, IfSome, IfOk, IfErr, OnOk};
 ghost use Rattle.mtc_io.specs.Counts.{HasCause};
 ghost use Rattle.disk_core.specs.Disk.{overwritten, Only};
 ghost use Rattle.journal_core.specs.Starts.{HasStarted, IsNotStarted};
@@ -26,10 +26,11 @@ fn write_first<D: Disk>(disk: &mut D, bytes: &[u8]) -> Result<(), Failed>
     write_synced(disk, 16, &[1])
 }
 
-/// Begins a journal on an empty disk, with one record of 1 to 131,072 bytes. At Ok a crash leaves that record.
+/// Begins a journal on an empty disk, with one record of 1 to 131,072 bytes. At Ok a crash leaves
+/// that record.
 ///
-/// Errors, in the order of the tests: `Failed`, `NotEmpty` where the disk holds bytes, `Memory` for the buffer. A first
-/// write that fails may leave anything. The disk is handed back.
+/// Errors, in the order of the tests: `Failed`, `NotEmpty` where the disk holds bytes, `Memory` for
+/// the buffer. A first write that fails may leave anything. The disk is handed back.
 pub fn start<D: Disk>(
     alloc: Global,
     mut disk: D,

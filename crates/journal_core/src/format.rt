@@ -1,6 +1,6 @@
 //! The bytes of a journal.
 ghost use Rattle.std.specs.Prelude.{◌≡◌, ◌+◌, ◌≤◌, ◌++◌, length, take, IfOk};
-ghost use Rattle.journal_core.specs.Format.{header, tail_of, first_of};
+ghost use Rattle.journal_core.specs.Format.{header, tail_of, new_file_of};
 
 use mtc_io::Memory;
 use std::alloc::Global;
@@ -31,7 +31,8 @@ fn put(buffer: &mut Vec<u8>, at: usize, piece: &[u8])
     buffer[at..at + piece.len()].copy_from_slice(piece);
 }
 
-/// What an append writes behind the closed gate: the length of the body, the body and the next gate, closed.
+/// What an append writes behind the closed gate: the length of the body, the body and the next
+/// gate, closed.
 pub(crate) fn pack(buffer: &mut Vec<u8>, body: &[u8])
     requires room { 5 + length body.now ≤ length buffer.old.items }
     requires few { length body.now ≤ 131072 }
@@ -48,7 +49,7 @@ pub(crate) fn pack_first(buffer: &mut Vec<u8>, body: &[u8])
     requires room { 22 + length body.now ≤ length buffer.old.items }
     requires few { length body.now ≤ 131072 }
     ensures length { length buffer.new.items ≡ length buffer.old.items }
-    ensures first { take (22 + length body.now) buffer.new.items ≡ first_of body.now }
+    ensures first { take (22 + length body.now) buffer.new.items ≡ new_file_of body.now }
 {
     put(buffer, 0, &HEADER);
     put(buffer, 16, &[0]);

@@ -1,10 +1,10 @@
 //! A journal that is open for more records.
-ghost use Rattle.std.specs.Prelude.{◌≡◌, ◌↔◌, ◌≤◌, ◌<◌, ◌+◌, ◌^◌, ℕ, List, length, take, true, false, is_some, Some, IsTrue, IsErrOf, IfSome, OnOk};
+ghost use Rattle.std.specs.Prelude.{◌≡◌, ◌↔◌, ◌≤◌, ◌<◌, ◌+◌, ℕ, List, length, true, false, is_some, Some, IsTrue, IsErrOf, IfSome, OnOk};
 ghost use Rattle.std.proofs.Props.{props};
 ghost use Rattle.mtc_io.specs.Counts.{HasCause};
 ghost use Rattle.disk_core.specs.Disk.{part};
 ghost use Rattle.disk_core.specs.Moments.{LeavesOnly, Looks};
-ghost use Rattle.journal_core.specs.Format.{StandsFor, StandsForEither, records_of};
+ghost use Rattle.journal_core.specs.Format.{most_bytes, StandsFor, StandsForEither, records_of};
 ghost use Rattle.journal_core.specs.Settled.{IsSettled, IsSettled-prop, StandsFor-records-prop};
 
 use crate::error::AppendError;
@@ -34,18 +34,19 @@ pub struct Journal<D: Disk> {
 impl<D: Disk> Journal<D> {
     ghost use Rattle.journal_core.specs.Words.{disk_of, end_of, is_broken, records, Leaves, HoldsBody, HoldsLength};
 
-    /// Adds a record of 1 to 131,072 bytes. At Ok a crash leaves the records with it; at any moment of the call it leaves
-    /// the old records, or these and the new one.
+    /// Adds a record of 1 to 131,072 bytes. At Ok a crash leaves the records with it; at any moment
+    /// of the call it leaves the old records, or these and the new one.
     ///
-    /// Errors, in the order of the tests: `Broken` where an earlier call answered `Failed`; `Full` where the file would
-    /// pass 2^31 bytes; `Failed`. The first two make no call of the disk. It takes no memory.
+    /// Errors, in the order of the tests: `Broken` where an earlier call answered `Failed`; `Full`
+    /// where the file would pass 2^31 bytes; `Failed`. The first two make no call of the disk. It
+    /// takes no memory.
     pub fn append(&mut self, body: &[u8]) -> Result<(), AppendError>
         requires some { 1 ≤ length body.now }
         requires few { length body.now ≤ 131072 }
         ensures leaves { Leaves body.now self.old self.new result }
         ensures broken { IsErrOf result AppendError.Broken ↔ IsTrue (is_broken self.old) }
         ensures full { IsErrOf result AppendError.Full ↔ (is_broken self.old ≡ false)
-            × (2 ^ 31 < end_of self.old + 5 + length body.now) }
+            × (most_bytes < end_of self.old + 5 + length body.now) }
         ensures told { is_some (records self.new) ≡ is_some (records self.old) }
         ensures count { D.faults (disk_of self.old) ≤ D.faults (disk_of self.new) }
         ensures as_read { is_broken self.old ≡ false
@@ -55,16 +56,16 @@ impl<D: Disk> Journal<D> {
             → IfSome (records self.old) (λ list. (c : List ℕ) → D.may_leave (disk_of self.new) c
             → StandsForEither list body.now c) }
         ensures any_moment { is_broken self.old ≡ false
-            → IfSome (records self.old) (λ list. LeavesOnly D.Disk (disk_of self.old) (disk_of self.new)
-            (StandsForEither list body.now)) }
+            → IfSome (records self.old) (λ list. LeavesOnly D.Disk (disk_of self.old)
+            (disk_of self.new) (StandsForEither list body.now)) }
     {
         self.put(body)
     }
 
-    /// Fills `out` with the bytes from a place on. Its range ends at or below the end. Over the range of a body, or of a
-    /// part of one, it gives that, and over the four bytes before a body its length, the highest byte first. The first
-    /// body lies at place 21, each later one 5 bytes behind the end of the one before. So it does also where an append
-    /// has failed.
+    /// Fills `out` with the bytes from a place on. Its range ends at or below the end. Over the
+    /// range of a body, or of a part of one, it gives that, and over the four bytes before a body
+    /// its length, the highest byte first. The first body lies at place 21, each later one 5 bytes
+    /// behind the end of the one before. So it does also where an append has failed.
     pub fn read(&mut self, place: u64, out: &mut [u8]) -> Result<(), Failed>
         requires { place + length out.old ≤ end_of self.old }
         ensures read { OnOk result (IfSome (D.told (disk_of self.old))
@@ -75,7 +76,8 @@ impl<D: Disk> Journal<D> {
         ensures end { end_of self.new ≡ end_of self.old }
         ensures broken { is_broken self.new ≡ is_broken self.old }
         ensures looks { Looks D.Disk (disk_of self.old) (disk_of self.new) }
-        ensures cause { HasCause (D.faults (disk_of self.old)) (D.faults (disk_of self.new)) result }
+        ensures cause { HasCause (D.faults (disk_of self.old)) (D.faults (disk_of self.new))
+            result }
     {
         look_at(&mut self.disk, place, out)?;
         Ok(())
@@ -100,11 +102,11 @@ impl<D: Disk> Journal<D> {
         ensures leaves { Leaves body.now self.old self.new result }
         ensures broken { IsErrOf result AppendError.Broken ↔ IsTrue (is_broken self.old) }
         ensures full { IsErrOf result AppendError.Full ↔ (is_broken self.old ≡ false)
-            × (2 ^ 31 < end_of self.old + 5 + length body.now) }
+            × (most_bytes < end_of self.old + 5 + length body.now) }
         ensures told { is_some (records self.new) ≡ is_some (records self.old) }
         ensures any_moment { is_broken self.old ≡ false
-            → IfSome (records self.old) (λ list. LeavesOnly D.Disk (disk_of self.old) (disk_of self.new)
-            (StandsForEither list body.now)) }
+            → IfSome (records self.old) (λ list. LeavesOnly D.Disk (disk_of self.old)
+            (disk_of self.new) (StandsForEither list body.now)) }
         ensures count { D.faults (disk_of self.old) ≤ D.faults (disk_of self.new) }
     {
         if self.broken {

@@ -1,5 +1,5 @@
 //! A file that is read as a journal.
-ghost use Rattle.std.specs.Prelude.{◌≡◌, ◌≢◌, ◌+◌, ◌<◌, ◌≤◌, ℕ, List, [], length, take, true, false, MatchBool, MatchOption, Some, None, option_map, IfSome, IfOk, IfErr, OnOk};
+ghost use Rattle.std.specs.Prelude.{◌≡◌, ◌≢◌, ◌+◌, ◌<◌, ◌≤◌, ℕ, List, length, take, true, false, MatchBool, MatchOption, Some, None, IfSome, IfOk, IfErr, OnOk};
 ghost use Rattle.std.proofs.Props.{props};
 ghost use Rattle.mtc_io.specs.Counts.{HasCause};
 ghost use Rattle.disk_core.specs.Disk.{Only};
@@ -36,7 +36,8 @@ pub struct Opening<D: Disk> {
     ghost exact: { (b : List ℕ) → D.Disk.told disk ≡ Some b → size ≡ length b },
     ghost reading: { (b : List ℕ) → D.Disk.told disk ≡ Some b
         → IsReading b (D.Disk.may_leave disk) place } by { Prim.hlevel (props, IsReading-prop) },
-    ghost counted: { (b : List ℕ) → D.Disk.told disk ≡ Some b → count ≡ length (records_before b place) },
+    ghost counted: { (b : List ℕ) → D.Disk.told disk ≡ Some b
+        → count ≡ length (records_before b place) },
     ghost closed: { ended ≡ true → (b : List ℕ) → D.Disk.told disk ≡ Some b
         → IsClosedAt b place } by { Prim.hlevel (props, IsClosedAt-prop) },
 }
@@ -74,7 +75,7 @@ fn measure<D: Disk>(disk: &mut D) -> Result<Option<u64>, Failed>
 }
 
 impl<D: Disk> Opening<D> {
-    ghost use Rattle.journal_core.specs.Openings.{opening_disk, read_list, next_place, is_ended, refusal, last_body, HasBegun, Steps, Nexts};
+    ghost use Rattle.journal_core.specs.Openings.{opening_disk, read_list, is_ended, last_body, HasBegun, Steps, Nexts};
     ghost use Rattle.journal_core.specs.contracts.opening.Opening.{the_row};
     ghost use Rattle.std.specs.Borrow.{sem};
     ghost use Rattle.std.specs.Io.BufRead.{Rests};
@@ -82,15 +83,18 @@ impl<D: Disk> Opening<D> {
 
     /// Takes a file to read it as a journal. It syncs first, so that what is read is on the disk.
     ///
-    /// Errors, in the order of the tests: `Failed`; `NotJournal` where the first sixteen bytes aren't the header;
-    /// `Memory` for the buffer. The disk is handed back.
+    /// Errors, in the order of the tests: `Failed`; `NotJournal` where the first sixteen bytes
+    /// aren't the header; `Memory` for the buffer. The disk is handed back.
     pub fn begin(alloc: Global, mut disk: D) -> Result<Opening<D>, Refused<D, OpenError>>
         ensures ok { IfOk result (HasBegun disk) }
         ensures reason { IfErr result (λ e. HasReason D.Disk disk e.disk 0 e.why) }
         ensures kind { IfErr result (λ e. IsOfHeader e.why) }
         ensures whole { IfErr result (λ e. IfSome (D.told disk)
-            (λ bytes. (list : List (List ℕ)) → StandsFor bytes list → e.why ≢ OpenError.NotJournal)) }
+            (λ bytes. (list : List (List ℕ)) → StandsFor bytes list
+            → e.why ≢ OpenError.NotJournal)) }
         ensures looks { IfErr result (λ e. Looks D.Disk disk e.disk) }
+        ensures fine { IfErr result (λ e. e.why ≢ OpenError.Failed
+            → D.faults e.disk ≡ D.faults disk) }
     {
         let size = match measure(&mut disk) {
             Ok(Some(size)) => size,
@@ -115,9 +119,9 @@ impl<D: Disk> Opening<D> {
 
     /// The body of the next record, or none at the closed gate, and then none again.
     ///
-    /// Errors, of which each is given again from then on: `CutShort` where the file ends before the gate or within the
-    /// record; `BadLength` where an open record's length is 0 or above 131,072; `Failed`. A file that is a journal is
-    /// refused for a fault alone. It takes no memory.
+    /// Errors, of which each is given again from then on: `CutShort` where the file ends before the
+    /// gate or within the record; `BadLength` where an open record's length is 0 or above 131,072;
+    /// `Failed`. A file that is a journal is refused for a fault alone. It takes no memory.
     pub fn next(&mut self) -> Result<Option<&[u8]>, OpenError>
         ensures* after_borrow { sem 𝓛 (Rests (the_row D.row D.Disk) self.entry
             (λ new. Nexts self.old new result)) }

@@ -1,10 +1,10 @@
 //! One record of a file.
-ghost use Rattle.std.specs.Prelude.{◌≡◌, ◌≢◌, ◌≤◌, ◌<◌, ◌+◌, ◌^◌, ℕ, List, length, take, slice_index, IfSome, IfOk, IfErr, OnOk, MatchOption};
+ghost use Rattle.std.specs.Prelude.{◌≡◌, ◌≢◌, ◌≤◌, ◌<◌, ◌+◌, ◌^◌, length, take, slice_index, IfSome, IfOk, IfErr, OnOk, MatchOption, MatchResult};
 ghost use Rattle.std.specs.Int.{w32, to_be_bytes};
 ghost use Rattle.mtc_io.specs.Counts.{HasCause};
 ghost use Rattle.disk_core.specs.Disk.{part};
 ghost use Rattle.disk_core.specs.Moments.{Looks};
-ghost use Rattle.journal_core.specs.Format.{IsRecordAt, IsClosedAt, size_at};
+ghost use Rattle.journal_core.specs.Format.{IsRecordAt, IsClosedAt};
 ghost use Rattle.journal_core.specs.Opens.{HasReason, IsOfRecord};
 
 use crate::error::OpenError;
@@ -14,7 +14,8 @@ use mtc_io::Failed;
 
 fn read_gate<D: Disk>(disk: &mut D, place: u64) -> Result<u8, Failed>
     requires { place < D.known disk.old }
-    ensures gate { IfOk result (λ gate. IfSome (D.told disk.old) (λ b. gate ≡ slice_index b place)) }
+    ensures gate { IfOk result (λ gate. IfSome (D.told disk.old)
+        (λ b. gate ≡ slice_index b place)) }
     ensures known { D.known disk.new ≡ D.known disk.old }
     ensures looks { Looks D.Disk disk.old disk.new }
     ensures cause { HasCause (D.faults disk.old) (D.faults disk.new) result }
@@ -83,7 +84,8 @@ fn read_body<D: Disk>(
     ensures end { IfOk result (λ n. place + 5 + n ≤ size) }
     ensures reason { IfErr result (HasReason D.Disk disk.old disk.new place) }
     ensures kind { IfErr result IsOfRecord }
-    ensures fine { OnOk result (D.faults disk.new ≡ D.faults disk.old) }
+    ensures fine { MatchResult result (λ _. D.faults disk.new ≡ D.faults disk.old)
+        (λ why. why ≢ OpenError.Failed → D.faults disk.new ≡ D.faults disk.old) }
     ensures known { D.known disk.new ≡ D.known disk.old }
     ensures looks { Looks D.Disk disk.old disk.new }
 {
@@ -101,8 +103,8 @@ fn read_body<D: Disk>(
     Ok(length)
 }
 
-/// The length of the body of the record at a place, whose body is then in the front of the buffer, or none at a closed
-/// gate.
+/// The length of the body of the record at a place, whose body is then in the front of the buffer,
+/// or none at a closed gate.
 pub(crate) fn read_record<D: Disk>(
     disk: &mut D,
     size: u64,
@@ -112,13 +114,15 @@ pub(crate) fn read_record<D: Disk>(
     requires there { size ≤ D.known disk.old }
     requires exact { IfSome (D.told disk.old) (λ b. size ≡ length b) }
     requires room { length buffer.old ≡ 131094 }
-    ensures found { IfOk result (λ r. MatchOption r (IfSome (D.told disk.old) (λ b. IsClosedAt b place))
+    ensures found { IfOk result (λ r. MatchOption r
+        (IfSome (D.told disk.old) (λ b. IsClosedAt b place))
         (λ n. IfSome (D.told disk.old) (λ b. IsRecordAt b place (take n buffer.new)))) }
     ensures within { IfOk result (λ r. MatchOption r (place < size)
         (λ n. (1 ≤ n) × (n ≤ 131072) × (place + 5 + n ≤ size))) }
     ensures reason { IfErr result (HasReason D.Disk disk.old disk.new place) }
     ensures kind { IfErr result IsOfRecord }
-    ensures fine { OnOk result (D.faults disk.new ≡ D.faults disk.old) }
+    ensures fine { MatchResult result (λ _. D.faults disk.new ≡ D.faults disk.old)
+        (λ why. why ≢ OpenError.Failed → D.faults disk.new ≡ D.faults disk.old) }
     ensures known { D.known disk.new ≡ D.known disk.old }
     ensures looks { Looks D.Disk disk.old disk.new }
 {

@@ -1,5 +1,5 @@
 //! What is left of a disk in memory after a crash.
-ghost use Rattle.std.specs.Prelude.{◌≡◌, ◌≤◌, ◌/◌, ℕ, List, length, OnOk, IfOk};
+ghost use Rattle.std.specs.Prelude.{◌≡◌, ◌≤◌, ◌/◌, length, OnOk, IfOk};
 ghost use Rattle.disk_core.specs.Disk.{Torn};
 ghost use Rattle.disk_core.specs.Replay.{State, step, state_now, IsImage};
 
@@ -8,8 +8,9 @@ use crate::memory::history::overwrite;
 use mtc_io::Memory;
 use std::alloc::{AllocError, Global};
 
-// What becomes of a write, by the lowest bits of the choice: nothing of it is left, all, its front alone, or its front
-// with other bytes behind it. The next bits say how long the front is, in quarters.
+// What becomes of a write, by the lowest bits of the choice: nothing of it is left, all, its front
+// alone, or its front with other bytes behind it. The next bits say how long the front is, in
+// quarters.
 fn tear(image: &mut Vec<u8>, place: u64, piece: &[u8], choice: u64) -> Result<(), Memory>
     ensures { OnOk result (Torn place (length piece.now) image.old.items image.new.items) }
 {
@@ -31,7 +32,8 @@ fn put_front(image: &mut Vec<u8>, place: u64, piece: &[u8], front: usize) -> Res
     Ok(())
 }
 
-// The front of the piece and other bytes behind it, also past the end of the file where the piece reaches it.
+// The front of the piece and other bytes behind it, also past the end of the file where the piece
+// reaches it.
 fn spoil(image: &mut Vec<u8>, place: u64, piece: &[u8], front: usize) -> Result<(), Memory>
     requires { front ≤ length piece.now }
     ensures { OnOk result (Torn place (length piece.now) image.old.items image.new.items) }

@@ -1,7 +1,7 @@
 //! What a disk in memory held at first, and its calls since: all that it tells is read off these.
-ghost use Rattle.std.specs.Prelude.{◌≡◌, ◌+◌, ◌<◌, ◌≤◌, ◌++◌, [], ◌∷◌, ℕ, List, length, true, false, if◌then◌else◌, is_ok, IfOk, OnOk, OnErr};
+ghost use Rattle.std.specs.Prelude.{◌≡◌, ◌+◌, ◌<◌, [], ℕ, List, length, true, false, if◌then◌else◌, is_ok, IfOk, OnOk, OnErr};
 ghost use Rattle.disk_core.specs.Disk.{overwritten, Torn, Follows, NoNew, Only, Elapses};
-ghost use Rattle.disk_core.specs.Replay.{State, after_call, state_now, IsImage, LeftSince};
+ghost use Rattle.disk_core.specs.Replay.{State, after_call, state_now, IsImage, LeftSince, noted};
 
 use crate::memory::call::{Call, Made};
 use crate::memory::copies::copies;
@@ -61,8 +61,8 @@ fn write_noted(
         (LeftSince first calls.old.items) (LeftSince first calls.new.items)
         (IsImage (state_now first calls.new.items)) }
     ensures clock { OnOk result (length calls.old.items < length calls.new.items) }
-    ensures calls { calls.new.items ≡ (if is_ok result
-        then calls.old.items ++ record { call = Call.Write place piece.now; ok = true } ∷ [] else calls.old.items) }
+    ensures calls { calls.new.items
+        ≡ noted (is_ok result) (Call.Write place piece.now) true calls.old.items }
 {
     let piece_kept = Bytes::copy_of(*calls.allocator(), piece)?;
     calls.push(Made {
@@ -131,8 +131,7 @@ impl History {
     pub(crate) fn note(&mut self, call: Call, ok: bool) -> Result<(), Memory>
         requires { (s : State) → after_call s call ok ≡ s }
         ensures first { self.new.first ≡ self.old.first }
-        ensures calls { self.new.calls.items ≡ (if is_ok result
-            then self.old.calls.items ++ record { call = call; ok = ok } ∷ [] else self.old.calls.items) }
+        ensures calls { self.new.calls.items ≡ noted (is_ok result) call ok self.old.calls.items }
         ensures seen { seen_of self.new ≡ seen_of self.old }
         ensures crash { NoNew (left_of self.old) (left_of self.new) }
         ensures time { Elapses (moment_of self.old) (moment_of self.new) (since_of self.old)
@@ -146,8 +145,8 @@ impl History {
     // A sync that is done: all is on the disk.
     pub(crate) fn settle(&mut self) -> Result<(), Memory>
         ensures first { self.new.first ≡ self.old.first }
-        ensures calls { self.new.calls.items ≡ (if is_ok result
-            then self.old.calls.items ++ record { call = Call.Sync; ok = true } ∷ [] else self.old.calls.items) }
+        ensures calls { self.new.calls.items
+            ≡ noted (is_ok result) Call.Sync true self.old.calls.items }
         ensures durable { OnOk result (Only (seen_of self.old) (left_of self.new)) }
         ensures seen { seen_of self.new ≡ seen_of self.old }
         ensures crash { NoNew (left_of self.old) (left_of self.new) }
@@ -165,10 +164,11 @@ impl History {
     // A write that fails: it isn't seen, but a crash may leave something of it.
     pub(crate) fn fail_write(&mut self, place: u64, piece: &[u8]) -> Result<(), Memory>
         ensures first { self.new.first ≡ self.old.first }
-        ensures calls { self.new.calls.items ≡ (if is_ok result
-            then self.old.calls.items ++ record { call = Call.Write place piece.now; ok = false } ∷ [] else self.old.calls.items) }
+        ensures calls { self.new.calls.items
+            ≡ noted (is_ok result) (Call.Write place piece.now) false self.old.calls.items }
         ensures seen { seen_of self.new ≡ seen_of self.old }
-        ensures crash { Follows (Torn place (length piece.now)) (left_of self.old) (left_of self.new) }
+        ensures crash { Follows (Torn place (length piece.now)) (left_of self.old)
+            (left_of self.new) }
         ensures time { Elapses (moment_of self.old) (moment_of self.new) (since_of self.old)
             (since_of self.new) (left_of self.new) }
     {
@@ -182,11 +182,13 @@ impl History {
 
     pub(crate) fn write(&mut self, place: u64, piece: &[u8]) -> Result<(), Memory>
         ensures first { self.new.first ≡ self.old.first }
-        ensures calls { self.new.calls.items ≡ (if is_ok result
-            then self.old.calls.items ++ record { call = Call.Write place piece.now; ok = true } ∷ [] else self.old.calls.items) }
-        ensures ok { OnOk result (seen_of self.new ≡ overwritten place piece.now (seen_of self.old)) }
+        ensures calls { self.new.calls.items
+            ≡ noted (is_ok result) (Call.Write place piece.now) true self.old.calls.items }
+        ensures ok { OnOk result (seen_of self.new
+            ≡ overwritten place piece.now (seen_of self.old)) }
         ensures err { OnErr result (seen_of self.new ≡ seen_of self.old) }
-        ensures crash { Follows (Torn place (length piece.now)) (left_of self.old) (left_of self.new) }
+        ensures crash { Follows (Torn place (length piece.now)) (left_of self.old)
+            (left_of self.new) }
         ensures time { Elapses (moment_of self.old) (moment_of self.new) (since_of self.old)
             (since_of self.new) (left_of self.new) }
         ensures clock { OnOk result (moment_of self.old < moment_of self.new) }

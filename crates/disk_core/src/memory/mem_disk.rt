@@ -1,9 +1,9 @@
 //! A disk in memory, which tells all, fails where it is told to, and can crash.
-ghost use Rattle.std.specs.Prelude.{◌≡◌, ◌+◌, ◌≤◌, ◌<◌, ℕ, List, [], length, true, Some, is_ok, if◌then◌else◌, OnOk, OnErr, IfOk};
+ghost use Rattle.std.specs.Prelude.{◌≡◌, ◌+◌, ◌≤◌, ◌<◌, [], length, true, Some, is_ok, if◌then◌else◌, OnOk, OnErr, IfOk};
 ghost use Rattle.mtc_io.specs.Counts.{HasCause};
 ghost use Rattle.disk_core.specs.Disk.{overwritten, Torn, Follows, NoNew, Only, Elapses};
 ghost use Rattle.disk_core.specs.History.{seen_of, left_of, moment_of, since_of};
-ghost use Rattle.disk_core.specs.Plan.{PlanTurn, Notes};
+ghost use Rattle.disk_core.specs.Plan.{PlanTurn};
 ghost use Rattle.disk_core.specs.Replay.{State, after_call};
 ghost use Rattle.disk_core.specs.ReplayLaws.{told_seen, told_length, now_since, since_now};
 
@@ -14,11 +14,13 @@ use crate::memory::plan::Plan;
 use mtc_io::{Bytes, Failed, Memory};
 use std::alloc::Global;
 
-/// A disk in memory. It tells its bytes, fails the calls whose numbers are listed, counted from 0, and keeps a record of
-/// its calls. A call that finds no memory fails too, isn't in the record, and is counted apart.
+/// A disk in memory. It tells its bytes, keeps a record of its calls, and fails those whose numbers
+/// are listed: the index of a call in the record is its number. A call that finds no memory fails
+/// too and is counted apart; it takes no number and isn't in the record.
 ///
-/// What it tells is the replay of the record over what it held at first: a write that is done is seen, and of each write
-/// since the last sync, a failed one too, a crash may leave what it may leave of any.
+/// What it tells is the replay of the record over what it held at first: a write that is done is
+/// seen, and of each write since the last sync, a failed one too, a crash may leave what it may
+/// leave of any.
 #[derive(Debug, Drop)]
 pub struct MemDisk {
     past: History,
@@ -36,13 +38,12 @@ fn look(plan: &mut Plan, past: &mut History, call: Call) -> Result<(), Failed>
         (since_of past.new) (left_of past.new) }
     ensures clock { OnOk result (moment_of past.old < moment_of past.new) }
     ensures cause { HasCause plan.old.faults plan.new.faults result }
-    ensures turn { PlanTurn plan.old (is_ok result) plan.new }
-    ensures noted { Notes plan.old past.old call (is_ok result) plan.new past.new }
+    ensures turn { PlanTurn plan.old past.old call (is_ok result) plan.new past.new }
 {
-    if plan.begin() {
+    if plan.is_listed(past.calls.len()) {
         return match past.note(call, false) {
-            Ok(()) => Err(Failed),
-            Err(Memory) => Err(plan.miss()),
+            Ok(()) => Err(plan.fail()),
+            Err(Memory) => Err(plan.starve()),
         };
     }
     match past.note(call, true) {
@@ -60,13 +61,12 @@ fn settle(plan: &mut Plan, past: &mut History) -> Result<(), Failed>
         (since_of past.new) (left_of past.new) }
     ensures clock { OnOk result (moment_of past.old < moment_of past.new) }
     ensures cause { HasCause plan.old.faults plan.new.faults result }
-    ensures turn { PlanTurn plan.old (is_ok result) plan.new }
-    ensures noted { Notes plan.old past.old Call.Sync (is_ok result) plan.new past.new }
+    ensures turn { PlanTurn plan.old past.old Call.Sync (is_ok result) plan.new past.new }
 {
-    if plan.begin() {
+    if plan.is_listed(past.calls.len()) {
         return match past.note(Call::Sync, false) {
-            Ok(()) => Err(Failed),
-            Err(Memory) => Err(plan.miss()),
+            Ok(()) => Err(plan.fail()),
+            Err(Memory) => Err(plan.starve()),
         };
     }
     match past.settle() {
@@ -84,13 +84,13 @@ fn write(plan: &mut Plan, past: &mut History, place: u64, piece: &[u8]) -> Resul
         (since_of past.new) (left_of past.new) }
     ensures clock { OnOk result (moment_of past.old < moment_of past.new) }
     ensures cause { HasCause plan.old.faults plan.new.faults result }
-    ensures turn { PlanTurn plan.old (is_ok result) plan.new }
-    ensures noted { Notes plan.old past.old (Call.Write place piece.now) (is_ok result) plan.new past.new }
+    ensures turn { PlanTurn plan.old past.old (Call.Write place piece.now) (is_ok result) plan.new
+        past.new }
 {
-    if plan.begin() {
+    if plan.is_listed(past.calls.len()) {
         return match past.fail_write(place, piece) {
-            Ok(()) => Err(Failed),
-            Err(Memory) => Err(plan.miss()),
+            Ok(()) => Err(plan.fail()),
+            Err(Memory) => Err(plan.starve()),
         };
     }
     match past.write(place, piece) {
@@ -123,8 +123,8 @@ impl MemDisk {
         }
     }
 
-    /// A copy that reads alike and leaves the same after a crash. Its count of faults and its known length begin anew; the
-    /// numbers of its calls go on.
+    /// A copy that reads alike and leaves the same after a crash. Its count of faults and its known
+    /// length begin anew; the numbers of its calls go on.
     pub fn lend(&self) -> Result<MemDisk, Memory>
         ensures same { IfOk result (λ it. SameDevice ⟦<MemDisk as Disk>⟧ self.now it) }
         ensures known { IfOk result (λ it. known_of it ≡ 0) }
@@ -137,18 +137,16 @@ impl MemDisk {
         let failing = Vec::from_slice(alloc, &self.plan.failing)?;
         Ok(MemDisk {
             past: self.past.again(alloc)?,
-            plan: Plan {
-                made: self.plan.made,
-                ..Plan::new(failing)
-            },
+            plan: Plan::new(failing),
             known: 0,
         })
     }
 
-    /// A disk over one image that a crash now may leave, chosen by `pick`. Of each write since the last sync that was
-    /// answered Ok nothing is left, all of it, its front alone, or its front with other bytes behind: two bits of `pick`
-    /// choose, for each write the two above those of the one before it, and the two above these say the length of the
-    /// front, in quarters. They are those that choose for the next write. The same pick gives the same image.
+    /// A disk over one image that a crash now may leave, chosen by `pick`. Of each write since the
+    /// last sync that was answered Ok nothing is left, all of it, its front alone, or its front
+    /// with other bytes behind: two bits of `pick` choose, for each write the two above those of
+    /// the one before it, and the two above these say the length of the front, in quarters. They
+    /// are those that choose for the next write. The same pick gives the same image.
     pub fn crash(self, pick: u64) -> Result<MemDisk, Memory>
         ensures image { IfOk result (λ it. images_of self (bytes_of it)) }
         ensures fresh { IfOk result (λ it. IsFresh (bytes_of it) it) }
@@ -208,7 +206,7 @@ impl Disk for MemDisk {
 
     ghost faults = { λ m. m.plan.faults };
 
-    ghost turn = { λ m call ok n. PlanTurn m.plan ok n.plan × Notes m.plan m.past call ok n.plan n.past };
+    ghost turn = { λ m call ok n. PlanTurn m.plan m.past call ok n.plan n.past };
 
     fn len(&mut self) -> Result<u64, Failed> {
         look(&mut self.plan, &mut self.past, Call::Len)?;

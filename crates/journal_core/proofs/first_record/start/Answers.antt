@@ -1,12 +1,12 @@
 use Rattle.std.proofs.Common.{◌≡◌, ◌+◌, ℕ, List, [], ◌∷◌, length, take, IfSome, Option, option_map, is_some, ap, sym, subst, ◌∙◌, add_comm, arith, refl}
 use Rattle.std.proofs.lemmas.List.{nil_from_length}
-use Rattle.journal_core.specs.Format.{first_of}
+use Rattle.journal_core.specs.Format.{new_file_of}
 use Rattle.journal_core.proofs.Told.{if_some}
 use Rattle.journal_core.proofs.FirstRecord.{started_settled, started_all, started_records}
 use Rattle.journal_core.proofs.first_record.start.Goals as goal
 
 -- the piece that was written
-piece_is : (buffer room : List ℕ) (first : List ℕ) → buffer ≡ room → take (22 + length first) room ≡ first_of first → take (length first + 22) buffer ≡ first_of first
+piece_is : (buffer room : List ℕ) (first : List ℕ) → buffer ≡ room → take (22 + length first) room ≡ new_file_of first → take (length first + 22) buffer ≡ new_file_of first
 piece_is buffer room first same is =
     ap (λ (b : List ℕ). take (length first + 22) b) same ∙ ap (λ (n : ℕ). take n room) (add_comm (length first) 22) ∙ is
 

@@ -1,4 +1,4 @@
-use Rattle.std.proofs.Common.{◌≡◌, ◌+◌, ◌≤◌, IfSome, Some, None, ℕ, List, length, take, [], ◌∷◌, ◌++◌, option_map, true, false, sym, ap, subst, ◌∙◌, refl, arith, rules}
+use Rattle.std.proofs.Common.{◌≡◌, ◌+◌, ◌≤◌, IfSome, Some, ℕ, List, length, take, [], ◌∷◌, ◌++◌, option_map, true, false, sym, ap, subst, ◌∙◌, refl, arith, rules}
 use Rattle.std.proofs.lemmas.List.{length-take, with_items_is}
 use Rattle.std.specs.Vec.{with_items}
 use Rattle.journal_core.specs.Format.{IsClosedAt, records_before}
@@ -90,7 +90,7 @@ returns-in-Err g c = (
     walk = λ none. refused_walk g.D.Disk c.args.self.now.disk c.read_record.new.disk c.read_record.ensures.looks c.args.self.now.place c.args.self.now.reading
         _ c.in-Err.ensures.reason;
     looks = c.read_record.ensures.looks;
-    fine = λ none. let wrong : Some c.in-Err.why ≡ None = none in cc;
+    fine = c.in-Err.ensures.fine;
   },
 )
 
