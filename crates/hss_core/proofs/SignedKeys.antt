@@ -1,12 +1,13 @@
 -- A key that a tree signs, and what verifies under that key, verify together.
-use Rattle.std.proofs.Common.{◌≡◌, ℕ, ◌+◌, ◌^◌, ◌<◌, ◌≤◌, Bool, true, false, if◌then◌else◌, ◌&&◌, List, ◌++◌, length, take, drop, Option, Some, None, refl, arith, append_assoc, length-append, eq-eqb}
+use Rattle.std.proofs.Common.{◌≡◌, ℕ, ◌+◌, ◌^◌, ◌<◌, ◌≤◌, Bool, true, false, if◌then◌else◌, ◌&&◌, ◌++◌, length, take, drop, Option, Some, None, refl, arith, append_assoc, length-append, eq-eqb}
 use Rattle.std.specs.Prelude.{not}
 use Rattle.std.proofs.lemmas.Bool.{eqb-true, le-leb}
 use Rattle.std.proofs.lemmas.List.{drop_at, take_at}
 use Rattle.std.proofs.lemmas.Nat.{from_be_bytes-to_be_bytes_4}
 use Rattle.std.specs.Int.{w32, to_be_bytes}
+use Rattle.byte_forms.specs.Types.{Text}
 use Rattle.lmots_core.specs.declared.parameters.OtsType.{OtsType}
-use Rattle.lmots_core.specs.Strings.{word_at}
+use Rattle.lmots_core.specs.Strings.{u32_at}
 use Rattle.lms_core.specs.declared.heights.LmsType.{LmsType}
 use Rattle.lms_core.specs.declared.private_key.PrivateKey.{PrivateKey}
 use Rattle.lms_core.specs.declared.refusals.SigError.{SigError}
@@ -19,8 +20,8 @@ use Rattle.hss_core.specs.Hss.{behind_key, front_length, hss_key_types, hss_refu
 use Rattle.hss_core.proofs.Parts.{levels_refusal-passed, parts_fit-pair}
 
 -- the number in front of a key or a signature
-number_first : (n : ℕ) (rest : List ℕ) → n < 2 ^ 32 → word_at (to_be_bytes w32 n ++ rest) 0 ≡ n
-unfolding word_at
+number_first : (n : ℕ) (rest : Text) → n < 2 ^ 32 → u32_at (to_be_bytes w32 n ++ rest) 0 ≡ n
+unfolding u32_at
 number_first n rest small = from_be_bytes-to_be_bytes_4 n small
 
 -- what passes two tests, and is then not refused
@@ -35,19 +36,19 @@ right_true true b both = both
 right_true false b both = cc
 
 -- what verifies has whole parts, which pass from the top down
-parts_passed : (o : Option (ℕ × LmsType × OtsType)) (key message s : List ℕ) → refusal_at o key message s ≡ None
-    → (parts_fit (word_at s 0) (drop 4 s) ≡ true) × (levels_refusal (word_at s 0) (drop 4 key) message (drop 4 s) ≡ None)
+parts_passed : (o : Option (ℕ × LmsType × OtsType)) (key message s : Text) → refusal_at o key message s ≡ None
+    → (parts_fit (u32_at s 0) (drop 4 s) ≡ true) × (levels_refusal (u32_at s 0) (drop 4 key) message (drop 4 s) ≡ None)
 parts_passed None key message s passed = cc
 parts_passed (Some (levels, l, t)) key message s passed =
     let both = both_passed _ _ _ _ _ passed in (right_true _ _ both.0, both.1)
 
 -- and its key has the length of keys
-key_long : (a b c : Bool) (o : Option (ℕ × LmsType × OtsType)) (key message s : List ℕ)
+key_long : (a b c : Bool) (o : Option (ℕ × LmsType × OtsType)) (key message s : Text)
     → refusal_at (if a && b && c then o else None) key message s ≡ None → a ≡ true
 key_long true b c o key message s passed = refl
 key_long false b c o key message s passed = cc
 
-key_size : (key message s : List ℕ) → Verifies key message s → length key ≡ 60
+key_size : (key message s : Text) → Verifies key message s → length key ≡ 60
 unfolding hss_refusal hss_key_types
 key_size key message s passed = eqb-true (length key) 60 (key_long _ _ _ _ key message s passed)
 
@@ -63,7 +64,7 @@ hss_key_types-levels_public k below size few =
     let most = le-leb (below + 1) 8 (omega arith) in
     rw (all, number, some, most, key_types-lms_public k size) refl
 
-pub signed_key_verifies : (k : PrivateKey) (q below : ℕ) (public message parts : List ℕ) → length k.id ≡ 16
+pub signed_key_verifies : (k : PrivateKey) (q below : ℕ) (public message parts : Text) → length k.id ≡ 16
     → q < 2 ^ height k.lms → below < 7 → SignedKeyVerifies k q below public message parts
 unfolding hss_refusal
 signed_key_verifies k q below public message parts id index few verifies =

@@ -1,10 +1,11 @@
 -- HSS, levels of LMS trees (RFC 8554, 6): the tree of each level signs the public key of the next
 -- one, and the lowest signs the message.
-use Rattle.std.specs.Prelude.{◌≡◌, ℕ, zero, suc, ◌+◌, ◌==◌, ◌&&◌, if◌then◌else◌, Bool, false, nat_le, not, List, ◌++◌, length, take, drop, Option, Some, None}
+use Rattle.std.specs.Prelude.{◌≡◌, ℕ, zero, suc, ◌+◌, ◌==◌, ◌&&◌, if◌then◌else◌, Bool, false, nat_le, not, ◌++◌, length, take, drop, Option, Some, None}
 use Rattle.std.specs.Option.{option_map_or}
 use Rattle.std.specs.Int.{w32, to_be_bytes}
+use Rattle.byte_forms.specs.Types.{Text}
 use Rattle.lmots_core.specs.declared.parameters.OtsType.{OtsType}
-use Rattle.lmots_core.specs.Strings.{word_at}
+use Rattle.lmots_core.specs.Strings.{u32_at}
 use Rattle.lms_core.specs.declared.heights.LmsType.{LmsType}
 use Rattle.lms_core.specs.declared.private_key.PrivateKey.{PrivateKey}
 use Rattle.lms_core.specs.declared.refusals.SigError.{SigError}
@@ -16,12 +17,12 @@ use Rattle.lms_core.specs.Refusals.{check_refusal, front_types, key_types}
 -- ---- keys and signatures of one level (6.1, 6.2)
 
 -- The public key: the number of levels, and the public key of the top tree.
-unfoldable pub one_level_public : PrivateKey → List ℕ
+unfoldable pub one_level_public : PrivateKey → Text
 one_level_public k = to_be_bytes w32 1 ++ lms_public k
 
 -- The signature of a message by one-time key q: the number of signed keys, which is none, and the
 -- tree's signature.
-unfoldable pub one_level_signature : PrivateKey → ℕ → List ℕ → List ℕ
+unfoldable pub one_level_signature : PrivateKey → ℕ → Text → Text
 one_level_signature k q message = to_be_bytes w32 0 ++ lms_signature k q message
 
 -- ---- the grammar of public keys
@@ -31,10 +32,10 @@ with_levels levels None = None
 with_levels levels (Some (l, t)) = Some (levels, l, t)
 
 -- The levels and the top types of a public key: 60 bytes, 1 to 8 levels, known typecodes.
-unfoldable pub hss_key_types : List ℕ → Option (ℕ × LmsType × OtsType)
+unfoldable pub hss_key_types : Text → Option (ℕ × LmsType × OtsType)
 hss_key_types key =
-    if (length key == 60) && nat_le 1 (word_at key 0) && nat_le (word_at key 0) 8
-    then with_levels (word_at key 0) (key_types (drop 4 key)) else None
+    if (length key == 60) && nat_le 1 (u32_at key 0) && nat_le (u32_at key 0) 8
+    then with_levels (u32_at key 0) (key_types (drop 4 key)) else None
 
 -- ---- the parts of a signature
 
@@ -43,18 +44,18 @@ length_of None = None
 length_of (Some (l, t)) = Some (lms_signature_length l t)
 
 -- The bytes of the LMS signature that the bytes begin with, where they begin with one.
-abbrev pub front_length : List ℕ → Option ℕ
+abbrev pub front_length : Text → Option ℕ
 front_length s = length_of (front_types s)
 
 -- The public key behind a signature of n bytes, and what stands behind that key.
-abbrev pub key_behind : ℕ → List ℕ → List ℕ
+abbrev pub key_behind : ℕ → Text → Text
 key_behind n s = take 56 (drop n s)
 
-abbrev pub behind_key : ℕ → List ℕ → List ℕ
+abbrev pub behind_key : ℕ → Text → Text
 behind_key n s = drop (n + 56) s
 
 -- The bytes are so many pairs of a signature and a public key, and one last signature.
-unfoldable pub parts_fit : ℕ → List ℕ → Bool
+unfoldable pub parts_fit : ℕ → Text → Bool
 parts_fit zero s = option_map_or (λ n. n == length s) (front_length s) false
 parts_fit (suc pairs) s =
     option_map_or (λ n. nat_le (n + 56) (length s) && parts_fit pairs (behind_key n s))
@@ -67,47 +68,47 @@ first_refusal None second = second
 first_refusal (Some refusal) second = Some refusal
 
 -- From the top down: so many signed keys, each by the key above it, and then the message.
-unfoldable pub levels_refusal : ℕ → List ℕ → List ℕ → List ℕ → Option SigError
+unfoldable pub levels_refusal : ℕ → Text → Text → Text → Option SigError
 levels_refusal zero key message s = check_refusal key message s
 levels_refusal (suc pairs) key message s =
     option_map_or (λ n. first_refusal (check_refusal key (key_behind n s) (take n s))
     (levels_refusal pairs (key_behind n s) message (behind_key n s)))
     (front_length s) (Some BadLength)
 
-abbrev pub refusal_at : Option (ℕ × LmsType × OtsType) → List ℕ → List ℕ → List ℕ → Option SigError
+abbrev pub refusal_at : Option (ℕ × LmsType × OtsType) → Text → Text → Text → Option SigError
 refusal_at None key message s = Some BadKey
 refusal_at (Some (levels, l, t)) key message s =
-    if not (nat_le 4 (length s) && parts_fit (word_at s 0) (drop 4 s)) then Some BadLength
-    else (if not (word_at s 0 + 1 == levels) then Some TypeDiffers
-    else levels_refusal (word_at s 0) (drop 4 key) message (drop 4 s))
+    if not (nat_le 4 (length s) && parts_fit (u32_at s 0) (drop 4 s)) then Some BadLength
+    else (if not (u32_at s 0 + 1 == levels) then Some TypeDiffers
+    else levels_refusal (u32_at s 0) (drop 4 key) message (drop 4 s))
 
 -- What a public key, a message and a signature are answered: the first refusal that holds, if any.
-unfoldable pub hss_refusal : List ℕ → List ℕ → List ℕ → Option SigError
+unfoldable pub hss_refusal : Text → Text → Text → Option SigError
 hss_refusal key message s = refusal_at (hss_key_types key) key message s
 
 -- The signature verifies: forms and types fit, and each level leads to its key's root.
-abbrev pub Verifies : List ℕ → List ℕ → List ℕ → Type 0
+abbrev pub Verifies : Text → Text → Text → Type 0
 Verifies key message s = hss_refusal key message s ≡ None
 
 -- ---- the laws
 
 -- What a key of one level signs verifies under its public key.
-abbrev pub SignatureVerifies : LmsType → OtsType → List ℕ → ℕ → List ℕ → Type 0
-SignatureVerifies l t secret q message =
+abbrev pub OneLevelSignatureVerifies : LmsType → OtsType → Text → ℕ → Text → Type 0
+OneLevelSignatureVerifies l t secret q message =
     let k = private_key l t secret in
     Verifies (one_level_public k) message (one_level_signature k q message)
 
--- The public key of so many levels below the top one, whose tree has this public key, and a signature
--- with so many signed keys.
-abbrev pub levels_public : ℕ → List ℕ → List ℕ
+-- The public key of so many levels below the top one, whose tree has this public key, and a
+-- signature with so many signed keys.
+abbrev pub levels_public : ℕ → Text → Text
 levels_public below public = to_be_bytes w32 (below + 1) ++ public
 
-abbrev pub levels_signature : ℕ → List ℕ → List ℕ
+abbrev pub levels_signature : ℕ → Text → Text
 levels_signature pairs parts = to_be_bytes w32 pairs ++ parts
 
 -- A key that a tree signs, and what verifies under that key, verify together under the tree's key:
 -- with one level more, and the tree's signature and the signed key in front.
-abbrev pub SignedKeyVerifies : PrivateKey → ℕ → ℕ → List ℕ → List ℕ → List ℕ → Type 0
+abbrev pub SignedKeyVerifies : PrivateKey → ℕ → ℕ → Text → Text → Text → Type 0
 SignedKeyVerifies k q below public message parts =
     Verifies (levels_public below public) message (levels_signature below parts)
     → Verifies (levels_public (below + 1) (lms_public k)) message

@@ -1,7 +1,7 @@
 //! The key that a signature leads to.
 ghost use Rattle.std.specs.Prelude.{◌≡◌, ◌<◌, length};
 ghost use Rattle.lmots_core.specs.Parameters.{chains, signature_length};
-ghost use Rattle.lmots_core.specs.Strings.{joined};
+ghost use Rattle.lmots_core.specs.Strings.{concatenated};
 ghost use Rattle.lmots_core.specs.Ots.{key_of_ends, candidate_key, candidate_of, finished_link};
 
 use crate::chains::Chain;
@@ -30,11 +30,11 @@ fn finished_link(
 }
 
 // The key whose chains end where those of the signature end.
-#[tactic(auto, unfolding(crate::specs::Ots::key_of_ends, crate::specs::Strings::joined))]
+#[tactic(auto, unfolding(crate::specs::Ots::key_of_ends, crate::specs::Strings::concatenated))]
 fn key_of_links(ots: OtsType, id: &[u8; 16], q: u32, coded: &[u8; 34], signature: &[u8]) -> [u8; 32]
     requires { length signature.now ≡ signature_length ots }
     ensures { let link = finished_link ots id.now q coded.now signature.now in
-        result ≡ key_of_ends id.now q (joined link (chains ots)) }
+        result ≡ key_of_ends id.now q (concatenated link (chains ots)) }
 {
     let mut hasher = marked_hasher(id, q, &KEY_MARK);
     for i in 0..ots.chains() {

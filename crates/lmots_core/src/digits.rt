@@ -1,6 +1,6 @@
 //! The digits of a message's hash and their checksum.
 ghost use Rattle.std.specs.Prelude.{◌≡◌, ◌<◌, ◌≤◌, ◌*◌, ◌/◌, length};
-ghost use Rattle.lmots_core.specs.Parameters.{chains, steps, width};
+ghost use Rattle.lmots_core.specs.Parameters.{steps, width};
 ghost use Rattle.lmots_core.specs.Ots.{checksum, coded_hash, coef, message_hash};
 
 use crate::fields::put;
@@ -34,7 +34,7 @@ pub fn coef(bytes: &[u8], i: usize, ots: OtsType) -> u8
 }
 
 // What the digits of a hash lack of the largest digit, in all, shifted (RFC 8554, section 4.4).
-#[tactic(auto, unfolding(crate::specs::Ots::checksum_sum), using(crate::proofs::Widths::shifted_fits))]
+#[tactic(auto, unfolding(crate::specs::Ots::checksum_sum), using(crate::proofs::Widths::sum_fits))]
 fn checksum(ots: OtsType, hash: &[u8; 32]) -> u16
     ensures { result ≡ checksum ots hash.now }
 {

@@ -1,12 +1,12 @@
 //! Numbers and values at their places in byte strings.
 ghost use Rattle.std.specs.Prelude.{◌≡◌, ◌+◌, ◌≤◌, ◌++◌, length, take, drop};
-ghost use Rattle.lmots_core.specs.Strings.{bytes_at, word_at};
+ghost use Rattle.lmots_core.specs.Strings.{value_at, u32_at};
 
 /// The number of 4 bytes from place `at` on, the highest byte first (RFC 8554, section 3.1.1).
-#[tactic(auto, unfolding(crate::specs::Strings::word_at))]
+#[tactic(auto, unfolding(crate::specs::Strings::u32_at))]
 pub fn read_u32(bytes: &[u8], at: usize) -> u32
     requires { at + 4 ≤ length bytes.now }
-    ensures { result ≡ word_at bytes.now at }
+    ensures { result ≡ u32_at bytes.now at }
 {
     let mut word = [0; 4];
     word.copy_from_slice(&bytes[at..at + 4]);
@@ -16,7 +16,7 @@ pub fn read_u32(bytes: &[u8], at: usize) -> u32
 /// The 32 bytes from place `at` on.
 pub fn read_32(bytes: &[u8], at: usize) -> [u8; 32]
     requires { at + 32 ≤ length bytes.now }
-    ensures { result ≡ bytes_at bytes.now at }
+    ensures { result ≡ value_at bytes.now at }
 {
     let mut value = [0; 32];
     value.copy_from_slice(&bytes[at..at + 32]);

@@ -1,8 +1,8 @@
 //! Public keys and signatures.
 ghost use Rattle.std.specs.Prelude.{◌≡◌, ◌+◌, ◌<◌, ◌≤◌, ◌*◌, ◌++◌, length};
 ghost use Rattle.lmots_core.specs.Parameters.{chains, signature_length};
-ghost use Rattle.lmots_core.specs.Strings.{joined};
-ghost use Rattle.lmots_core.specs.Ots.{chain_end, coded_hash, public_key, signature, signed_link};
+ghost use Rattle.lmots_core.specs.Strings.{concatenated};
+ghost use Rattle.lmots_core.specs.Ots.{chain_end, public_key, signature, signed_link};
 
 use crate::chains::{Chain, secret_start};
 use crate::digits::{coef, message_hash, with_checksum};
@@ -25,7 +25,7 @@ fn chain_end(ots: OtsType, id: &[u8; 16], q: u32, secret: &[u8; 32], i: u16) -> 
 }
 
 /// The public key of one-time key `q`, 32 bytes (RFC 8554, section 4.3).
-#[tactic(auto, unfolding(crate::specs::Ots::public_key, crate::specs::Ots::key_of_ends, crate::specs::Strings::joined))]
+#[tactic(auto, unfolding(crate::specs::Strings::concatenated))]
 pub fn public(ots: OtsType, id: &[u8; 16], q: u32, secret: &[u8; 32]) -> [u8; 32]
     ensures { result ≡ public_key ots id.now q secret.now }
 {
@@ -56,7 +56,7 @@ fn signed_link(
 }
 
 // Puts each chain, as far as its digit says, behind what `out` holds.
-#[tactic(auto, unfolding(crate::specs::Strings::joined))]
+#[tactic(auto, unfolding(crate::specs::Strings::concatenated))]
 fn put_links(
     ots: OtsType,
     id: &[u8; 16],
@@ -67,7 +67,7 @@ fn put_links(
 )
     requires { length out.old + 32 * chains ots ≤ 17748 }
     ensures bytes { let link = signed_link ots id.now q secret.now coded.now in
-        out.new ≡ out.old ++ joined link (chains ots) }
+        out.new ≡ out.old ++ concatenated link (chains ots) }
     ensures size { length out.new ≡ length out.old + 32 * chains ots }
 {
     for i in 0..ots.chains() {

@@ -1,9 +1,10 @@
 -- The way up from a leaf of a tree along its own path ends at the tree's root.
-use Rattle.std.proofs.Common.{◌≡◌, inl, inr, ℕ, zero, suc, ◌+◌, ◌-◌, ◌*◌, ◌/◌, ◌%◌, ◌^◌, ◌<◌, ◌≤◌, List, refl, arith, add-one}
+use Rattle.std.proofs.Common.{◌≡◌, inl, inr, ℕ, zero, suc, ◌+◌, ◌-◌, ◌*◌, ◌/◌, ◌%◌, ◌^◌, ◌<◌, ◌≤◌, refl, arith, add-one}
 use Rattle.std.proofs.Math.Nat.{mul-add-div_right, div-eq_of_lt}
 use Rattle.std.proofs.lemmas.Nat.{pow_pos}
 use Rattle.std.proofs.lemmas.Bool.{cases_eq}
-use Rattle.lmots_core.specs.Strings.{bytes_at}
+use Rattle.byte_forms.specs.Types.{Text}
+use Rattle.lmots_core.specs.Strings.{value_at}
 use Rattle.lms_core.specs.declared.private_key.PrivateKey.{PrivateKey}
 use Rattle.lms_core.specs.Trees.{climbed, parent, sibling, tree_value}
 use Rattle.lms_core.proofs.Places.{div_pow}
@@ -25,8 +26,8 @@ parent-tree_value k d n =
     ]
 
 -- some levels up along the path stands the node there
-pub climbed-tree_value : (k : PrivateKey) (r : ℕ) (path : List ℕ) (h i : ℕ)
-    → ((j : ℕ) → j < h → bytes_at path (32 * j) ≡ tree_value k j (sibling (r / 2 ^ j))) → i ≤ h
+pub climbed-tree_value : (k : PrivateKey) (r : ℕ) (path : Text) (h i : ℕ)
+    → ((j : ℕ) → j < h → value_at path (32 * j) ≡ tree_value k j (sibling (r / 2 ^ j))) → i ≤ h
     → climbed k.id r path (tree_value k 0 r) i ≡ tree_value k i (r / 2 ^ i)
 unfolding climbed
 climbed-tree_value k r path h zero beside within =

@@ -5,6 +5,7 @@ use Rattle.std.proofs.lemmas.Nat.{pow_pos}
 use Rattle.std.proofs.lemmas.List.{get_or-set_other, get_or-set_same}
 use Rattle.std.proofs.lemmas.Bool.{cases_eq}
 use Rattle.std.specs.Prelude.{slice_index_or, slice_set}
+use Rattle.byte_forms.specs.Types.{Hash, Text}
 use Rattle.sha2.proofs.Facts256.{length-sha256}
 use Rattle.lms_core.specs.declared.private_key.PrivateKey.{PrivateKey}
 use Rattle.lms_core.specs.Heights.{height}
@@ -19,7 +20,7 @@ length-tree_value k zero r = length-sha256 _
 length-tree_value k (suc d) r = length-sha256 _
 
 -- where the leaves are there, all nodes from the first leaf on are
-pub HoldsFrom-leaves : (key : PrivateKey) (nodes : List (List ℕ))
+pub HoldsFrom-leaves : (key : PrivateKey) (nodes : List Hash)
     → ((k : ℕ) → 2 ^ height key.lms ≤ k → k < 2 * 2 ^ height key.lms → slice_index_or nodes k [] ≡ tree_value key 0 k)
     → HoldsFrom key (2 ^ height key.lms) nodes
 HoldsFrom-leaves key nodes each zero k within from to beyond =
@@ -31,7 +32,7 @@ HoldsFrom-leaves key nodes each (suc d) k within from to beyond =
     absurd (omega (arith, most, below))
 
 -- an inner node is there once it is hashed over the two below it
-node_here : (key : PrivateKey) (nodes : List (List ℕ)) (p d : ℕ) → d ≤ height key.lms
+node_here : (key : PrivateKey) (nodes : List Hash) (p d : ℕ) → d ≤ height key.lms
     → 2 ^ (height key.lms - d) ≤ p → p < 2 * 2 ^ (height key.lms - d) → 0 < p → p < 2 ^ height key.lms
     → HoldsFrom key (p + 1) nodes
     → inner_node key.id p (slice_index_or nodes (2 * p) []) (slice_index_or nodes (2 * p + 1) []) ≡ tree_value key d p
@@ -47,7 +48,7 @@ node_here key nodes p (suc d) within from to some low held =
     rw (left, right) refl
 
 -- and then all from its place on are
-pub HoldsFrom-more : (key : PrivateKey) (nodes : List (List ℕ)) (value : List ℕ) (p : ℕ) → 0 < p
+pub HoldsFrom-more : (key : PrivateKey) (nodes : List Hash) (value : Text) (p : ℕ) → 0 < p
     → p < 2 ^ height key.lms → length nodes ≡ 2 * 2 ^ height key.lms → HoldsFrom key (p + 1) nodes
     → value ≡ inner_node key.id p (slice_index_or nodes (2 * p) []) (slice_index_or nodes (2 * p + 1) [])
     → HoldsFrom key p (slice_set nodes p value)
@@ -63,7 +64,7 @@ HoldsFrom-more key nodes value p some low count held made d k within from to bey
     ]
 
 -- what a path has of a level is the sibling there
-pub path_node-held : (key : PrivateKey) (nodes : List (List ℕ)) (q i place : ℕ) → Holds key nodes
+pub path_node-held : (key : PrivateKey) (nodes : List Hash) (q i place : ℕ) → Holds key nodes
     → i < height key.lms → place ≡ (2 ^ height key.lms + q) / 2 ^ i
     → 2 ^ (height key.lms - i) ≤ place → place < 2 * 2 ^ (height key.lms - i)
     → slice_index_or nodes (sibling place) [] ≡ path_node key q i

@@ -1,10 +1,11 @@
 -- What an LMS public key, a message and a signature are answered (RFC 8554, 5.4.2): nothing where
 -- the signature verifies, and otherwise the first refusal that holds.
-use Rattle.std.specs.Prelude.{◌≡◌, ℕ, ◌+◌, ◌^◌, ◌==◌, ◌&&◌, if◌then◌else◌, Bool, false, nat_lt, not, List, length, take, drop, Option, Some, None, Result, Ok, Err}
+use Rattle.std.specs.Prelude.{◌≡◌, ℕ, ◌+◌, ◌^◌, ◌==◌, ◌&&◌, if◌then◌else◌, Bool, false, nat_lt, not, length, take, drop, Option, Some, None, Result, Ok, Err}
 use Rattle.std.specs.Str.{bytes_eq}
+use Rattle.byte_forms.specs.Types.{Hash, Text}
 use Rattle.lmots_core.specs.declared.parameters.OtsType.{OtsType}
 use Rattle.lmots_core.specs.Parameters.{signature_length, typecode, type_of_code}
-use Rattle.lmots_core.specs.Strings.{bytes_at, word_at}
+use Rattle.lmots_core.specs.Strings.{value_at, u32_at}
 use Rattle.lmots_core.specs.Ots.{candidate_key}
 use Rattle.lms_core.specs.declared.heights.LmsType.{LmsType}
 use Rattle.lms_core.specs.declared.refusals.SigError.{SigError}
@@ -25,76 +26,76 @@ types_of (Some l) None = None
 types_of (Some l) (Some t) = Some (l, t)
 
 -- The types of a public key: 56 bytes that begin with two known typecodes.
-abbrev pub key_types : List ℕ → Option (LmsType × OtsType)
+abbrev pub key_types : Text → Option (LmsType × OtsType)
 key_types key =
     if length key == 56
-    then types_of (lms_type_of_code (word_at key 0)) (type_of_code (word_at key 4))
+    then types_of (lms_type_of_code (u32_at key 0)) (type_of_code (u32_at key 4))
     else None
 
 -- ---- signatures
 
-abbrev pub front_after : OtsType → Option LmsType → List ℕ → Option (LmsType × OtsType)
+abbrev pub front_after : OtsType → Option LmsType → Text → Option (LmsType × OtsType)
 front_after t None s = None
 front_after t (Some l) s =
     if nat_lt (length s) (lms_signature_length l t) then None else Some (l, t)
 
-abbrev pub front_with : Option OtsType → List ℕ → Option (LmsType × OtsType)
+abbrev pub front_with : Option OtsType → Text → Option (LmsType × OtsType)
 front_with None s = None
 front_with (Some t) s =
     if nat_lt (length s) (8 + signature_length t) then None
-    else front_after t (lms_type_of_code (word_at s (4 + signature_length t))) s
+    else front_after t (lms_type_of_code (u32_at s (4 + signature_length t))) s
 
 -- The types of the signature that the bytes begin with: the one-time typecode stands at place 4,
 -- that of the tree behind the one-time signature. None where the bytes begin with no whole
 -- signature.
-unfoldable pub front_types : List ℕ → Option (LmsType × OtsType)
-front_types s = if nat_lt (length s) 8 then None else front_with (type_of_code (word_at s 4)) s
+unfoldable pub front_types : Text → Option (LmsType × OtsType)
+front_types s = if nat_lt (length s) 8 then None else front_with (type_of_code (u32_at s 4)) s
 
 -- The root that a signature leads to from the candidate key of its leaf.
-abbrev pub root_of_key : LmsType → OtsType → List ℕ → List ℕ → List ℕ → List ℕ
+abbrev pub root_of_key : LmsType → OtsType → Text → Text → Hash → Hash
 root_of_key l t id s key =
-    let r = 2 ^ height l + word_at s 0 in
+    let r = 2 ^ height l + u32_at s 0 in
     climbed id r (drop (8 + signature_length t) s) (leaf_node id r key) (height l)
 
-abbrev pub is_root : LmsType → OtsType → List ℕ → List ℕ → List ℕ → Option (List ℕ) → Bool
+abbrev pub is_root : LmsType → OtsType → Text → Text → Hash → Option Hash → Bool
 is_root l t id s root None = false
 is_root l t id s root (Some key) = bytes_eq (root_of_key l t id s key) root
 
 -- The root that a whole signature leads to is this one (algorithm 6a).
-unfoldable pub yields_root : LmsType → OtsType → List ℕ → List ℕ → List ℕ → List ℕ → Bool
+unfoldable pub yields_root : LmsType → OtsType → Text → Text → Text → Hash → Bool
 yields_root l t id message s root =
     let once = take (signature_length t) (drop 4 s) in
-    is_root l t id s root (candidate_key id (word_at s 0) message once)
+    is_root l t id s root (candidate_key id (u32_at s 0) message once)
 
 -- ---- refusals
 
 -- Of a whole signature with these types, under a key of 56 bytes, which need not be in its grammar.
-unfoldable pub level_refusal : List ℕ → List ℕ → LmsType → OtsType → List ℕ → Option SigError
+unfoldable pub level_refusal : Text → Text → LmsType → OtsType → Text → Option SigError
 level_refusal key message l t s =
-    if not ((lms_code l == word_at key 0) && (typecode t == word_at key 4)) then Some TypeDiffers
-    else (if not (nat_lt (word_at s 0) (2 ^ height l)) then Some BadIndex
-    else (if yields_root l t (take 16 (drop 8 key)) message s (bytes_at key 24) then None
+    if not ((lms_code l == u32_at key 0) && (typecode t == u32_at key 4)) then Some TypeDiffers
+    else (if not (nat_lt (u32_at s 0) (2 ^ height l)) then Some BadIndex
+    else (if yields_root l t (take 16 (drop 8 key)) message s (value_at key 24) then None
     else Some WrongRoot))
 
-abbrev pub refusal_with : List ℕ → List ℕ → Option (LmsType × OtsType) → List ℕ → Option SigError
+abbrev pub refusal_with : Text → Text → Option (LmsType × OtsType) → Text → Option SigError
 refusal_with key message None s = Some BadLength
 refusal_with key message (Some (l, t)) s =
     if lms_signature_length l t == length s then level_refusal key message l t s else Some BadLength
 
 -- The same of any bytes: they must be one whole signature.
-unfoldable pub check_refusal : List ℕ → List ℕ → List ℕ → Option SigError
+unfoldable pub check_refusal : Text → Text → Text → Option SigError
 check_refusal key message s = refusal_with key message (front_types s) s
 
-abbrev pub refusal_under : Option (LmsType × OtsType) → List ℕ → List ℕ → List ℕ → Option SigError
+abbrev pub refusal_under : Option (LmsType × OtsType) → Text → Text → Text → Option SigError
 refusal_under None key message s = Some BadKey
 refusal_under (Some types) key message s = check_refusal key message s
 
 -- The same under any key: it must be in its grammar.
-unfoldable pub lms_refusal : List ℕ → List ℕ → List ℕ → Option SigError
+unfoldable pub lms_refusal : Text → Text → Text → Option SigError
 lms_refusal key message s = refusal_under (key_types key) key message s
 
 -- ---- the law: what a tree signs verifies under its public key
-abbrev pub SignatureVerifies : LmsType → OtsType → List ℕ → ℕ → List ℕ → Type 0
+abbrev pub SignatureVerifies : LmsType → OtsType → Text → ℕ → Text → Type 0
 SignatureVerifies l t secret q message =
     let k = private_key l t secret in
     lms_refusal (lms_public k) message (lms_signature k q message) ≡ None

@@ -1,6 +1,6 @@
 //! What a signature is answered.
 ghost use Rattle.std.specs.Prelude.{◌≡◌, ◌+◌, ◌*◌, ◌<◌, ◌≤◌, ◌^◌, length, take, drop};
-ghost use Rattle.lmots_core.specs.Strings.{word_at};
+ghost use Rattle.lmots_core.specs.Strings.{u32_at};
 ghost use Rattle.lms_core.specs.Heights.{height, lms_signature_length};
 ghost use Rattle.lms_core.specs.Refusals.{answer_of, check_refusal, key_types, level_refusal, lms_refusal, root_of_key, yields_root};
 
@@ -50,7 +50,7 @@ fn root_of_key(
     key: &[u8; 32],
 ) -> [u8; 32]
     requires whole { length signature.now ≡ lms_signature_length lms ots }
-    requires index { word_at signature.now 0 < 2 ^ height lms }
+    requires index { u32_at signature.now 0 < 2 ^ height lms }
     ensures { result ≡ root_of_key lms ots id.now signature.now key.now }
 {
     let place = lms.leaves() + read_u32(signature, 0);
@@ -75,7 +75,7 @@ fn yields_root(
     root: &[u8; 32],
 ) -> bool
     requires whole { length signature.now ≡ lms_signature_length lms ots }
-    requires index { word_at signature.now 0 < 2 ^ height lms }
+    requires index { u32_at signature.now 0 < 2 ^ height lms }
     ensures { result ≡ yields_root lms ots id.now message.now signature.now root.now }
 {
     let q = read_u32(signature, 0);

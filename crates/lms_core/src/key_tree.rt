@@ -1,5 +1,5 @@
 //! A tree with its nodes, which signs.
-ghost use Rattle.std.specs.Prelude.{◌≡◌, ℕ, ◌+◌, ◌*◌, ◌<◌, ◌≤◌, ◌^◌, ◌++◌, [], length, slice_index_or, IfOk};
+ghost use Rattle.std.specs.Prelude.{◌≡◌, ◌+◌, ◌*◌, ◌<◌, ◌≤◌, ◌^◌, ◌++◌, length, IfOk};
 ghost use Rattle.lms_core.specs.Heights.{height, lms_signature_length};
 ghost use Rattle.lms_core.specs.Trees.{lms_public, lms_signature, private_key};
 
@@ -28,7 +28,6 @@ impl Model for Tree {
     ghost Value = { PrivateKey };
 
     ghost use Rattle.lms_core.specs.Held.{Holds};
-    ghost use Rattle.lms_core.specs.declared.key_tree.Tree.TheInside.{Inside};
 
     ghost view = { λ t. t.key };
 
@@ -103,7 +102,8 @@ impl Tree {
         requires index { q < 2 ^ height self.now.lms }
         requires room { length out.old + lms_signature_length self.now.lms self.now.ots ≤ 17748 }
         ensures bytes { out.new ≡ out.old ++ lms_signature self.now q message.now }
-        ensures size { length out.new ≡ length out.old + lms_signature_length self.now.lms self.now.ots }
+        ensures size { length out.new
+            ≡ length out.old + lms_signature_length self.now.lms self.now.ots }
         ensures id { length self.now.id ≡ 16 }
     {
         out.append(&q.to_be_bytes());

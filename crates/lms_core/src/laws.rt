@@ -1,5 +1,6 @@
 //! What follows of every tree.
-ghost use Rattle.std.specs.Prelude.{◌≡◌, ℕ, List, ◌<◌, ◌^◌, length};
+ghost use Rattle.std.specs.Prelude.{◌≡◌, ℕ, ◌<◌, ◌^◌, length};
+ghost use Rattle.byte_forms.specs.Types.{Text};
 ghost use Rattle.lms_core.specs.Heights.{height};
 ghost use Rattle.lms_core.specs.Refusals.{SignatureVerifies};
 
@@ -8,6 +9,6 @@ use lmots_core::OtsType;
 
 /// A law: what a tree signs, with any of its one-time keys, verifies under its public key.
 pub fn signature_verifies()
-    ensures { (l : LmsType) (t : OtsType) (secret message : List ℕ) (q : ℕ) → length secret ≡ 48
+    ensures { (l : LmsType) (t : OtsType) (secret message : Text) (q : ℕ) → length secret ≡ 48
         → q < 2 ^ height l → SignatureVerifies l t secret q message }
 {}

@@ -1,5 +1,5 @@
 use Rattle.std.proofs.Common.{◌+◌, ◌/◌, ◌^◌, ◌<◌, length-append, refl, add-one, append_assoc, arith}
-use Rattle.lmots_core.specs.Strings.{joined}
+use Rattle.lmots_core.specs.Strings.{concatenated}
 use Rattle.lms_core.specs.Heights.{height}
 use Rattle.lms_core.specs.Trees.{sibling}
 use Rattle.lms_core.proofs.Places.{div_pow, pow_half}
@@ -7,7 +7,7 @@ use Rattle.lms_core.proofs.Levels.{length-tree_value, path_node-held}
 use Rattle.lms_core.proofs.climbing.put_path.Goals as goal
 
 pub loop-i-preserved : goal.loop-i-preserved
-unfolding joined
+unfolding concatenated
 loop-i-preserved c =
     let inv = c.loop-i.invariant in
     let below : c.loop-i.i < height c.args.key.now.lms = rw c.height-i-end.ensures at c.loop-i-test.true in
