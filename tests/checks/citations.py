@@ -96,6 +96,17 @@ def is_known(span, names):
 BEHIND_A_CALL = re.compile(r"(: |'s? |,)? ?(\(|clauses? |its clauses? |(now and as read: ))?$")
 
 
+def call_said(part, names, before):
+    """The call that a part of a span names. The bare name of a method is one of the last type that
+    the same row or item names before it and that has it: else it may be a clause, or another's."""
+    if "::" in part or any(part in CRATES[name].calls for name in names):
+        return call_of(part, names)
+    item = re.split(r"\n(?! )", before)[-1]
+    types = re.findall(r"`(?:[a-z]\w*::)?([A-Z]\w*)", item)
+    keys = (f"{one}::{part}" for one in reversed(types))
+    return next((call for key in keys if (call := call_of(key, names))), None)
+
+
 def cited_in(names, lines, begin):
     """What a section cites, in its order: (line, "call", calls), (line, "clause", label, calls) or
     (line, "word", span)."""
@@ -105,7 +116,7 @@ def cited_in(names, lines, begin):
         between, span = text[behind:match.start()], match.group(1)
         behind, line = match.end(), begin + text.count("\n", 0, match.start())
         goes_on = re.fullmatch(r", | and |, and ", between)
-        named = [call_of(part, names) for part in expanded(span)]
+        named = [call_said(part, names, text[:match.start()]) for part in expanded(span)]
         if was == "call" and not goes_on:
             may_be_clause = BEHIND_A_CALL.fullmatch(between)
         else:
@@ -139,12 +150,8 @@ def wrong_citations(names, lines, begin):
 def unnamed_calls(names, lines, begin):
     """(crate, call) for each call that the section doesn't name."""
     cited = {call for _, kind, named, *_ in cited_in(names, lines, begin) if kind == "call" for call in named}
-    text = "\n".join(lines)
     for name in names:
-        for key in CRATES[name].calls:
-            short = re.escape(key.split("::")[-1])
-            if (name, key) not in cited and not re.search(rf"`(?:[\w:]*::)?{short}`", text):
-                yield name, key
+        yield from ((name, key) for key in CRATES[name].calls if (name, key) not in cited)
 
 
 def check_promises():
