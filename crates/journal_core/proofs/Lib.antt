@@ -6,3 +6,7 @@ pub mod Records
 pub mod Steps
 pub mod Told
 pub mod Walk
+pub mod Folds
+pub mod Found
+pub mod Standing
+pub mod FoldSteps

@@ -1,10 +1,11 @@
 -- Where the reading of a file ends, its walk ends.
-use Rattle.std.proofs.Common.{◌≡◌, ◌≢◌, ◌⊎◌, inl, inr, ℕ, zero, suc, ◌+◌, ◌<◌, ◌≤◌, ◌==◌, ◌||◌, nat_lt, true, false, List, [], ◌∷◌, length, slice_index, refl, ap, ◌∙◌, subst, arith}
+use Rattle.std.proofs.Common.{◌≡◌, ◌≢◌, ◌⊎◌, inl, inr, ℕ, zero, suc, ◌+◌, ◌<◌, ◌≤◌, ◌==◌, ◌||◌, nat_lt, true, false, List, [], ◌∷◌, ◌++◌, length, slice_index, refl, ap, ◌∙◌, subst, arith}
 use Rattle.std.proofs.lemmas.Bool.{ne_eqb, lt-ltb, le-ltb, cases_lt}
-use Rattle.journal_core.specs.Format.{IsRecordAt, AreRecordsAt, behind, IsClosedAt, size_at, IsBadLengthAt, IsCutShortAt}
-use Rattle.journal_core.specs.Walk.{Ending, at_gate, at_bad_length, at_cut, ends_here, with_record, walk_from, walk_of}
+use Rattle.journal_core.specs.Format.{IsRecordAt, AreRecordsAt, behind, IsClosedAt, size_at, records_before, IsBadLengthAt, IsCutShortAt}
+use Rattle.journal_core.specs.Settled.{IsReading}
+use Rattle.journal_core.specs.Walk.{Ending, Walk, at_gate, at_bad_length, at_cut, ends_here, with_record, walk_from, walk_of}
 use Rattle.journal_core.proofs.Records.{size_is, body_found, behind_far}
-use Rattle.journal_core.proofs.ReadOn.{record_within, are_within}
+use Rattle.journal_core.proofs.ReadOn.{header_length, record_within, are_within}
 
 -- at a record
 pub walk_record : (most : ℕ) (bytes : List ℕ) (place : ℕ) (body : List ℕ) → IsRecordAt bytes place body
@@ -98,3 +99,27 @@ module _ (bytes : List ℕ) (read : List (List ℕ)) (place : ℕ) (are : AreRec
           ]
         ]
       ]
+
+-- the records of a walk begin with those that stand there
+walk_front : (most : ℕ) (bytes : List ℕ) (place : ℕ) (read : List (List ℕ))
+    → AreRecordsAt bytes place read → length read ≤ most
+    → (rest : List (List ℕ)) × ((walk_from most bytes place).records ≡ read ++ rest)
+walk_front most bytes place [] are few = ((walk_from most bytes place).records, refl)
+walk_front zero bytes place (body ∷ read) are few = absurd (omega arith)
+walk_front (suc most) bytes place (body ∷ read) are few =
+    let later = walk_front most bytes (place + 5 + length body) read are.1 (omega arith) in (
+      later.0,
+      ap (λ (w : Walk). w.records) (walk_record most bytes place body are.0)
+          ∙ ap (λ (list : List (List ℕ)). body ∷ list) later.1,
+    )
+
+-- the records that were read are the first of the whole records
+pub records_begin : (bytes : List ℕ) (images : List ℕ → Type 0) (place : ℕ)
+    → IsReading bytes images place
+    → (rest : List (List ℕ)) × ((walk_of bytes).records ≡ records_before bytes place ++ rest)
+unfolding walk_of
+records_begin bytes images place is =
+    let read = records_before bytes place in
+    let far = behind_far 16 read in
+    let within = are_within bytes 16 read is.holds (header_length bytes is.begins) in
+    walk_front (length bytes) bytes 16 read is.holds (omega arith)

@@ -1,6 +1,8 @@
+pub mod Folds
 pub mod Format
 pub mod Openings
 pub mod Opens
+pub mod Readings
 pub mod Settled
 pub mod Starts
 pub mod Walk
