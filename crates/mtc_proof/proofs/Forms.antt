@@ -17,8 +17,8 @@ use Rattle.tls_wire.specs.Spelling.{number, vector, hashes, AreHashes}
 use Rattle.tls_wire.proofs.Numbers.{wide8, wide16, word_form}
 use Rattle.tls_wire.proofs.Vectors.{vector_form}
 use Rattle.tls_wire.proofs.Hashes.{hashes_form}
-use Rattle.mtc_proof.specs.Proofs.{SigParts, signature_text, IsSignature, AreSignatures, ProofParts, proof_text, IsProof}
-use Rattle.mtc_proof.specs.Reading.{of_short, of_hashes, word_at, text_at, path_at, id_at, to_signature, signature_at, checked, to_proof, parts_at, inside_list, proof_in}
+use Rattle.mtc_proof.specs.Proofs.{SigParts, signature_text, IsMtcSignature, AreSignatures, ProofParts, proof_text, IsProof}
+use Rattle.mtc_proof.specs.Reading.{of_short, of_hashes, word_at, text_at, path_at, id_at, to_signature, mtc_signature_at, checked_signatures, to_proof, proof_parts_at, inside_list, proof_in}
 use Rattle.mtc_proof.specs.Views.{proof_parts}
 use Rattle.mtc_proof.specs.declared.proof.Proof.{Proof}
 use Rattle.mtc_proof.specs.declared.fault.ProofError.{ProofError}
@@ -49,48 +49,48 @@ long_form = lifted_form (vector w16) IsShort Anything (vector_at w16) of_short (
 abbrev from_signature : SigParts → List ℕ × List ℕ
 from_signature s = (s.cosigner, s.signature)
 
-signature_to : (s : SigParts) → FitsBoth IsId IsShort (from_signature s) → IsSignature s
+signature_to : (s : SigParts) → FitsBoth IsId IsShort (from_signature s) → IsMtcSignature s
 signature_to s f = record { some = has_bytes-some s.cosigner f.0.1; cosigner = f.0.0; signature = f.1 }
 
-signature_from : (s : SigParts) → IsSignature s → FitsBoth IsId IsShort (from_signature s)
+signature_from : (s : SigParts) → IsMtcSignature s → FitsBoth IsId IsShort (from_signature s)
 signature_from s f = ((f.cosigner, some-has_bytes s.cosigner f.some), f.signature)
 
-pub signature_form : IsForm signature_text IsSignature Anything signature_at
-unfolding signature_at
+pub signature_form : IsForm signature_text IsMtcSignature Anything mtc_signature_at
+unfolding mtc_signature_at
 signature_form =
     let read : At → Result ((List ℕ × List ℕ) × At) ProofError = both_at id_at (text_at w16) in
-    said_form (λ s. both (vector w8) (vector w16) (from_signature s)) (λ s. FitsBoth IsId IsShort (from_signature s)) IsSignature Anything Anything
+    said_form (λ s. both (vector w8) (vector w16) (from_signature s)) (λ s. FitsBoth IsId IsShort (from_signature s)) IsMtcSignature Anything Anything
     (mapped_at to_signature read) signature_to signature_from (λ rest q. q)
     (mapped_form (both (vector w8) (vector w16)) (FitsBoth IsId IsShort) Anything read to_signature from_signature (λ x f. refl) (λ s f. refl)
     (both_form (vector w8) IsId Anything id_at (vector w16) IsShort Anything (text_at w16) id_form long_form (λ y rest f q. tt)))
 
 -- ---- signatures up to the end
 
-pub signature_some : (s : SigParts) → IsSignature s → 0 < length (signature_text s)
+pub signature_some : (s : SigParts) → IsMtcSignature s → 0 < length (signature_text s)
 signature_some s f =
     omega (arith, length-append (vector w8 s.cosigner) (vector w16 s.signature), length-append (number w8 (length s.cosigner)) s.cosigner, f.some)
 
-pub list_form : IsForm (flat_map signature_text) (AllByRecursion IsSignature) Nothing (up_to_end signature_at)
-list_form = many_form signature_text IsSignature signature_at signature_some signature_form
+pub list_form : IsForm (flat_map signature_text) (AllByRecursion IsMtcSignature) Nothing (up_to_end mtc_signature_at)
+list_form = many_form signature_text IsMtcSignature mtc_signature_at signature_some signature_form
 
-pub checked_only : (a : At) (done : Unit {0}) → IsBytes a.rest → checked a ≡ Ok done → AreSignatures a.rest
+pub checked_only : (a : At) (done : Unit {0}) → IsBytes a.rest → checked_signatures a ≡ Ok done → AreSignatures a.rest
 checked_only a done h e =
-    let s = bind_ok (discarded (up_to_end signature_at a)) (λ (end : At). Ok tt) done e in
-    let t = discarded_ok (up_to_end signature_at a) s.0 s.1 in
+    let s = bind_ok (discarded (up_to_end mtc_signature_at a)) (λ (end : At). Ok tt) done e in
+    let t = discarded_ok (up_to_end mtc_signature_at a) s.0 s.1 in
     let known = list_form.takes a t.0 s.0 h t.1 in
-    let none = up_to_end_drains signature_text IsSignature Anything signature_at signature_some signature_form a t.0 s.0 h t.1 in
+    let none = up_to_end_drains signature_text IsMtcSignature Anything mtc_signature_at signature_some signature_form a t.0 s.0 h t.1 in
     record {
       list = t.0;
       each = known.1;
       spelled = known.0.parts ∙ (ap (λ (c : List ℕ). flat_map signature_text t.0 ++ c) none ∙ append-nil (flat_map signature_text t.0));
     }
 
-pub checked_again : (place : ℕ) (bytes : List ℕ) → AreSignatures bytes → checked (record { place = place; rest = bytes }) ≡ Ok tt
+pub checked_again : (place : ℕ) (bytes : List ℕ) → AreSignatures bytes → checked_signatures (record { place = place; rest = bytes }) ≡ Ok tt
 checked_again place bytes f =
     let text : List ℕ = flat_map signature_text f.list in
     let same : bytes ≡ text ++ [] = f.spelled ∙ sym (append-nil text) in
     let step = list_form.again f.list place [] f.each refl in
-    ap (λ (c : List ℕ). checked (record { place = place; rest = c })) same ∙ rw step refl
+    ap (λ (c : List ℕ). checked_signatures (record { place = place; rest = c })) same ∙ rw step refl
 
 -- ---- proofs
 
@@ -127,8 +127,8 @@ abbrev from_proof : ProofParts → Four
 from_proof p = (p.start, (p.end, (p.path, p.signatures)))
 
 -- The parts, whose signatures aren't looked into.
-pub parts_form : IsForm proof_text (λ p. AreFour (from_proof p)) Anything parts_at
-unfolding parts_at
+pub parts_form : IsForm proof_text (λ p. AreFour (from_proof p)) Anything proof_parts_at
+unfolding proof_parts_at
 parts_form =
     mapped_form four_text AreFour Anything (both_at word_at (both_at word_at (both_at path_at (text_at w16))))
     to_proof from_proof (λ x f. refl) (λ p f. refl) four_form
@@ -146,7 +146,7 @@ pub record EndsAt (bytes signatures : List ℕ) (behind : ℕ) : Type 0 where
   pub fits : length signatures ≤ behind
   pub ends : drop (behind - length signatures) (take behind bytes) ≡ signatures
 
-parts_end : (bytes : List ℕ) (p : ProofParts) (b : At) → IsBytes bytes → parts_at (at bytes 0) ≡ Ok (p, b) → EndsAt bytes p.signatures b.place
+parts_end : (bytes : List ℕ) (p : ProofParts) (b : At) → IsBytes bytes → proof_parts_at (at bytes 0) ≡ Ok (p, b) → EndsAt bytes p.signatures b.place
 parts_end bytes p b h e =
     let known = parts_form.takes (at bytes 0) p b h e in
     let whole : bytes ≡ (front p ++ p.signatures) ++ b.rest = known.0.parts ∙ ap (λ (t : List ℕ). t ++ b.rest) (regrouped p) in
@@ -164,11 +164,11 @@ parts_end bytes p b h e =
       ends = rest;
     }
 
-pub list_end : (bytes : List ℕ) (p : ProofParts) (behind : ℕ) → IsBytes bytes → (a b : At) → a ≡ at bytes 0 → parts_at a ≡ Ok (p, b) → behind ≡ b.place
+pub list_end : (bytes : List ℕ) (p : ProofParts) (behind : ℕ) → IsBytes bytes → (a b : At) → a ≡ at bytes 0 → proof_parts_at a ≡ Ok (p, b) → behind ≡ b.place
     → EndsAt bytes p.signatures behind
 list_end bytes p behind h a b start e far =
     let P : ℕ → Type 0 = λ n. EndsAt bytes p.signatures n in
-    subst P (sym far) (parts_end bytes p b h (ap parts_at (sym start) ∙ e))
+    subst P (sym far) (parts_end bytes p b h (ap proof_parts_at (sym start) ∙ e))
 
 proof_to : (p : ProofParts) → AreFour (from_proof p) → AreSignatures p.signatures → IsProof p
 proof_to p f list = record { start = f.0; end = f.1.0; path = f.1.1.0; short = f.1.1.1; signatures = list }
@@ -176,9 +176,9 @@ proof_to p f list = record { start = f.0; end = f.1.0; path = f.1.1.0; short = f
 pub proofs_only : (bytes : List ℕ) (p : ProofParts) → IsBytes bytes → proof_in bytes ≡ Ok p → (bytes ≡ proof_text p) × IsProof p
 unfolding proof_in
 proofs_only bytes p h e =
-    let s = bind_ok (parts_at (at bytes 0)) (λ (x : ProofParts × At). checked (inside_list x) >>= λ (done : Unit {0}). if length x.1.rest == 0 then Ok x.0 else Err Trailing) p e in
+    let s = bind_ok (proof_parts_at (at bytes 0)) (λ (x : ProofParts × At). checked_signatures (inside_list x) >>= λ (done : Unit {0}). if length x.1.rest == 0 then Ok x.0 else Err Trailing) p e in
     let q : ProofParts = s.0.0 in
-    let t = bind_ok (checked (inside_list s.0)) (λ (done : Unit {0}). if length s.0.1.rest == 0 then Ok q else Err Trailing) p s.2 in
+    let t = bind_ok (checked_signatures (inside_list s.0)) (λ (done : Unit {0}). if length s.0.1.rest == 0 then Ok q else Err Trailing) p s.2 in
     let g = pass_ok (length s.0.1.rest == 0) (Ok q) Trailing p t.2 in
     let known = parts_form.takes (at bytes 0) q s.0.1 h s.1 in
     let none : s.0.1.rest ≡ [] = nil_from_length s.0.1.rest (eqb-true (length s.0.1.rest) 0 g.0) in
@@ -192,10 +192,10 @@ pub proofs_again : (p : ProofParts) → IsProof p → proof_in (proof_text p) �
 unfolding proof_in
 proofs_again p f =
     let end : At = record { place = 0 + length (proof_text p); rest = [] } in
-    let step : parts_at (at (proof_text p) 0) ≡ Ok (p, end) =
-    ap (λ (c : List ℕ). parts_at (record { place = 0; rest = c })) (sym (append-nil (proof_text p)))
+    let step : proof_parts_at (at (proof_text p) 0) ≡ Ok (p, end) =
+    ap (λ (c : List ℕ). proof_parts_at (record { place = 0; rest = c })) (sym (append-nil (proof_text p)))
     ∙ parts_form.again p 0 [] (f.start, (f.end, (f.path, f.short))) tt in
-    let list : checked (inside_list (p, end)) ≡ Ok tt = checked_again (end.place - length p.signatures) p.signatures f.signatures in
+    let list : checked_signatures (inside_list (p, end)) ≡ Ok tt = checked_again (end.place - length p.signatures) p.signatures f.signatures in
     rw step (rw list refl)
 
 pub one_proof : (p q : ProofParts) → IsProof p → IsProof q → proof_text p ≡ proof_text q → p ≡ q
@@ -217,11 +217,11 @@ gives_only bytes r given p f same =
 -- ---- a list of signatures
 
 pub list_found : (bytes : Text) (r : Result (Unit {0}) ProofError) → IsBytes bytes
-    → Gives (λ x. x) r (checked (at bytes 0)) → OnOk r (AreSignatures bytes)
+    → Gives (λ x. x) r (checked_signatures (at bytes 0)) → OnOk r (AreSignatures bytes)
 list_found bytes (Ok done) h e = checked_only (at bytes 0) done h e
 list_found bytes (Err fault) h e = tt
 
 pub list_only : (bytes : Text) (r : Result (Unit {0}) ProofError)
-    → Gives (λ x. x) r (checked (at bytes 0)) → AreSignatures bytes → IsOk r
+    → Gives (λ x. x) r (checked_signatures (at bytes 0)) → AreSignatures bytes → IsOk r
 list_only bytes (Ok done) e list = refl
 list_only bytes (Err fault) e list = let read = checked_again 0 bytes list in absurd cc

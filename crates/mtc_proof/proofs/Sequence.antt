@@ -8,15 +8,15 @@ use Rattle.byte_forms.specs.Places.{At, at, has_bytes}
 use Rattle.byte_forms.specs.Readings.{◌>>=◌, both_at}
 use Rattle.byte_forms.proofs.Steps.{bind_ok, lifted_ok, pass_ok, ok_is}
 use Rattle.tls_wire.specs.Reading.{vector_at}
-use Rattle.mtc_proof.specs.Proofs.{SigParts, signature_text, IsSignature}
-use Rattle.mtc_proof.specs.Reading.{of_short, text_at, id_at, to_signature, signature_at, signature_then, signatures_from, signatures_left}
+use Rattle.mtc_proof.specs.Proofs.{SigParts, signature_text, IsMtcSignature}
+use Rattle.mtc_proof.specs.Reading.{of_short, text_at, id_at, to_signature, mtc_signature_at, signature_then, signatures_from, signatures_left}
 use Rattle.mtc_proof.specs.declared.fault.ProofError.{ProofError}
 use Rattle.mtc_proof.specs.declared.fault.ProofError.TheVariants.{EmptyId}
 use Rattle.mtc_proof.proofs.Forward.{vector_forward}
 use Rattle.mtc_proof.proofs.Forms.{signature_form, signature_some}
 
-signature_forward : (a : At) (x : SigParts × At) → signature_at a ≡ Ok x → length x.1.rest < length a.rest
-unfolding signature_at
+signature_forward : (a : At) (x : SigParts × At) → mtc_signature_at a ≡ Ok x → length x.1.rest < length a.rest
+unfolding mtc_signature_at
 signature_forward a x e =
     let s = bind_ok (both_at id_at (text_at w16) a) (λ (v : (List ℕ × List ℕ) × At). Ok (to_signature v.0, v.1)) x e in
     let t = bind_ok (id_at a) (λ (v : List ℕ × At). text_at w16 v.1 >>= λ (w : List ℕ × At). Ok ((v.0, w.0), w.1)) s.0 s.1 in
@@ -32,14 +32,14 @@ signature_forward a x e =
 
 signatures_one : (n : ℕ) (a : At) → length a.rest ≤ n → signatures_from (suc n) a ≡ signatures_from n a
 unfolding signatures_from
-signatures_one zero a le = go (signature_at a) refl
+signatures_one zero a le = go (mtc_signature_at a) refl
   where
-    go : (r : Result (SigParts × At) ProofError) → signature_at a ≡ r → signature_then r (λ (b : At). signatures_from zero b) ≡ []
+    go : (r : Result (SigParts × At) ProofError) → mtc_signature_at a ≡ r → signature_then r (λ (b : At). signatures_from zero b) ≡ []
     go (Ok x) e = let less : length x.1.rest < length a.rest = signature_forward a x e in absurd (omega arith)
     go (Err fault) e = refl
-signatures_one (suc n) a le = go (signature_at a) refl (λ b le'. signatures_one n b le')
+signatures_one (suc n) a le = go (mtc_signature_at a) refl (λ b le'. signatures_one n b le')
   where
-    go : (r : Result (SigParts × At) ProofError) → signature_at a ≡ r → ((b : At) → length b.rest ≤ n → signatures_from (suc n) b ≡ signatures_from n b)
+    go : (r : Result (SigParts × At) ProofError) → mtc_signature_at a ≡ r → ((b : At) → length b.rest ≤ n → signatures_from (suc n) b ≡ signatures_from n b)
         → signature_then r (λ (b : At). signatures_from (suc n) b) ≡ signature_then r (λ (b : At). signatures_from n b)
     go (Ok x) e next =
         let less : length x.1.rest < length a.rest = signature_forward a x e in
@@ -59,7 +59,7 @@ signatures_enough n a le =
     ap (λ (m : ℕ). signatures_from m a) e ∙ signatures_plus (n - length a.rest) a
 
 -- One signature, and those behind it.
-pub signatures_next : (a : At) (x : SigParts) (b : At) → signature_at a ≡ Ok (x, b) → signatures_left a ≡ x ∷ signatures_left b
+pub signatures_next : (a : At) (x : SigParts) (b : At) → mtc_signature_at a ≡ Ok (x, b) → signatures_left a ≡ x ∷ signatures_left b
 unfolding signatures_from
 signatures_next a x b step =
     let less : length b.rest < length a.rest = signature_forward a (x, b) step in
@@ -69,7 +69,7 @@ signatures_next a x b step =
     more ∙ read ∙ ap (λ (xs : List SigParts). x ∷ xs) (signatures_enough (length a.rest) b (omega arith))
 
 -- No signature is left that reads.
-pub signatures_end : (a : At) (fault : ProofError) → signature_at a ≡ Err fault → signatures_left a ≡ []
+pub signatures_end : (a : At) (fault : ProofError) → mtc_signature_at a ≡ Err fault → signatures_left a ≡ []
 unfolding signatures_from
 signatures_end a fault step =
     let more : signatures_left a ≡ signatures_from (suc (length a.rest)) a = sym (signatures_one (length a.rest) a (omega arith)) in
@@ -82,11 +82,11 @@ signatures_none a e = ap signatures_left e
 -- ---- the spelling of a list
 
 no_signature : (n place : ℕ) → signatures_from n (record { place = place; rest = [] }) ≡ []
-unfolding signatures_from signature_at vector_at
+unfolding signatures_from mtc_signature_at vector_at
 no_signature zero place = refl
 no_signature (suc n) place = refl
 
-found_from : (n : ℕ) (xs : List SigParts) (place : ℕ) → AllByRecursion IsSignature xs → length (flat_map signature_text xs) ≤ n
+found_from : (n : ℕ) (xs : List SigParts) (place : ℕ) → AllByRecursion IsMtcSignature xs → length (flat_map signature_text xs) ≤ n
     → signatures_from n (record { place = place; rest = flat_map signature_text xs }) ≡ xs
 unfolding signatures_from
 found_from n [] place f le = no_signature n place
@@ -96,5 +96,5 @@ found_from (suc n) (x ∷ xs) place f le =
     let size = length-append (signature_text x) (flat_map signature_text xs) in
     rw step (ap (λ (ys : List SigParts). x ∷ ys) (found_from n xs (place + length (signature_text x)) f.1 (omega (arith, signature_some x f.0, size, le))))
 
-pub signatures_found : (xs : List SigParts) → AllByRecursion IsSignature xs → signatures_left (at (flat_map signature_text xs) 0) ≡ xs
+pub signatures_found : (xs : List SigParts) → AllByRecursion IsMtcSignature xs → signatures_left (at (flat_map signature_text xs) 0) ≡ xs
 signatures_found xs f = found_from (length (flat_map signature_text xs)) xs 0 f (omega arith)

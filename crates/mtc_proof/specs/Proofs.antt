@@ -15,7 +15,7 @@ pub record SigParts : Type 0 where
 abbrev pub signature_text : SigParts → Text
 signature_text s = vector w8 s.cosigner ++ vector w16 s.signature
 
-pub record IsSignature (s : SigParts) : Type 0 where
+pub record IsMtcSignature (s : SigParts) : Type 0 where
   pub some : 0 < length s.cosigner
   pub cosigner : length s.cosigner < 2 ^ 8
   pub signature : length s.signature < 2 ^ 16
@@ -23,7 +23,7 @@ pub record IsSignature (s : SigParts) : Type 0 where
 -- The bytes are signatures one behind the other, or none.
 pub record AreSignatures (bytes : Text) : Type 0 where
   pub list : List SigParts
-  pub each : AllByRecursion IsSignature list
+  pub each : AllByRecursion IsMtcSignature list
   pub spelled : bytes ≡ flat_map signature_text list
 
 -- The parts of a proof: the interval, the path, and the bytes of the signatures.

@@ -43,12 +43,12 @@ abbrev pub to_signature : Text × Text → SigParts
 to_signature x = record { cosigner = x.0; signature = x.1 }
 
 -- One signature: the id, and the signature behind it.
-unfoldable pub signature_at : Reading SigParts ProofError
-signature_at = mapped_at to_signature (both_at id_at (text_at w16))
+unfoldable pub mtc_signature_at : Reading SigParts ProofError
+mtc_signature_at = mapped_at to_signature (both_at id_at (text_at w16))
 
 -- What is left is signatures up to the end.
-abbrev pub checked : At → Result (Unit {0}) ProofError
-checked a = discarded (up_to_end signature_at a) >>= λ end. Ok tt
+abbrev pub checked_signatures : At → Result (Unit {0}) ProofError
+checked_signatures a = discarded (up_to_end mtc_signature_at a) >>= λ end. Ok tt
 
 -- A value, and those behind it.
 abbrev pub signature_then : Result (SigParts × At) ProofError → (At → List SigParts) → List SigParts
@@ -59,7 +59,7 @@ signature_then (Err fault) behind = []
 -- the bytes that are left.
 unfoldable pub signatures_from : ℕ → At → List SigParts
 signatures_from zero a = []
-signatures_from (suc n) a = signature_then (signature_at a) (λ b. signatures_from n b)
+signatures_from (suc n) a = signature_then (mtc_signature_at a) (λ b. signatures_from n b)
 
 abbrev pub signatures_left : At → List SigParts
 signatures_left a = signatures_from (length a.rest) a
@@ -70,8 +70,9 @@ abbrev pub to_proof : ℕ × (ℕ × (List Hash × Text)) → ProofParts
 to_proof x = record { start = x.0; end = x.1.0; path = x.1.1.0; signatures = x.1.1.1 }
 
 -- The parts, whose signatures aren't looked into.
-unfoldable pub parts_at : Reading ProofParts ProofError
-parts_at = mapped_at to_proof (both_at word_at (both_at word_at (both_at path_at (text_at w16))))
+unfoldable pub proof_parts_at : Reading ProofParts ProofError
+proof_parts_at =
+    mapped_at to_proof (both_at word_at (both_at word_at (both_at path_at (text_at w16))))
 
 -- The offset of the signatures in the proof: they end where the parts do.
 abbrev pub inside_list : ProofParts × At → At
@@ -80,6 +81,6 @@ inside_list x = record { place = x.1.place - length x.0.signatures; rest = x.0.s
 -- The proof that these bytes are: first its parts, then the signatures, then nothing behind them.
 unfoldable pub proof_in : Text → Result ProofParts ProofError
 proof_in bytes =
-    parts_at (at bytes 0) >>= λ x.
-    checked (inside_list x) >>= λ done.
+    proof_parts_at (at bytes 0) >>= λ x.
+    checked_signatures (inside_list x) >>= λ done.
     if length x.1.rest == 0 then Ok x.0 else Err Trailing

@@ -6,20 +6,20 @@ ghost use Rattle.std.specs.List.{flat_map, AllByRecursion};
 ghost use Rattle.byte_forms.specs.Places.{IsBytes, at};
 ghost use Rattle.byte_forms.specs.Lists.{up_to_end};
 ghost use Rattle.byte_forms.specs.Forms.{IsForm, Anything, Nothing};
-ghost use Rattle.mtc_proof.specs.Proofs.{SigParts, ProofParts, signature_text, IsSignature, proof_text, IsProof};
-ghost use Rattle.mtc_proof.specs.Reading.{signature_at, signatures_left, proof_in};
+ghost use Rattle.mtc_proof.specs.Proofs.{SigParts, ProofParts, signature_text, IsMtcSignature, proof_text, IsProof};
+ghost use Rattle.mtc_proof.specs.Reading.{mtc_signature_at, signatures_left, proof_in};
 
 /// A signature is read exactly from its spelling, whatever follows it, and so is a list of them,
 /// where nothing follows.
 pub fn signatures_are_read_as_spelled()
-    ensures one { IsForm signature_text IsSignature Anything signature_at }
-    ensures list { IsForm (flat_map signature_text) (AllByRecursion IsSignature) Nothing
-        (up_to_end signature_at) }
+    ensures one { IsForm signature_text IsMtcSignature Anything mtc_signature_at }
+    ensures list { IsForm (flat_map signature_text) (AllByRecursion IsMtcSignature) Nothing
+        (up_to_end mtc_signature_at) }
 {}
 
 /// In the spelling of a list of signatures just these are found, in their order.
 pub fn signatures_are_found()
-    ensures { (xs : List SigParts) → AllByRecursion IsSignature xs
+    ensures { (xs : List SigParts) → AllByRecursion IsMtcSignature xs
         → signatures_left (at (flat_map signature_text xs) 0) ≡ xs }
 {}
 

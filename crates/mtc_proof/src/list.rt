@@ -5,7 +5,7 @@ ghost use Rattle.byte_forms.specs.Places.{at};
 ghost use Rattle.byte_forms.specs.Readings.{Moves, Gives, discarded};
 ghost use Rattle.byte_forms.specs.Lists.{up_to_end};
 ghost use Rattle.mtc_proof.specs.Proofs.{AreSignatures};
-ghost use Rattle.mtc_proof.specs.Reading.{signature_at, checked, signatures_left};
+ghost use Rattle.mtc_proof.specs.Reading.{mtc_signature_at, checked_signatures, signatures_left};
 ghost use Rattle.mtc_proof.specs.Views.{sig_parts};
 
 use crate::fault::ProofError;
@@ -15,9 +15,9 @@ use tls_wire::Cursor;
 
 // One signature: the cosigner's id behind a length of one byte, and the signature behind a length
 // of two bytes. `EmptyId` where the id has no bytes.
-#[tactic(auto, unfolding(crate::specs::Reading::signature_at))]
+#[tactic(auto, unfolding(crate::specs::Reading::mtc_signature_at))]
 pub(crate) fn signature<'a>(cursor: &mut Cursor<'a>) -> Result<SigRef<'a>, ProofError>
-    ensures exact { Moves sig_parts signature_at cursor.old result cursor.new }
+    ensures exact { Moves sig_parts mtc_signature_at cursor.old result cursor.new }
     ensures forward { OnOk result (length cursor.new.rest < length cursor.old.rest) }
 {
     let place = cursor.place();
@@ -34,8 +34,8 @@ pub(crate) fn signature<'a>(cursor: &mut Cursor<'a>) -> Result<SigRef<'a>, Proof
 
 // Signatures up to the end.
 fn all_signatures(cursor: &mut Cursor) -> Result<(), ProofError>
-    ensures ok { OnOk result (discarded (up_to_end signature_at cursor.old) ≡ Ok cursor.new) }
-    ensures err { IfErr result (λ e. discarded (up_to_end signature_at cursor.old) ≡ Err e) }
+    ensures ok { OnOk result (discarded (up_to_end mtc_signature_at cursor.old) ≡ Ok cursor.new) }
+    ensures err { IfErr result (λ e. discarded (up_to_end mtc_signature_at cursor.old) ≡ Err e) }
 {
     while cursor.left() > 0 {
         signature(cursor)?;
@@ -46,7 +46,7 @@ fn all_signatures(cursor: &mut Cursor) -> Result<(), ProofError>
 // The bytes from this offset on are signatures. Offsets of faults count in the whole input.
 pub(crate) fn check_from(input: &[u8], place: usize) -> Result<(), ProofError>
     requires { place ≤ length input.now }
-    ensures { Gives (λ x. x) result (checked (at input.now place)) }
+    ensures { Gives (λ x. x) result (checked_signatures (at input.now place)) }
 {
     let mut cursor = Cursor::at(input, place);
     all_signatures(&mut cursor)
@@ -58,7 +58,7 @@ pub(crate) fn check_from(input: &[u8], place: usize) -> Result<(), ProofError>
 pub fn check_signatures(bytes: &[u8]) -> Result<(), ProofError>
     ensures found { OnOk result (AreSignatures bytes.now) }
     ensures only { AreSignatures bytes.now → IsOk result }
-    ensures exact { Gives (λ x. x) result (checked (at bytes.now 0)) }
+    ensures exact { Gives (λ x. x) result (checked_signatures (at bytes.now 0)) }
 {
     check_from(bytes, 0)
 }

@@ -3,7 +3,7 @@
 ghost use Rattle.std.specs.Prelude.{◌≡◌, ◌-◌, ◌≤◌, length, take, drop, Ok, IfOk};
 ghost use Rattle.byte_forms.specs.Readings.{Moves, Gives};
 ghost use Rattle.mtc_proof.specs.Proofs.{ProofParts, proof_text, IsProof};
-ghost use Rattle.mtc_proof.specs.Reading.{checked, parts_at, proof_in};
+ghost use Rattle.mtc_proof.specs.Reading.{checked_signatures, proof_parts_at, proof_in};
 ghost use Rattle.mtc_proof.specs.Views.{proof_parts};
 
 use crate::fault::ProofError;
@@ -12,9 +12,9 @@ use crate::proof::Proof;
 use tls_wire::Cursor;
 
 // The parts of a proof, whose signatures aren't looked into.
-#[tactic(auto, unfolding(crate::specs::Reading::parts_at))]
+#[tactic(auto, unfolding(crate::specs::Reading::proof_parts_at))]
 fn parts<'a>(cursor: &mut Cursor<'a>) -> Result<Proof<'a>, ProofError>
-    ensures { Moves proof_parts parts_at cursor.old result cursor.new }
+    ensures { Moves proof_parts proof_parts_at cursor.old result cursor.new }
 {
     let start = cursor.u64()?;
     let end = cursor.u64()?;
@@ -33,8 +33,8 @@ fn check_list(bytes: &[u8], behind: usize, signatures: &[u8]) -> Result<(), Proo
     requires within { behind ≤ length bytes.now }
     requires fits { length signatures.now ≤ behind }
     requires ends { drop (behind - length signatures.now) (take behind bytes.now) ≡ signatures.now }
-    ensures { Gives (λ x. x) result
-        (checked (record { place = behind - length signatures.now; rest = signatures.now })) }
+    ensures { let place = behind - length signatures.now in
+        Gives (λ x. x) result (checked_signatures (record { place = place; rest = signatures.now })) }
 {
     check_from(&bytes[..behind], behind - signatures.len())
 }
