@@ -16,7 +16,7 @@ use Rattle.tls_wire.proofs.Numbers.{bytes_form, wide8, word_form}
 use Rattle.tls_wire.proofs.Vectors.{vector_form}
 use Rattle.cosigner_core.specs.declared.fault.FormError.{FormError}
 use Rattle.cosigner_core.specs.declared.fault.FormError.TheVariants.{EmptyId, Trailing}
-use Rattle.cosigner_core.specs.Reading.{advance_at, advance_in, hash_at, id_at, of_hashes, of_short, proof_at, subtree_at, subtree_in, to_advance, to_subtree, whole_in, word_at}
+use Rattle.cosigner_core.specs.Reading.{advance_at, advance_in, hash_at, log_id_at, hashes_fault, short_fault, proof_at, subtree_at, subtree_in, to_advance, to_subtree, whole_in, u64_at}
 use Rattle.cosigner_core.specs.Requests.{AdvanceParts, IsAdvance, IsSubtreeRequest, SubtreeParts, advance_text, subtree_text}
 
 -- ---- the parts
@@ -30,19 +30,19 @@ IsWord n = n < 2 ^ 64
 abbrev IsHash : Text → Type 0
 IsHash hash = length hash ≡ 32
 
-id_form : IsForm (vector w8) IsId Anything id_at
+id_form : IsForm (vector w8) IsId Anything log_id_at
 id_form =
-    tested_form (vector w8) (λ id. length id < 2 ^ 8) Anything (lifted_at of_short (vector_at w8)) has_bytes EmptyId
-    (lifted_form (vector w8) (λ id. length id < 2 ^ 8) Anything (vector_at w8) of_short (vector_form w8 (2 ^ 8) wide8))
+    tested_form (vector w8) (λ id. length id < 2 ^ 8) Anything (lifted_at short_fault (vector_at w8)) has_bytes EmptyId
+    (lifted_form (vector w8) (λ id. length id < 2 ^ 8) Anything (vector_at w8) short_fault (vector_form w8 (2 ^ 8) wide8))
 
-size_form : IsForm (number w64) IsWord Anything word_at
-size_form = lifted_form (number w64) IsWord Anything (number_at w64) of_short word_form
+size_form : IsForm (number w64) IsWord Anything u64_at
+size_form = lifted_form (number w64) IsWord Anything (number_at w64) short_fault word_form
 
 hash_form : IsForm itself IsHash Anything hash_at
-hash_form = lifted_form itself IsHash Anything (bytes_at 32) of_short (bytes_form 32)
+hash_form = lifted_form itself IsHash Anything (bytes_at 32) short_fault (bytes_form 32)
 
 proof_form : IsForm hashes AreHashes Anything proof_at
-proof_form = lifted_form hashes AreHashes Anything hashes_at of_hashes hashes_form
+proof_form = lifted_form hashes AreHashes Anything hashes_at hashes_fault hashes_form
 
 -- ---- to hold a larger log
 
@@ -58,8 +58,8 @@ IsRoot = FitsBoth IsHash AreHashes
 root_form : IsForm root_text IsRoot Anything (both_at hash_at proof_at)
 root_form = both_form itself IsHash Anything hash_at hashes AreHashes Anything proof_at hash_form proof_form (λ y rest f q. tt)
 
-sized_form : IsForm (both (number w64) root_text) (FitsBoth IsWord IsRoot) Anything (both_at word_at (both_at hash_at proof_at))
-sized_form = both_form (number w64) IsWord Anything word_at root_text IsRoot Anything (both_at hash_at proof_at) size_form root_form (λ y rest f q. tt)
+sized_form : IsForm (both (number w64) root_text) (FitsBoth IsWord IsRoot) Anything (both_at u64_at (both_at hash_at proof_at))
+sized_form = both_form (number w64) IsWord Anything u64_at root_text IsRoot Anything (both_at hash_at proof_at) size_form root_form (λ y rest f q. tt)
 
 abbrev Advance : Type 0
 Advance = List ℕ × (ℕ × Root)
@@ -88,19 +88,19 @@ advance_from r f = ((f.log, some-has_bytes r.log f.some), (f.size, (f.root, f.pr
 pub advance_form : IsForm advance_text IsAdvance Anything advance_at
 unfolding advance_at
 advance_form =
-    let read : At → Result (Advance × At) FormError = both_at id_at (both_at word_at (both_at hash_at proof_at)) in
+    let read : At → Result (Advance × At) FormError = both_at log_id_at (both_at u64_at (both_at hash_at proof_at)) in
     said_form (λ r. advance_spelled (from_advance r)) (λ r. AreAdvance (from_advance r)) IsAdvance Anything Anything
     (mapped_at to_advance read) advance_to advance_from (λ rest q. q)
     (mapped_form advance_spelled AreAdvance Anything read to_advance from_advance (λ x f. refl) (λ r f. refl)
-    (both_form (vector w8) IsId Anything id_at (both (number w64) root_text) (FitsBoth IsWord IsRoot) Anything
-    (both_at word_at (both_at hash_at proof_at)) id_form sized_form (λ y rest f q. tt)))
+    (both_form (vector w8) IsId Anything log_id_at (both (number w64) root_text) (FitsBoth IsWord IsRoot) Anything
+    (both_at u64_at (both_at hash_at proof_at)) id_form sized_form (λ y rest f q. tt)))
 
 -- ---- to sign a subtree
 
 spanned_form : IsForm (both (number w64) (both (number w64) root_text)) (FitsBoth IsWord (FitsBoth IsWord IsRoot)) Anything
-    (both_at word_at (both_at word_at (both_at hash_at proof_at)))
-spanned_form = both_form (number w64) IsWord Anything word_at (both (number w64) root_text) (FitsBoth IsWord IsRoot) Anything
-    (both_at word_at (both_at hash_at proof_at)) size_form sized_form (λ y rest f q. tt)
+    (both_at u64_at (both_at u64_at (both_at hash_at proof_at)))
+spanned_form = both_form (number w64) IsWord Anything u64_at (both (number w64) root_text) (FitsBoth IsWord IsRoot) Anything
+    (both_at u64_at (both_at hash_at proof_at)) size_form sized_form (λ y rest f q. tt)
 
 abbrev Subtree : Type 0
 Subtree = List ℕ × (ℕ × (ℕ × Root))
@@ -130,12 +130,12 @@ subtree_from r f = ((f.log, some-has_bytes r.log f.some), (f.start, (f.end, (f.h
 pub subtree_form : IsForm subtree_text IsSubtreeRequest Anything subtree_at
 unfolding subtree_at
 subtree_form =
-    let read : At → Result (Subtree × At) FormError = both_at id_at (both_at word_at (both_at word_at (both_at hash_at proof_at))) in
+    let read : At → Result (Subtree × At) FormError = both_at log_id_at (both_at u64_at (both_at u64_at (both_at hash_at proof_at))) in
     said_form (λ r. subtree_spelled (from_subtree r)) (λ r. AreSubtree (from_subtree r)) IsSubtreeRequest Anything Anything
     (mapped_at to_subtree read) subtree_to subtree_from (λ rest q. q)
     (mapped_form subtree_spelled AreSubtree Anything read to_subtree from_subtree (λ x f. refl) (λ r f. refl)
-    (both_form (vector w8) IsId Anything id_at (both (number w64) (both (number w64) root_text)) (FitsBoth IsWord (FitsBoth IsWord IsRoot)) Anything
-    (both_at word_at (both_at word_at (both_at hash_at proof_at))) id_form spanned_form (λ y rest f q. tt)))
+    (both_form (vector w8) IsId Anything log_id_at (both (number w64) (both (number w64) root_text)) (FitsBoth IsWord (FitsBoth IsWord IsRoot)) Anything
+    (both_at u64_at (both_at u64_at (both_at hash_at proof_at))) id_form spanned_form (λ y rest f q. tt)))
 
 -- ---- all of the bytes
 

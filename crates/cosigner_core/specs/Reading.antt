@@ -13,31 +13,31 @@ use Rattle.cosigner_core.specs.declared.fault.FormError.TheVariants.{EmptyId, Ha
 use Rattle.cosigner_core.specs.Requests.{AdvanceParts, SubtreeParts}
 
 -- A form that doesn't fit, as a fault of the request.
-abbrev pub of_short : ShortForm → FormError
-of_short s = Short s.place
+abbrev pub short_fault : ShortForm → FormError
+short_fault s = Short s.place
 
-abbrev pub of_hashes : HashesError → FormError
-of_hashes (NotFitting s) = Short s.place
-of_hashes NoMultiple = HashLength
+abbrev pub hashes_fault : HashesError → FormError
+hashes_fault (NotFitting s) = Short s.place
+hashes_fault NoMultiple = HashLength
 
 abbrev pub proof_at : Reading (List Hash) FormError
-proof_at = lifted_at of_hashes hashes_at
+proof_at = lifted_at hashes_fault hashes_at
 
 -- The id of a log, from 1 to 255 bytes.
-abbrev pub id_at : Reading Text FormError
-id_at = tested_at has_bytes EmptyId (lifted_at of_short (vector_at w8))
+abbrev pub log_id_at : Reading Text FormError
+log_id_at = tested_at has_bytes EmptyId (lifted_at short_fault (vector_at w8))
 
-abbrev pub word_at : Reading ℕ FormError
-word_at = lifted_at of_short (number_at w64)
+abbrev pub u64_at : Reading ℕ FormError
+u64_at = lifted_at short_fault (number_at w64)
 
 abbrev pub hash_at : Reading Hash FormError
-hash_at = lifted_at of_short (bytes_at 32)
+hash_at = lifted_at short_fault (bytes_at 32)
 
 abbrev pub to_advance : Text × (ℕ × (Hash × List Hash)) → AdvanceParts
 to_advance x = record { log = x.0; size = x.1.0; root = x.1.1.0; proof = x.1.1.1 }
 
 unfoldable pub advance_at : Reading AdvanceParts FormError
-advance_at = mapped_at to_advance (both_at id_at (both_at word_at (both_at hash_at proof_at)))
+advance_at = mapped_at to_advance (both_at log_id_at (both_at u64_at (both_at hash_at proof_at)))
 
 abbrev pub to_subtree : Text × (ℕ × (ℕ × (Hash × List Hash))) → SubtreeParts
 to_subtree x = record {
@@ -51,7 +51,7 @@ to_subtree x = record {
 unfoldable pub subtree_at : Reading SubtreeParts FormError
 subtree_at =
     mapped_at to_subtree
-    (both_at id_at (both_at word_at (both_at word_at (both_at hash_at proof_at))))
+    (both_at log_id_at (both_at u64_at (both_at u64_at (both_at hash_at proof_at))))
 
 -- All of the bytes, and nothing behind.
 abbrev pub whole_in : {X : Type 0} → Reading X FormError → Text → Result X FormError

@@ -28,9 +28,9 @@ impl From<Short> for FormError {
 
 impl From<HashesError> for FormError {
     ghost use Rattle.std.specs.Prelude.{◌≡◌};
-    ghost use Rattle.cosigner_core.specs.Reading.{of_hashes};
+    ghost use Rattle.cosigner_core.specs.Reading.{hashes_fault};
 
-    ghost from_gives = { λ fault e. e ≡ of_hashes fault };
+    ghost from_gives = { λ fault e. e ≡ hashes_fault fault };
 
     fn from(fault: HashesError) -> FormError {
         match fault {

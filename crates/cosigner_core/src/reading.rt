@@ -1,7 +1,7 @@
 //! Reading requests.
 
 ghost use Rattle.byte_forms.specs.Readings.{Gives, Moves};
-ghost use Rattle.cosigner_core.specs.Reading.{advance_at, advance_in, id_at, subtree_at, subtree_in};
+ghost use Rattle.cosigner_core.specs.Reading.{advance_at, advance_in, log_id_at, subtree_at, subtree_in};
 ghost use Rattle.cosigner_core.specs.Views.{advance_parts, subtree_parts};
 
 use crate::fault::FormError;
@@ -10,7 +10,7 @@ use tls_wire::Cursor;
 
 // The id of a log.
 fn log_id<'a>(cursor: &mut Cursor<'a>) -> Result<&'a [u8], FormError>
-    ensures { Moves (λ id. id.now) id_at cursor.old result cursor.new }
+    ensures { Moves (λ id. id.now) log_id_at cursor.old result cursor.new }
 {
     let id = cursor.vec8()?;
     if id.is_empty() {
