@@ -3,6 +3,6 @@ use Rattle.std.specs.Prelude.{ℕ, List}
 use Rattle.byte_forms.specs.Types.{Hash}
 
 -- The leaf hashes, and how many more need no memory.
-pub record Leaves : Type 0 where
+pub record ListedLeaves : Type 0 where
   pub leaves : List Hash
   pub spare : ℕ

@@ -4,7 +4,7 @@ ghost use Rattle.std.specs.Prelude.{◌≡◌, ◌+◌, ◌-◌, ◌*◌, ◌^�
 ghost use Rattle.std.proofs.Common.{◌∙◌};
 ghost use Rattle.tree_core.specs.Path.{part_of};
 ghost use Rattle.tree_core.specs.Tree.{root_of};
-ghost use Rattle.tree_proofs.specs.Listed.{Leaves};
+ghost use Rattle.tree_proofs.specs.Listed.{ListedLeaves};
 
 use crate::Nodes;
 use crate::tree::root_over;
@@ -24,7 +24,7 @@ pub struct Listed<H: TreeHash> {
 }
 
 impl<H: TreeHash> Model for Listed<H> {
-    ghost Value = { Leaves };
+    ghost Value = { ListedLeaves };
 
     ghost view = { λ l.
         record { leaves = l.items.items; spare = vec_capacity l.items - vec_len l.items } };
