@@ -1,11 +1,13 @@
 #!/bin/bash
 # Opens logs of up to 100,000 entries, and prints seconds and the most memory held. The journals are made by a script of
 # its own, since adding an entry by `issue` opens the log anew each time. Needs python3 and GNU time. Not part of the gate.
-# Usage: bench/log.sh
+# Usage: bench/log.sh [--write]   with --write the figures go into bench/log/figures.txt
 set -u
 root=$(cd "$(dirname "$0")/.." && pwd)
 folder=$(mktemp -d)
 trap 'rm -rf "$folder"' EXIT
+# shellcheck source=bench/program.sh
+. "$root/bench/program.sh"
 
 "$root/mtc" member "$root/examples/first.member" >/dev/null || exit 70
 echo "entries  file bytes  seconds  held bytes  root"
@@ -15,4 +17,8 @@ for count in 1000 10000 100000; do
     read -r seconds held <"$folder/time"
     printf '%7d  %10d  %7s  %10d  %s\n' "$count" "$(stat -c %s "$folder/journal")" "$seconds" "$((held * 1024))" \
         "$(grep root <<<"$log" | cut -c6-21)"
+    printf "opening a log and computing its tree hash|%d entries|%s|%d MB\n" "$count" "$seconds" "$((held * 1024 / 1000000))" >>"$folder/figures"
 done
+if [ "${1-}" = --write ]; then
+    keep_figures log "WORK|OF|SECONDS|MEMORY" <"$folder/figures"
+fi

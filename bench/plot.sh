@@ -1,12 +1,63 @@
 #!/bin/bash
-# Draws the ratios in the table of docs/SPEED.md as bars, on a scale where each line is twice the one before: docs/speed.svg.
-# Usage: bench/plot.sh [--check]   with --check it draws nothing, and fails where the picture isn't that of the table
+# Makes the two tables of docs/SPEED.md from what the scripts beside it wrote (bench/*/figures.txt), and draws the ratios as bars,
+# on a scale where each line is twice the one before: docs/speed.svg.
+# Usage: bench/plot.sh [--check]   with --check it writes nothing, and fails where page or picture aren't those of the figures
 set -u
 cd "$(dirname "$0")/.." || exit 2
-new=$(mktemp)
-trap 'rm -f "$new"' EXIT
+folder=$(mktemp -d)
+trap 'rm -rf "$folder"' EXIT
+page=docs/SPEED.md
 
-awk -F ' \\| ' '
+# The figures of some scripts, each line behind its script's name.
+figures() {
+    local name
+    for name; do
+        grep -v '^#' "bench/$name/figures.txt" | sed "s/^/$name|/"
+    done
+}
+
+# Lines SCRIPT|WORK|AGAINST|LOW|HIGH|as it is shown, of lines SCRIPT|WORK|AGAINST|RATIO ..|DAY.
+ranges() {
+    figures hashes signatures proofs | awk -F '|' '
+        function shown(ratio) { return ratio < 1000 ? ratio : sprintf("%d,000", ratio / 1000 + 0.5) }
+        {
+            count = split($4, ratio, " ")
+            low = high = ratio[1]
+            for (at = 2; at <= count; at++) {
+                if (ratio[at] + 0 < low + 0) low = ratio[at]
+                if (ratio[at] + 0 > high + 0) high = ratio[at]
+            }
+            both = shown(low) == shown(high) ? shown(low) : shown(low) " to " shown(high)
+            print $1 "|" $2 "|" $3 "|" low "|" high "|" both
+        }'
+}
+
+ranges >"$folder/ranges"
+{
+    echo "| Work | Against | Ratio | Script |"
+    echo "|---|---|---|---|"
+    awk -F '|' '{ print "| " $2 " | " $3 " | " $6 " | `bench/" $1 ".sh` |" }' "$folder/ranges"
+} >"$folder/ratios"
+{
+    echo "| Work | Of | Seconds | Memory | Script |"
+    echo "|---|---|---|---|---|"
+    figures log extensions | awk -F '|' '{ print "| " $2 " | " $3 " | " $4 " | " $5 " | `bench/" $1 ".sh` |" }' |
+        sed -E ':again; s/([0-9])([0-9]{3})($|[^0-9])/\1,\2\3/; t again'
+} >"$folder/times"
+
+# The page with these tables between their marks.
+awk -v folder="$folder" '
+    { if (!is_old) print }
+    /^<!-- (ratios|times): begin -->/ {
+        while ((getline line < (folder "/" substr($2, 1, length($2) - 1))) > 0)
+            print line
+        is_old = 1
+        next
+    }
+    /^<!-- (ratios|times): end -->/ { print; is_old = 0; ends++ }
+    END { exit ends != 2 }' "$page" >"$folder/page" || { echo "wrong: $page has no place for the two tables"; exit 1; }
+
+awk -F '|' '
     function x_of(ratio, at) {
         at = left + (log(ratio) / log(2) + 2) * octave
         return at < left ? left : at > left + 4 * octave ? left + 4 * octave : at
@@ -15,15 +66,12 @@ awk -F ' \\| ' '
         gsub(/`/, "", words)
         printf "<text x=\"%.0f\" y=\"%.0f\" text-anchor=\"%s\">%s</text>\n", x, y, anchor, words
     }
-    /^\| [^-]/ && $3 ~ /^[0-9]/ {
-        sub(/^\| /, "", $1)
+    {
         rows++
-        work[rows] = $1 ", against " $2
-        shown[rows] = $3
-        gsub(/,/, "", $3)
-        ends = split($3, ratio, " to ")
-        low[rows] = ratio[1]
-        high[rows] = ratio[ends]
+        work[rows] = $2 ", against " $3
+        low[rows] = $4
+        high[rows] = $5
+        shown[rows] = $6
     }
     END {
         if (!rows)
@@ -48,11 +96,14 @@ awk -F ' \\| ' '
             text(to + 6, y + 13, "start", shown[row])
         }
         print "</svg>"
-    }' docs/SPEED.md >"$new" || { echo "wrong: no table of ratios in docs/SPEED.md"; exit 1; }
+    }' "$folder/ranges" >"$folder/picture" || { echo "wrong: no ratios in bench/*/figures.txt"; exit 1; }
 
 if [ "${1-}" = --check ]; then
-    diff -q "$new" docs/speed.svg || { echo "wrong: docs/speed.svg; bench/plot.sh mends it"; exit 1; }
-else
-    cp "$new" docs/speed.svg
-    chmod 644 docs/speed.svg
+    status=0
+    diff -u --label "$page" --label "by bench/*/figures.txt" "$page" "$folder/page" || status=1
+    diff -q "$folder/picture" docs/speed.svg || status=1
+    [ "$status" -eq 0 ] || echo "wrong: the speeds; bench/plot.sh mends them"
+    exit "$status"
 fi
+cat "$folder/page" >"$page"
+cat "$folder/picture" >docs/speed.svg

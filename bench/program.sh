@@ -34,3 +34,23 @@ build_and_run() {
         exit 1
     fi
 }
+
+# Runs such a program again, and prints what it prints.
+run_again() {
+    (cd "$work/crates/bench_$1" && rt run 2>/dev/null)
+}
+
+# Writes what a run found into bench/NAME/figures.txt, from lines of fields between bars: keep_figures NAME FIELDS. The first
+# two fields say what was measured, and the day is put behind them all. What this run has no line for stays as it was.
+keep_figures() {
+    local file=$root/bench/$1/figures.txt
+    touch "$file"
+    awk -F '|' -v fields="$2" -v name="$1" -v day="$(date -u +%F)" '
+        BEGIN { print "# " fields "|DAY. Written by bench/" name ".sh --write; docs/SPEED.md is made from it." }
+        /^#/ { next }
+        FNR == NR { new[$1 "|" $2] = $0; order[++count] = $1 "|" $2; next }
+        ($1 "|" $2) in new { print new[$1 "|" $2] "|" day; told[$1 "|" $2]; next }
+        { print }
+        END { for (at = 1; at <= count; at++) if (!(order[at] in told)) print new[order[at]] "|" day }
+    ' - "$file" >"$file.new" && mv "$file.new" "$file"
+}

@@ -31,3 +31,19 @@ cp "$root/bench/proofs/peer.go" "$work/peer/main.go"
 echo "Go's sumdb/tlog"
 (cd "$work/peer" && GOFLAGS=-mod=mod GO111MODULE=on GOPROXY=off GOCACHE="$work/cache" GOMAXPROCS=1 go run . > "$work/peer.txt")
 tell "$work/peer.txt"
+
+# The ratios for a path and for a proof, in nanoseconds and in hashes of a pair: the two units are of one run.
+awk '
+    FNR == NR { theirs[$1] = $2 / $3; next }
+    $1 ~ /^[a-z]+$/ && NF == 3 { ours[$1] = $2 / $3 }
+    function both(what) {
+        return sprintf("%.2f %.2f", ours[what] / theirs[what], ours[what] / ours["pair"] / (theirs[what] / theirs["pair"]))
+    }
+    END {
+        print "evaluating an inclusion path|sumdb/tlog in Go|" both("evaluate")
+        print "checking a consistency proof|sumdb/tlog in Go|" both("check")
+        print "making a path or a proof|sumdb/tlog in Go|" both("include") " " both("consist")
+    }' "$work/peer.txt" "$work/printed" > "$work/figures"
+if [ "${1-}" = --write ]; then
+    keep_figures proofs "WORK|AGAINST|RATIOS" < "$work/figures"
+fi

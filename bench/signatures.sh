@@ -3,7 +3,8 @@
 # against as many hashes of 55 bytes by the kit's sha2, one for each block of 64 bytes that the work
 # hashes; against the same loops in C over OpenSSL, where gcc and OpenSSL's headers are there; and
 # against BouncyCastle, where java and its jar are there (BCPROV names it, or /usr/share/java has it).
-# Times are processor times of one thread. Usage: bench/signatures.sh
+# Times are processor times of one thread.
+# Usage: bench/signatures.sh [--write]   with --write the ratios go into bench/signatures/figures.txt
 set -eu
 root=$(cd "$(dirname "$0")/.." && pwd)
 work=$(mktemp -d)
@@ -35,6 +36,7 @@ awk '
     FILENAME ~ /printed$/ { kit[$1, $2] = $3; next }
     FILENAME ~ /c$/ { c[$1, $2] = $3; next }
     { java[$1, $2] = $3 }
+    function keep(work, against, ratio) { if (ratio != "-") kept[work "|" against] = kept[work "|" against] " " ratio }
     END {
         printf "%-16s %5s %12s %12s %8s %8s\n", "work", "width", "time", "bare hashes", "C", "Java"
         for (w = 1; w <= 8; w *= 2) {
@@ -47,5 +49,18 @@ awk '
                 "", ratio(kit["verify", w], c["verify", w]), ratio(kit["verify", w], java["verify", w])
             printf "%-16s %5d %9.1f us %12s %8s %8s\n", "sign and verify", w, both / 5e5,
                 ratio(both, bare[w, 2]), ratio(both, c["sign", w] + c["verify", w]), ratio(both, java["sign", w] + java["verify", w])
+            keep("making a key of height 10", "as many bare hashes of `sha2`", ratio(kit["make", w], bare[w, 1]))
+            keep("making a key of height 10", "C over OpenSSL", ratio(kit["make", w], c["make", w]))
+            keep("making a key of height 10", "BouncyCastle in Java", ratio(kit["make", w], java["make", w]))
+            keep("signing and verifying", "as many bare hashes of `sha2`", ratio(both, bare[w, 2]))
+            keep("signing", "C over OpenSSL", ratio(kit["sign", w], c["sign", w]))
+            keep("verifying", "C over OpenSSL", ratio(kit["verify", w], c["verify", w]))
+            keep("signing and verifying", "BouncyCastle in Java", ratio(both, java["sign", w] + java["verify", w]))
         }
-    }' "$work/printed" "$work/c" "$work/java"
+        for (key in kept)
+            print key "|" substr(kept[key], 2) > figures
+    }' figures="$work/figures" "$work/printed" "$work/c" "$work/java"
+
+if [ "${1-}" = --write ]; then
+    keep_figures signatures "WORK|AGAINST|RATIOS" < "$work/figures"
+fi
