@@ -4,8 +4,8 @@
 Usage: bench/gate_costs.py [--write] [COMMAND WORD..]
 The command is rt ci where there is none; rt ci --anew proves all, also what is kept.
 
-What the command writes goes to standard error. The table goes to standard output, and with --write into docs/GATE.md, if the
-command passed. Every half second the script looks at the provers that the command has started; what a prover used in its last
+What the command writes goes to standard error. The table goes to standard output, and with --write into docs/GATE.md, and its
+sums into README, if the command passed. Every half second the script looks at the provers that the command has started; what a prover used in its last
 half second is not counted.
 """
 import glob
@@ -18,7 +18,6 @@ ROOT = os.path.dirname(os.path.dirname(os.path.abspath(__file__)))
 TICK = os.sysconf("SC_CLK_TCK")
 KINDS = ("proof", "tests", "edits")
 BUDGET = 3.5
-PAGE = f"{ROOT}/docs/GATE.md"
 BEGIN, END = "<!-- costs: begin -->\n", "<!-- costs: end -->"
 
 
@@ -96,22 +95,52 @@ def table(costs):
         yield "| " + " | ".join(cells) + " |"
 
 
+def by_clock(seconds):
+    return f"{seconds / 60:.0f} minutes by the clock on {len(os.sched_getaffinity(0))} processors"
+
+
+def minutes_of(costs):
+    return sum(sum(by.values()) for by in costs.values()) / 60
+
+
 def summary(costs, seconds):
     """The sentences below the table."""
-    minutes = sum(sum(by.values()) for by in costs.values()) / 60
     lines = sum(map(lines_of, costs))
     return (
-        f"{minutes:.0f} processor minutes, and {seconds / 60:.0f} minutes by the clock on {len(os.sched_getaffinity(0))} processors. "
+        f"{minutes_of(costs):.0f} processor minutes, and {by_clock(seconds)}. "
         f"The budget for these {lines:,} lines is {BUDGET * lines / 1000:.0f} processor minutes."
     )
 
 
-def write(told):
-    """Puts the table in its place in the page."""
-    page = text_of(PAGE)
+def crates_below(name):
+    """A crate, and those of crates.txt that it stands on."""
+    lines = [line.split("#")[0] for line in text_of(f"{ROOT}/crates.txt").split("\n")]
+    named = {line.split(":")[0].split()[0]: line.split(":")[1].split() for line in lines if ":" in line}
+    found, left = set(), [name]
+    while left:
+        crate = left.pop()
+        if crate in named and crate not in found:
+            found.add(crate)
+            left += named[crate]
+    return found
+
+
+def sentence(costs, seconds):
+    """What README says of the times of its two commands."""
+    first = sum(costs.get(crate, {}).get("proof", 0) for crate in crates_below("mtc_main")) / 60
+    return (
+        "The first shows each crate as it is proved, as many side by side as there are processors, once: "
+        f"{first:.0f} processor minutes, by the sum of its crates' proofs. "
+        f"The second took {minutes_of(costs):.0f}, and {by_clock(seconds)} ([GATE](docs/GATE.md))."
+    )
+
+
+def write(path, told):
+    """Puts a text in its place in a page."""
+    page = text_of(path)
     before, rest = page.split(BEGIN, 1)
     _, after = rest.split(END, 1)
-    with open(PAGE, "w", encoding="utf-8") as it:
+    with open(path, "w", encoding="utf-8") as it:
         it.write(f"{before}{BEGIN}{told}\n{END}{after}")
 
 
@@ -125,10 +154,12 @@ def main(command, writes):
     for (crate, kind), ticks in seen.values():
         by = costs.setdefault(crate, {})
         by[kind] = by.get(kind, 0) + ticks / TICK
-    told = "\n".join([*table(costs), "", summary(costs, time.time() - began)])
+    seconds = time.time() - began
+    told = "\n".join([*table(costs), "", summary(costs, seconds)])
     print(told)
     if writes and ran.returncode == 0:
-        write(told)
+        write(f"{ROOT}/docs/GATE.md", told)
+        write(f"{ROOT}/README.md", sentence(costs, seconds))
     return ran.returncode
 
 
