@@ -5,11 +5,12 @@ use Rattle.byte_forms.specs.Readings.{some_or}
 use Rattle.toml.specs.Data.{Data}
 
 -- A field that has to be there: without it one fault, and out of its form another.
-abbrev pub required : {A E : Type 0} → E → E → (Data → Option A) → Option Data → Result A E
-required missing bad read None = Err missing
-required missing bad read (Some d) = some_or bad (read d)
+abbrev pub required_field : {A E : Type 0} → E → E → (Data → Option A) → Option Data → Result A E
+required_field missing bad read None = Err missing
+required_field missing bad read (Some d) = some_or bad (read d)
 
 -- A field that may be absent: only its form can be at fault.
-abbrev pub optional : {A E : Type 0} → E → (Data → Option A) → Option Data → Result (Option A) E
-optional bad read None = Ok None
-optional bad read (Some d) = some_or bad (option_map Some (read d))
+abbrev pub optional_field : {A E : Type 0}
+    → E → (Data → Option A) → Option Data → Result (Option A) E
+optional_field bad read None = Ok None
+optional_field bad read (Some d) = some_or bad (option_map Some (read d))

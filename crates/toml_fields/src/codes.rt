@@ -5,7 +5,7 @@ ghost use Rattle.base64.specs.Engines.{standard};
 ghost use Rattle.base64.specs.GeneralPurpose.{decode_of, IsDecodeFailure};
 ghost use Rattle.byte_forms.specs.Places.{IsBytes};
 ghost use Rattle.toml.specs.View.{view};
-ghost use Rattle.toml_fields.specs.Codes.{base64_text, bytes_data, hash_data, hash_text, number_data};
+ghost use Rattle.toml_fields.specs.Codes.{bytes_of_base64, bytes_data, hash_data, hash_of_hex, number_data};
 
 use base64::DecodeAllocError;
 use base64::engine::general_purpose::STANDARD;
@@ -25,9 +25,9 @@ pub fn number_of(value: &Value) -> Option<u64>
 }
 
 // 64 hexadecimal digits, in either case.
-#[tactic(auto, unfolding(crate::specs::Codes::hash_text))]
+#[tactic(auto, unfolding(crate::specs::Codes::hash_of_hex))]
 fn read_hash(text: &str) -> Option<[u8; 32]>
-    ensures { result ≡ hash_text text.now }
+    ensures { result ≡ hash_of_hex text.now }
 {
     <[u8; 32] as FromHex>::from_hex(text).ok()
 }
@@ -53,9 +53,9 @@ fn decode(alloc: Global, text: &[u8]) -> Result<Vec<u8>, DecodeAllocError>
 }
 
 // The bytes that a text in base64 writes.
-#[tactic(auto, unfolding(crate::specs::Codes::base64_text))]
+#[tactic(auto, unfolding(crate::specs::Codes::bytes_of_base64))]
 fn read_base64(alloc: Global, text: &str) -> Result<Option<Bytes>, Memory>
-    ensures value { IfOk result (λ o. o ≡ base64_text text.now) }
+    ensures value { IfOk result (λ o. o ≡ bytes_of_base64 text.now) }
     ensures bytes { IfOk result (λ o. IfSome o IsBytes) }
 {
     match decode(alloc, text.as_bytes()) {
