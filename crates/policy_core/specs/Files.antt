@@ -1,6 +1,6 @@
 -- The store file: what a text says, or why it is none. The faults stand in the order in which they
 -- are looked for.
-use Rattle.std.specs.Prelude.{◌&&◌, ◌||◌, nat_lt, Bool, true, false, List, [], ◌∷◌, codes, Option, Some, None, Result, Ok, Err, if◌then◌else◌}
+use Rattle.std.specs.Prelude.{◌&&◌, ◌||◌, nat_lt, Bool, false, List, [], ◌∷◌, codes, Option, Some, None, Result, Ok, Err, if◌then◌else◌}
 use Rattle.std.specs.List.{list_any, list_all}
 use Rattle.std.specs.Option.{option_and_then}
 use Rattle.std.specs.Result.{result_ok}
@@ -10,7 +10,7 @@ use Rattle.cert_names.specs.LogNames.{name_with}
 use Rattle.tls_wire.specs.Anchors.{anchor_text, text_of}
 use Rattle.toml.specs.Data.{Data, Items, no_items, item, Members, as_array, as_str, as_table, get_member}
 use Rattle.toml_fields.specs.Tree.{tree_of, has_only}
-use Rattle.toml_fields.specs.Fields.{required}
+use Rattle.toml_fields.specs.Fields.{required_field}
 use Rattle.toml_fields.specs.Codes.{number_data, hash_data}
 use Rattle.tree_core.specs.Subtree.{is_subtree}
 use Rattle.tree_core.specs.declared.spans.Span.{Span}
@@ -42,8 +42,8 @@ table_with names d =
     if has_only names ms then Ok ms else Err UnknownKey
 
 -- The field of a table: it is there, and in its form.
-abbrev pub field : {A : Type 0} → Key → (Data → Option A) → Option Data → Result A StoreError
-field key read d = required (Missing key) (BadValue key) read d
+abbrev pub store_field : {A : Type 0} → Key → (Data → Option A) → Option Data → Result A StoreError
+store_field key read d = required_field (Missing key) (BadValue key) read d
 
 -- The text of an anchor id.
 unfoldable pub id_data : Data → Option Text
@@ -52,22 +52,23 @@ id_data d = option_and_then (λ text. result_ok (anchor_text text)) (as_str d)
 -- The log's table, which has to be there, and its id.
 abbrev pub log_at : Option Data → Result Text StoreError
 log_at None = Err (Missing LogId)
-log_at (Some d) = table_with log_keys d >>= λ ms. field LogId id_data (get_member (codes "id") ms)
+log_at (Some d) =
+    table_with log_keys d >>= λ ms. store_field LogId id_data (get_member (codes "id") ms)
 
 -- One subtree, and one range.
 unfoldable pub subtree_data : Data → Result Trusted StoreError
 subtree_data d = do
   ms ← table_with subtree_keys d
-  start ← field Start number_data (get_member (codes "start") ms)
-  end ← field End number_data (get_member (codes "end") ms)
-  hash ← field Hash hash_data (get_member (codes "hash") ms)
+  start ← store_field Start number_data (get_member (codes "start") ms)
+  end ← store_field End number_data (get_member (codes "end") ms)
+  hash ← store_field Hash hash_data (get_member (codes "hash") ms)
   Ok (record { start = start; end = end; hash = hash })
 
 unfoldable pub range_data : Data → Result Span StoreError
 range_data d = do
   ms ← table_with revoked_keys d
-  start ← field Start number_data (get_member (codes "start") ms)
-  end ← field End number_data (get_member (codes "end") ms)
+  start ← store_field Start number_data (get_member (codes "start") ms)
+  end ← store_field End number_data (get_member (codes "end") ms)
   Ok (record { start = start; end = end })
 
 -- Each item, in their order: the first fault is told.
@@ -98,8 +99,8 @@ abbrev pub are_inhabited : List Span → Bool
 are_inhabited xs = list_all (λ x. nat_lt x.start x.end) xs
 
 -- The store as a whole.
-unfoldable pub checked : Store → Result Store StoreError
-checked s =
+unfoldable pub checked_store : Store → Result Store StoreError
+checked_store s =
     if has_repeat s.subtrees then Err RepeatedSubtree
     else (if are_subtrees s.subtrees && are_inhabited s.revoked then Ok s else Err BadRange)
 
@@ -109,7 +110,7 @@ store_in ms = do
   log ← log_at (get_member (codes "log") ms)
   subtrees ← list_at subtree_data (get_member (codes "subtree") ms)
   revoked ← list_at range_data (get_member (codes "revoked") ms)
-  checked (record {
+  checked_store (record {
     log = log;
     name = name_with (text_of log);
     subtrees = subtrees;

@@ -6,7 +6,7 @@ ghost use Rattle.toml.specs.Data.{Data, get_member};
 ghost use Rattle.toml.specs.View.{items_view, table_view, view};
 ghost use Rattle.toml_fields.specs.Codes.{hash_data, number_data};
 ghost use Rattle.policy_core.specs.declared.error.StoreError.{StoreError};
-ghost use Rattle.policy_core.specs.Files.{each_of, field, id_data, items_at, list_at, log_at, range_data, subtree_data, table_with};
+ghost use Rattle.policy_core.specs.Files.{each_of, store_field, id_data, items_at, list_at, log_at, range_data, subtree_data, table_with};
 
 use crate::error::{Key, StoreError};
 use crate::lists::{Revoked, Subtrees, Trusted};
@@ -34,7 +34,7 @@ fn table_with<'a>(value: &'a Value, names: &[&str]) -> Result<&'a Table, StoreEr
 
 // The number at a key.
 fn number_at(table: &Table, name: &str, key: Key) -> Result<u64, StoreError>
-    ensures { result ≡ field key number_data (get_member name.now (table_view table.now)) }
+    ensures { result ≡ store_field key number_data (get_member name.now (table_view table.now)) }
 {
     let Some(value) = value_at(table, name) else {
         return Err(StoreError::Missing(key));
@@ -44,7 +44,8 @@ fn number_at(table: &Table, name: &str, key: Key) -> Result<u64, StoreError>
 
 // The hash of a subtree.
 fn hash_at(table: &Table) -> Result<[u8; 32], StoreError>
-    ensures { result ≡ field Key.Hash hash_data (get_member (codes "hash") (table_view table.now)) }
+    ensures { result
+        ≡ store_field Key.Hash hash_data (get_member (codes "hash") (table_view table.now)) }
 {
     let Some(value) = value_at(table, "hash") else {
         return Err(StoreError::Missing(Key::Hash));
@@ -70,7 +71,7 @@ fn id_of(alloc: Global, value: &Value) -> Result<Option<AnchorId>, Memory>
 // The id in the log's table.
 fn id_at(alloc: Global, table: &Table) -> Result<AnchorId, StoreError>
     ensures { Answers StoreError.Memory
-        (field Key.LogId id_data (get_member (codes "id") (table_view table.now))) result }
+        (store_field Key.LogId id_data (get_member (codes "id") (table_view table.now))) result }
 {
     let Some(value) = value_at(table, "id") else {
         return Err(StoreError::Missing(Key::LogId));

@@ -1,6 +1,6 @@
 //! Reading a store file.
 
-ghost use Rattle.std.specs.Prelude.{◌≡◌, IfOk};
+ghost use Rattle.std.specs.Prelude.{IfOk};
 ghost use Rattle.byte_forms.specs.Readings.{Answers};
 ghost use Rattle.toml.specs.View.{table_view};
 ghost use Rattle.policy_core.specs.Files.{store_in, store_of};

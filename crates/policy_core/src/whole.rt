@@ -2,7 +2,7 @@
 
 ghost use Rattle.std.specs.Prelude.{◌≡◌, IfOk};
 ghost use Rattle.byte_forms.specs.Readings.{Answers};
-ghost use Rattle.policy_core.specs.Files.{are_inhabited, are_subtrees, checked, has_repeat};
+ghost use Rattle.policy_core.specs.Files.{are_inhabited, are_subtrees, checked_store, has_repeat};
 ghost use Rattle.policy_core.specs.Stores.{IsValid};
 ghost use Rattle.cert_names.specs.LogNames.{name_with};
 ghost use Rattle.tls_wire.specs.Anchors.{text_of};
@@ -44,9 +44,9 @@ fn all_inhabited(ranges: &[Span]) -> bool
 
 /// The store, where it is one as a whole: no interval is trusted twice, each is that of a subtree,
 /// and each range holds a number.
-#[tactic(auto, unfolding(crate::specs::Files::checked))]
+#[tactic(auto, unfolding(crate::specs::Files::checked_store))]
 pub fn check(alloc: Global, store: Store) -> Result<Store, StoreError>
-    ensures exact { Answers StoreError.Memory (checked store) result }
+    ensures exact { Answers StoreError.Memory (checked_store store) result }
     ensures valid { store.name ≡ name_with (text_of store.log) → IfOk result IsValid }
 {
     if repeats(alloc, store.subtrees.as_slice())? {

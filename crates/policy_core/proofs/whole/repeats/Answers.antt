@@ -1,4 +1,4 @@
-use Rattle.std.proofs.Common.{◌≡◌, ◌<◌, List, [], length, take, sym, ◌∙◌, arith}
+use Rattle.std.proofs.Common.{◌<◌, [], length, take, sym, ◌∙◌, arith}
 use Rattle.policy_core.proofs.Repeats.{repeats_behind-nothing, repeats_behind-end, holds_nothing, holds_next_one, repeats_there, repeats_later}
 use Rattle.policy_core.specs.declared.lists.Trusted.{Trusted}
 use Rattle.policy_core.proofs.whole.repeats.Goals as goal
