@@ -1,10 +1,11 @@
 -- A whole certificate: what is read is spelled so, and what is spelled so is read again.
-use Rattle.std.proofs.Common.{◌≡◌, ℕ, ◌^◌, ◌<◌, true, false, List, [], ◌∷◌, ◌++◌, length, Result, Ok, Err, IfOk, refl, sym, ap, subst, ◌∙◌, arith, inl, inr, lit<, eqb-true, lt-ltb, ltb-true}
+use Rattle.std.proofs.Common.{◌≡◌, ℕ, ◌^◌, ◌<◌, true, false, [], ◌∷◌, ◌++◌, length, Result, Ok, Err, IfOk, refl, sym, ap, subst, ◌∙◌, arith, inl, inr, lit<, eqb-true, lt-ltb, ltb-true}
 use Rattle.std.specs.Prelude.{◌==◌, nat_lt}
 use Rattle.std.proofs.lemmas.List.{length-append}
 use Rattle.std.proofs.lemmas.Slice.Eq.{bytes_eq-Decides}
-use Rattle.byte_forms.specs.Places.{At, IsBytes}
-use Rattle.byte_forms.specs.Readings.{both_at, mapped_at, tested_at, headed_at, refused_at, Gives}
+use Rattle.byte_forms.specs.Types.{Text}
+use Rattle.byte_forms.specs.Places.{IsBytes}
+use Rattle.byte_forms.specs.Readings.{both_at, mapped_at, tested_at, headed_at, refused_at, Gives, Reading}
 use Rattle.byte_forms.specs.Forms.{IsForm, Anything, Nothing, OtherThan, IsSpelling, itself, both, FitsBoth}
 use Rattle.byte_forms.proofs.Forms.{said_form, spelled_form, ended_form, both_form, mapped_form, tested_form, headed_form, refused_form, one_form}
 use Rattle.der_core.specs.Elements.{element}
@@ -14,14 +15,14 @@ use Rattle.der_core.specs.declared.fault.CertError.{CertError}
 use Rattle.der_core.specs.declared.fault.CertError.TheVariants.{BadVersion, BadSerial, AlgorithmsDiffer, UniqueId}
 use Rattle.der_core.proofs.Elements.{element-longer, begins_with-element}
 use Rattle.der_core.proofs.Fields.{tag_of, all_takes, all_again, inside_form, element_with_form, unsigned_form}
-use Rattle.cert_time.specs.declared.validity.Validity.{Validity}
+use Rattle.cert_time.specs.Calendar.{Period}
 use Rattle.cert_fields.specs.Keys.{algorithm_at, spki_at, signature_at}
 use Rattle.cert_fields.specs.Names.{name_at}
 use Rattle.cert_fields.specs.Times.{validity_at}
 use Rattle.cert_fields.specs.Extensions.{extensions_at}
-use Rattle.cert_fields.specs.Certificate.{Parts, Body, nothing, version_at, serial_at, is_unique_id, body_at, tbs_at, same_algorithm, signed_at, to_parts, certificate_at, parts_of}
+use Rattle.cert_fields.specs.Certificate.{Parts, Body, nothing, version_at, serial_at, is_unique_id, behind_serial_at, tbs_at, same_algorithm, signed_at, to_parts, certificate_at, parts_of}
 use Rattle.cert_fields.specs.Spelling.{version, tbs_fields, certificate}
-use Rattle.cert_fields.specs.Grammar.{IsAlgorithm, IsPublicKey, IsName, IsValidity, IsSignature, IsCertificate}
+use Rattle.cert_fields.specs.Grammar.{IsAlgorithm, IsPublicKey, IsName, IsValidity, IsSignatureValue, IsCertificate}
 use Rattle.cert_fields.specs.Views.{parts}
 use Rattle.cert_fields.specs.declared.cert.Cert.{Cert}
 use Rattle.cert_fields.proofs.FieldForms.{algorithm_form, spki_form, name_form, validity_form, signature_form}
@@ -32,13 +33,13 @@ use Rattle.cert_fields.proofs.ExtensionForms.{IsExtensions, extensions_form}
 abbrev IsVersion : ℕ → Type 0
 IsVersion n = (n < 2 ^ 64) × ((n == 2) ≡ true)
 
-abbrev number : ℕ → List ℕ
+abbrev number : ℕ → Text
 number n = element 0x02 (integer n)
 
 abbrev pub NoValue : Unit {0} → Type 0
 NoValue x = Unit {0}
 
-abbrev pub version_text : Unit {0} → List ℕ
+abbrev pub version_text : Unit {0} → Text
 version_text x = version
 
 version_is : element 0xA0 (element 0x02 (integer 2)) ≡ version
@@ -52,9 +53,9 @@ version-short = lit< tt
 pub version_form : IsForm version_text NoValue Anything version_at
 unfolding version_at
 version_form =
-    let read : At → Result (ℕ × At) CertError = tested_at (λ n. n == 2) BadVersion (unsigned_at BadVersion) in
+    let read : Reading ℕ CertError = tested_at (λ n. n == 2) BadVersion (unsigned_at BadVersion) in
     let Fits : ℕ → Type 0 = λ n. IsVersion n × (length (number n) < 2 ^ 24) in
-    let spell : ℕ → List ℕ = λ n. element 0xA0 (number n) in
+    let spell : ℕ → Text = λ n. element 0xA0 (number n) in
     let two : Unit {0} → ℕ = λ x. 2 in
     spelled_form (λ x. spell (two x)) version_text NoValue Anything version_at (λ x f. version_is)
     (said_form (λ x. spell (two x)) (λ x. Fits (two x)) NoValue Anything Anything version_at (λ x f. tt) (λ x f. ((lit< tt, refl), version-short)) (λ rest q. q)
@@ -73,16 +74,16 @@ serial_form = tested_form number (λ n. n < 2 ^ 64) Anything (unsigned_at BadSer
 
 -- ---- the fields behind the serial number
 
-abbrev moments_text : List ℕ × Validity → List ℕ
+abbrev moments_text : Text × Period → Text
 moments_text v = v.0
 
-no_unique_id : (bytes rest : List ℕ) → IsExtensions bytes → rest ≡ [] → is_unique_id (bytes ++ rest) ≡ false
+no_unique_id : (bytes rest : Text) → IsExtensions bytes → rest ≡ [] → is_unique_id (bytes ++ rest) ≡ false
 unfolding element
 no_unique_id bytes rest (inl none) end =
-    let P : List ℕ → Type 0 = λ t. is_unique_id t ≡ false in
-    subst P (sym (ap (λ (b : List ℕ). b ++ rest) none ∙ end)) refl
+    let P : Text → Type 0 = λ t. is_unique_id t ≡ false in
+    subst P (sym (ap (λ (b : Text). b ++ rest) none ∙ end)) refl
 no_unique_id bytes rest (inr field) end =
-    let P : List ℕ → Type 0 = λ t. is_unique_id (t ++ rest) ≡ false in
+    let P : Text → Type 0 = λ t. is_unique_id (t ++ rest) ≡ false in
     subst P (sym field.2) refl
 
 last_field : IsForm itself IsExtensions Nothing (refused_at is_unique_id UniqueId extensions_at)
@@ -90,16 +91,16 @@ last_field =
     refused_form itself IsExtensions Nothing extensions_at is_unique_id UniqueId no_unique_id
     (ended_form itself IsExtensions (λ rest. Anything rest × OtherThan 0xA3 rest) extensions_at (tt, tt) extensions_form)
 
-abbrev pub body_text : Body → List ℕ
+abbrev pub body_text : Body → Text
 body_text = both itself (both itself (both moments_text (both itself (both itself itself))))
 
 abbrev pub IsBody : Body → Type 0
 IsBody = FitsBoth IsAlgorithm (FitsBoth IsName (FitsBoth IsValidity (FitsBoth IsName (FitsBoth IsPublicKey IsExtensions))))
 
-body_form : IsForm body_text IsBody Nothing body_at
-unfolding body_at
+body_form : IsForm body_text IsBody Nothing behind_serial_at
+unfolding behind_serial_at
 body_form =
-    let last : At → Result (List ℕ × At) CertError = refused_at is_unique_id UniqueId extensions_at in
+    let last : Reading Text CertError = refused_at is_unique_id UniqueId extensions_at in
     both_form itself IsAlgorithm Anything algorithm_at
     (both itself (both moments_text (both itself (both itself itself)))) (FitsBoth IsName (FitsBoth IsValidity (FitsBoth IsName (FitsBoth IsPublicKey IsExtensions)))) Nothing
     (both_at name_at (both_at validity_at (both_at name_at (both_at spki_at last)))) algorithm_form
@@ -121,13 +122,13 @@ body_form =
 abbrev Signed : Type 0
 Signed = Unit {0} × (ℕ × Body)
 
-abbrev signed_text : Signed → List ℕ
+abbrev signed_text : Signed → Text
 signed_text = both version_text (both number body_text)
 
 abbrev IsSigned : Signed → Type 0
 IsSigned = FitsBoth NoValue (FitsBoth IsSerial IsBody)
 
-abbrev tbs_text : Signed → List ℕ
+abbrev tbs_text : Signed → Text
 tbs_text x = element 0x30 (signed_text x)
 
 abbrev IsTbs : Signed → Type 0
@@ -136,15 +137,15 @@ IsTbs x = IsSigned x × (length (signed_text x) < 2 ^ 24)
 tbs_form : IsForm tbs_text IsTbs Anything tbs_at
 unfolding tbs_at
 tbs_form =
-    inside_form 0x30 signed_text IsSigned (both_at version_at (both_at serial_at body_at)) (tag_of 0x30 (lit< tt) refl)
-    (both_form version_text NoValue Anything version_at (both number body_text) (FitsBoth IsSerial IsBody) Nothing (both_at serial_at body_at) version_form
-    (both_form number IsSerial Anything serial_at body_text IsBody Nothing body_at serial_form body_form (λ y rest f q. tt))
+    inside_form 0x30 signed_text IsSigned (both_at version_at (both_at serial_at behind_serial_at)) (tag_of 0x30 (lit< tt) refl)
+    (both_form version_text NoValue Anything version_at (both number body_text) (FitsBoth IsSerial IsBody) Nothing (both_at serial_at behind_serial_at) version_form
+    (both_form number IsSerial Anything serial_at body_text IsBody Nothing behind_serial_at serial_form body_form (λ y rest f q. tt))
     (λ y rest f q. tt))
 
-abbrev IsSequence : List ℕ → Type 0
+abbrev IsSequence : Text → Type 0
 IsSequence = IsSpelling (element 0x30) (λ contents. length contents < 2 ^ 24)
 
-abbrev IsPair : Signed × List ℕ → Type 0
+abbrev IsPair : Signed × Text → Type 0
 IsPair x = FitsBoth IsTbs IsSequence x × (same_algorithm x ≡ true)
 
 signed_form : IsForm (both tbs_text itself) IsPair Anything signed_at
@@ -153,17 +154,17 @@ signed_form =
     tested_form (both tbs_text itself) (FitsBoth IsTbs IsSequence) Anything (both_at tbs_at (element_with_at 0x30)) same_algorithm AlgorithmsDiffer
     (both_form tbs_text IsTbs Anything tbs_at itself IsSequence Anything (element_with_at 0x30) tbs_form (element_with_form 0x30 (tag_of 0x30 (lit< tt) refl)) (λ y rest f q. tt))
 
-abbrev signature_text : List ℕ → List ℕ
+abbrev signature_text : Text → Text
 signature_text proof = element 0x03 (0 ∷ proof)
 
 abbrev Whole : Type 0
-Whole = (Signed × List ℕ) × List ℕ
+Whole = (Signed × Text) × Text
 
-abbrev whole_text : Whole → List ℕ
+abbrev whole_text : Whole → Text
 whole_text = both (both tbs_text itself) signature_text
 
 abbrev IsWhole : Whole → Type 0
-IsWhole = FitsBoth IsPair IsSignature
+IsWhole = FitsBoth IsPair IsSignatureValue
 
 abbrev from_parts : Parts → Whole
 from_parts p =
@@ -173,10 +174,10 @@ from_parts p =
 same_ways : (x : Whole) → IsWhole x → from_parts (to_parts x) ≡ x
 same_ways x f =
     let same : x.0.0.1.1.0 ≡ x.0.1 = (bytes_eq-Decides x.0.0.1.1.0 x.0.1).0 f.0.1 in
-    let inside : List ℕ → Whole = λ t. (((tt, (x.0.0.1.0, (t, x.0.0.1.1.1))), x.0.1), x.1) in
+    let inside : Text → Whole = λ t. (((tt, (x.0.0.1.0, (t, x.0.0.1.1.1))), x.0.1), x.1) in
     ap inside (sym same)
 
-algorithm_sequence : (bytes : List ℕ) → IsAlgorithm bytes → IsSequence bytes
+algorithm_sequence : (bytes : Text) → IsAlgorithm bytes → IsSequence bytes
 algorithm_sequence bytes f = (both (element 0x06) itself f.0, f.1.1, f.2)
 
 parts_to : (p : Parts) → IsWhole (from_parts p) × (length (whole_text (from_parts p)) < 2 ^ 24) → IsCertificate p
@@ -209,17 +210,17 @@ parts_from p f =
 pub certificate_form : IsForm certificate IsCertificate Anything certificate_at
 unfolding certificate_at certificate
 certificate_form =
-    let read : At → Result (Whole × At) CertError = both_at signed_at signature_at in
+    let read : Reading Whole CertError = both_at signed_at signature_at in
     let Known : Whole → Type 0 = λ x. IsWhole x × (length (whole_text x) < 2 ^ 24) in
-    let spell : Whole → List ℕ = λ x. element 0x30 (whole_text x) in
+    let spell : Whole → Text = λ x. element 0x30 (whole_text x) in
     said_form (λ p. spell (from_parts p)) (λ p. Known (from_parts p)) IsCertificate Anything Anything (mapped_at to_parts (inside_at 0x30 read)) parts_to parts_from (λ rest q. q)
     (mapped_form spell Known Anything (inside_at 0x30 read) to_parts from_parts (λ x f. same_ways x f.0) (λ p f. refl)
     (inside_form 0x30 whole_text IsWhole read (tag_of 0x30 (lit< tt) refl)
     (ended_form whole_text IsWhole Anything read tt
-    (both_form (both tbs_text itself) IsPair Anything signed_at signature_text IsSignature Anything signature_at signed_form signature_form (λ y rest f q. tt)))))
+    (both_form (both tbs_text itself) IsPair Anything signed_at signature_text IsSignatureValue Anything signature_at signed_form signature_form (λ y rest f q. tt)))))
 
 -- What parse reads is the certificate of its parts, and only a certificate is read.
-pub parts_only : (bytes : List ℕ) (p : Parts) → IsBytes bytes → parts_of bytes ≡ Ok p → (bytes ≡ certificate p) × IsCertificate p
+pub parts_only : (bytes : Text) (p : Parts) → IsBytes bytes → parts_of bytes ≡ Ok p → (bytes ≡ certificate p) × IsCertificate p
 unfolding parts_of
 parts_only bytes p h e = all_takes certificate IsCertificate certificate_at certificate_form bytes p h e
 
@@ -227,23 +228,23 @@ pub parts_again : (p : Parts) → IsCertificate p → parts_of (certificate p) �
 unfolding parts_of
 parts_again p f = all_again certificate IsCertificate certificate_at certificate_form p f
 
-pub one_certificate : (p q : Parts) (s t : List ℕ) → IsCertificate p → IsCertificate q → certificate p ++ s ≡ certificate q ++ t → (p ≡ q) × (s ≡ t)
+pub one_certificate : (p q : Parts) (s t : Text) → IsCertificate p → IsCertificate q → certificate p ++ s ≡ certificate q ++ t → (p ≡ q) × (s ≡ t)
 one_certificate p q s t = one_form certificate IsCertificate certificate_at certificate_form p q s t
 
 -- ---- an answer that is exactly what is wanted
 
-pub gives_found : (bytes : List ℕ) (r : Result Cert CertError) → IsBytes bytes → Gives parts r (parts_of bytes)
+pub gives_found : (bytes : Text) (r : Result Cert CertError) → IsBytes bytes → Gives parts r (parts_of bytes)
     → IfOk r (λ c. (bytes ≡ certificate (parts c)) × IsCertificate (parts c))
 gives_found bytes (Ok c) h e = parts_only bytes (parts c) h e
 gives_found bytes (Err fault) h e = tt
 
-pub gives_only : (bytes : List ℕ) (r : Result Cert CertError) → Gives parts r (parts_of bytes)
+pub gives_only : (bytes : Text) (r : Result Cert CertError) → Gives parts r (parts_of bytes)
     → (p : Parts) → IsCertificate p → bytes ≡ certificate p → Gives parts r (Ok p)
 gives_only bytes r e p f same =
     let P : Result Parts CertError → Type 0 = λ wanted. Gives parts r wanted in
     subst P (ap parts_of same ∙ parts_again p f) e
 
-pub written_again : {E : Type 0} (p : Parts) (r : Result (List ℕ) E) → IfOk r (λ bytes. bytes ≡ certificate p)
+pub written_again : {E : Type 0} (p : Parts) (r : Result Text E) → IfOk r (λ bytes. bytes ≡ certificate p)
     → IsCertificate p → IfOk r (λ bytes. parts_of bytes ≡ Ok p)
 written_again p (Ok bytes) same f = ap parts_of same ∙ parts_again p f
 written_again p (Err e) same f = tt

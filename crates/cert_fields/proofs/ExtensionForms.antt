@@ -1,10 +1,11 @@
 -- Extensions: what is read is spelled so, and what is spelled so is read again.
-use Rattle.std.proofs.Common.{◌≡◌, ◌≢◌, ℕ, ◌+◌, ◌^◌, ◌<◌, Bool, true, false, List, [], ◌∷◌, ◌++◌, length, Result, Ok, Err, Option, Some, None, IfSome, refl, sym, ap, subst, arith, ◌⊎◌, lit<}
+use Rattle.std.proofs.Common.{◌≡◌, ◌≢◌, ℕ, ◌+◌, ◌^◌, ◌<◌, Bool, true, false, List, [], ◌∷◌, ◌++◌, length, Ok, Err, Option, Some, None, IfSome, refl, sym, ap, subst, arith, ◌⊎◌, lit<}
 use Rattle.std.specs.Prelude.{if◌then◌else◌, not, is_some}
 use Rattle.std.specs.List.{flat_map, AllByRecursion}
 use Rattle.std.proofs.lemmas.List.{length-append}
-use Rattle.byte_forms.specs.Places.{At, at, IsBytes, begins_with}
-use Rattle.byte_forms.specs.Readings.{both_at, mapped_at, tested_at, optional_at, some_at, is_read}
+use Rattle.byte_forms.specs.Types.{Text}
+use Rattle.byte_forms.specs.Places.{At, IsBytes, begins_with}
+use Rattle.byte_forms.specs.Readings.{both_at, mapped_at, tested_at, optional_at, some_at, is_read, Reading}
 use Rattle.byte_forms.specs.Forms.{Stands, IsForm, Anything, Nothing, OtherThan, itself, both, FitsBoth, optional, FitsEach}
 use Rattle.byte_forms.specs.Lists.{up_to_end}
 use Rattle.byte_forms.proofs.Steps.{bind_ok, pass_ok, ok_is, read_ok, IsBytes-front, IsBytes-back}
@@ -35,15 +36,15 @@ general_name_form = record {
       let s = bind_ok (der (element_at a)) (λ (v : Item × At). if is_general_name v.0.tag v.0.contents then Ok (v.0.whole, v.1) else Err BadExtension) (bytes, b) e in
       let g = pass_ok (is_general_name s.0.0.tag s.0.0.contents) (Ok (s.0.0.whole, s.0.1)) BadExtension (bytes, b) s.2 in
       let read = element_takes a s.0.0 s.0.1 h (der_ok (element_at a) s.0 s.1) in
-      let P : List ℕ × At → Type 0 = λ v. Stands a v.0 v.1 × IsGeneralName v.0 in
+      let P : Text × At → Type 0 = λ v. Stands a v.0 v.1 × IsGeneralName v.0 in
       subst P (ok_is CertError (s.0.0.whole, s.0.1) (bytes, b) g.1)
       (rw read.whole read.stands, record { tag = s.0.0.tag; contents = s.0.0.contents; fits = read.fits; allowed = g.0; spelled = read.whole });
   again = λ bytes p rest f q.
-      let P : List ℕ → Type 0 = λ t. general_name_at (record { place = p; rest = t ++ rest }) ≡ Ok (t, record { place = p + length t; rest = rest }) in
+      let P : Text → Type 0 = λ t. general_name_at (record { place = p; rest = t ++ rest }) ≡ Ok (t, record { place = p + length t; rest = rest }) in
       subst P (sym f.spelled) (rw (element_again f.tag f.contents p rest f.fits, f.allowed) refl);
 }
 
-general_name_some : (bytes : List ℕ) → IsGeneralName bytes → 0 < length bytes
+general_name_some : (bytes : Text) → IsGeneralName bytes → 0 < length bytes
 general_name_some bytes f = omega (arith, ap length f.spelled, element-longer f.tag f.contents)
 
 general_names_form : IsForm itself IsGeneralNames Anything general_names_at
@@ -55,21 +56,21 @@ general_names_form =
     (many_form itself IsGeneralName general_name_at general_name_some general_name_form))
 
 -- The test of the octets passes exactly general names.
-pub general_names_only : (octets : List ℕ) → IsBytes octets → are_general_names octets ≡ true → IsGeneralNames octets
+pub general_names_only : (octets : Text) → IsBytes octets → are_general_names octets ≡ true → IsGeneralNames octets
 unfolding are_general_names
 general_names_only octets h e =
     let r = read_ok (all_of general_names_at octets) e in
     let known = all_takes itself IsGeneralNames general_names_at general_names_form octets r.0 h r.1 in
     subst IsGeneralNames (sym known.0) known.1
 
-pub general_names_again : (octets : List ℕ) → IsGeneralNames octets → are_general_names octets ≡ true
+pub general_names_again : (octets : Text) → IsGeneralNames octets → are_general_names octets ≡ true
 unfolding are_general_names
 general_names_again octets f = ap is_read (all_again itself IsGeneralNames general_names_at general_names_form octets f)
 
 -- ---- one extension
 
 -- A test that looks at the bytes of a value, said otherwise.
-tested_as : {X E : Type 0} (spell : X → List ℕ) (Fits : X → Type 0) (Follows : List ℕ → Type 0) (read : At → Result (X × At) E) (test : X → Bool) (fault : E) (Says : X → Type 0)
+tested_as : {X E : Type 0} (spell : X → Text) (Fits : X → Type 0) (Follows : Text → Type 0) (read : Reading X E) (test : X → Bool) (fault : E) (Says : X → Type 0)
     → ((x : X) → IsBytes (spell x) → test x ≡ true → Says x) → ((x : X) → Says x → test x ≡ true)
     → IsForm spell Fits Follows read → IsForm spell (λ x. Fits x × Says x) Follows (tested_at test fault read)
 tested_as spell Fits Follows read test fault Says to from form =
@@ -77,12 +78,12 @@ tested_as spell Fits Follows read test fault Says to from form =
     record {
       takes = λ a x b h e.
           let t = tested.takes a x b h e in
-          let P : List ℕ → Type 0 = IsBytes in
+          let P : Text → Type 0 = IsBytes in
           (t.0, (t.1.0, to x (IsBytes-front (spell x) b.rest (subst P t.0.parts h)) t.1.1));
       again = λ x p rest f q. tested.again x p rest (f.0, from x f.1) q;
     }
 
-new_identifier_form : (seen : List (List ℕ))
+new_identifier_form : (seen : List Text)
     → IsForm (element 0x06) (λ identifier. IsIdentifier identifier × (not (is_among identifier seen) ≡ true)) Anything (new_identifier_at seen)
 unfolding new_identifier_at
 new_identifier_form seen = tested_form (element 0x06) IsIdentifier Anything (decoded_at 0x06 oid_of) (λ identifier. not (is_among identifier seen)) RepeatedExtension identifier_form
@@ -90,7 +91,7 @@ new_identifier_form seen = tested_form (element 0x06) IsIdentifier Anything (dec
 abbrev AnyMark : Bool → Type 0
 AnyMark b = Unit {0}
 
-abbrev truth : Bool → List ℕ
+abbrev truth : Bool → Text
 truth b = element 0x01 (boolean b)
 
 abbrev IsTruth : Bool → Type 0
@@ -120,7 +121,7 @@ marked_fits false = tt
 critical_form : IsForm mark AnyMark (OtherThan 0x01) critical_at
 unfolding critical_at
 critical_form =
-    let read : At → Result (Bool × At) CertError = tested_at (λ b. b) BadExtension (decoded_at 0x01 boolean_of) in
+    let read : Reading Bool CertError = tested_at (λ b. b) BadExtension (decoded_at 0x01 boolean_of) in
     spelled_form (λ b. optional truth (marked b)) mark AnyMark (OtherThan 0x01) (mapped_at is_some (optional_at 0x01 read)) (λ b f. mark_is b)
     (said_form (λ b. optional truth (marked b)) (λ b. IfSome (marked b) IsTruth) AnyMark (λ rest. Anything rest × OtherThan 0x01 rest) (OtherThan 0x01) (mapped_at is_some (optional_at 0x01 read))
     (λ b f. tt) (λ b f. marked_fits b) (λ rest q. (tt, q))
@@ -129,14 +130,14 @@ critical_form =
     (tested_form truth (λ b. FitsBoolean b × (length (boolean b) < 2 ^ 24)) Anything (decoded_at 0x01 boolean_of) (λ b. b) BadExtension
     (decoded_form 0x01 boolean FitsBoolean boolean_of (tag_of 0x01 (lit< tt) refl) boolean_contents)))))
 
-other_element : (byte tag : ℕ) (contents rest : List ℕ) → tag ≢ byte → OtherThan byte (element tag contents ++ rest)
+other_element : (byte tag : ℕ) (contents rest : Text) → tag ≢ byte → OtherThan byte (element tag contents ++ rest)
 unfolding element
 other_element byte tag contents rest ne = ne
 
-abbrev from_extension : ExtensionFields → List ℕ × (Bool × List ℕ)
+abbrev from_extension : ExtensionFields → Text × (Bool × Text)
 from_extension x = (x.identifier, (x.critical, x.octets))
 
-abbrev Octets : List ℕ → Type 0
+abbrev Octets : Text → Type 0
 Octets contents = length contents < 2 ^ 24
 
 abbrev HasNames : ExtensionFields → Type 0
@@ -169,10 +170,10 @@ not_false : (b : Bool) → b ≡ false → not b ≡ true
 not_false true e = absurd cc
 not_false false e = refl
 
-abbrev Fields : List (List ℕ) → List ℕ × (Bool × List ℕ) → Type 0
-Fields seen = FitsBoth (λ (identifier : List ℕ). IsIdentifier identifier × (not (is_among identifier seen) ≡ true)) (FitsBoth AnyMark Octets)
+abbrev Fields : List Text → Text × (Bool × Text) → Type 0
+Fields seen = FitsBoth (λ (identifier : Text). IsIdentifier identifier × (not (is_among identifier seen) ≡ true)) (FitsBoth AnyMark Octets)
 
-contents_short : (seen : List (List ℕ)) (x : ExtensionFields) → IsExtension seen x → (length x.identifier < 2 ^ 24) × (length x.octets < 2 ^ 24)
+contents_short : (seen : List Text) (x : ExtensionFields) → IsExtension seen x → (length x.identifier < 2 ^ 24) × (length x.octets < 2 ^ 24)
 contents_short seen x f =
     let all = length-append (element 0x06 x.identifier) (mark x.critical ++ element 0x04 x.octets) in
     let behind = length-append (mark x.critical) (element 0x04 x.octets) in
@@ -180,11 +181,11 @@ contents_short seen x f =
     let two = element-longer 0x04 x.octets in
     (omega (arith, f.short, all, one), omega (arith, f.short, all, behind, two))
 
-pub extension_form : (seen : List (List ℕ)) → IsForm extension (IsExtension seen) Anything (extension_at seen)
+pub extension_form : (seen : List Text) → IsForm extension (IsExtension seen) Anything (extension_at seen)
 unfolding extension_at
 extension_form seen =
-    let fields : At → Result ((List ℕ × (Bool × List ℕ)) × At) CertError = both_at (new_identifier_at seen) (both_at critical_at (contents_at 0x04)) in
-    let read : At → Result (ExtensionFields × At) CertError = mapped_at to_extension fields in
+    let fields : Reading (Text × (Bool × Text)) CertError = both_at (new_identifier_at seen) (both_at critical_at (contents_at 0x04)) in
+    let read : Reading ExtensionFields CertError = mapped_at to_extension fields in
     let Known : ExtensionFields → Type 0 = λ x. (Fields seen (from_extension x) × HasNames x) × (length (extension_contents x) < 2 ^ 24) in
     said_form extension Known (IsExtension seen) Anything Anything (extension_at seen)
     (λ x f. record { identifier = f.0.0.0.0.0; new = not_true (is_among x.identifier seen) f.0.0.0.1; names = f.0.1; short = f.1 })
@@ -205,7 +206,7 @@ extension_form seen =
 
 -- ---- the field
 
-extension_some : (seen : List (List ℕ)) (x : ExtensionFields) → IsExtension seen x → 0 < length (extension x)
+extension_some : (seen : List Text) (x : ExtensionFields) → IsExtension seen x → 0 < length (extension x)
 extension_some seen x f = omega (arith, element-longer 0x30 (extension_contents x))
 
 list_form : IsForm (flat_map extension) (FitsEach identifier_of IsExtension []) Nothing extension_list_at
@@ -225,7 +226,7 @@ sequence_form =
     (λ xs f. record { some = f.1; each = f.0 }) (λ xs f. (f.each, f.some)) (λ rest q. q)
     (some_form (flat_map extension) (FitsEach identifier_of IsExtension []) extension_list_at BadExtension list_drains list_form))
 
-abbrev pub IsExtensions : List ℕ → Type 0
+abbrev pub IsExtensions : Text → Type 0
 IsExtensions bytes = (bytes ≡ []) ⊎ IsExtensionsField bytes
 
 pub extensions_form : IsForm itself IsExtensions (λ rest. Anything rest × OtherThan 0xA3 rest) extensions_at
@@ -233,7 +234,7 @@ unfolding extensions_at
 extensions_form =
     or_nothing_form IsExtensionsField Anything (whole_at 0xA3 extension_sequence_at) 163
     (λ bytes rest f.
-    let P : List ℕ → Type 0 = λ t. begins_with 0xA3 (t ++ rest) ≡ true in
+    let P : Text → Type 0 = λ t. begins_with 0xA3 (t ++ rest) ≡ true in
     subst P (sym f.2) (begins_with-element 0xA3 f.0 rest))
     (whole_form 0xA3 itself IsExtensionSequence extension_sequence_at (tag_of 0xA3 (lit< tt) refl)
     (ended_form itself IsExtensionSequence Anything extension_sequence_at tt sequence_form))

@@ -3,8 +3,9 @@ use Rattle.std.proofs.Common.{◌≡◌, ◌≢◌, ℕ, zero, suc, ◌+◌, ◌
 use Rattle.std.specs.Prelude.{if◌then◌else◌, ◌==◌, ℤ}
 use Rattle.std.specs.List.{flat_map, AllByRecursion}
 use Rattle.std.proofs.lemmas.List.{length-append, nil_from_length}
+use Rattle.byte_forms.specs.Types.{Text}
 use Rattle.byte_forms.specs.Places.{At, IsBytes}
-use Rattle.byte_forms.specs.Readings.{◌>>=◌, some_or, discarded, both_at, mapped_at, last_at}
+use Rattle.byte_forms.specs.Readings.{◌>>=◌, some_or, discarded, both_at, mapped_at, last_at, Reading}
 use Rattle.byte_forms.specs.Forms.{Stands, IsForm, Anything, Nothing, itself, both, FitsBoth, FitsEach}
 use Rattle.byte_forms.specs.Lists.{up_to_end, each_at}
 use Rattle.byte_forms.proofs.Steps.{bind_ok, chosen, guard_ok, pass_ok, ok_is, discarded_ok, some_or_ok}
@@ -15,8 +16,8 @@ use Rattle.der_core.specs.Items.{Item, inside}
 use Rattle.der_core.specs.Reading.{wanted_at, end_at}
 use Rattle.der_core.specs.Contents.{oid_of, bits_of, are_unused}
 use Rattle.der_core.specs.Fields.{der, decoded_at, any_at}
-use Rattle.der_core.specs.Sets.{risen_at, last_of, rising_at, checked, order_of}
-use Rattle.der_core.specs.Forms.{IsElement, IsContents, IsOid, bit_string, IsBitString, IsNext}
+use Rattle.der_core.specs.Sets.{risen_at, last_of, rising_at, finished, order_of}
+use Rattle.der_core.specs.Forms.{IsElement, IsContents, IsOid, bit_string, IsBitString, IsRisen}
 use Rattle.der_core.specs.declared.fault.DerError.{DerError}
 use Rattle.der_core.specs.declared.fault.DerError.TheVariants.{BadBits}
 use Rattle.der_core.specs.declared.fault.CertError.{CertError}
@@ -24,14 +25,13 @@ use Rattle.der_core.specs.declared.fault.CertError.TheVariants.{BadTime, BadName
 use Rattle.der_core.proofs.Elements.{wanted_takes, wanted_again, element-longer}
 use Rattle.der_core.proofs.Rules.{oid_contents, bits_contents}
 use Rattle.der_core.proofs.Fields.{tag_of, der_ok, decoded_form, any_form, whole_form, noted_form, next_some, risen_form, rising_form}
-use Rattle.cert_time.specs.Calendar.{IsMoment}
+use Rattle.cert_time.specs.Calendar.{IsMoment, Period}
 use Rattle.cert_time.specs.Times.{time_tag, time_contents, time_moment, short_element, validity_element}
-use Rattle.cert_time.specs.declared.validity.Validity.{Validity}
 use Rattle.cert_time.proofs.BothWays.{time_moment-only, time_moment-time, time_shape}
 use Rattle.cert_fields.specs.Keys.{algorithm_at, spki_at, whole_bits_of, signature_at}
 use Rattle.cert_fields.specs.Names.{attribute_at, set_at, name_at}
 use Rattle.cert_fields.specs.Times.{tag_wanted, time_at, from_to, validity_at}
-use Rattle.cert_fields.specs.Grammar.{IsIdentifier, IsElementOrNothing, IsAlgorithm, IsBits, IsPublicKey, IsAttribute, IsSet, IsName, IsValidity, IsSignature}
+use Rattle.cert_fields.specs.Grammar.{IsIdentifier, IsElementOrNothing, IsAlgorithm, IsBits, IsPublicKey, IsAttribute, IsSet, IsName, IsValidity, IsSignatureValue}
 use Rattle.cert_fields.proofs.Sizes.{time-short}
 
 -- ---- algorithms and keys
@@ -39,7 +39,7 @@ use Rattle.cert_fields.proofs.Sizes.{time-short}
 pub identifier_form : IsForm (element 0x06) IsIdentifier Anything (decoded_at 0x06 oid_of)
 identifier_form = decoded_form 0x06 itself IsOid oid_of (tag_of 0x06 (lit< tt) refl) oid_contents
 
-pub element_some : (bytes : List ℕ) → IsElement bytes → 0 < length bytes
+pub element_some : (bytes : Text) → IsElement bytes → 0 < length bytes
 element_some bytes f = omega (arith, ap length f.spelled, element-longer f.tag f.contents)
 
 pub algorithm_form : IsForm itself IsAlgorithm Anything algorithm_at
@@ -62,35 +62,35 @@ spki_form =
 
 -- ---- the signature
 
-none_unused : (bytes : List ℕ) → are_unused 0 bytes ≡ true
+none_unused : (bytes : Text) → are_unused 0 bytes ≡ true
 none_unused [] = refl
 none_unused (b ∷ bytes) =
     let some : length (b ∷ bytes) ≢ 0 = omega arith in
     let none : slice_index (b ∷ bytes) (length (b ∷ bytes) - 1) % 1 ≡ 0 = omega arith in
     rw (ne_eqb (length (b ∷ bytes)) 0 some, none) refl
 
-abbrev pub AnyBytes : List ℕ → Type 0
+abbrev pub AnyBytes : Text → Type 0
 AnyBytes bytes = Unit {0}
 
-whole_bits : IsContents (λ (proof : List ℕ). 0 ∷ proof) AnyBytes whole_bits_of
+whole_bits : IsContents (λ (proof : Text). 0 ∷ proof) AnyBytes whole_bits_of
 unfolding whole_bits_of
 whole_bits = record {
   takes = λ place contents x h e.
-      let s = bind_ok (bits_of place contents) (λ (b : ℕ × List ℕ). if b.0 == 0 then Ok b.1 else Err (BadBits place)) x e in
+      let s = bind_ok (bits_of place contents) (λ (b : ℕ × Text). if b.0 == 0 then Ok b.1 else Err (BadBits place)) x e in
       let g = pass_ok (s.0.0 == 0) (Ok s.0.1) (BadBits place) x s.2 in
       let known = bits_contents.takes place contents s.0 h s.1 in
       let zero_is : s.0.0 ≡ 0 = eqb-true s.0.0 0 g.0 in
-      (known.0 ∙ ap (λ (n : ℕ). n ∷ s.0.1) zero_is ∙ ap (λ (bytes : List ℕ). 0 ∷ bytes) (ok_is DerError s.0.1 x g.1), tt);
+      (known.0 ∙ ap (λ (n : ℕ). n ∷ s.0.1) zero_is ∙ ap (λ (bytes : Text). 0 ∷ bytes) (ok_is DerError s.0.1 x g.1), tt);
   again = λ place x f. rw (bits_contents.again place (0, x) (record { few = lit≤ tt; zero = none_unused x })) refl;
 }
 
-pub signature_form : IsForm (λ (proof : List ℕ). element 0x03 (0 ∷ proof)) IsSignature Anything signature_at
+pub signature_form : IsForm (λ (proof : Text). element 0x03 (0 ∷ proof)) IsSignatureValue Anything signature_at
 unfolding signature_at
 signature_form =
-    let spell : List ℕ → List ℕ = λ proof. element 0x03 (0 ∷ proof) in
-    said_form spell (λ proof. AnyBytes proof × IsSignature proof) IsSignature Anything Anything (decoded_at 0x03 whole_bits_of)
+    let spell : Text → Text = λ proof. element 0x03 (0 ∷ proof) in
+    said_form spell (λ proof. AnyBytes proof × IsSignatureValue proof) IsSignatureValue Anything Anything (decoded_at 0x03 whole_bits_of)
     (λ x f. f.1) (λ x f. (tt, f)) (λ rest q. q)
-    (decoded_form 0x03 (λ (proof : List ℕ). 0 ∷ proof) AnyBytes whole_bits_of (tag_of 0x03 (lit< tt) refl) whole_bits)
+    (decoded_form 0x03 (λ (proof : Text). 0 ∷ proof) AnyBytes whole_bits_of (tag_of 0x03 (lit< tt) refl) whole_bits)
 
 -- ---- names
 
@@ -102,7 +102,7 @@ attribute_form =
     (both_form (element 0x06) IsIdentifier Anything (decoded_at 0x06 oid_of) itself IsElement Anything any_at identifier_form any_form (λ y rest f q. tt)))
 
 -- An element of some kind is an element.
-attribute_is : (bytes : List ℕ) → IsAttribute bytes → IsElement bytes
+attribute_is : (bytes : Text) → IsAttribute bytes → IsElement bytes
 attribute_is bytes f = record {
   tag = 48;
   contents = both (element 0x06) itself f.0;
@@ -110,22 +110,22 @@ attribute_is bytes f = record {
   spelled = f.2;
 }
 
-attribute_some : (bytes : List ℕ) → IsAttribute bytes → 0 < length bytes
+attribute_some : (bytes : Text) → IsAttribute bytes → 0 < length bytes
 attribute_some bytes f = element_some bytes (attribute_is bytes f)
 
-set_some : (bytes : List ℕ) → IsSet bytes → 0 < length bytes
+set_some : (bytes : Text) → IsSet bytes → 0 < length bytes
 set_some bytes f = omega (arith, ap length f.2, element-longer 0x31 (flat_map itself f.0))
 
-all_elements : (xs : List (List ℕ)) → AllByRecursion IsAttribute xs → AllByRecursion IsElement xs
+all_elements : (xs : List Text) → AllByRecursion IsAttribute xs → AllByRecursion IsElement xs
 all_elements [] f = tt
 all_elements (x ∷ xs) f = (attribute_is x f.0, all_elements xs f.1)
 
-each_elements : (seen xs : List (List ℕ)) → FitsEach itself IsNext seen xs → AllByRecursion IsElement xs
+each_elements : (seen xs : List Text) → FitsEach itself IsRisen seen xs → AllByRecursion IsElement xs
 each_elements seen [] f = tt
 each_elements seen (x ∷ xs) f = (f.0.is_element, each_elements (seen ++ x ∷ []) xs f.1)
 
 -- Values read with the keys of those before them in view take all of what is left.
-pub each_drains : {X K E : Type 0} (key : X → K) (spell : X → List ℕ) (Fits : List K → X → Type 0) (read : List K → At → Result (X × At) E)
+pub each_drains : {X K E : Type 0} (key : X → K) (spell : X → Text) (Fits : List K → X → Type 0) (read : List K → Reading X E)
     → ((seen : List K) (x : X) → Fits seen x → 0 < length (spell x)) → ((seen : List K) → IsForm spell (Fits seen) Anything (read seen))
     → (n : ℕ) (seen : List K) (a : At) (xs : List X) (b : At) → IsBytes a.rest → length a.rest ≤ n → each_at key read n seen a ≡ Ok (xs, b) → b.rest ≡ []
 unfolding each_at
@@ -148,12 +148,12 @@ each_drains {X} {K} {E} key spell Fits read some form (suc n) seen a xs b h le e
           ap (λ (v : List X × At). v.1.rest) (sym (ok_is E (s.0.0 ∷ t.0.0, t.0.1) (xs, b) t.2)) ∙ others
     ]
 
-checked_ok : (r : Result At DerError) (done : Unit {0}) → checked r ≡ Ok done → (b : At) × (r ≡ Ok b)
+checked_ok : (r : Result At DerError) (done : Unit {0}) → finished r ≡ Ok done → (b : At) × (r ≡ Ok b)
 checked_ok (Ok b) done e = (b, refl)
 checked_ok (Err d) done e = absurd cc
 
 -- The same bytes are cut into the same elements.
-same_elements : (xs ys : List (List ℕ)) → AllByRecursion IsElement xs → AllByRecursion IsElement ys → flat_map itself xs ≡ flat_map itself ys → xs ≡ ys
+same_elements : (xs ys : List Text) → AllByRecursion IsElement xs → AllByRecursion IsElement ys → flat_map itself xs ≡ flat_map itself ys → xs ≡ ys
 same_elements xs ys f g same =
     one_value (flat_map itself) (AllByRecursion IsElement) Nothing (up_to_end any_at) refl (many_form itself IsElement any_at element_some any_form) xs ys f g same
 
@@ -161,17 +161,17 @@ attributes_form : IsForm (flat_map itself) (AllByRecursion IsAttribute) Nothing 
 attributes_form = many_form itself IsAttribute attribute_at attribute_some attribute_form
 
 -- The encodings that were found to rise are the attributes.
-attributes_rise : (e : Item) (xs : List (List ℕ)) (done : Unit {0}) → IsBytes e.contents → e.contents ≡ flat_map itself xs → AllByRecursion IsAttribute xs → order_of e ≡ Ok done
-    → FitsEach itself IsNext [] xs
+attributes_rise : (e : Item) (xs : List Text) (done : Unit {0}) → IsBytes e.contents → e.contents ≡ flat_map itself xs → AllByRecursion IsAttribute xs → order_of e ≡ Ok done
+    → FitsEach itself IsRisen [] xs
 attributes_rise e xs done h parts each order =
     let c = checked_ok (discarded (rising_at e.place (inside e))) done order in
     let d = discarded_ok (rising_at e.place (inside e)) c.0 c.1 in
     let rise = (rising_form e.place).takes (inside e) d.0 c.0 h d.1 in
-    let end : c.0.rest ≡ [] = each_drains itself itself IsNext (λ (seen : List (List ℕ)). risen_at e.place (last_of seen)) next_some (risen_form e.place) (length e.contents) [] (inside e) d.0 c.0 h (omega arith) d.1 in
-    let all : e.contents ≡ flat_map itself d.0 = rise.0.parts ∙ ap (λ (t : List ℕ). flat_map itself d.0 ++ t) end ∙ append-nil (flat_map itself d.0) in
-    subst (FitsEach itself IsNext []) (same_elements d.0 xs (each_elements [] d.0 rise.1) (all_elements xs each) (sym all ∙ parts)) rise.1
+    let end : c.0.rest ≡ [] = each_drains itself itself IsRisen (λ (seen : List Text). risen_at e.place (last_of seen)) next_some (risen_form e.place) (length e.contents) [] (inside e) d.0 c.0 h (omega arith) d.1 in
+    let all : e.contents ≡ flat_map itself d.0 = rise.0.parts ∙ ap (λ (t : Text). flat_map itself d.0 ++ t) end ∙ append-nil (flat_map itself d.0) in
+    subst (FitsEach itself IsRisen []) (same_elements d.0 xs (each_elements [] d.0 rise.1) (all_elements xs each) (sym all ∙ parts)) rise.1
 
-set_takes : (a : At) (x : List ℕ) (b : At) → IsBytes a.rest → set_at a ≡ Ok (x, b) → Stands a x b × IsSet x
+set_takes : (a : At) (x : Text) (b : At) → IsBytes a.rest → set_at a ≡ Ok (x, b) → Stands a x b × IsSet x
 unfolding set_at
 set_takes a x b h e =
     let s = bind_ok (der (wanted_at 0x31 a)) (λ (v : Item × At). if length v.0.contents == 0 then Err BadName else (der (order_of v.0) >>= λ (risen : Unit {0}). discarded (up_to_end attribute_at (inside v.0)) >>= λ (c : At). der (end_at c) >>= λ (done : Unit {0}). Ok (v.0.whole, v.1))) (x, b) e in
@@ -181,17 +181,17 @@ set_takes a x b h e =
     let t = bind_ok (discarded (up_to_end attribute_at (inside i))) (λ (c : At). der (end_at c) >>= λ (done : Unit {0}). Ok (i.whole, s.0.1)) (x, b) r.2 in
     let u = bind_ok (der (end_at t.0)) (λ (done : Unit {0}). Ok (i.whole, s.0.1)) (x, b) t.2 in
     let step = discarded_ok (up_to_end attribute_at (inside i)) t.0 t.1 in
-    let xs : List (List ℕ) = step.0 in
+    let xs : List Text = step.0 in
     let read = wanted_takes 0x31 a i s.0.1 h (der_ok (wanted_at 0x31 a) s.0 s.1) in
     let inner = attributes_form.takes (inside i) xs t.0 read.0.bytes step.1 in
     let end : t.0.rest ≡ [] = up_to_end_drains itself IsAttribute Anything attribute_at attribute_some attribute_form (inside i) xs t.0 read.0.bytes step.1 in
-    let all : i.contents ≡ flat_map itself xs = inner.0.parts ∙ ap (λ (c : List ℕ). flat_map itself xs ++ c) end ∙ append-nil (flat_map itself xs) in
+    let all : i.contents ≡ flat_map itself xs = inner.0.parts ∙ ap (λ (c : Text). flat_map itself xs ++ c) end ∙ append-nil (flat_map itself xs) in
     let rise = attributes_rise i xs r.0 read.0.bytes all inner.1 (der_ok (order_of i) r.0 r.1) in
     let some : length i.contents ≢ 0 = λ none. absurd (differ (length i.contents) none g.0) in
     let text : element i.tag i.contents ≡ element 0x31 (flat_map itself xs) = ap (λ (n : ℕ). element n i.contents) read.1 ∙ ap (element 0x31) all in
     let size : length i.contents ≡ length (flat_map itself xs) = ap length all in
-    let P : List ℕ × At → Type 0 = λ v. Stands a v.0 v.1 × IsSet v.0 in
-    let Q : List ℕ → Type 0 = λ w. Stands a w s.0.1 in
+    let P : Text × At → Type 0 = λ v. Stands a v.0 v.1 × IsSet v.0 in
+    let Q : Text → Type 0 = λ w. Stands a w s.0.1 in
     subst P (ok_is CertError (i.whole, s.0.1) (x, b) u.2)
     (subst Q (sym read.0.whole) read.0.stands, (xs, (record { some = omega (arith, some, size); each = inner.1; rise = rise }, omega (arith, read.0.fits.short, size)), read.0.whole ∙ text))
   where
@@ -201,19 +201,19 @@ set_takes a x b h e =
         let no : (0 == 0) ≡ false = subst P same other in
         cc
 
-set_again : (bytes : List ℕ) (p : ℕ) (rest : List ℕ) → IsSet bytes → set_at (record { place = p; rest = bytes ++ rest }) ≡ Ok (bytes, record { place = p + length bytes; rest = rest })
+set_again : (bytes : Text) (p : ℕ) (rest : Text) → IsSet bytes → set_at (record { place = p; rest = bytes ++ rest }) ≡ Ok (bytes, record { place = p + length bytes; rest = rest })
 unfolding set_at
 set_again bytes p rest f =
-    let xs : List (List ℕ) = f.0 in
-    let cs : List ℕ = flat_map itself xs in
+    let xs : List Text = f.0 in
+    let cs : Text = flat_map itself xs in
     let inner : ℕ = p + (length (element 0x31 cs) - length cs) in
     let fits : FitsElement 0x31 cs = record { is_tag = tag_of 0x31 (lit< tt) refl; short = f.1.1 } in
     let some : length cs ≢ 0 = omega (arith, f.1.0.some) in
     let rising : rising_at p (record { place = inner; rest = cs }) ≡ Ok (xs, record { place = inner + length cs; rest = [] }) =
-    ap (λ (c : List ℕ). rising_at p (record { place = inner; rest = c })) (sym (append-nil cs)) ∙ (rising_form p).again xs inner [] f.1.0.rise refl in
+    ap (λ (c : Text). rising_at p (record { place = inner; rest = c })) (sym (append-nil cs)) ∙ (rising_form p).again xs inner [] f.1.0.rise refl in
     let attributes : up_to_end attribute_at (record { place = inner; rest = cs }) ≡ Ok (xs, record { place = inner + length cs; rest = [] }) =
-    ap (λ (c : List ℕ). up_to_end attribute_at (record { place = inner; rest = c })) (sym (append-nil cs)) ∙ attributes_form.again xs inner [] f.1.0.each refl in
-    let P : List ℕ → Type 0 = λ t. set_at (record { place = p; rest = t ++ rest }) ≡ Ok (t, record { place = p + length t; rest = rest }) in
+    ap (λ (c : Text). up_to_end attribute_at (record { place = inner; rest = c })) (sym (append-nil cs)) ∙ attributes_form.again xs inner [] f.1.0.each refl in
+    let P : Text → Type 0 = λ t. set_at (record { place = p; rest = t ++ rest }) ≡ Ok (t, record { place = p + length t; rest = rest }) in
     subst P (sym f.2) (rw (wanted_again 0x31 cs p rest fits, ne_eqb (length cs) 0 some, rising, attributes) refl)
 
 pub set_form : IsForm itself IsSet Anything set_at
@@ -226,10 +226,10 @@ name_form =
 
 -- ---- times
 
-abbrev pub time_text : ℤ → List ℕ
+abbrev pub time_text : ℤ → Text
 time_text z = element (time_tag z) (time_contents z)
 
-tag_is : (tag : ℕ) (contents rest : List ℕ) → (tag ≡ 23) ⊎ (tag ≡ 24) → tag_wanted (element tag contents ++ rest) ≡ tag
+tag_is : (tag : ℕ) (contents rest : Text) → (tag ≡ 23) ⊎ (tag ≡ 24) → tag_wanted (element tag contents ++ rest) ≡ tag
 unfolding element
 tag_is tag contents rest (inl same) = let P : ℕ → Type 0 = λ t. tag_wanted (element t contents ++ rest) ≡ t in subst P (sym same) refl
 tag_is tag contents rest (inr same) = let P : ℕ → Type 0 = λ t. tag_wanted (element t contents ++ rest) ≡ t in subst P (sym same) refl
@@ -253,24 +253,24 @@ time_form = record {
       let read = wanted_takes tag a s.0.0 s.0.1 h (der_ok (wanted_at tag a) s.0 s.1) in
       let text : element s.0.0.tag s.0.0.contents ≡ time_text t.0 =
       ap (λ (n : ℕ). element n s.0.0.contents) (read.1 ∙ known.1) ∙ ap (element (time_tag t.0)) known.2 in
-      let Q : List ℕ → Type 0 = λ w. Stands a w s.0.1 in
+      let Q : Text → Type 0 = λ w. Stands a w s.0.1 in
       let P : ℤ × At → Type 0 = λ v. Stands a (time_text v.0) v.1 × IsMoment v.0 in
       subst P (ok_is CertError (t.0, s.0.1) (z, b) t.2) (subst Q text read.0.stands, known.0);
   again = λ z p rest f q.
       rw (tag_is (time_tag z) (time_contents z) rest (time_tag-is z), wanted_again (time_tag z) (time_contents z) p rest (time_fits z), time_moment-time z f) refl;
 }
 
-short_is : (tag : ℕ) (contents : List ℕ) → length contents < 128 → element tag contents ≡ short_element tag contents
+short_is : (tag : ℕ) (contents : Text) → length contents < 128 → element tag contents ≡ short_element tag contents
 unfolding element
 short_is tag contents lt = rw (lt-ltb (length contents) 128 lt) refl
 
-abbrev pub from_and_to : Validity → ℤ × ℤ
+abbrev pub from_and_to : Period → ℤ × ℤ
 from_and_to v = (v.not_before, v.not_after)
 
-abbrev pub times_text : Validity → List ℕ
+abbrev pub times_text : Period → Text
 times_text v = both time_text time_text (from_and_to v)
 
-times-short : (v : Validity) → length (times_text v) ≤ 34
+times-short : (v : Period) → length (times_text v) ≤ 34
 times-short v =
     let one : length (time_text v.not_before) ≤ 17 = short_time v.not_before in
     let two : length (time_text v.not_after) ≤ 17 = short_time v.not_after in
@@ -282,22 +282,22 @@ times-short v =
         omega (arith, short, ap length (short_is (time_tag z) (time_contents z) (omega (arith, short))))
 
 -- The validity is the element that its moments are written as.
-validity_is : (v : Validity) → element 0x30 (times_text v) ≡ validity_element v.not_before v.not_after
+validity_is : (v : Period) → element 0x30 (times_text v) ≡ validity_element v
 unfolding validity_element
 validity_is v =
     let one = short_is (time_tag v.not_before) (time_contents v.not_before) (omega (arith, time-short v.not_before)) in
     let two = short_is (time_tag v.not_after) (time_contents v.not_after) (omega (arith, time-short v.not_after)) in
     short_is 0x30 (times_text v) (omega (arith, times-short v))
-    ∙ ap (short_element 0x30) (ap (λ (t : List ℕ). t ++ time_text v.not_after) one ∙ ap (λ (t : List ℕ). short_element (time_tag v.not_before) (time_contents v.not_before) ++ t) two)
+    ∙ ap (short_element 0x30) (ap (λ (t : Text). t ++ time_text v.not_after) one ∙ ap (λ (t : Text). short_element (time_tag v.not_before) (time_contents v.not_before) ++ t) two)
 
-pub validity_form : IsForm (λ (v : List ℕ × Validity). v.0) IsValidity Anything validity_at
+pub validity_form : IsForm (λ (v : Text × Period). v.0) IsValidity Anything validity_at
 unfolding validity_at
 validity_form =
-    let Moments : Validity → Type 0 = λ v. FitsBoth IsMoment IsMoment (from_and_to v) in
-    let Known : List ℕ × Validity → Type 0 = λ v. (v.0 ≡ element 0x30 (times_text v.1)) × (Moments v.1 × (length (times_text v.1) < 2 ^ 24)) in
-    said_form (λ (v : List ℕ × Validity). v.0) Known IsValidity Anything Anything validity_at
-    (λ v f. record { not_before = f.1.0.0; not_after = f.1.0.1; spelled = f.0 ∙ validity_is v.1 })
-    (λ v f. (f.spelled ∙ sym (validity_is v.1), ((f.not_before, f.not_after), omega (arith, times-short v.1))))
+    let Moments : Period → Type 0 = λ v. FitsBoth IsMoment IsMoment (from_and_to v) in
+    let Known : Text × Period → Type 0 = λ v. (v.0 ≡ element 0x30 (times_text v.1)) × (Moments v.1 × (length (times_text v.1) < 2 ^ 24)) in
+    said_form (λ (v : Text × Period). v.0) Known IsValidity Anything Anything validity_at
+    (λ v f. record { period = record { not_before = f.1.0.0; not_after = f.1.0.1 }; spelled = f.0 ∙ validity_is v.1 })
+    (λ v f. (f.spelled ∙ sym (validity_is v.1), ((f.period.not_before, f.period.not_after), omega (arith, times-short v.1))))
     (λ rest q. q)
     (noted_form 0x30 times_text Moments (mapped_at from_to (both_at time_at time_at)) (tag_of 0x30 (lit< tt) refl)
     (ended_form times_text Moments Anything (mapped_at from_to (both_at time_at time_at)) tt

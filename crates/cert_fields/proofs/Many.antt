@@ -5,6 +5,7 @@ use Rattle.std.specs.Str.{bytes_eq}
 use Rattle.std.specs.List.{AllByRecursion}
 use Rattle.std.proofs.lemmas.Bool.{or_parts}
 use Rattle.std.proofs.lemmas.Slice.Eq.{bytes_eq-Decides}
+use Rattle.byte_forms.specs.Types.{Text}
 use Rattle.byte_forms.specs.Places.{At}
 use Rattle.byte_forms.specs.Readings.{discarded}
 use Rattle.byte_forms.proofs.Loops.{WalksEach, each_from, each_more, each_fails, each_end}
@@ -23,18 +24,18 @@ use Rattle.cert_fields.proofs.Twice.{repeated_front, repeated_push}
 -- ---- identifiers that read
 
 -- The contents read as an object identifier, wherever they stand.
-abbrev pub Reads : List ℕ → Type 0
+abbrev pub Reads : Text → Type 0
 Reads identifier = (place : ℕ) → oid_of place identifier ≡ Ok identifier
 
-oid_reads : (place : ℕ) (contents identifier : List ℕ) → oid_of place contents ≡ Ok identifier → Reads identifier
+oid_reads : (place : ℕ) (contents identifier : Text) → oid_of place contents ≡ Ok identifier → Reads identifier
 unfolding oid_of
 oid_reads place contents identifier e other =
     let g = guard_ok (length contents == 0) (BadOid place) (if are_arcs true contents then Ok contents else Err (BadOid place)) identifier e in
     let p = pass_ok (are_arcs true contents) (Ok contents) (BadOid place) identifier g.1 in
-    let P : List ℕ → Type 0 = λ t. oid_of other t ≡ Ok t in
+    let P : Text → Type 0 = λ t. oid_of other t ≡ Ok t in
     subst P (ok_is DerError contents identifier p.1) (rw (g.0, p.0) refl)
 
-among_reads : (identifier : List ℕ) (seen : List (List ℕ)) → AllByRecursion Reads seen → is_among identifier seen ≡ true → Reads identifier
+among_reads : (identifier : Text) (seen : List Text) → AllByRecursion Reads seen → is_among identifier seen ≡ true → Reads identifier
 among_reads identifier [] all e = absurd (true≢false (sym e))
 among_reads identifier (other ∷ seen) all e = go (bytes_eq other identifier) refl e (among_reads identifier seen all.1)
   where
@@ -42,13 +43,13 @@ among_reads identifier (other ∷ seen) all e = go (bytes_eq other identifier) r
     go true same e more = subst Reads ((bytes_eq-Decides other identifier).0 same) all.0
     go false same e more = more e
 
-reads_push : (seen : List (List ℕ)) (identifier : List ℕ) → AllByRecursion Reads seen → Reads identifier → AllByRecursion Reads (seen ++ identifier ∷ [])
+reads_push : (seen : List Text) (identifier : Text) → AllByRecursion Reads seen → Reads identifier → AllByRecursion Reads (seen ++ identifier ∷ [])
 reads_push [] identifier all one = (one, tt)
 reads_push (other ∷ seen) identifier all one = (all.0, reads_push seen identifier all.1 one)
 
 -- ---- up to the identifier of an extension
 
-no_element : (a : At) (d : DerError) → wanted_at 0x30 a ≡ Err d → (seen : List (List ℕ)) → extension_at seen a ≡ Err (Der d)
+no_element : (a : At) (d : DerError) → wanted_at 0x30 a ≡ Err d → (seen : List Text) → extension_at seen a ≡ Err (Der d)
 unfolding extension_at
 no_element a d e seen = rw e refl
 
@@ -56,7 +57,7 @@ no_element_head : (a : At) (d : DerError) → wanted_at 0x30 a ≡ Err d → hea
 unfolding head_at
 no_element_head a d e = rw e refl
 
-no_identifier : (a : At) (x : Item × At) (d : DerError) → wanted_at 0x30 a ≡ Ok x → wanted_at 0x06 (inside x.0) ≡ Err d → (seen : List (List ℕ)) → extension_at seen a ≡ Err (Der d)
+no_identifier : (a : At) (x : Item × At) (d : DerError) → wanted_at 0x30 a ≡ Ok x → wanted_at 0x06 (inside x.0) ≡ Err d → (seen : List Text) → extension_at seen a ≡ Err (Der d)
 unfolding extension_at new_identifier_at
 no_identifier a x d e f seen = rw (e, f) refl
 
@@ -65,7 +66,7 @@ unfolding head_at
 no_identifier_head a x d e f = rw (e, f) refl
 
 bad_identifier : (a : At) (x y : Item × At) (d : DerError) → wanted_at 0x30 a ≡ Ok x → wanted_at 0x06 (inside x.0) ≡ Ok y → oid_of y.0.place y.0.contents ≡ Err d
-    → (seen : List (List ℕ)) → extension_at seen a ≡ Err (Der d)
+    → (seen : List Text) → extension_at seen a ≡ Err (Der d)
 unfolding extension_at new_identifier_at
 bad_identifier a x y d e f g seen = rw (e, f, g) refl
 
@@ -73,37 +74,37 @@ identifier_head : (a : At) (x y : Item × At) → wanted_at 0x30 a ≡ Ok x → 
 unfolding head_at
 identifier_head a x y e f = rw (e, f) refl
 
-seen_identifier : (a : At) (x y : Item × At) (identifier : List ℕ) → wanted_at 0x30 a ≡ Ok x → wanted_at 0x06 (inside x.0) ≡ Ok y
-    → oid_of y.0.place y.0.contents ≡ Ok identifier → (seen : List (List ℕ)) → is_among identifier seen ≡ true → extension_at seen a ≡ Err RepeatedExtension
+seen_identifier : (a : At) (x y : Item × At) (identifier : Text) → wanted_at 0x30 a ≡ Ok x → wanted_at 0x06 (inside x.0) ≡ Ok y
+    → oid_of y.0.place y.0.contents ≡ Ok identifier → (seen : List Text) → is_among identifier seen ≡ true → extension_at seen a ≡ Err RepeatedExtension
 unfolding extension_at new_identifier_at
 seen_identifier a x y identifier e f g seen there = rw (e, f, g, there) refl
 
-new_identifier : (a : At) (x y : Item × At) (identifier : List ℕ) → wanted_at 0x30 a ≡ Ok x → wanted_at 0x06 (inside x.0) ≡ Ok y
-    → oid_of y.0.place y.0.contents ≡ Ok identifier → (seen : List (List ℕ)) → is_among identifier seen ≡ false → extension_at seen a ≡ extension_at [] a
+new_identifier : (a : At) (x y : Item × At) (identifier : Text) → wanted_at 0x30 a ≡ Ok x → wanted_at 0x06 (inside x.0) ≡ Ok y
+    → oid_of y.0.place y.0.contents ≡ Ok identifier → (seen : List Text) → is_among identifier seen ≡ false → extension_at seen a ≡ extension_at [] a
 unfolding extension_at new_identifier_at
 new_identifier a x y identifier e f g seen away = rw (e, f, g, away) refl
 
 -- A fault before an identifier was read: it is the same behind any extensions, and what stands there is none of their identifiers.
 record Stops (a : At) : Type 0 where
   fault : CertError
-  same : (seen : List (List ℕ)) → extension_at seen a ≡ Err fault
-  apart : (identifier : List ℕ) (b : At) → head_at a ≡ Ok (identifier, b) → (seen : List (List ℕ)) → AllByRecursion Reads seen → is_among identifier seen ≡ false
+  same : (seen : List Text) → extension_at seen a ≡ Err fault
+  apart : (identifier : Text) (b : At) → head_at a ≡ Ok (identifier, b) → (seen : List Text) → AllByRecursion Reads seen → is_among identifier seen ≡ false
 
 -- An identifier that reads: only whether it was seen matters.
 record Begins (a : At) : Type 0 where
-  identifier : List ℕ
+  identifier : Text
   behind : At
   head : head_at a ≡ Ok (identifier, behind)
   reads : Reads identifier
-  new : (seen : List (List ℕ)) → is_among identifier seen ≡ false → extension_at seen a ≡ extension_at [] a
-  old : (seen : List (List ℕ)) → is_among identifier seen ≡ true → extension_at seen a ≡ Err RepeatedExtension
+  new : (seen : List Text) → is_among identifier seen ≡ false → extension_at seen a ≡ extension_at [] a
+  old : (seen : List Text) → is_among identifier seen ≡ true → extension_at seen a ≡ Err RepeatedExtension
 
 bad_apart : (a : At) (x y : Item × At) (d : DerError) → wanted_at 0x30 a ≡ Ok x → wanted_at 0x06 (inside x.0) ≡ Ok y → oid_of y.0.place y.0.contents ≡ Err d
-    → (identifier : List ℕ) (b : At) → head_at a ≡ Ok (identifier, b) → (seen : List (List ℕ)) → AllByRecursion Reads seen → is_among identifier seen ≡ false
+    → (identifier : Text) (b : At) → head_at a ≡ Ok (identifier, b) → (seen : List Text) → AllByRecursion Reads seen → is_among identifier seen ≡ false
 bad_apart a x y d e f g identifier b h seen all = go (is_among identifier seen) refl
   where
     same : y.0.contents ≡ identifier
-    same = ap (λ (v : List ℕ × At). v.0) (ok_is DerError (y.0.contents, x.1) (identifier, b) (sym (identifier_head a x y e f) ∙ h))
+    same = ap (λ (v : Text × At). v.0) (ok_is DerError (y.0.contents, x.1) (identifier, b) (sym (identifier_head a x y e f) ∙ h))
 
     go : (t : Bool) → is_among identifier seen ≡ t → t ≡ false
     go false q = refl
@@ -115,7 +116,7 @@ bad_apart a x y d e f g identifier b h seen all = go (is_among identifier seen) 
 first_part : (a : At) → Stops a ⊎ Begins a
 first_part a = element (wanted_at 0x30 a) refl
   where
-    object : (x : Item × At) (y : Item × At) (r : Result (List ℕ) DerError) → wanted_at 0x30 a ≡ Ok x → wanted_at 0x06 (inside x.0) ≡ Ok y
+    object : (x : Item × At) (y : Item × At) (r : Result Text DerError) → wanted_at 0x30 a ≡ Ok x → wanted_at 0x06 (inside x.0) ≡ Ok y
         → oid_of y.0.place y.0.contents ≡ r → Stops a ⊎ Begins a
     object x y (Err d) e f g = inl (record { fault = Der d; same = bad_identifier a x y d e f g; apart = bad_apart a x y d e f g })
     object x y (Ok identifier) e f g =
@@ -123,7 +124,7 @@ first_part a = element (wanted_at 0x30 a) refl
         inr (record {
           identifier = identifier;
           behind = x.1;
-          head = identifier_head a x y e f ∙ ap (λ (t : List ℕ). Ok (t, x.1)) here;
+          head = identifier_head a x y e f ∙ ap (λ (t : Text). Ok (t, x.1)) here;
           reads = oid_reads y.0.place y.0.contents identifier g;
           new = new_identifier a x y identifier e f g;
           old = seen_identifier a x y identifier e f g;
@@ -142,7 +143,7 @@ first_part a = element (wanted_at 0x30 a) refl
 -- Behind so many extensions that were read whatever their identifiers: where none of these stands twice the others decide as
 -- the whole list does, and else the list has a repetition.
 pub record Reaches (total : Result At CertError) (list : At) (count : ℕ) (a : At) : Type 0 where
-  pub seen : List (List ℕ)
+  pub seen : List Text
   pub passed : Taken list count seen a
   pub reads : AllByRecursion Reads seen
   pub distinct : are_repeated seen ≡ false → WalksEach identifier_of extension_at total seen a
@@ -180,16 +181,16 @@ reaches_more total list count a x b step less r = go (first_part a)
     go (inl s) = let clash = sym step ∙ s.same [] in absurd cc
     go (inr g) =
         let head = head_of [] a x b step in
-        let same : g.identifier ≡ x.identifier = ap (λ (v : List ℕ × At). v.0) (ok_is DerError (g.identifier, g.behind) (x.identifier, b) (sym g.head ∙ head)) in
+        let same : g.identifier ≡ x.identifier = ap (λ (v : Text × At). v.0) (ok_is DerError (g.identifier, g.behind) (x.identifier, b) (sym g.head ∙ head)) in
         let push : are_repeated (r.seen ++ x.identifier ∷ []) ≡ (are_repeated r.seen || is_among x.identifier r.seen) = repeated_push r.seen x.identifier in
-        let P : List ℕ → Type 0 = λ t. are_repeated (r.seen ++ t ∷ []) ≡ true in
+        let P : Text → Type 0 = λ t. are_repeated (r.seen ++ t ∷ []) ≡ true in
         record {
           seen = r.seen ++ x.identifier ∷ [];
           passed = taken_more list count r.seen a x.identifier b head r.passed;
           reads = reads_push r.seen x.identifier r.reads (subst Reads same g.reads);
           distinct = λ none.
               let (before, new) = or_parts (are_repeated r.seen) (is_among x.identifier r.seen) (sym push ∙ none) in
-              let away : is_among g.identifier r.seen ≡ false = ap (λ (t : List ℕ). is_among t r.seen) same ∙ new in
+              let away : is_among g.identifier r.seen ≡ false = ap (λ (t : Text). is_among t r.seen) same ∙ new in
               each_more identifier_of extension_at total r.seen a x b (g.new r.seen away ∙ step) less (r.distinct before);
           repeated = λ twice. repeats_here total list count a r g some (subst P (sym same) twice);
           room = omega (arith, r.room, less);
@@ -213,10 +214,10 @@ reaches_fails total list count a fault step some r = go (first_part a)
     fails : are_repeated r.seen ≡ false → extension_at r.seen a ≡ Err fault → total ≡ Err fault
     fails none here = each_fails identifier_of extension_at total r.seen a fault here some (r.distinct none)
 
-    stopped : (s : Stops a) (h : Result (List ℕ × At) DerError) → head_at a ≡ h → are_repeated r.seen ≡ false → are_repeated (r.seen ++ identifiers 1 a) ≡ false
-    stopped s (Err d) e none = ap (λ (ids : List (List ℕ)). are_repeated (r.seen ++ ids)) (identifiers_end 1 a d e) ∙ (ap are_repeated (append-nil r.seen) ∙ none)
+    stopped : (s : Stops a) (h : Result (Text × At) DerError) → head_at a ≡ h → are_repeated r.seen ≡ false → are_repeated (r.seen ++ identifiers 1 a) ≡ false
+    stopped s (Err d) e none = ap (λ (ids : List Text). are_repeated (r.seen ++ ids)) (identifiers_end 1 a d e) ∙ (ap are_repeated (append-nil r.seen) ∙ none)
     stopped s (Ok h) e none =
-        ap (λ (ids : List (List ℕ)). are_repeated (r.seen ++ ids)) (identifiers_more 0 a h.0 h.1 e)
+        ap (λ (ids : List Text). are_repeated (r.seen ++ ids)) (identifiers_more 0 a h.0 h.1 e)
         ∙ (repeated_push r.seen h.0 ∙ (ap (λ (b : Bool). b || is_among h.0 r.seen) none ∙ s.apart h.0 h.1 e r.seen r.reads))
 
     before : (t : Bool) → are_repeated r.seen ≡ t → (are_repeated r.seen ≡ false → total ≡ Err (or_repeated (are_repeated (identifiers (count + 1) list)) fault))
@@ -226,10 +227,10 @@ reaches_fails total list count a fault step some r = go (first_part a)
 
     begun : (g : Begins a) (t : Bool) → are_repeated (r.seen ++ g.identifier ∷ []) ≡ t → total ≡ Err (or_repeated (are_repeated (identifiers (count + 1) list)) fault)
     begun g true e =
-        told true (all ∙ (ap (λ (ids : List (List ℕ)). are_repeated (r.seen ++ ids)) (identifiers_more 0 a g.identifier g.behind g.head) ∙ e)) (repeats_here total list count a r g some e)
+        told true (all ∙ (ap (λ (ids : List Text). are_repeated (r.seen ++ ids)) (identifiers_more 0 a g.identifier g.behind g.head) ∙ e)) (repeats_here total list count a r g some e)
     begun g false e =
         let (none, away) = or_parts (are_repeated r.seen) (is_among g.identifier r.seen) (sym (repeated_push r.seen g.identifier) ∙ e) in
-        told false (all ∙ (ap (λ (ids : List (List ℕ)). are_repeated (r.seen ++ ids)) (identifiers_more 0 a g.identifier g.behind g.head) ∙ e))
+        told false (all ∙ (ap (λ (ids : List Text). are_repeated (r.seen ++ ids)) (identifiers_more 0 a g.identifier g.behind g.head) ∙ e))
         (fails none (g.new r.seen away ∙ step))
 
     go : Stops a ⊎ Begins a → total ≡ Err (or_repeated (are_repeated (identifiers (count + 1) list)) fault)

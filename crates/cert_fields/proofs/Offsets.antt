@@ -1,13 +1,15 @@
 -- One field at an offset of a longer input.
-use Rattle.std.proofs.Common.{◌≡◌, ℕ, ◌+◌, ◌≤◌, List, length, drop, Result, Ok, sym, ap, ◌∙◌, arith}
+use Rattle.std.proofs.Common.{◌≡◌, ℕ, ◌+◌, ◌≤◌, length, drop, Ok, sym, ap, ◌∙◌, arith}
 use Rattle.std.proofs.lemmas.List.{length-append, length-drop}
+use Rattle.byte_forms.specs.Types.{Text}
+use Rattle.byte_forms.specs.Readings.{Reading}
 use Rattle.byte_forms.specs.Places.{At, IsBytes, at}
 use Rattle.byte_forms.specs.Forms.{IsForm}
 use Rattle.byte_forms.proofs.Steps.{IsBytes-drop}
 
 -- The offset behind a field lies from its own offset to the end of the input.
-pub read_within : {X E : Type 0} (spell : X → List ℕ) (Fits : X → Type 0) (Follows : List ℕ → Type 0) (read : At → Result (X × At) E)
-    → IsForm spell Fits Follows read → (input : List ℕ) (place : ℕ) → IsBytes input → place ≤ length input
+pub read_within : {X E : Type 0} (spell : X → Text) (Fits : X → Type 0) (Follows : Text → Type 0) (read : Reading X E)
+    → IsForm spell Fits Follows read → (input : Text) (place : ℕ) → IsBytes input → place ≤ length input
     → (a : At) (x : X) (b : At) (behind : ℕ) → a ≡ at input place → read a ≡ Ok (x, b) → behind ≡ b.place
     → (place ≤ behind) × (behind ≤ length input)
 read_within spell Fits Follows read form input place h le a x b behind here e far =

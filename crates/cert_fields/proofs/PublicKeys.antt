@@ -1,5 +1,6 @@
 -- Public keys by their grammar.
-use Rattle.std.proofs.Common.{◌≡◌, ℕ, true, List, sym, ap, subst}
+use Rattle.std.proofs.Common.{◌≡◌, true, sym, ap, subst}
+use Rattle.byte_forms.specs.Types.{Text}
 use Rattle.byte_forms.specs.Places.{IsBytes}
 use Rattle.byte_forms.specs.Readings.{is_read}
 use Rattle.byte_forms.specs.Forms.{itself}
@@ -11,7 +12,7 @@ use Rattle.cert_fields.proofs.FieldForms.{spki_form}
 use Rattle.der_core.proofs.Fields.{all_takes, all_again}
 
 -- Bytes that pass as a public key are one.
-pub public_key_only : (bytes : List ℕ) → IsBytes bytes → is_public_key bytes ≡ true → IsPublicKey bytes
+pub public_key_only : (bytes : Text) → IsBytes bytes → is_public_key bytes ≡ true → IsPublicKey bytes
 unfolding is_public_key
 public_key_only bytes h e =
     let r = read_ok (all_of spki_at bytes) e in
@@ -19,6 +20,6 @@ public_key_only bytes h e =
     subst IsPublicKey (sym known.0) known.1
 
 -- Each public key passes.
-pub public_key_again : (bytes : List ℕ) → IsPublicKey bytes → is_public_key bytes ≡ true
+pub public_key_again : (bytes : Text) → IsPublicKey bytes → is_public_key bytes ≡ true
 unfolding is_public_key
 public_key_again bytes f = ap is_read (all_again itself IsPublicKey spki_at spki_form bytes f)

@@ -2,10 +2,13 @@
 use Rattle.std.proofs.Common.{◌+◌, ◌^◌, ◌<◌, ◌≤◌, ◌∷◌, ◌++◌, length, arith, inl, inr}
 use Rattle.std.specs.Prelude.{ℤ}
 use Rattle.std.proofs.lemmas.List.{length-append}
+use Rattle.byte_forms.specs.Types.{Text}
 use Rattle.der_core.specs.Elements.{element}
 use Rattle.der_core.specs.Integers.{integer}
 use Rattle.der_core.proofs.Elements.{element-short}
 use Rattle.der_core.proofs.Integers.{length-integer}
+use Rattle.cert_time.specs.Calendar.{Period}
+use Rattle.cert_time.specs.Periods.{period}
 use Rattle.cert_time.specs.Times.{time_tag, time_contents, short_element, validity_element}
 use Rattle.cert_time.proofs.BothWays.{time_shape}
 use Rattle.cert_fields.specs.Certificate.{Parts}
@@ -16,10 +19,12 @@ use Rattle.cert_fields.specs.declared.parts.CertParts.{CertParts}
 pub time-short : (z : ℤ) → length (time_contents z) ≤ 15
 time-short z = elim (time_shape z) [ inl s ↦ omega (arith, s.1) | inr s ↦ omega (arith, s.1) ]
 
-validity-short : (a b : ℤ) → length (validity_element a b) ≤ 36
+validity-short : (p : Period) → length (validity_element p) ≤ 36
 unfolding validity_element
-validity-short a b =
-    omega (arith, length-append (short_element (time_tag a) (time_contents a)) (short_element (time_tag b) (time_contents b)), time-short a, time-short b)
+validity-short p =
+    let from : Text = short_element (time_tag p.not_before) (time_contents p.not_before) in
+    let to : Text = short_element (time_tag p.not_after) (time_contents p.not_after) in
+    omega (arith, length-append from to, time-short p.not_before, time-short p.not_after)
 
 tbs-size : (p : Parts) → p.serial < 2 ^ 64
     → length (tbs_fields p) ≤ 19 + length p.algorithm + length p.issuer + length p.validity_der + length p.subject + length p.spki + length p.extensions
@@ -48,7 +53,7 @@ pub given-short : (p : CertParts) → p.serial < 2 ^ 64 → size_of p ≤ 160000
 given-short p small le =
     let q : Parts = given p in
     let signed : length (tbs_fields q) ≤ 69 + length p.issuer + length p.subject + length p.spki + length p.extensions =
-    omega (arith, tbs-size q small, validity-short p.validity.not_before p.validity.not_after) in
+    omega (arith, tbs-size q small, validity-short (period p.validity)) in
     let whole = length-append (element 0x30 (tbs_fields q) ++ mtc_proof) (element 0x03 (0 ∷ p.proof)) in
     let front = length-append (element 0x30 (tbs_fields q)) mtc_proof in
     record {

@@ -4,9 +4,10 @@ use Rattle.std.proofs.lemmas.List.{append-nil}
 use Rattle.std.specs.Prelude.{if◌then◌else◌, ◌==◌, not}
 use Rattle.std.specs.List.{list_any}
 use denote.Ref.{Bor}
+use Rattle.byte_forms.specs.Types.{Text}
 use Rattle.cert_fields.specs.Views.{texts}
 use Rattle.byte_forms.specs.Places.{At}
-use Rattle.byte_forms.specs.Readings.{discarded, both_at, mapped_at, tested_at}
+use Rattle.byte_forms.specs.Readings.{discarded, both_at, mapped_at, tested_at, Reading}
 use Rattle.byte_forms.proofs.Loops.{WalksEach, each_from, each_more, each_fails, each_end}
 use Rattle.byte_forms.proofs.Steps.{guard_ok, pass_ok, ok_is}
 use Rattle.der_core.specs.Items.{Item, inside}
@@ -38,7 +39,7 @@ names_one (suc n) a le = go (element_at a) refl (λ b le'. names_one n b le')
     go (Ok x) e next =
         let less : length x.1.rest < length a.rest = element_forward a x e in
         let same = next x.1 (omega arith) in
-        ap (λ (ns : List (List ℕ)). if x.0.tag == dns_name then x.0.contents ∷ ns else ns) same
+        ap (λ (ns : List Text). if x.0.tag == dns_name then x.0.contents ∷ ns else ns) same
     go (Err fault) e next = refl
 
 names_plus : (k : ℕ) (a : At) → names_from (length a.rest + k) a ≡ names_left a
@@ -61,14 +62,14 @@ names_step a e b step =
     let more : names_left a ≡ names_from (suc (length a.rest)) a = sym (names_one (length a.rest) a (omega arith)) in
     let read : names_from (suc (length a.rest)) a ≡ name_then (Ok (e, b)) (λ (c : At). names_from (length a.rest) c) =
     ap (λ (r : Result (Item × At) DerError). name_then r (λ (c : At). names_from (length a.rest) c)) step in
-    more ∙ read ∙ ap (λ (ns : List (List ℕ)). if e.tag == dns_name then e.contents ∷ ns else ns) (names_enough (length a.rest) b (omega arith))
+    more ∙ read ∙ ap (λ (ns : List Text). if e.tag == dns_name then e.contents ∷ ns else ns) (names_enough (length a.rest) b (omega arith))
 
 -- An element with another tag.
-pub names_more : (total : List (List ℕ)) (a : At) (e : Item) (b : At) → element_at a ≡ Ok (e, b) → e.tag ≢ dns_name → total ≡ names_left a → total ≡ names_left b
+pub names_more : (total : List Text) (a : At) (e : Item) (b : At) → element_at a ≡ Ok (e, b) → e.tag ≢ dns_name → total ≡ names_left a → total ≡ names_left b
 names_more total a e b step other so_far = so_far ∙ names_step a e b step ∙ rw (ne_eqb e.tag 130 other) refl
 
 -- A dNSName.
-pub names_found : (total : List (List ℕ)) (a : At) (e : Item) (b : At) → element_at a ≡ Ok (e, b) → e.tag ≡ dns_name → total ≡ names_left a → total ≡ e.contents ∷ names_left b
+pub names_found : (total : List Text) (a : At) (e : Item) (b : At) → element_at a ≡ Ok (e, b) → e.tag ≡ dns_name → total ≡ names_left a → total ≡ e.contents ∷ names_left b
 names_found total a e b step same so_far = so_far ∙ names_step a e b step ∙ rw same refl
 
 -- No element is left that reads.
@@ -81,21 +82,21 @@ names_end a fault step =
 -- ---- the identifiers of extensions
 
 -- One of the first n extensions here passes the test where one of the whole list does.
-abbrev pub StillAny : Bool → (List ℕ → Bool) → ℕ → At → Type 0
+abbrev pub StillAny : Bool → (Text → Bool) → ℕ → At → Type 0
 StillAny total test n a = list_any test (identifiers n a) ≡ total
 
-pub identifiers_more : (n : ℕ) (a : At) (identifier : List ℕ) (b : At) → head_at a ≡ Ok (identifier, b) → identifiers (suc n) a ≡ identifier ∷ identifiers n b
+pub identifiers_more : (n : ℕ) (a : At) (identifier : Text) (b : At) → head_at a ≡ Ok (identifier, b) → identifiers (suc n) a ≡ identifier ∷ identifiers n b
 unfolding identifiers
-identifiers_more n a identifier b step = ap (λ (r : Result (List ℕ × At) DerError). value_then r (λ (c : At). identifiers n c)) step
+identifiers_more n a identifier b step = ap (λ (r : Result (Text × At) DerError). value_then r (λ (c : At). identifiers n c)) step
 
 -- No extension is left that reads.
 pub identifiers_end : (n : ℕ) (a : At) (fault : DerError) → head_at a ≡ Err fault → identifiers n a ≡ []
 unfolding identifiers
 identifiers_end zero a fault step = refl
-identifiers_end (suc n) a fault step = ap (λ (r : Result (List ℕ × At) DerError). value_then r (λ (c : At). identifiers n c)) step
+identifiers_end (suc n) a fault step = ap (λ (r : Result (Text × At) DerError). value_then r (λ (c : At). identifiers n c)) step
 
 -- An extension that doesn't pass.
-pub any_more : (total : Bool) (test : List ℕ → Bool) (n : ℕ) (a : At) (other : List ℕ) (b : At) → 0 < n → head_at a ≡ Ok (other, b)
+pub any_more : (total : Bool) (test : Text → Bool) (n : ℕ) (a : At) (other : Text) (b : At) → 0 < n → head_at a ≡ Ok (other, b)
     → false ≡ test other → StillAny total test n a → StillAny total test (n - 1) b
 any_more total test zero a other b pos step differs so_far = absurd (omega arith)
 any_more total test (suc n) a other b pos step differs so_far =
@@ -103,13 +104,13 @@ any_more total test (suc n) a other b pos step differs so_far =
     rw one (sym (ap (list_any test) (identifiers_more n a other b step) ∙ ap (λ (t : Bool). t || list_any test (identifiers n b)) (sym differs)) ∙ so_far)
 
 -- An extension that passes.
-pub any_found : (total : Bool) (test : List ℕ → Bool) (n : ℕ) (a : At) (other : List ℕ) (b : At) → 0 < n → head_at a ≡ Ok (other, b)
+pub any_found : (total : Bool) (test : Text → Bool) (n : ℕ) (a : At) (other : Text) (b : At) → 0 < n → head_at a ≡ Ok (other, b)
     → true ≡ test other → StillAny total test n a → true ≡ total
 any_found total test zero a other b pos step same so_far = absurd (omega arith)
 any_found total test (suc n) a other b pos step same so_far =
     sym (ap (list_any test) (identifiers_more n a other b step) ∙ ap (λ (t : Bool). t || list_any test (identifiers n b)) (sym same)) ∙ so_far
 
-pub any_fails : (total : Bool) (test : List ℕ → Bool) (n : ℕ) (a : At) (fault : DerError) → head_at a ≡ Err fault → StillAny total test n a → false ≡ total
+pub any_fails : (total : Bool) (test : Text → Bool) (n : ℕ) (a : At) (fault : DerError) → head_at a ≡ Err fault → StillAny total test n a → false ≡ total
 any_fails total test n a fault step so_far = sym (ap (list_any test) (identifiers_end n a fault step)) ∙ so_far
 
 -- No extension is to be looked at.
@@ -118,13 +119,13 @@ unfolding identifiers
 identifiers_none zero a le = refl
 identifiers_none (suc n) a le = absurd (omega (arith, le))
 
-pub any_end : (total : Bool) (test : List ℕ → Bool) (n : ℕ) (a : At) → n ≤ 0 → StillAny total test n a → false ≡ total
+pub any_end : (total : Bool) (test : Text → Bool) (n : ℕ) (a : At) → n ≤ 0 → StillAny total test n a → false ≡ total
 any_end total test n a le so_far = sym (ap (list_any test) (identifiers_none n a le)) ∙ so_far
 
 -- ---- a block of identifiers
 
 -- So many of the identifiers from the old place on are these, and the others follow at the new one.
-abbrev pub Taken : At → ℕ → List (List ℕ) → At → Type 0
+abbrev pub Taken : At → ℕ → List Text → At → Type 0
 Taken old count seen a = (n : ℕ) → identifiers (count + n) old ≡ seen ++ identifiers n a
 
 pub taken_none : (old a : At) → a ≡ old → Taken old 0 [] a
@@ -132,27 +133,27 @@ taken_none old a same n =
     let e : 0 + n ≡ n = omega arith in
     ap (λ (m : ℕ). identifiers m old) e ∙ ap (λ (c : At). identifiers n c) (sym same)
 
-pub taken_more : (old : At) (count : ℕ) (seen : List (List ℕ)) (a : At) (identifier : List ℕ) (b : At) → head_at a ≡ Ok (identifier, b)
+pub taken_more : (old : At) (count : ℕ) (seen : List Text) (a : At) (identifier : Text) (b : At) → head_at a ≡ Ok (identifier, b)
     → Taken old count seen a → Taken old (count + 1) (seen ++ identifier ∷ []) b
 taken_more old count seen a identifier b step so_far n =
     let e : count + 1 + n ≡ count + suc n = omega arith in
-    ap (λ (m : ℕ). identifiers m old) e ∙ (so_far (suc n) ∙ (ap (λ (ids : List (List ℕ)). seen ++ ids) (identifiers_more n a identifier b step)
+    ap (λ (m : ℕ). identifiers m old) e ∙ (so_far (suc n) ∙ (ap (λ (ids : List Text). seen ++ ids) (identifiers_more n a identifier b step)
     ∙ sym (append_assoc seen (identifier ∷ []) (identifiers n b))))
 
 -- All that were taken.
-pub all_taken : (old : At) (count : ℕ) (seen : List (List ℕ)) (a : At) → Taken old count seen a → identifiers count old ≡ seen
+pub all_taken : (old : At) (count : ℕ) (seen : List Text) (a : At) → Taken old count seen a → identifiers count old ≡ seen
 unfolding identifiers
 all_taken old count seen a so_far =
     let e : count ≡ count + 0 = omega arith in
     ap (λ (n : ℕ). identifiers n old) e ∙ so_far 0 ∙ append-nil seen
 
-pub taken_of : (old : At) (count : ℕ) (seen : List (List ℕ)) (a : At) (n : ℕ) → count ≤ n → Taken old count seen a → identifiers n old ≡ seen ++ identifiers (n - count) a
+pub taken_of : (old : At) (count : ℕ) (seen : List Text) (a : At) (n : ℕ) → count ≤ n → Taken old count seen a → identifiers n old ≡ seen ++ identifiers (n - count) a
 taken_of old count seen a n le so_far =
     let e : n ≡ count + (n - count) = omega arith in
     ap (λ (m : ℕ). identifiers m old) e ∙ so_far (n - count)
 
 -- Where nothing was taken, and no extension reads, there are no identifiers.
-pub taken_ends : (old : At) (count : ℕ) (slices : List (Bor (List ℕ))) (a : At) (fault : DerError) → Taken old count (texts (take count slices)) a
+pub taken_ends : (old : At) (count : ℕ) (slices : List (Bor Text)) (a : At) (fault : DerError) → Taken old count (texts (take count slices)) a
     → head_at a ≡ Err fault → count ≡ 0 → (n : ℕ) → identifiers n old ≡ []
 taken_ends old zero slices a fault so_far step same n =
     let e : n ≡ 0 + n = omega arith in
@@ -161,7 +162,7 @@ taken_ends old (suc k) slices a fault so_far step same n = absurd (omega (arith,
 
 -- ---- the list of extensions
 
-pub oid_same : (place : ℕ) (contents x : List ℕ) → oid_of place contents ≡ Ok x → contents ≡ x
+pub oid_same : (place : ℕ) (contents x : Text) → oid_of place contents ≡ Ok x → contents ≡ x
 unfolding oid_of
 oid_same place contents x e =
     let g = guard_ok (length contents == 0) (BadOid place) (if are_arcs true contents then Ok contents else Err (BadOid place)) x e in
@@ -169,22 +170,22 @@ oid_same place contents x e =
     ok_is DerError contents x p.1
 
 -- An extension that reads begins with its identifier.
-pub head_of : (seen : List (List ℕ)) (a : At) (x : ExtensionFields) (b : At) → extension_at seen a ≡ Ok (x, b) → head_at a ≡ Ok (x.identifier, b)
+pub head_of : (seen : List Text) (a : At) (x : ExtensionFields) (b : At) → extension_at seen a ≡ Ok (x, b) → head_at a ≡ Ok (x.identifier, b)
 unfolding extension_at new_identifier_at head_at
 head_of seen a x b h =
-    let fields : At → Result ((List ℕ × (Bool × List ℕ)) × At) CertError = both_at (new_identifier_at seen) (both_at critical_at (contents_at 0x04)) in
+    let fields : Reading (Text × (Bool × Text)) CertError = both_at (new_identifier_at seen) (both_at critical_at (contents_at 0x04)) in
     let s = inside_ok 48 (tested_at has_its_form BadExtension (mapped_at to_extension fields)) a x b h in
     let t = tested_ok has_its_form BadExtension (mapped_at to_extension fields) (inside s.0) x s.2.0 s.2.1 in
     let m = mapped_ok to_extension fields (inside s.0) x s.2.0 t.0 in
     let f = first_ok (new_identifier_at seen) (both_at critical_at (contents_at 0x04)) (inside s.0) m.0 s.2.0 m.1 in
-    let i = tested_ok (λ (identifier : List ℕ). not (is_among identifier seen)) RepeatedExtension (decoded_at 0x06 oid_of) (inside s.0) m.0.0 f.0 f.1 in
+    let i = tested_ok (λ (identifier : Text). not (is_among identifier seen)) RepeatedExtension (decoded_at 0x06 oid_of) (inside s.0) m.0.0 f.0 f.1 in
     let d = decoded_ok 6 oid_of (inside s.0) m.0.0 f.0 i.0 in
     let same : d.0.contents ≡ x.identifier = oid_same d.0.place d.0.contents m.0.0 d.2 ∙ ap identifier_of m.2 in
-    rw (s.1, d.1) (ap (λ (t : List ℕ). Ok (t, b)) same)
+    rw (s.1, d.1) (ap (λ (t : Text). Ok (t, b)) same)
 
 -- Behind so many extensions of a list: those that are left read on as the whole list does, and the first ones are known.
 pub record Passes (total : Result At CertError) (list : At) (count : ℕ) (a : At) : Type 0 where
-  pub seen : List (List ℕ)
+  pub seen : List Text
   pub walks : WalksEach identifier_of extension_at total seen a
   pub passed : Taken list count seen a
   pub room : count + length a.rest ≤ length list.rest
@@ -202,7 +203,7 @@ pub passes_more : (total : Result At CertError) (list : At) (count : ℕ) (a : A
     → extension_at (identifiers count list) a ≡ Ok (x, b) → length b.rest < length a.rest → Passes total list count a → Passes total list (count + 1) b
 passes_more total list count a x b step less p = record {
   seen = p.seen ++ x.identifier ∷ [];
-  walks = each_more identifier_of extension_at total p.seen a x b (ap (λ (seen : List (List ℕ)). extension_at seen a) (sym (all_taken list count p.seen a p.passed)) ∙ step) less p.walks;
+  walks = each_more identifier_of extension_at total p.seen a x b (ap (λ (seen : List Text). extension_at seen a) (sym (all_taken list count p.seen a p.passed)) ∙ step) less p.walks;
   passed = taken_more list count p.seen a x.identifier b (head_of (identifiers count list) a x b step) p.passed;
   room = omega (arith, p.room);
 }
@@ -210,7 +211,7 @@ passes_more total list count a x b step less p = record {
 pub passes_fails : (total : Result At CertError) (list : At) (count : ℕ) (a : At) (e : CertError)
     → extension_at (identifiers count list) a ≡ Err e → (length a.rest == 0) ≡ false → Passes total list count a → total ≡ Err e
 passes_fails total list count a e step other p =
-    each_fails identifier_of extension_at total p.seen a e (ap (λ (seen : List (List ℕ)). extension_at seen a) (sym (all_taken list count p.seen a p.passed)) ∙ step) other p.walks
+    each_fails identifier_of extension_at total p.seen a e (ap (λ (seen : List Text). extension_at seen a) (sym (all_taken list count p.seen a p.passed)) ∙ step) other p.walks
 
 pub passes_end : (total : Result At CertError) (list : At) (count : ℕ) (a : At)
     → (length a.rest == 0) ≡ true → Passes total list count a → total ≡ Ok a

@@ -1,8 +1,9 @@
 -- The names in a subjectAltName (RFC 5280, section 4.2.1.6).
 use Rattle.std.specs.Prelude.{ℕ, zero, suc, nat_lt, ◌==◌, ◌&&◌, ◌||◌, Bool, true, List, [], ◌∷◌, length, Result, Ok, Err, if◌then◌else◌}
 use Rattle.std.specs.List.{list_all}
+use Rattle.byte_forms.specs.Types.{Text}
 use Rattle.byte_forms.specs.Places.{At, at}
-use Rattle.byte_forms.specs.Readings.{◌>>=◌, some_at, is_read}
+use Rattle.byte_forms.specs.Readings.{◌>>=◌, some_at, is_read, Reading}
 use Rattle.byte_forms.specs.Lists.{up_to_end}
 use Rattle.der_core.specs.Items.{Item, inside}
 use Rattle.der_core.specs.Reading.{element_at, wanted_at}
@@ -19,50 +20,50 @@ dns_name = 0x82
 -- registeredID, otherName, x400Address, directoryName or ediPartyName.
 abbrev pub is_name_tag : ℕ → Bool
 is_name_tag tag =
-    tag == 0x81 || tag == 0x82 || tag == 0x86 || tag == 0x87 || tag == 0x88 || tag == 0xA0
+    tag == 0x81 || tag == dns_name || tag == 0x86 || tag == 0x87 || tag == 0x88 || tag == 0xA0
     || tag == 0xA3 || tag == 0xA4 || tag == 0xA5
 
 -- The bytes are ASCII.
-abbrev pub is_ascii : List ℕ → Bool
+abbrev pub is_ascii : Text → Bool
 is_ascii bytes = list_all (λ b. nat_lt b 0x80) bytes
 
 -- One of these tags; a dNSName is ASCII.
-abbrev pub is_general_name : ℕ → List ℕ → Bool
+abbrev pub is_general_name : ℕ → Text → Bool
 is_general_name tag contents =
     is_name_tag tag && (if tag == dns_name then is_ascii contents else true)
 
 -- GeneralName.
-unfoldable pub general_name_at : At → Result (List ℕ × At) CertError
+unfoldable pub general_name_at : Reading Text CertError
 general_name_at a =
     der (element_at a) >>= λ e.
     if is_general_name e.0.tag e.0.contents then Ok (e.0.whole, e.1) else Err BadExtension
 
 -- GeneralNames: a SEQUENCE of names, at least one.
-unfoldable pub general_names_at : At → Result (List ℕ × At) CertError
+unfoldable pub general_names_at : Reading Text CertError
 general_names_at = whole_at 0x30 (some_at BadExtension (up_to_end general_name_at))
 
 -- The octets are GeneralNames and nothing else.
-unfoldable pub are_general_names : List ℕ → Bool
+unfoldable pub are_general_names : Text → Bool
 are_general_names octets = is_read (all_of general_names_at octets)
 
 -- An element, and the names behind it: the contents of a dNSName.
-abbrev pub name_then : Result (Item × At) DerError → (At → List (List ℕ)) → List (List ℕ)
+abbrev pub name_then : Result (Item × At) DerError → (At → List Text) → List Text
 name_then (Ok e) behind = if e.0.tag == dns_name then e.0.contents ∷ behind e.1 else behind e.1
 name_then (Err fault) behind = []
 
 -- The dNSNames among elements one behind the other, up to the first that doesn't read. The number
 -- is at least that of the bytes that are left.
-unfoldable pub names_from : ℕ → At → List (List ℕ)
+unfoldable pub names_from : ℕ → At → List Text
 names_from zero a = []
 names_from (suc n) a = name_then (element_at a) (λ b. names_from n b)
 
-abbrev pub names_left : At → List (List ℕ)
+abbrev pub names_left : At → List Text
 names_left a = names_from (length a.rest) a
 
-abbrev pub names_inside : Result (Item × At) DerError → List (List ℕ)
+abbrev pub names_inside : Result (Item × At) DerError → List Text
 names_inside (Ok e) = names_left (inside e.0)
 names_inside (Err fault) = []
 
 -- The dNSNames in the octets of a subjectAltName; in octets that don't begin with a SEQUENCE, none.
-abbrev pub names_in : List ℕ → List (List ℕ)
+abbrev pub names_in : Text → List Text
 names_in octets = names_inside (wanted_at 0x30 (at octets 0))

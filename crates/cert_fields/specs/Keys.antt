@@ -1,8 +1,8 @@
 -- Algorithms, public keys and the signature's bits (RFC 5280, sections 4.1.1.2, 4.1.1.3 and
 -- 4.1.2.7).
-use Rattle.std.specs.Prelude.{ℕ, ◌==◌, Bool, List, Result, Ok, Err, if◌then◌else◌}
-use Rattle.byte_forms.specs.Places.{At}
-use Rattle.byte_forms.specs.Readings.{◌>>=◌, both_at, last_at, is_read}
+use Rattle.std.specs.Prelude.{ℕ, ◌==◌, Bool, Result, Ok, Err, if◌then◌else◌}
+use Rattle.byte_forms.specs.Types.{Text}
+use Rattle.byte_forms.specs.Readings.{◌>>=◌, both_at, last_at, is_read, Reading}
 use Rattle.der_core.specs.Contents.{oid_of, bits_of}
 use Rattle.der_core.specs.Fields.{whole_at, decoded_at, any_at, all_of}
 use Rattle.der_core.specs.declared.fault.DerError.{DerError}
@@ -10,22 +10,22 @@ use Rattle.der_core.specs.declared.fault.DerError.TheVariants.{BadBits}
 use Rattle.der_core.specs.declared.fault.CertError.{CertError}
 
 -- AlgorithmIdentifier: an object identifier and at most one element.
-unfoldable pub algorithm_at : At → Result (List ℕ × At) CertError
+unfoldable pub algorithm_at : Reading Text CertError
 algorithm_at = whole_at 0x30 (both_at (decoded_at 0x06 oid_of) (last_at any_at))
 
 -- SubjectPublicKeyInfo: an algorithm and a BIT STRING.
-unfoldable pub spki_at : At → Result (List ℕ × At) CertError
+unfoldable pub spki_at : Reading Text CertError
 spki_at = whole_at 0x30 (both_at algorithm_at (decoded_at 0x03 bits_of))
 
 -- The bytes are one SubjectPublicKeyInfo and nothing else.
-unfoldable pub is_public_key : List ℕ → Bool
+unfoldable pub is_public_key : Text → Bool
 is_public_key bytes = is_read (all_of spki_at bytes)
 
 -- A BIT STRING of whole bytes: no bit of it is unused.
-unfoldable pub whole_bits_of : ℕ → List ℕ → Result (List ℕ) DerError
+unfoldable pub whole_bits_of : ℕ → Text → Result Text DerError
 whole_bits_of place contents =
     bits_of place contents >>= λ b. if b.0 == 0 then Ok b.1 else Err (BadBits place)
 
 -- The signature: the bytes of a BIT STRING.
-unfoldable pub signature_at : At → Result (List ℕ × At) CertError
+unfoldable pub signature_at : Reading Text CertError
 signature_at = decoded_at 0x03 whole_bits_of

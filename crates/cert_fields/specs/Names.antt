@@ -1,7 +1,7 @@
 -- Names (RFC 5280, section 4.1.2.4).
-use Rattle.std.specs.Prelude.{ℕ, ◌==◌, List, length, Result, Ok, Err, if◌then◌else◌}
-use Rattle.byte_forms.specs.Places.{At}
-use Rattle.byte_forms.specs.Readings.{◌>>=◌, both_at, discarded}
+use Rattle.std.specs.Prelude.{◌==◌, length, Ok, Err, if◌then◌else◌}
+use Rattle.byte_forms.specs.Types.{Text}
+use Rattle.byte_forms.specs.Readings.{◌>>=◌, both_at, discarded, Reading}
 use Rattle.byte_forms.specs.Lists.{up_to_end}
 use Rattle.der_core.specs.Items.{inside}
 use Rattle.der_core.specs.Reading.{wanted_at, end_at}
@@ -12,12 +12,12 @@ use Rattle.der_core.specs.declared.fault.CertError.{CertError}
 use Rattle.der_core.specs.declared.fault.CertError.TheVariants.{BadName}
 
 -- AttributeTypeAndValue: an object identifier and one element.
-unfoldable pub attribute_at : At → Result (List ℕ × At) CertError
+unfoldable pub attribute_at : Reading Text CertError
 attribute_at = whole_at 0x30 (both_at (decoded_at 0x06 oid_of) any_at)
 
 -- RelativeDistinguishedName: a SET OF attributes, at least one, in rising order. First it is not
 -- empty, then its elements rise, then each is an attribute.
-unfoldable pub set_at : At → Result (List ℕ × At) CertError
+unfoldable pub set_at : Reading Text CertError
 set_at a =
     der (wanted_at 0x31 a) >>= λ e.
     (if length e.0.contents == 0 then Err BadName
@@ -26,5 +26,5 @@ set_at a =
     der (end_at b) >>= λ done. Ok (e.0.whole, e.1)))
 
 -- Name: sets one behind the other, or none.
-unfoldable pub name_at : At → Result (List ℕ × At) CertError
+unfoldable pub name_at : Reading Text CertError
 name_at = whole_at 0x30 (up_to_end set_at)

@@ -1,7 +1,8 @@
 -- One field in a longer input, with the place behind it.
-use Rattle.std.specs.Prelude.{ℕ, List, Result, Ok, Err}
+use Rattle.std.specs.Prelude.{ℕ, Result, Ok, Err}
+use Rattle.byte_forms.specs.Types.{Text}
 use Rattle.byte_forms.specs.Places.{At}
-use Rattle.cert_time.specs.declared.validity.Validity.{Validity}
+use Rattle.cert_time.specs.Calendar.{Period}
 
 -- The offset behind what was read.
 abbrev pub place_behind : {X E : Type 0} → Result (X × At) E → Result ℕ E
@@ -9,7 +10,7 @@ place_behind (Ok x) = Ok x.1.place
 place_behind (Err e) = Err e
 
 -- The moments that were read, and the offset behind them.
-abbrev pub moments_behind : {E : Type 0} → Result ((List ℕ × Validity) × At) E
-    → Result (Validity × ℕ) E
+abbrev pub moments_behind : {E : Type 0} → Result ((Text × Period) × At) E
+    → Result (Period × ℕ) E
 moments_behind (Ok x) = Ok (x.0.1, x.1.place)
 moments_behind (Err e) = Err e

@@ -2,15 +2,15 @@
 
 ghost use Rattle.std.specs.Prelude.{◌≡◌, ◌<◌, List, [], ◌∷◌, length, Ok, Err, OnOk, IfErr, MatchOption};
 ghost use Rattle.std.specs.Iterator.{YieldsFirstRef, item_count};
+ghost use Rattle.byte_forms.specs.Types.{Text};
 ghost use Rattle.byte_forms.specs.Readings.{Moves, discarded};
 ghost use Rattle.byte_forms.specs.Lists.{up_to_end};
 ghost use Rattle.cert_fields.specs.AltNames.{is_name_tag, is_ascii, general_name_at, general_names_at, are_general_names, names_left, names_in};
 
+use crate::tags::DNS_NAME;
 use der_core::tags::SEQUENCE;
 use der_core::{CertError, Reader};
 use std::marker::Model;
-
-const DNS_NAME: u8 = 0x82;
 
 /// The tag of a GeneralName.
 fn is_general_name_tag(tag: u8) -> bool
@@ -90,10 +90,11 @@ pub struct DnsNames<'a> {
 }
 
 impl<'a> Model for DnsNames<'a> {
-    ghost use Rattle.std.specs.Prelude.{ℕ, List};
+    ghost use Rattle.std.specs.Prelude.{List};
+    ghost use Rattle.byte_forms.specs.Types.{Text};
     ghost use Rattle.cert_fields.specs.AltNames.{names_left};
 
-    ghost Value = { List (List ℕ) };
+    ghost Value = { List Text };
 
     ghost view = { λ n. names_left n.names };
 }

@@ -1,8 +1,8 @@
 //! A whole certificate (RFC 5280, section 4.1).
 
 ghost use Rattle.std.specs.Prelude.{◌≡◌, Ok, IfOk};
-ghost use Rattle.byte_forms.specs.Readings.{Moves, Gives};
-ghost use Rattle.cert_fields.specs.Certificate.{Parts, version_at, serial_at, body_at, tbs_at, signed_at, certificate_at, parts_of, is_unique_id};
+ghost use Rattle.byte_forms.specs.Readings.{Reads, Moves, Gives};
+ghost use Rattle.cert_fields.specs.Certificate.{Parts, version_at, serial_at, behind_serial_at, tbs_at, signed_at, certificate_at, parts_of, is_unique_id};
 ghost use Rattle.cert_fields.specs.Spelling.{certificate};
 ghost use Rattle.cert_fields.specs.Grammar.{IsCertificate};
 ghost use Rattle.cert_fields.specs.Views.{parts, body};
@@ -11,6 +11,7 @@ use crate::cert::Cert;
 use crate::extensions::read_extensions;
 use crate::keys::{algorithm, signature, spki};
 use crate::names::read_name;
+use crate::tags::VERSION;
 use crate::times::read_validity;
 use cert_time::Validity;
 use der_core::tags::{INTEGER, SEQUENCE};
@@ -28,21 +29,24 @@ pub struct Fields<'a> {
     pub extensions: &'a [u8],
 }
 
-/// The version has to be 3, which is written as 2.
+/// The version has to be 3, which is written as 2. After a refusal the reader stands where it
+/// stood.
 #[tactic(auto, unfolding(crate::specs::Certificate::version_at))]
 pub fn read_version(reader: &mut Reader) -> Result<(), CertError>
-    ensures { Moves (λ x. x) version_at reader.old result reader.new }
+    ensures { Reads (λ x. x) version_at reader.old result reader.new }
 {
-    if !reader.begins_with(0xA0) {
+    if !reader.begins_with(VERSION) {
         return Err(CertError::BadVersion);
     }
-    let outer = reader.wanted(0xA0)?;
+    let mut ahead = reader.fork();
+    let outer = ahead.wanted(VERSION)?;
     let mut inner = Reader::inside(&outer);
     let number = inner.wanted(INTEGER)?;
     if unsigned(&number)? != Some(2) {
         return Err(CertError::BadVersion);
     }
     inner.end()?;
+    *reader = ahead;
     Ok(())
 }
 
@@ -69,9 +73,9 @@ fn has_unique_id(reader: &Reader) -> bool
 }
 
 /// The fields from the algorithm to the extensions.
-#[tactic(auto, unfolding(crate::specs::Certificate::body_at))]
+#[tactic(auto, unfolding(crate::specs::Certificate::behind_serial_at))]
 fn behind_serial<'a>(reader: &mut Reader<'a>) -> Result<Fields<'a>, CertError>
-    ensures { Moves body body_at reader.old result reader.new }
+    ensures { Moves body behind_serial_at reader.old result reader.new }
 {
     let algorithm = algorithm(reader)?;
     let issuer = read_name(reader)?;

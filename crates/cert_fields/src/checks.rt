@@ -3,6 +3,7 @@
 ghost use Rattle.std.specs.Prelude.{◌≡◌, ◌↔◌, ◌≤◌, length, IfOk, IsTrue};
 ghost use Rattle.byte_forms.specs.Places.{at};
 ghost use Rattle.byte_forms.specs.Readings.{Gives};
+ghost use Rattle.cert_time.specs.Periods.{period};
 ghost use Rattle.cert_fields.specs.Certificate.{version_at};
 ghost use Rattle.cert_fields.specs.Grammar.{IsPublicKey};
 ghost use Rattle.cert_fields.specs.Keys.{algorithm_at, spki_at, is_public_key};
@@ -48,7 +49,8 @@ pub fn check_name(input: &[u8], place: usize) -> Result<usize, CertError>
 /// offset behind it. Beside the faults of its elements, a time out of its form is `BadTime`.
 pub fn check_validity(input: &[u8], place: usize) -> Result<(Validity, usize), CertError>
     requires { place ≤ length input.now }
-    ensures exact { Gives (λ v. v) result (moments_behind (validity_at (at input.now place))) }
+    ensures exact { Gives (λ v. (period v.0, v.1)) result
+        (moments_behind (validity_at (at input.now place))) }
     ensures within { IfOk result (λ v. (place ≤ v.1) × (v.1 ≤ length input.now)) }
 {
     let mut reader = Reader::at(input, place);

@@ -2,7 +2,7 @@
 
 ghost use Rattle.std.specs.Prelude.{◌≡◌, ◌^◌, ◌<◌, [], length, Ok, Err, OnOk, IfErr, if◌then◌else◌};
 ghost use Rattle.std.specs.List.{list_any};
-ghost use Rattle.byte_forms.specs.Readings.{Moves, Gives, discarded};
+ghost use Rattle.byte_forms.specs.Readings.{Reads, Moves, Gives, discarded};
 ghost use Rattle.cert_fields.specs.Extensions.{is_among, new_identifier_at, critical_at, has_its_form, extension_at, extension_list_at, extension_sequence_at, extensions_at, identifiers, are_repeated, extensions_left, list_in, is_unknown_critical, has_unknown_critical, alt_name_octets, dns_names_in};
 ghost use Rattle.cert_fields.specs.Views.{extension_fields};
 ghost use Rattle.der_core.specs.declared.fault.CertError.TheVariants.{RepeatedExtension};
@@ -11,10 +11,9 @@ use crate::alt_names::{DnsNames, is_general_names};
 use crate::cert::Cert;
 use crate::identifiers::{is_known, is_subject_alt_name};
 use crate::repeats::{has_repeats, head};
+use crate::tags::EXTENSIONS;
 use der_core::tags::{BOOLEAN, OBJECT_IDENTIFIER, OCTET_STRING, SEQUENCE};
 use der_core::{CertError, DerError, Reader, boolean, oid};
-
-const FIELD: u8 = 0xA3;
 
 /// Up to so many extensions each is compared with all before it.
 const FEW: usize = 64;
@@ -206,18 +205,21 @@ fn extension_sequence<'a>(reader: &mut Reader<'a>) -> Result<&'a [u8], CertError
     Ok(outer.whole)
 }
 
-/// The extensions with their outer tag, or no bytes where another tag stands.
+/// The extensions with their outer tag, or no bytes where another tag stands. After a refusal the
+/// reader stands where it stood.
 #[tactic(auto, unfolding(crate::specs::Extensions::extensions_at))]
 pub fn read_extensions<'a>(reader: &mut Reader<'a>) -> Result<&'a [u8], CertError>
-    ensures { Moves (λ bytes. bytes.now) extensions_at reader.old result reader.new }
+    ensures { Reads (λ bytes. bytes.now) extensions_at reader.old result reader.new }
 {
-    if !reader.begins_with(FIELD) {
+    if !reader.begins_with(EXTENSIONS) {
         return Ok(&[]);
     }
-    let outer = reader.wanted(FIELD)?;
+    let mut ahead = reader.fork();
+    let outer = ahead.wanted(EXTENSIONS)?;
     let mut inner = Reader::inside(&outer);
     extension_sequence(&mut inner)?;
     inner.end()?;
+    *reader = ahead;
     Ok(outer.whole)
 }
 
@@ -236,7 +238,7 @@ fn next_extension<'a>(reader: &mut Reader<'a>) -> Result<Extension<'a>, CertErro
 fn list_of(extensions: &[u8]) -> Result<Reader<'_>, DerError>
     ensures { Gives (λ r. r) result (list_in extensions.now) }
 {
-    let field = Reader::at(extensions, 0).wanted(FIELD)?;
+    let field = Reader::at(extensions, 0).wanted(EXTENSIONS)?;
     let list = Reader::inside(&field).wanted(SEQUENCE)?;
     Ok(Reader::inside(&list))
 }

@@ -2,6 +2,7 @@
 
 ghost use Rattle.std.specs.Prelude.{◌≡◌, ℕ, ◌^◌, ◌<◌, ◌⊎◌, true, false, List, [], ◌∷◌, ◌++◌, length, Ok, Contains};
 ghost use Rattle.std.specs.List.{list_any};
+ghost use Rattle.byte_forms.specs.Types.{Text};
 ghost use Rattle.byte_forms.specs.Places.{IsBytes};
 ghost use Rattle.byte_forms.specs.Forms.{IsForm, Anything, OtherThan, itself};
 ghost use Rattle.der_core.specs.Elements.{element};
@@ -13,7 +14,7 @@ ghost use Rattle.cert_fields.specs.Extensions.{ExtensionFields, is_alt_name, ext
 ghost use Rattle.cert_fields.specs.Found.{sequence_text, extensions_text, AreExtensionsOf, AreNamesOf, dns_only};
 ghost use Rattle.cert_fields.specs.Certificate.{Parts, parts_of};
 ghost use Rattle.cert_fields.specs.Spelling.{certificate};
-ghost use Rattle.cert_fields.specs.Grammar.{IsAlgorithm, IsPublicKey, IsName, IsValidity, IsSignature, IsGeneralNames, AreExtensions, IsExtensionsField, IsCertificate};
+ghost use Rattle.cert_fields.specs.Grammar.{IsAlgorithm, IsPublicKey, IsName, IsValidity, IsSignatureValue, IsGeneralNames, AreExtensions, IsExtensionsField, IsCertificate};
 
 /// Algorithms, public keys, names, validities and signatures are read exactly from their spellings,
 /// whatever follows.
@@ -22,7 +23,7 @@ pub fn fields_are_read_as_spelled()
     ensures public_keys { IsForm itself IsPublicKey Anything spki_at }
     ensures names { IsForm itself IsName Anything name_at }
     ensures validities { IsForm (λ v. v.0) IsValidity Anything validity_at }
-    ensures signatures { IsForm (λ proof. element 0x03 (0 ∷ proof)) IsSignature Anything
+    ensures signatures { IsForm (λ proof. element 0x03 (0 ∷ proof)) IsSignatureValue Anything
         signature_at }
 {}
 
@@ -31,9 +32,9 @@ pub fn fields_are_read_as_spelled()
 pub fn extensions_are_read_as_spelled()
     ensures field { IsForm itself (λ bytes. (bytes ≡ []) ⊎ IsExtensionsField bytes)
         (λ rest. Anything rest × OtherThan 0xA3 rest) extensions_at }
-    ensures only { (octets : List ℕ) → IsBytes octets → are_general_names octets ≡ true
+    ensures only { (octets : Text) → IsBytes octets → are_general_names octets ≡ true
         → IsGeneralNames octets }
-    ensures again { (octets : List ℕ) → IsGeneralNames octets → are_general_names octets ≡ true }
+    ensures again { (octets : Text) → IsGeneralNames octets → are_general_names octets ≡ true }
 {}
 
 /// In the field that is spelled from extensions just these are found, in their order; and in a
@@ -41,7 +42,7 @@ pub fn extensions_are_read_as_spelled()
 pub fn extensions_are_found()
     ensures extensions { (xs : List ExtensionFields) → AreExtensions xs
         → length (sequence_text xs) < 2 ^ 24 → extensions_in (extensions_text xs) ≡ xs }
-    ensures names { (octets : List ℕ) (ns : List (ℕ × List ℕ)) → AreNamesOf octets ns
+    ensures names { (octets : Text) (ns : List (ℕ × Text)) → AreNamesOf octets ns
         → names_in octets ≡ dns_only ns }
 {}
 
@@ -51,29 +52,29 @@ pub fn extensions_are_found()
 /// subjectAltName, none without it; and an unknown extension that is critical is told exactly where
 /// one of the extensions is.
 pub fn names_and_marks_are_found()
-    ensures field { (field : List ℕ) → (field ≡ []) ⊎ IsExtensionsField field
+    ensures field { (field : Text) → (field ≡ []) ⊎ IsExtensionsField field
         → (xs : List ExtensionFields) × AreExtensionsOf field xs }
-    ensures octets { (octets : List ℕ) → IsGeneralNames octets → (ns : List (ℕ × List ℕ))
+    ensures octets { (octets : Text) → IsGeneralNames octets → (ns : List (ℕ × Text))
         × AreNamesOf octets ns }
-    ensures names { (field : List ℕ) (xs : List ExtensionFields) (x : ExtensionFields)
-        (ns : List (ℕ × List ℕ)) → AreExtensionsOf field xs → Contains xs x → is_alt_name x ≡ true
+    ensures names { (field : Text) (xs : List ExtensionFields) (x : ExtensionFields)
+        (ns : List (ℕ × Text)) → AreExtensionsOf field xs → Contains xs x → is_alt_name x ≡ true
         → AreNamesOf x.octets ns → dns_names_in field ≡ dns_only ns }
-    ensures none { (field : List ℕ) (xs : List ExtensionFields) → AreExtensionsOf field xs
+    ensures none { (field : Text) (xs : List ExtensionFields) → AreExtensionsOf field xs
         → list_any is_alt_name xs ≡ false → dns_names_in field ≡ [] }
-    ensures critical { (field : List ℕ) (xs : List ExtensionFields) → AreExtensionsOf field xs
+    ensures critical { (field : Text) (xs : List ExtensionFields) → AreExtensionsOf field xs
         → has_unknown_critical field ≡ list_any is_unknown_critical xs }
 {}
 
 /// What is read as a certificate is spelled as one, and the spelling of each certificate is read as
 /// its parts.
 pub fn certificates_are_read_as_spelled()
-    ensures only { (bytes : List ℕ) (p : Parts) → IsBytes bytes → parts_of bytes ≡ Ok p
+    ensures only { (bytes : Text) (p : Parts) → IsBytes bytes → parts_of bytes ≡ Ok p
         → (bytes ≡ certificate p) × IsCertificate p }
     ensures again { (p : Parts) → IsCertificate p → parts_of (certificate p) ≡ Ok p }
 {}
 
 /// A certificate has one spelling, and no certificate begins another one.
 pub fn one_spelling()
-    ensures { (p q : Parts) (s t : List ℕ) → IsCertificate p → IsCertificate q
+    ensures { (p q : Parts) (s t : Text) → IsCertificate p → IsCertificate q
         → certificate p ++ s ≡ certificate q ++ t → (p ≡ q) × (s ≡ t) }
 {}

@@ -19,6 +19,7 @@ mod laws;
 mod names;
 mod parts;
 mod repeats;
+pub mod tags;
 mod times;
 mod writing;
 
@@ -30,7 +31,7 @@ pub use checks::{
     is_public_key,
 };
 pub use extensions::{dns_names, read_extensions, unknown_critical};
-pub use identifiers::MTC_PROOF;
+pub use identifiers::{MTC_PROOF, SUBJECT_ALT_NAME};
 pub use laws::{
     certificates_are_read_as_spelled, extensions_are_found, extensions_are_read_as_spelled,
     fields_are_read_as_spelled, names_and_marks_are_found, one_spelling,

@@ -1,7 +1,7 @@
 //! Names (RFC 5280, section 4.1.2.4).
 
 ghost use Rattle.std.specs.Prelude.{◌≡◌, ◌<◌, length, Ok, Err, OnOk, IfErr};
-ghost use Rattle.byte_forms.specs.Readings.{Moves, discarded};
+ghost use Rattle.byte_forms.specs.Readings.{Reads, Moves, discarded};
 ghost use Rattle.byte_forms.specs.Lists.{up_to_end};
 ghost use Rattle.cert_fields.specs.Names.{attribute_at, set_at, name_at};
 
@@ -62,14 +62,16 @@ fn sets(reader: &mut Reader) -> Result<(), CertError>
     Ok(())
 }
 
-/// A Name: a SEQUENCE of sets of attributes.
+/// A Name: a SEQUENCE of sets of attributes. After a refusal the reader stands where it stood.
 #[tactic(auto, unfolding(crate::specs::Names::name_at))]
 pub fn read_name<'a>(reader: &mut Reader<'a>) -> Result<&'a [u8], CertError>
-    ensures { Moves (λ bytes. bytes.now) name_at reader.old result reader.new }
+    ensures { Reads (λ bytes. bytes.now) name_at reader.old result reader.new }
 {
-    let outer = reader.wanted(SEQUENCE)?;
+    let mut ahead = reader.fork();
+    let outer = ahead.wanted(SEQUENCE)?;
     let mut inner = Reader::inside(&outer);
     sets(&mut inner)?;
     inner.end()?;
+    *reader = ahead;
     Ok(outer.whole)
 }

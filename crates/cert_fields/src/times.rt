@@ -1,16 +1,20 @@
 //! Validity (RFC 5280, section 4.1.2.5).
 
-ghost use Rattle.byte_forms.specs.Readings.{Moves};
+ghost use Rattle.std.specs.Prelude.{IfOk};
+ghost use Rattle.byte_forms.specs.Readings.{Reads, Moves};
+ghost use Rattle.cert_time.specs.Calendar.{IsMoment};
+ghost use Rattle.cert_time.specs.Periods.{period};
 ghost use Rattle.cert_fields.specs.Times.{time_at, validity_at};
 
-use cert_time::{Validity, read_time};
-use der_core::tags::{GENERALIZED_TIME, SEQUENCE, UTC_TIME};
+use cert_time::{GENERALIZED_TIME, UTC_TIME, Validity, read_time};
+use der_core::tags::SEQUENCE;
 use der_core::{CertError, Reader};
 
 /// The moment of a UTCTime or a GeneralizedTime; `BadTime` where its contents aren't in their form.
 #[tactic(auto, unfolding(crate::specs::Times::time_at))]
 fn time(reader: &mut Reader) -> Result<i64, CertError>
-    ensures { Moves (λ z. z) time_at reader.old result reader.new }
+    ensures exact { Moves (λ z. z) time_at reader.old result reader.new }
+    ensures range { IfOk result IsMoment }
 {
     let tag = if reader.begins_with(GENERALIZED_TIME) {
         GENERALIZED_TIME
@@ -24,16 +28,18 @@ fn time(reader: &mut Reader) -> Result<i64, CertError>
     }
 }
 
-/// A validity as its bytes and its moments.
+/// A validity as its bytes and its moments. After a refusal the reader stands where it stood.
 #[tactic(auto, unfolding(crate::specs::Times::validity_at))]
 pub fn read_validity<'a>(reader: &mut Reader<'a>) -> Result<(&'a [u8], Validity), CertError>
-    ensures { Moves (λ v. (v.0.now, v.1)) validity_at reader.old result reader.new }
+    ensures { Reads (λ v. (v.0.now, period v.1)) validity_at reader.old result reader.new }
 {
-    let outer = reader.wanted(SEQUENCE)?;
+    let mut ahead = reader.fork();
+    let outer = ahead.wanted(SEQUENCE)?;
     let mut inner = Reader::inside(&outer);
     let not_before = time(&mut inner)?;
     let not_after = time(&mut inner)?;
     inner.end()?;
+    *reader = ahead;
     Ok((
         outer.whole,
         Validity {

@@ -1,7 +1,6 @@
 //! Writing a certificate.
 
 ghost use Rattle.std.specs.Prelude.{◌≡◌, ◌^◌, ◌<◌, ◌≤◌, ◌∷◌, Ok, IfOk};
-ghost use Rattle.cert_time.specs.Calendar.{IsMoment};
 ghost use Rattle.cert_fields.specs.Certificate.{parts_of};
 ghost use Rattle.cert_fields.specs.Grammar.{IsCertificate};
 ghost use Rattle.cert_fields.specs.Spelling.{tbs_fields, certificate_fields, certificate};
@@ -24,8 +23,6 @@ const VERSION: [u8; 5] = [0xA0, 0x03, 0x02, 0x01, 0x02];
 /// serial number from 1 on and elements in the grammar of their fields, [`parse`](crate::parse)
 /// reads them again from what is written.
 pub fn write(alloc: Global, parts: &CertParts) -> Result<Bytes, Memory>
-    requires not_before { IsMoment parts.now.validity.not_before }
-    requires not_after { IsMoment parts.now.validity.not_after }
     requires short { size_of parts.now ≤ 16000000 }
     ensures exact { IfOk result (λ bytes. bytes ≡ certificate (given parts.now)) }
     ensures read { IsCertificate (given parts.now)
@@ -37,8 +34,6 @@ pub fn write(alloc: Global, parts: &CertParts) -> Result<Bytes, Memory>
 /// The whole certificate.
 #[tactic(auto, unfolding(crate::specs::Spelling::certificate))]
 fn certificate_element(alloc: Global, parts: &CertParts) -> Result<Bytes, Memory>
-    requires not_before { IsMoment parts.now.validity.not_before }
-    requires not_after { IsMoment parts.now.validity.not_after }
     requires short { size_of parts.now ≤ 16000000 }
     ensures { IfOk result (λ bytes. bytes ≡ certificate (given parts.now)) }
 {
@@ -50,8 +45,6 @@ fn certificate_element(alloc: Global, parts: &CertParts) -> Result<Bytes, Memory
 
 /// The contents of the whole certificate.
 fn certificate_contents(alloc: Global, parts: &CertParts) -> Result<Bytes, Memory>
-    requires not_before { IsMoment parts.now.validity.not_before }
-    requires not_after { IsMoment parts.now.validity.not_after }
     requires short { size_of parts.now ≤ 16000000 }
     ensures exact { IfOk result (λ bytes. bytes ≡ certificate_fields (given parts.now)) }
     ensures serial { IfOk result (λ _. parts.now.serial < 2 ^ 64) }
@@ -67,8 +60,6 @@ fn certificate_contents(alloc: Global, parts: &CertParts) -> Result<Bytes, Memor
 
 /// The contents of what is signed.
 fn signed_contents(alloc: Global, parts: &CertParts) -> Result<Bytes, Memory>
-    requires not_before { IsMoment parts.now.validity.not_before }
-    requires not_after { IsMoment parts.now.validity.not_after }
     ensures exact { IfOk result (λ bytes. bytes ≡ tbs_fields (given parts.now)) }
     ensures serial { IfOk result (λ _. parts.now.serial < 2 ^ 64) }
 {

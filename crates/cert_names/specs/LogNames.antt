@@ -35,19 +35,19 @@ abbrev pub second : Text × Text → Text
 second x = x.1
 
 -- The text behind the identifier.
-unfoldable pub parts_at : Reading Text CertError
-parts_at =
+unfoldable pub log_text_at : Reading Text CertError
+log_text_at =
     mapped_at second (tested_at is_log_id BadName (both_at (contents_at 0x06) (contents_at 0x0C)))
 
 -- The text in the attribute, in its set, in the name.
-unfoldable pub attribute_at : Reading Text CertError
-attribute_at = inside_at 0x30 parts_at
+unfoldable pub log_attribute_at : Reading Text CertError
+log_attribute_at = inside_at 0x30 log_text_at
 
-unfoldable pub set_at : Reading Text CertError
-set_at = inside_at 0x31 attribute_at
+unfoldable pub log_set_at : Reading Text CertError
+log_set_at = inside_at 0x31 log_attribute_at
 
-unfoldable pub name_at : Reading Text CertError
-name_at = inside_at 0x30 set_at
+unfoldable pub log_name_at : Reading Text CertError
+log_name_at = inside_at 0x30 log_set_at
 
 -- The text that was read, where it is that of an id.
 abbrev pub id_only : {E : Type 0} → Result Text E → Option Text
@@ -56,4 +56,4 @@ id_only (Err e) = None
 
 -- The text of the id in the name of a log; in any other name, none.
 unfoldable pub log_in : Text → Option Text
-log_in name = id_only (all_of name_at name)
+log_in name = id_only (all_of log_name_at name)

@@ -4,7 +4,7 @@ ghost use Rattle.std.specs.Prelude.{◌≡◌, Some, None, IfSome, MatchOption};
 ghost use Rattle.byte_forms.specs.Types.{Text};
 ghost use Rattle.byte_forms.specs.Readings.{Moves, Gives};
 ghost use Rattle.der_core.specs.Fields.{all_of};
-ghost use Rattle.cert_names.specs.LogNames.{IsLogName, parts_at, attribute_at, set_at, name_at, log_in};
+ghost use Rattle.cert_names.specs.LogNames.{IsLogName, log_text_at, log_attribute_at, log_set_at, log_name_at, log_in};
 
 use der_core::tags::{OBJECT_IDENTIFIER, SEQUENCE, SET, UTF8_STRING};
 use der_core::{CertError, Reader};
@@ -14,9 +14,9 @@ use tls_wire::AnchorId;
 pub(crate) const LOG_ID: [u8; 10] = [0x2B, 0x06, 0x01, 0x04, 0x01, 0x82, 0xDA, 0x4B, 0x2F, 0x01];
 
 // The UTF8String behind the identifier.
-#[tactic(auto, unfolding(crate::specs::LogNames::parts_at))]
+#[tactic(auto, unfolding(crate::specs::LogNames::log_text_at))]
 fn parts<'a>(reader: &mut Reader<'a>) -> Result<&'a [u8], CertError>
-    ensures { Moves (λ text. text.now) parts_at reader.old result reader.new }
+    ensures { Moves (λ text. text.now) log_text_at reader.old result reader.new }
 {
     let identifier = reader.wanted(OBJECT_IDENTIFIER)?.contents;
     let text = reader.wanted(UTF8_STRING)?.contents;
@@ -28,9 +28,9 @@ fn parts<'a>(reader: &mut Reader<'a>) -> Result<&'a [u8], CertError>
 }
 
 // The text in the attribute.
-#[tactic(auto, unfolding(crate::specs::LogNames::attribute_at))]
+#[tactic(auto, unfolding(crate::specs::LogNames::log_attribute_at))]
 fn attribute<'a>(reader: &mut Reader<'a>) -> Result<&'a [u8], CertError>
-    ensures { Moves (λ text. text.now) attribute_at reader.old result reader.new }
+    ensures { Moves (λ text. text.now) log_attribute_at reader.old result reader.new }
 {
     let outer = reader.wanted(SEQUENCE)?;
     let mut inner = Reader::inside(&outer);
@@ -40,9 +40,9 @@ fn attribute<'a>(reader: &mut Reader<'a>) -> Result<&'a [u8], CertError>
 }
 
 // The text in the set of one attribute.
-#[tactic(auto, unfolding(crate::specs::LogNames::set_at))]
+#[tactic(auto, unfolding(crate::specs::LogNames::log_set_at))]
 fn set<'a>(reader: &mut Reader<'a>) -> Result<&'a [u8], CertError>
-    ensures { Moves (λ text. text.now) set_at reader.old result reader.new }
+    ensures { Moves (λ text. text.now) log_set_at reader.old result reader.new }
 {
     let outer = reader.wanted(SET)?;
     let mut inner = Reader::inside(&outer);
@@ -52,9 +52,9 @@ fn set<'a>(reader: &mut Reader<'a>) -> Result<&'a [u8], CertError>
 }
 
 // The text in the name of one set.
-#[tactic(auto, unfolding(crate::specs::LogNames::name_at))]
+#[tactic(auto, unfolding(crate::specs::LogNames::log_name_at))]
 fn name<'a>(reader: &mut Reader<'a>) -> Result<&'a [u8], CertError>
-    ensures { Moves (λ text. text.now) name_at reader.old result reader.new }
+    ensures { Moves (λ text. text.now) log_name_at reader.old result reader.new }
 {
     let outer = reader.wanted(SEQUENCE)?;
     let mut inner = Reader::inside(&outer);
@@ -65,7 +65,7 @@ fn name<'a>(reader: &mut Reader<'a>) -> Result<&'a [u8], CertError>
 
 // The same, where the name is all of the bytes.
 fn whole(bytes: &[u8]) -> Result<&[u8], CertError>
-    ensures { Gives (λ text. text.now) result (all_of name_at bytes.now) }
+    ensures { Gives (λ text. text.now) result (all_of log_name_at bytes.now) }
 {
     let mut reader = Reader::at(bytes, 0);
     let text = name(&mut reader)?;

@@ -1,12 +1,13 @@
 -- What is read names one moment, and its spelling is what was read.
-use Rattle.std.proofs.Common.{◌≡◌, ℕ, ◌<◌, ◌≤◌, ◌==◌, ◌&&◌, ◌⊎◌, inl, inr, Bool, true, false, nat_lt, nat_le, cond, List, length, refl, sym, ap, subst, ◌∙◌, arith, ℤ, pos, Option, Some, None, IfSome}
+use Rattle.std.proofs.Common.{◌≡◌, ℕ, ◌<◌, ◌≤◌, ◌==◌, ◌&&◌, ◌⊎◌, inl, inr, Bool, true, false, nat_lt, nat_le, cond, length, refl, sym, ap, subst, ◌∙◌, arith, ℤ, pos, Option, Some, None, IfSome}
 use Rattle.std.proofs.lemmas.Bool.{and_parts, leb-true, eqb-true}
 use Rattle.std.proofs.lemmas.Bool.Decides.{nat_tests}
+use Rattle.byte_forms.specs.Types.{Text}
 use Rattle.jiff_core.proofs.CalendarLemmas.{days_in_month_bounds}
 use Rattle.cert_time.specs.declared.civil.CivilTime.{CivilTime}
 use Rattle.cert_time.specs.Calendar.{exists, moment, moment_from, IsMoment, civil_of}
 use Rattle.cert_time.specs.Forms.{HasDigits, fits_form}
-use Rattle.cert_time.specs.Texts.{text_form, text_parts, text_with, text_moment, text_of}
+use Rattle.cert_time.specs.Texts.{text_form, text_parts, text_with, text_moment, moment_text}
 use Rattle.cert_time.specs.Times.{utc_form, utc_parts, utc_with, utc_moment, general_form, general_parts, general_with, general_moment, time_moment, time_tag, time_contents, tag_with, contents_with}
 use Rattle.cert_time.proofs.Moments.{Exists, exists-from, exists-to, Names, civil_of-names, names-civil_of, IsMoment-names}
 use Rattle.cert_time.proofs.Spelling.{text_back, text_fits, text_read, utc_back, utc_fits, utc_read, utc_year, general_back, general_fits, general_read}
@@ -66,17 +67,17 @@ along z c p e n = let P : CivilTime → Type 0 = λ q. Names z q in subst P (sym
 
 -- 1. Texts
 
-pub text_moment-text_of : (z : ℤ) → IsMoment z → text_moment (text_of z) ≡ Some z
-unfolding text_moment text_of
-text_moment-text_of z h =
+pub text_moment-moment_text : (z : ℤ) → IsMoment z → text_moment (moment_text z) ≡ Some z
+unfolding text_moment moment_text
+text_moment-moment_text z h =
     let c = civil_of z in
     let n = civil_of-names z h in
     let digits = has_digits c n.exists in
     let names = along z c (text_parts (text_with c)) (text_read c digits) n in
     reads _ 1950 (text_parts (text_with c)) z (text_fits c digits) names.year names
 
-pub text_moment-only : (t : List ℕ) (z : ℤ) → text_moment t ≡ Some z → IsMoment z × (t ≡ text_of z)
-unfolding text_moment text_of
+pub text_moment-only : (t : Text) (z : ℤ) → text_moment t ≡ Some z → IsMoment z × (t ≡ moment_text z)
+unfolding text_moment moment_text
 text_moment-only t z h =
     let r = is_read (fits_form text_form t) 1950 (text_parts t) z (omega arith) h in
     let m = IsMoment-names z (text_parts t) r.names in
@@ -84,7 +85,7 @@ text_moment-only t z h =
 
 -- 2. Times of certificates
 
-utc_case : (z : ℤ) (contents : List ℕ) → utc_moment contents ≡ Some z → IsMoment z × ((civil_of z).year < 2050) × (contents ≡ utc_with (civil_of z))
+utc_case : (z : ℤ) (contents : Text) → utc_moment contents ≡ Some z → IsMoment z × ((civil_of z).year < 2050) × (contents ≡ utc_with (civil_of z))
 unfolding utc_moment
 utc_case z t h =
     let r = is_read (fits_form utc_form t) 1950 (utc_parts t) z (omega arith) h in
@@ -94,7 +95,7 @@ utc_case z t h =
     let low = utc_year t r.fits in
     (m, omega (arith, year), sym (utc_back t r.fits) ∙ ap utc_with e)
 
-general_case : (z : ℤ) (contents : List ℕ) → general_moment contents ≡ Some z → IsMoment z × (2050 ≤ (civil_of z).year) × (contents ≡ general_with (civil_of z))
+general_case : (z : ℤ) (contents : Text) → general_moment contents ≡ Some z → IsMoment z × (2050 ≤ (civil_of z).year) × (contents ≡ general_with (civil_of z))
 unfolding general_moment
 general_case z t h =
     let r = is_read (fits_form general_form t) 2050 (general_parts t) z (omega arith) h in
@@ -116,7 +117,7 @@ below c h = let test : nat_lt c.year 2050 ≡ true = grind (arith, nat_tests) in
 from : (c : CivilTime) → 2050 ≤ c.year → (tag_with c ≡ 24) × (contents_with c ≡ general_with c)
 from c h = let test : nat_lt c.year 2050 ≡ false = grind (arith, nat_tests) in (rw test, rw test)
 
-pub time_moment-only : (tag : ℕ) (contents : List ℕ) (z : ℤ) → time_moment tag contents ≡ Some z → IsMoment z × (tag ≡ time_tag z) × (contents ≡ time_contents z)
+pub time_moment-only : (tag : ℕ) (contents : Text) (z : ℤ) → time_moment tag contents ≡ Some z → IsMoment z × (tag ≡ time_tag z) × (contents ≡ time_contents z)
 unfolding time_moment time_tag time_contents
 time_moment-only tag contents z h =
     elim (by_tag (tag == 23) (tag == 24) (utc_moment contents) (general_moment contents) z h) [
@@ -155,13 +156,13 @@ time_moment-time z h = by_year z h (nat_lt (civil_of z).year 2050) refl
 
 -- both ways at once
 
-pub text_law : (text : List ℕ) (z : ℤ) → (text_moment text ≡ Some z → IsMoment z × (text ≡ text_of z)) × (IsMoment z × (text ≡ text_of z) → text_moment text ≡ Some z)
-text_law text z = (text_moment-only text z, λ p. rw p.1 (text_moment-text_of z p.0))
+pub text_law : (text : Text) (z : ℤ) → (text_moment text ≡ Some z → IsMoment z × (text ≡ moment_text z)) × (IsMoment z × (text ≡ moment_text z) → text_moment text ≡ Some z)
+text_law text z = (text_moment-only text z, λ p. rw p.1 (text_moment-moment_text z p.0))
 
-pub time_law : (tag : ℕ) (contents : List ℕ) (z : ℤ) → (time_moment tag contents ≡ Some z → IsMoment z × (tag ≡ time_tag z) × (contents ≡ time_contents z)) × (IsMoment z × (tag ≡ time_tag z) × (contents ≡ time_contents z) → time_moment tag contents ≡ Some z)
+pub time_law : (tag : ℕ) (contents : Text) (z : ℤ) → (time_moment tag contents ≡ Some z → IsMoment z × (tag ≡ time_tag z) × (contents ≡ time_contents z)) × (IsMoment z × (tag ≡ time_tag z) × (contents ≡ time_contents z) → time_moment tag contents ≡ Some z)
 time_law tag contents z = (time_moment-only tag contents z, λ p. rw (p.1, p.2) (time_moment-time z p.0))
 
-abbrev IsShape : ℕ → List ℕ → Type 0
+abbrev IsShape : ℕ → Text → Type 0
 IsShape tag contents = ((tag ≡ 23) × (length contents ≡ 13)) ⊎ ((tag ≡ 24) × (length contents ≡ 15))
 
 shape : (c : CivilTime) (b : Bool) → IsShape (cond b 23 24) (cond b (utc_with c) (general_with c))

@@ -1,7 +1,7 @@
 //! Forms made of digits, and the numbers that digits write.
 
 ghost use Rattle.std.specs.Prelude.{◌≡◌, ◌+◌, ◌<◌, IsTrue, length};
-ghost use Rattle.cert_time.specs.Forms.{fits_byte, fits_form, four_at, two_at, two_digits};
+ghost use Rattle.cert_time.specs.Forms.{fits_byte, fits_form, four_digits_at, two_digits_at, two_digits};
 
 // Whether a byte is one that this byte of a form allows.
 fn fits_at(form: u8, byte: u8) -> bool
@@ -35,7 +35,7 @@ pub fn fits(form: &[u8], text: &[u8]) -> bool
 /// which nobody uses: every text is tested against its form first.
 pub fn read_two(text: &[u8], place: usize) -> u16
     requires { place + 1 < length text.now }
-    ensures { result ≡ two_at text.now place }
+    ensures { result ≡ two_digits_at text.now place }
 {
     let tens = text[place].saturating_sub(b'0') as u16;
     let ones = text[place + 1].saturating_sub(b'0') as u16;
@@ -45,7 +45,7 @@ pub fn read_two(text: &[u8], place: usize) -> u16
 /// The number that the four digits at a place write.
 pub fn read_four(text: &[u8], place: usize) -> u32
     requires { place + 3 < length text.now }
-    ensures { result ≡ four_at text.now place }
+    ensures { result ≡ four_digits_at text.now place }
 {
     let hundreds = read_two(text, place) as u32;
     100 * hundreds + read_two(text, place + 2) as u32

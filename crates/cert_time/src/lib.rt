@@ -13,8 +13,10 @@ mod laws;
 mod text;
 mod time;
 mod validity;
+mod writing;
 
 pub use laws::{one_text, one_time};
 pub use text::{seconds_to_text, text_to_seconds};
-pub use time::read_time;
-pub use validity::{Validity, put_validity};
+pub use time::{GENERALIZED_TIME, UTC_TIME, read_time};
+pub use validity::Validity;
+pub use writing::put_validity;

@@ -2,7 +2,7 @@
 
 ghost use Rattle.std.specs.Prelude.{◌≡◌, IfSome};
 ghost use Rattle.cert_time.specs.Calendar.{IsMoment};
-ghost use Rattle.cert_time.specs.Texts.{text_moment, text_of};
+ghost use Rattle.cert_time.specs.Texts.{text_moment, moment_text};
 
 use crate::calendar::{civil_at, moment_of};
 use crate::civil::CivilTime;
@@ -34,10 +34,10 @@ pub fn text_to_seconds(text: &str) -> Option<i64>
 }
 
 /// The text `YYYY-MM-DDTHH:MM:SSZ` of a moment from 1950 to 9999.
-#[tactic(auto, unfolding(crate::specs::Texts::text_of))]
+#[tactic(auto, unfolding(crate::specs::Texts::moment_text))]
 pub fn seconds_to_text(seconds: i64) -> [u8; 20]
     requires { IsMoment seconds }
-    ensures { result ≡ text_of seconds }
+    ensures { result ≡ moment_text seconds }
 {
     let [y0, y1, y2, y3, m0, m1, d0, d1, h0, h1, n0, n1, s0, s1, zulu] = generalized(civil_at(
         seconds,

@@ -3,16 +3,18 @@
 ghost use Rattle.std.specs.Prelude.{◌≡◌, ◌+◌, ◌<◌, ◌++◌, length, nat_lt, OnOk, OnErr, IfSome};
 ghost use Rattle.cert_time.specs.Calendar.{IsMoment};
 ghost use Rattle.cert_time.specs.Forms.{HasDigits};
-ghost use Rattle.cert_time.specs.Times.{contents_with, full_year, general_moment, general_with, parts_at, short_element, tag_with, time_moment, utc_moment};
+ghost use Rattle.cert_time.specs.Times.{contents_with, full_year, general_moment, general_with, civil_in, short_element, tag_with, time_moment, utc_moment};
 
 use crate::calendar::moment_of;
 use crate::civil::CivilTime;
 use crate::digits::{fits, read_four, read_two, write_two};
 use mtc_io::{Bytes, Memory};
 
-const UTC_TIME: u8 = 0x17;
+/// The tag of a UTCTime (X.690, section 11.8).
+pub const UTC_TIME: u8 = 0x17;
 
-const GENERALIZED_TIME: u8 = 0x18;
+/// The tag of a GeneralizedTime (X.690, section 11.7).
+pub const GENERALIZED_TIME: u8 = 0x18;
 
 /// The moment that the contents of an element with this tag name, in seconds since
 /// 1970-01-01T00:00:00Z.
@@ -69,7 +71,7 @@ fn year_of(last_digits: u16) -> u32
 // What MMDDHHMMSS at a place names, in a year.
 fn parts_of(year: u32, place: usize, text: &[u8]) -> CivilTime
     requires { place + 9 < length text.now }
-    ensures { result ≡ parts_at year place text.now }
+    ensures { result ≡ civil_in year place text.now }
 {
     CivilTime {
         year,

@@ -1,57 +1,15 @@
 //! A certificate's validity.
 
-ghost use Rattle.std.specs.Prelude.{◌≡◌, ◌++◌, length, take, OnOk, OnErr};
 ghost use Rattle.cert_time.specs.Calendar.{IsMoment};
-ghost use Rattle.cert_time.specs.Forms.{HasDigits};
-ghost use Rattle.cert_time.specs.Times.{contents_with, sequence_of_times, tag_with, validity_element};
-
-use crate::calendar::civil_at;
-use crate::civil::CivilTime;
-use crate::time::{put_time, time_length};
-use mtc_io::{Bytes, Memory};
-
-const SEQUENCE: u8 = 0x30;
 
 /// The first and the last moment at which a certificate is valid, in seconds since
-/// 1970-01-01T00:00:00Z. Any numbers make one; readers give moments from 1950 to 9999.
+/// 1970-01-01T00:00:00Z. Both are moments from 1950 to 9999, in either order.
 #[derive(Clone, Copy, Debug, PartialEq, Eq)]
 pub struct Validity {
     /// The first moment.
     pub not_before: i64,
     /// The last moment.
     pub not_after: i64,
-}
-
-/// Puts a validity behind the bytes: a SEQUENCE of two times (RFC 5280, section 4.1.2.5), each of
-/// them a UTCTime up to 2049 and a GeneralizedTime from 2050 on. Where memory is refused the bytes
-/// stay as they were.
-pub fn put_validity(validity: &Validity, out: &mut Bytes) -> Result<(), Memory>
-    requires not_before { IsMoment validity.now.not_before }
-    requires not_after { IsMoment validity.now.not_after }
-    ensures ok { OnOk result
-        (out.new ≡ out.old ++ validity_element validity.now.not_before validity.now.not_after) }
-    ensures err { OnErr result (out.new ≡ out.old) }
-{
-    let before = out.len();
-    let not_before = civil_at(validity.not_before);
-    let not_after = civil_at(validity.not_after);
-    let written = put_times(not_before, not_after, out);
-    if written.is_err() {
-        out.truncate(before);
-    }
-    written
-}
-
-// The same for dates and times of day, which may leave a part of it where memory is refused.
-fn put_times(not_before: CivilTime, not_after: CivilTime, out: &mut Bytes) -> Result<(), Memory>
-    requires not_before { HasDigits not_before }
-    requires not_after { HasDigits not_after }
-    ensures ok { OnOk result (out.new ≡ out.old
-        ++ sequence_of_times (tag_with not_before) (contents_with not_before)
-        (tag_with not_after) (contents_with not_after)) }
-    ensures err { OnErr result (take (length out.old) out.new ≡ out.old) }
-{
-    out.append(&[SEQUENCE, time_length(not_before) + time_length(not_after)])?;
-    put_time(not_before, out)?;
-    put_time(not_after, out)
+    pub ghost begins: { IsMoment not_before },
+    pub ghost ends: { IsMoment not_after },
 }

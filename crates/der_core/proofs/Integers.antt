@@ -1,10 +1,11 @@
 -- The encoding of a number and its reader are each other's.
-use Rattle.std.proofs.Common.{◌≡◌, ◌≢◌, ℕ, zero, suc, ◌+◌, ◌-◌, ◌*◌, ◌/◌, ◌%◌, ◌^◌, ◌<◌, ◌≤◌, true, false, List, [], ◌∷◌, length, get_or, Option, Some, None, Ok, refl, sym, ap, subst, ◌∙◌, arith, inl, inr, ◌⊎◌, ne_eqb, le-ltb, lt-ltb, ltb-true, pow-suc, mul-le-mul_right, zero-mul, zero-add, true≢false, div-add-mod', add-one}
+use Rattle.std.proofs.Common.{◌≡◌, ◌≢◌, ℕ, zero, suc, ◌+◌, ◌-◌, ◌*◌, ◌/◌, ◌%◌, ◌^◌, ◌<◌, ◌≤◌, true, false, [], ◌∷◌, length, get_or, Option, Some, None, Ok, refl, sym, ap, subst, ◌∙◌, arith, inl, inr, ◌⊎◌, ne_eqb, le-ltb, lt-ltb, ltb-true, pow-suc, mul-le-mul_right, zero-mul, zero-add, true≢false, div-add-mod', add-one}
 use Rattle.std.specs.Prelude.{if◌then◌else◌, nat_lt}
 use Rattle.std.proofs.lemmas.Bool.{cases_lt}
 use Rattle.std.specs.Int.{w64, to_be_bytes, from_be_bytes}
 use Rattle.std.proofs.lemmas.Nat.{mul-add-lt, from_be_bytes-to_be_bytes_8}
 use Rattle.std.proofs.Math.Nat.{pow-le-pow_right, div-lt_iff_lt-mul, pow-zero}
+use Rattle.byte_forms.specs.Types.{Text}
 use Rattle.byte_forms.specs.Places.{IsBytes}
 use Rattle.byte_forms.specs.Numbers.{value, digits}
 use Rattle.byte_forms.proofs.Steps.{guard_ok, ok_is, chosen, IsBytes-rest}
@@ -64,7 +65,7 @@ width_found (suc fuel) k n fits fewest =
     ]
 
 -- Behind a first byte of 0 contents that aren't padded have the sign bit.
-plain_second : (a b : ℕ) (rest : List ℕ) → a ≡ 0 → is_padded (a ∷ b ∷ rest) ≡ false → 128 ≤ b
+plain_second : (a b : ℕ) (rest : Text) → a ≡ 0 → is_padded (a ∷ b ∷ rest) ≡ false → 128 ≤ b
 plain_second a b rest zero_is plain =
     elim (cases_lt b 128) [
       | inl lt ↦
@@ -73,7 +74,7 @@ plain_second a b rest zero_is plain =
       | inr le ↦ le
     ]
 
-plain_large : (a b : ℕ) (rest : List ℕ) → is_padded (a ∷ b ∷ rest) ≡ false
+plain_large : (a b : ℕ) (rest : Text) → is_padded (a ∷ b ∷ rest) ≡ false
     → 128 * 256 ^ length rest ≤ a * 256 ^ suc (length rest) + (b * 256 ^ length rest + value 256 rest)
 plain_large a b rest plain =
     elim (cases_lt 0 a) [
@@ -86,7 +87,7 @@ plain_large a b rest plain =
     ]
 
 -- Contents that aren't padded and don't begin with the sign bit have the width of their number.
-contents_width : (a : ℕ) (rest : List ℕ) → IsBytes (a ∷ rest) → a < 128 → is_padded (a ∷ rest) ≡ false → HasWidth (value 256 (a ∷ rest)) (length rest)
+contents_width : (a : ℕ) (rest : Text) → IsBytes (a ∷ rest) → a < 128 → is_padded (a ∷ rest) ≡ false → HasWidth (value 256 (a ∷ rest)) (length rest)
 contents_width a [] h low plain = record { fits = rw pow-zero (omega arith); fewest = inl refl }
 contents_width a (b ∷ rest) h low plain =
     let others : value 256 (b ∷ rest) < 256 ^ suc (length rest) = value-lt 256 (b ∷ rest) (IsBytes-rest a (b ∷ rest) h) in
@@ -112,7 +113,7 @@ integer_width n small =
     (found.0, found.2)
 
 -- The contents that read as a number are its encoding.
-contents_are : (a : ℕ) (rest : List ℕ) → IsBytes (a ∷ rest) → a < 128 → is_padded (a ∷ rest) ≡ false → value 256 (a ∷ rest) < 2 ^ 64
+contents_are : (a : ℕ) (rest : Text) → IsBytes (a ∷ rest) → a < 128 → is_padded (a ∷ rest) ≡ false → value 256 (a ∷ rest) < 2 ^ 64
     → a ∷ rest ≡ integer (value 256 (a ∷ rest))
 contents_are a rest h low plain small =
     let n : ℕ = value 256 (a ∷ rest) in
@@ -128,7 +129,7 @@ small_is v n e =
       | inr c ↦ absurd (cc (c.1))
     ]
 
-pub unsigned_takes : (place : ℕ) (contents : List ℕ) (n : ℕ) → IsBytes contents → unsigned_of place contents ≡ Ok (Some n) → (contents ≡ integer n) × (n < 2 ^ 64)
+pub unsigned_takes : (place : ℕ) (contents : Text) (n : ℕ) → IsBytes contents → unsigned_of place contents ≡ Ok (Some n) → (contents ≡ integer n) × (n < 2 ^ 64)
 unfolding unsigned_of
 unsigned_takes place [] n h e = absurd cc
 unsigned_takes place (a ∷ rest) n h e =
@@ -181,7 +182,7 @@ unsigned_again place n small =
     ap (unsigned_of place) encoded ∙ rw (encoding_plain n m w.1, lt-ltb (n / 256 ^ m) 128 low, same, lt-ltb n (2 ^ 64) small) refl
 
 -- Contents that aren't padded and don't begin with the sign bit are the encoding of their number.
-pub plain_contents : (bytes : List ℕ) (n : ℕ) → IsBytes bytes → 0 < length bytes → get_or bytes 0 0 < 128 → is_padded bytes ≡ false → value 256 bytes ≡ n → n < 2 ^ 64
+pub plain_contents : (bytes : Text) (n : ℕ) → IsBytes bytes → 0 < length bytes → get_or bytes 0 0 < 128 → is_padded bytes ≡ false → value 256 bytes ≡ n → n < 2 ^ 64
     → bytes ≡ integer n
 plain_contents [] n h some low plain same small = absurd (omega arith)
 plain_contents (a ∷ rest) n h some low plain same small =

@@ -59,14 +59,14 @@ EndsOnce (b ∷ []) = b < 0x80
 EndsOnce (b ∷ c ∷ bytes) = (0x80 ≤ b) × EndsOnce (c ∷ bytes)
 
 -- The bytes of one arc, in the fewest: the first digit in base 128 isn't 0 (X.690, 8.19.2).
-pub record IsArc (bytes : Text) : Type 0 where
+pub record IsSubidentifier (bytes : Text) : Type 0 where
   pub ends : EndsOnce bytes
   pub fewest : slice_index bytes 0 ≢ 0x80
 
 -- The contents of an OBJECT IDENTIFIER: arcs one behind the other, at least one.
 pub record IsOid (contents : Text) : Type 0 where
   pub arcs : List Text
-  pub are_arcs : AllByRecursion IsArc arcs
+  pub are_arcs : AllByRecursion IsSubidentifier arcs
   pub spelled : contents ≡ flat_map itself arcs
   pub some : 0 < length contents
 
@@ -79,6 +79,6 @@ pub record IsBitString (b : ℕ × Text) : Type 0 where
   pub zero : are_unused b.0 b.1 ≡ true
 
 -- One more element of a set: it isn't below the last one.
-pub record IsNext (seen : List Text) (bytes : Text) : Type 0 where
+pub record IsRisen (seen : List Text) (bytes : Text) : Type 0 where
   pub is_element : IsElement bytes
   pub risen : is_gt (slice_cmp nat_cmp (last_of seen) bytes) ≡ false

@@ -30,10 +30,10 @@ abbrev pub rising_at : ℕ → Reading (List Text) DerError
 rising_at place a = each_at itself (λ seen. risen_at place (last_of seen)) (length a.rest) [] a
 
 -- An answer without what was read.
-abbrev pub checked : Result At DerError → Result (Unit {0}) DerError
-checked (Ok a) = Ok tt
-checked (Err e) = Err e
+abbrev pub finished : Result At DerError → Result (Unit {0}) DerError
+finished (Ok a) = Ok tt
+finished (Err e) = Err e
 
 -- The encodings in the contents of this element rise.
 abbrev pub order_of : Item → Result (Unit {0}) DerError
-order_of e = checked (discarded (rising_at e.place (inside e)))
+order_of e = finished (discarded (rising_at e.place (inside e)))

@@ -11,7 +11,7 @@ ghost use Rattle.der_core.specs.Reading.{element_at, wanted_at};
 ghost use Rattle.der_core.specs.Integers.{integer};
 ghost use Rattle.der_core.specs.Contents.{unsigned_of, boolean_of, oid_of, bits_of};
 ghost use Rattle.der_core.specs.Sets.{rising_at};
-ghost use Rattle.der_core.specs.Forms.{IsRead, element_item, IsContents, boolean, FitsBoolean, IsOid, bit_string, IsBitString, IsNext};
+ghost use Rattle.der_core.specs.Forms.{IsRead, element_item, IsContents, boolean, FitsBoolean, IsOid, bit_string, IsBitString, IsRisen};
 
 /// What is read is spelled so, and an element that is spelled so is read again, whatever follows
 /// it.
@@ -58,5 +58,5 @@ pub fn contents_are_read_as_spelled()
 /// below the one before it.
 pub fn sets_are_read_as_spelled()
     ensures { (place : ℕ)
-        → IsForm (flat_map itself) (FitsEach itself IsNext []) Nothing (rising_at place) }
+        → IsForm (flat_map itself) (FitsEach itself IsRisen []) Nothing (rising_at place) }
 {}

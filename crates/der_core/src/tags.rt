@@ -1,4 +1,5 @@
-//! Tags of one byte by the names of X.690 and X.680: class, form and number.
+//! Tags of one byte by the names of X.690 and X.680: class, form and number. Those of times stand
+//! in `cert_time`.
 
 /// BOOLEAN (X.690, section 8.2).
 pub const BOOLEAN: u8 = 0x01;
@@ -17,12 +18,6 @@ pub const OBJECT_IDENTIFIER: u8 = 0x06;
 
 /// UTF8String (X.690, section 8.23).
 pub const UTF8_STRING: u8 = 0x0C;
-
-/// UTCTime (X.690, section 11.8).
-pub const UTC_TIME: u8 = 0x17;
-
-/// GeneralizedTime (X.690, section 11.7).
-pub const GENERALIZED_TIME: u8 = 0x18;
 
 /// SEQUENCE and SEQUENCE OF (X.690, sections 8.9 and 8.10).
 pub const SEQUENCE: u8 = 0x30;

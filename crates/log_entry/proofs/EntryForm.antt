@@ -1,7 +1,8 @@
 -- A whole entry: what is read is spelled so, and what is spelled so is read again.
-use Rattle.std.proofs.Common.{◌≡◌, ℕ, ◌+◌, ◌*◌, ◌^◌, ◌<◌, true, List, [], ◌∷◌, ◌++◌, length, Option, Some, None, Result, Ok, Err, IfOk, refl, sym, ap, subst, ◌∙◌, append-nil, arith, inl, inr, lit<, eqb-true, eq-eqb}
+use Rattle.std.proofs.Common.{◌≡◌, ℕ, ◌+◌, ◌*◌, ◌^◌, ◌<◌, true, [], ◌∷◌, ◌++◌, length, Option, Some, None, Result, Ok, Err, IfOk, refl, sym, ap, subst, ◌∙◌, append-nil, arith, inl, inr, lit<, eqb-true, eq-eqb}
 use Rattle.std.specs.Prelude.{◌==◌, if◌then◌else◌}
 use Rattle.std.proofs.lemmas.List.{nil_from_length}
+use Rattle.byte_forms.specs.Types.{Text}
 use Rattle.byte_forms.specs.Places.{At, IsBytes, at}
 use Rattle.byte_forms.specs.Readings.{◌>>=◌, lifted, both_at, mapped_at, Gives}
 use Rattle.byte_forms.specs.Forms.{IsForm, Anything, Nothing, OtherThan, itself, both, FitsBoth}
@@ -11,7 +12,7 @@ use Rattle.der_core.specs.Elements.{element}
 use Rattle.der_core.specs.Reading.{end_at}
 use Rattle.der_core.specs.Fields.{der, contents_at}
 use Rattle.der_core.proofs.Fields.{der_ok, end_ok, tag_of, contents_form}
-use Rattle.cert_time.specs.declared.validity.Validity.{Validity}
+use Rattle.cert_time.specs.Calendar.{Period}
 use Rattle.cert_fields.specs.Certificate.{version_at}
 use Rattle.cert_fields.specs.Names.{name_at}
 use Rattle.cert_fields.specs.Times.{validity_at}
@@ -20,7 +21,7 @@ use Rattle.cert_fields.specs.Grammar.{IsName, IsValidity}
 use Rattle.cert_fields.proofs.FieldForms.{name_form, validity_form}
 use Rattle.cert_fields.proofs.CertificateForm.{NoValue, version_text, version_form}
 use Rattle.cert_fields.proofs.ExtensionForms.{IsExtensions, extensions_form}
-use Rattle.log_entry.specs.Entries.{TbsParts, hash_text, body_text, tbs_text, entry_text, IsTbs, IsEntry}
+use Rattle.log_entry.specs.Entries.{TbsParts, key_hash_text, body_text, tbs_text, entry_text, IsTbs, IsEntry}
 use Rattle.log_entry.specs.Reading.{field_at, has_hash_length, key_hash_at, Fields, to_tbs, fields_at, body_of, as_tbs, typed, entry_in}
 use Rattle.log_entry.specs.Views.{entry_parts}
 use Rattle.log_entry.specs.declared.entry.Entry.{Entry}
@@ -29,19 +30,19 @@ use Rattle.log_entry.specs.declared.fault.EntryError.TheVariants.{Body, BadHashL
 
 -- ---- the hash of the public key
 
-abbrev pub IsHash : List ℕ → Type 0
+abbrev pub IsHash : Text → Type 0
 IsHash hash = length hash ≡ 32
 
-hash_is : (hash : List ℕ) → length hash ≡ 32 → element 0x04 hash ≡ hash_text hash
+hash_is : (hash : Text) → length hash ≡ 32 → element 0x04 hash ≡ key_hash_text hash
 unfolding element
 hash_is hash e = rw e refl
 
-pub key_hash_form : IsForm hash_text IsHash Anything key_hash_at
+pub key_hash_form : IsForm key_hash_text IsHash Anything key_hash_at
 unfolding key_hash_at
 key_hash_form =
-    let Short : List ℕ → Type 0 = λ contents. length contents < 2 ^ 24 in
-    let Fits : List ℕ → Type 0 = λ hash. Short hash × (has_hash_length hash ≡ true) in
-    spelled_form (element 0x04) hash_text IsHash Anything key_hash_at hash_is
+    let Short : Text → Type 0 = λ contents. length contents < 2 ^ 24 in
+    let Fits : Text → Type 0 = λ hash. Short hash × (has_hash_length hash ≡ true) in
+    spelled_form (element 0x04) key_hash_text IsHash Anything key_hash_at hash_is
     (said_form (element 0x04) Fits IsHash Anything Anything key_hash_at
     (λ hash f. eqb-true (length hash) 32 f.1) (λ hash e. (omega arith, eq-eqb (length hash) 32 e)) (λ rest q. q)
     (tested_form (element 0x04) Short Anything (field_at (contents_at 0x04)) has_hash_length BadHashLength
@@ -49,11 +50,11 @@ key_hash_form =
 
 -- ---- the body
 
-abbrev moments_text : List ℕ × Validity → List ℕ
+abbrev moments_text : Text × Period → Text
 moments_text v = v.0
 
-abbrev fields_text : Fields → List ℕ
-fields_text = both version_text (both itself (both moments_text (both itself (both hash_text itself))))
+abbrev fields_text : Fields → Text
+fields_text = both version_text (both itself (both moments_text (both itself (both key_hash_text itself))))
 
 abbrev AreFields : Fields → Type 0
 AreFields = FitsBoth NoValue (FitsBoth IsName (FitsBoth IsValidity (FitsBoth IsName (FitsBoth IsHash IsExtensions))))
@@ -61,22 +62,22 @@ AreFields = FitsBoth NoValue (FitsBoth IsName (FitsBoth IsValidity (FitsBoth IsN
 fields_form : IsForm fields_text AreFields Nothing fields_at
 fields_form =
     both_form version_text NoValue Anything (field_at version_at)
-    (both itself (both moments_text (both itself (both hash_text itself)))) (FitsBoth IsName (FitsBoth IsValidity (FitsBoth IsName (FitsBoth IsHash IsExtensions)))) Nothing
+    (both itself (both moments_text (both itself (both key_hash_text itself)))) (FitsBoth IsName (FitsBoth IsValidity (FitsBoth IsName (FitsBoth IsHash IsExtensions)))) Nothing
     (both_at (field_at name_at) (both_at (field_at validity_at) (both_at (field_at name_at) (both_at key_hash_at (field_at extensions_at)))))
     (lifted_form version_text NoValue Anything version_at Body version_form)
     (both_form itself IsName Anything (field_at name_at)
-    (both moments_text (both itself (both hash_text itself))) (FitsBoth IsValidity (FitsBoth IsName (FitsBoth IsHash IsExtensions))) Nothing
+    (both moments_text (both itself (both key_hash_text itself))) (FitsBoth IsValidity (FitsBoth IsName (FitsBoth IsHash IsExtensions))) Nothing
     (both_at (field_at validity_at) (both_at (field_at name_at) (both_at key_hash_at (field_at extensions_at))))
     (lifted_form itself IsName Anything name_at Body name_form)
     (both_form moments_text IsValidity Anything (field_at validity_at)
-    (both itself (both hash_text itself)) (FitsBoth IsName (FitsBoth IsHash IsExtensions)) Nothing
+    (both itself (both key_hash_text itself)) (FitsBoth IsName (FitsBoth IsHash IsExtensions)) Nothing
     (both_at (field_at name_at) (both_at key_hash_at (field_at extensions_at)))
     (lifted_form moments_text IsValidity Anything validity_at Body validity_form)
     (both_form itself IsName Anything (field_at name_at)
-    (both hash_text itself) (FitsBoth IsHash IsExtensions) Nothing
+    (both key_hash_text itself) (FitsBoth IsHash IsExtensions) Nothing
     (both_at key_hash_at (field_at extensions_at))
     (lifted_form itself IsName Anything name_at Body name_form)
-    (both_form hash_text IsHash Anything key_hash_at itself IsExtensions Nothing (field_at extensions_at) key_hash_form
+    (both_form key_hash_text IsHash Anything key_hash_at itself IsExtensions Nothing (field_at extensions_at) key_hash_form
     (lifted_form itself IsExtensions Nothing extensions_at Body
     (ended_form itself IsExtensions (λ rest. Anything rest × OtherThan 0xA3 rest) extensions_at (tt, tt) extensions_form))
     (λ y rest f q. tt))
@@ -107,13 +108,13 @@ body_takes a p h e =
     let known = tbs_form.takes a s.0.0 s.0.1 h s.1 in
     let nothing = end_ok s.0.1 t.0 (der_ok (end_at s.0.1) t.0 (lifted_ok Body (der (end_at s.0.1)) t.0 t.1)) in
     let P : TbsParts → Type 0 = λ v. (a.rest ≡ body_text v) × IsTbs v in
-    subst P (ok_is EntryError s.0.0 p t.2) (known.0.parts ∙ (ap (λ (c : List ℕ). body_text s.0.0 ++ c) nothing ∙ append-nil (body_text s.0.0)), known.1)
+    subst P (ok_is EntryError s.0.0 p t.2) (known.0.parts ∙ (ap (λ (c : Text). body_text s.0.0 ++ c) nothing ∙ append-nil (body_text s.0.0)), known.1)
 
 body_again : (place : ℕ) (p : TbsParts) → IsTbs p → body_of (record { place = place; rest = body_text p }) ≡ Ok p
 unfolding body_of
 body_again place p f =
     let step : mapped_at to_tbs fields_at (record { place = place; rest = body_text p }) ≡ Ok (p, record { place = place + length (body_text p); rest = [] }) =
-    ap (λ (c : List ℕ). mapped_at to_tbs fields_at (record { place = place; rest = c })) (sym (append-nil (body_text p))) ∙ tbs_form.again p place [] f refl in
+    ap (λ (c : Text). mapped_at to_tbs fields_at (record { place = place; rest = c })) (sym (append-nil (body_text p))) ∙ tbs_form.again p place [] f refl in
     rw step refl
 
 -- ---- by the type
@@ -122,10 +123,10 @@ as_tbs_ok : (r : Result TbsParts EntryError) (e : Option TbsParts) → as_tbs r 
 as_tbs_ok (Ok p) e same = (p, refl, sym (ok_is EntryError (Some p) e same))
 as_tbs_ok (Err d) e same = absurd cc
 
-abbrev Known : List ℕ → Option TbsParts → Type 0
+abbrev Known : Text → Option TbsParts → Type 0
 Known bytes e = (bytes ≡ entry_text e) × IsEntry e
 
-typed_only : (high low : ℕ) (rest : List ℕ) (e : Option TbsParts) → high < 256 → low < 256 → IsBytes rest
+typed_only : (high low : ℕ) (rest : Text) (e : Option TbsParts) → high < 256 → low < 256 → IsBytes rest
     → typed (high * 256 + low) (high ∷ low ∷ rest) rest ≡ Ok e → Known (high ∷ low ∷ rest) e
 unfolding tbs_text
 typed_only high low rest e h l bytes same =
@@ -148,12 +149,12 @@ typed_only high low rest e h l bytes same =
             let second : low ≡ 1 = omega arith in
             let p = as_tbs_ok (body_of (at (high ∷ low ∷ rest) 2)) e d.1 in
             let known = body_takes (at (high ∷ low ∷ rest) 2) p.0 bytes p.1 in
-            subst (Known (high ∷ low ∷ rest)) (sym p.2) (rw (first, second) (ap (λ (t : List ℕ). 0 ∷ 1 ∷ t) known.0), known.1)
+            subst (Known (high ∷ low ∷ rest)) (sym p.2) (rw (first, second) (ap (λ (t : Text). 0 ∷ 1 ∷ t) known.0), known.1)
         | inr d ↦ absurd (cc (d.1))
       ]
     ]
 
-pub entries_only : (bytes : List ℕ) (e : Option TbsParts) → IsBytes bytes → entry_in bytes ≡ Ok e → (bytes ≡ entry_text e) × IsEntry e
+pub entries_only : (bytes : Text) (e : Option TbsParts) → IsBytes bytes → entry_in bytes ≡ Ok e → (bytes ≡ entry_text e) × IsEntry e
 unfolding entry_in
 entries_only [] e h same = absurd cc
 entries_only (high ∷ []) e h same = absurd cc
@@ -170,18 +171,18 @@ one_entry e f x y same = ok_is EntryError e f (sym (entries_again e x) ∙ (ap e
 
 -- ---- an answer that is exactly what is wanted
 
-pub gives_found : (bytes : List ℕ) (r : Result Entry EntryError) → IsBytes bytes → Gives entry_parts r (entry_in bytes)
+pub gives_found : (bytes : Text) (r : Result Entry EntryError) → IsBytes bytes → Gives entry_parts r (entry_in bytes)
     → IfOk r (λ e. (bytes ≡ entry_text (entry_parts e)) × IsEntry (entry_parts e))
 gives_found bytes (Ok e) h same = entries_only bytes (entry_parts e) h same
 gives_found bytes (Err fault) h same = tt
 
-pub gives_only : (bytes : List ℕ) (r : Result Entry EntryError) → Gives entry_parts r (entry_in bytes)
+pub gives_only : (bytes : Text) (r : Result Entry EntryError) → Gives entry_parts r (entry_in bytes)
     → (e : Option TbsParts) → IsEntry e → bytes ≡ entry_text e → Gives entry_parts r (Ok e)
 gives_only bytes r given e f same =
     let P : Result (Option TbsParts) EntryError → Type 0 = λ wanted. Gives entry_parts r wanted in
     subst P (ap entry_in same ∙ entries_again e f) given
 
-pub written_again : {E : Type 0} (p : TbsParts) (r : Result (List ℕ) E) → IfOk r (λ bytes. bytes ≡ tbs_text p)
+pub written_again : {E : Type 0} (p : TbsParts) (r : Result Text E) → IfOk r (λ bytes. bytes ≡ tbs_text p)
     → IsTbs p → IfOk r (λ bytes. entry_in bytes ≡ Ok (Some p))
 written_again p (Ok bytes) same f = ap entry_in same ∙ entries_again (Some p) f
 written_again p (Err e) same f = tt

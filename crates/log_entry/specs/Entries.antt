@@ -1,35 +1,36 @@
 -- Entries: how their parts are spelled, one behind the other, and what the parts are, apart from
 -- any reader.
-use Rattle.std.specs.Prelude.{◌≡◌, ℕ, ◌⊎◌, List, [], ◌∷◌, ◌++◌, length, Option, Some, None}
-use Rattle.cert_time.specs.declared.validity.Validity.{Validity}
+use Rattle.std.specs.Prelude.{◌≡◌, ◌⊎◌, [], ◌∷◌, ◌++◌, length, Option, Some, None}
+use Rattle.byte_forms.specs.Types.{Text, Hash}
+use Rattle.cert_time.specs.Calendar.{Period}
 use Rattle.cert_fields.specs.Spelling.{version}
 use Rattle.cert_fields.specs.Grammar.{IsName, IsValidity, IsExtensionsField}
 
 -- The parts of an entry of type 1. Issuer, validity, subject and extensions are whole elements; the
 -- extensions are absent where their list is empty.
 pub record TbsParts : Type 0 where
-  pub issuer : List ℕ
-  pub validity : Validity
-  pub validity_der : List ℕ
-  pub subject : List ℕ
-  pub key_hash : List ℕ
-  pub extensions : List ℕ
+  pub issuer : Text
+  pub validity : Period
+  pub validity_der : Text
+  pub subject : Text
+  pub key_hash : Hash
+  pub extensions : Text
 
 -- The hash of the public key: an OCTET STRING of 32 bytes.
-abbrev pub hash_text : List ℕ → List ℕ
-hash_text hash = 0x04 ∷ 0x20 ∷ hash
+abbrev pub key_hash_text : Hash → Text
+key_hash_text hash = 0x04 ∷ 0x20 ∷ hash
 
 -- The body: the fields as they stand in a certificate, with the hash in the place of the key.
-abbrev pub body_text : TbsParts → List ℕ
+abbrev pub body_text : TbsParts → Text
 body_text p = version ++ (p.issuer ++ (p.validity_der ++
-    (p.subject ++ (hash_text p.key_hash ++ p.extensions))))
+    (p.subject ++ (key_hash_text p.key_hash ++ p.extensions))))
 
 -- An entry of type 1: its type in two bytes, and its body.
-unfoldable pub tbs_text : TbsParts → List ℕ
+unfoldable pub tbs_text : TbsParts → Text
 tbs_text p = 0 ∷ 1 ∷ body_text p
 
 -- An entry of type 0, the null entry, or one of type 1.
-abbrev pub entry_text : Option TbsParts → List ℕ
+abbrev pub entry_text : Option TbsParts → Text
 entry_text None = 0 ∷ 0 ∷ []
 entry_text (Some p) = tbs_text p
 

@@ -1,10 +1,11 @@
 -- The entry from which a certificate was made.
-use Rattle.std.specs.Prelude.{◌≡◌, ℕ, List}
+use Rattle.std.specs.Prelude.{◌≡◌}
+use Rattle.byte_forms.specs.Types.{Text, Hash, HashFunction}
 use Rattle.cert_fields.specs.Certificate.{Parts}
 use Rattle.log_entry.specs.Entries.{TbsParts, tbs_text}
 
 -- The fields of a certificate's entry, with this hash in the place of its key.
-abbrev pub tbs_with : Parts → List ℕ → TbsParts
+abbrev pub tbs_with : Parts → Hash → TbsParts
 tbs_with p key_hash = record {
   issuer = p.issuer;
   validity = p.validity;
@@ -17,11 +18,11 @@ tbs_with p key_hash = record {
 -- The entry of a certificate under the hash function h: 00 01, then version, issuer, validity and
 -- subject as in the certificate, then 04 20 and the hash of the subjectPublicKeyInfo, then the
 -- extensions where there are some.
-unfoldable pub entry_of : (List ℕ → List ℕ) → Parts → List ℕ
+unfoldable pub entry_of : HashFunction → Parts → Text
 entry_of h p = tbs_text (tbs_with p (h p.spki))
 
 -- A certificate is made of these fields of an entry: it has them, and a key whose hash is theirs.
-pub record IsMadeOf (h : List ℕ → List ℕ) (t : TbsParts) (p : Parts) : Type 0 where
+pub record IsMadeOf (h : HashFunction) (t : TbsParts) (p : Parts) : Type 0 where
   pub issuer : p.issuer ≡ t.issuer
   pub validity : p.validity ≡ t.validity
   pub subject : p.subject ≡ t.subject

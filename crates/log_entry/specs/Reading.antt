@@ -1,11 +1,12 @@
 -- Reading an entry, with its faults in their order.
-use Rattle.std.specs.Prelude.{ℕ, ◌+◌, ◌*◌, ◌==◌, Bool, List, [], ◌∷◌, length, Option, Some, None, Result, Ok, Err, if◌then◌else◌}
+use Rattle.std.specs.Prelude.{ℕ, ◌+◌, ◌*◌, ◌==◌, Bool, [], ◌∷◌, length, Option, Some, None, Result, Ok, Err, if◌then◌else◌}
+use Rattle.byte_forms.specs.Types.{Text, Hash}
 use Rattle.byte_forms.specs.Places.{At, at}
 use Rattle.byte_forms.specs.Readings.{Reading, ◌>>=◌, lifted, lifted_at, both_at, mapped_at, tested_at}
 use Rattle.der_core.specs.Reading.{end_at}
 use Rattle.der_core.specs.Fields.{der, contents_at}
 use Rattle.der_core.specs.declared.fault.CertError.{CertError}
-use Rattle.cert_time.specs.declared.validity.Validity.{Validity}
+use Rattle.cert_time.specs.Calendar.{Period}
 use Rattle.cert_fields.specs.Certificate.{version_at}
 use Rattle.cert_fields.specs.Names.{name_at}
 use Rattle.cert_fields.specs.Times.{validity_at}
@@ -18,16 +19,16 @@ use Rattle.log_entry.specs.declared.fault.EntryError.TheVariants.{Short, Unknown
 abbrev pub field_at : {X : Type 0} → Reading X CertError → Reading X EntryError
 field_at read = lifted_at Body read
 
-abbrev pub has_hash_length : List ℕ → Bool
+abbrev pub has_hash_length : Hash → Bool
 has_hash_length hash = length hash == 32
 
 -- The hash of the public key: the contents of an OCTET STRING, 32 bytes.
-unfoldable pub key_hash_at : Reading (List ℕ) EntryError
+unfoldable pub key_hash_at : Reading Hash EntryError
 key_hash_at = tested_at has_hash_length BadHashLength (field_at (contents_at 0x04))
 
 -- Version, issuer, validity, subject, hash, extensions.
 abbrev pub Fields : Type 0
-Fields = Unit {0} × (List ℕ × ((List ℕ × Validity) × (List ℕ × (List ℕ × List ℕ))))
+Fields = Unit {0} × (Text × ((Text × Period) × (Text × (Hash × Text))))
 
 abbrev pub to_tbs : Fields → TbsParts
 to_tbs x =
@@ -55,7 +56,7 @@ as_tbs (Ok p) = Ok (Some p)
 as_tbs (Err e) = Err e
 
 -- By the type: the null entry has no body, and offsets in a body count from the type on.
-abbrev pub typed : ℕ → List ℕ → List ℕ → Result (Option TbsParts) EntryError
+abbrev pub typed : ℕ → Text → Text → Result (Option TbsParts) EntryError
 typed kind entry rest =
     if kind == 0 then (if length rest == 0 then Ok None else Err NullHasBody)
     else (if kind == 1 then as_tbs (body_of (at entry 2))
@@ -63,7 +64,7 @@ typed kind entry rest =
 
 -- The entry that these bytes are: the null entry as none, one of type 1 as its parts. Or the first
 -- fault.
-unfoldable pub entry_in : List ℕ → Result (Option TbsParts) EntryError
+unfoldable pub entry_in : Text → Result (Option TbsParts) EntryError
 entry_in [] = Err Short
 entry_in (high ∷ []) = Err Short
 entry_in (high ∷ low ∷ rest) = typed (high * 256 + low) (high ∷ low ∷ rest) rest

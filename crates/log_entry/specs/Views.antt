@@ -1,6 +1,7 @@
 -- Parts of the code's values as contracts see them: slices as their bytes.
 use Rattle.std.specs.Prelude.{Option, Some, None}
 use Rattle.cert_time.specs.Times.{validity_element}
+use Rattle.cert_time.specs.Periods.{period}
 use Rattle.log_entry.specs.Entries.{TbsParts}
 use Rattle.log_entry.specs.declared.entry.Entry.{Entry}
 use Rattle.log_entry.specs.declared.entry.Entry.TheVariants.{Null, Tbs}
@@ -10,7 +11,7 @@ use Rattle.log_entry.specs.declared.entry.EntryParts.{EntryParts}
 abbrev pub tbs_parts : TbsEntry → TbsParts
 tbs_parts t = record {
   issuer = t.issuer.now;
-  validity = t.validity;
+  validity = period t.validity;
   validity_der = t.validity_der.now;
   subject = t.subject.now;
   key_hash = t.key_hash.now;
@@ -23,11 +24,11 @@ entry_parts Null = None
 entry_parts (Tbs t) = Some (tbs_parts t)
 
 -- What is written: the parts that are handed in, with the validity as its element.
-abbrev pub given : EntryParts → TbsParts
-given p = record {
+abbrev pub given_entry : EntryParts → TbsParts
+given_entry p = record {
   issuer = p.issuer.now;
-  validity = p.validity;
-  validity_der = validity_element p.validity.not_before p.validity.not_after;
+  validity = period p.validity;
+  validity_der = validity_element (period p.validity);
   subject = p.subject.now;
   key_hash = p.key_hash.now;
   extensions = p.extensions.now;

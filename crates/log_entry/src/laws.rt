@@ -1,6 +1,7 @@
 //! Laws of entries: the clauses are the laws, and the functions do nothing.
 
-ghost use Rattle.std.specs.Prelude.{◌≡◌, ℕ, List, length, Option, Some, Ok, true};
+ghost use Rattle.std.specs.Prelude.{◌≡◌, length, Option, Some, Ok, true};
+ghost use Rattle.byte_forms.specs.Types.{Text, HashFunction};
 ghost use Rattle.byte_forms.specs.Places.{IsBytes};
 ghost use Rattle.cert_fields.specs.Certificate.{Parts};
 ghost use Rattle.cert_fields.specs.Grammar.{IsPublicKey, IsCertificate};
@@ -11,7 +12,7 @@ ghost use Rattle.log_entry.specs.Matching.{matches};
 
 /// What is read as an entry is spelled as one, and the spelling of each entry is read as its parts.
 pub fn entries_are_read_as_spelled()
-    ensures only { (bytes : List ℕ) (e : Option TbsParts) → IsBytes bytes → entry_in bytes ≡ Ok e
+    ensures only { (bytes : Text) (e : Option TbsParts) → IsBytes bytes → entry_in bytes ≡ Ok e
         → (bytes ≡ entry_text e) × IsEntry e }
     ensures again { (e : Option TbsParts) → IsEntry e → entry_in (entry_text e) ≡ Ok e }
 {}
@@ -24,7 +25,7 @@ pub fn entries_have_one_spelling()
 
 /// An entry that holds the hash of a public key matches that key, for every hash function.
 pub fn written_entries_match_their_keys()
-    ensures { (h : List ℕ → List ℕ) (p : TbsParts) (spki : List ℕ) → IsTbs p → IsPublicKey spki
+    ensures { (h : HashFunction) (p : TbsParts) (spki : Text) → IsTbs p → IsPublicKey spki
         → p.key_hash ≡ h spki
         → matches h (tbs_text p) spki ≡ true }
 {}
@@ -32,10 +33,10 @@ pub fn written_entries_match_their_keys()
 /// The entry of a certificate is an entry with its fields, and matches its key, for every hash
 /// function with hashes of 32 bytes.
 pub fn entries_of_certificates()
-    ensures fields { (h : List ℕ → List ℕ) (p : Parts) → ((bytes : List ℕ) → length (h bytes) ≡ 32)
+    ensures fields { (h : HashFunction) (p : Parts) → ((bytes : Text) → length (h bytes) ≡ 32)
         → IsCertificate p
         → entry_in (entry_of h p) ≡ Ok (Some (tbs_with p (h p.spki))) }
-    ensures key { (h : List ℕ → List ℕ) (p : Parts) → ((bytes : List ℕ) → length (h bytes) ≡ 32)
+    ensures key { (h : HashFunction) (p : Parts) → ((bytes : Text) → length (h bytes) ≡ 32)
         → IsCertificate p
         → matches h (entry_of h p) p.spki ≡ true }
 {}
@@ -43,9 +44,9 @@ pub fn entries_of_certificates()
 /// An entry is the one of each certificate made of it: of one with its issuer, validity, subject
 /// and extensions, and with a key whose hash it holds.
 pub fn entries_are_of_their_certificates()
-    ensures spelled { (h : List ℕ → List ℕ) (t : TbsParts) (p : Parts) → IsTbs t → IsCertificate p
+    ensures spelled { (h : HashFunction) (t : TbsParts) (p : Parts) → IsTbs t → IsCertificate p
         → IsMadeOf h t p → entry_of h p ≡ tbs_text t }
-    ensures read { (h : List ℕ → List ℕ) (entry : List ℕ) (t : TbsParts) (p : Parts) → IsBytes entry
+    ensures read { (h : HashFunction) (entry : Text) (t : TbsParts) (p : Parts) → IsBytes entry
         → entry_in entry ≡ Ok (Some t)
         → IsCertificate p → IsMadeOf h t p → entry_of h p ≡ entry }
 {}

@@ -1,12 +1,11 @@
 //! Writing entries.
 
 ghost use Rattle.std.specs.Prelude.{◌≡◌, IfOk, Ok, Some};
-ghost use Rattle.cert_time.specs.Calendar.{IsMoment};
 ghost use Rattle.cert_fields.specs.Views.{parts};
 ghost use Rattle.log_entry.specs.Entries.{tbs_text, IsTbs};
 ghost use Rattle.log_entry.specs.EntryOf.{entry_of};
 ghost use Rattle.log_entry.specs.Reading.{entry_in};
-ghost use Rattle.log_entry.specs.Views.{tbs_parts, given};
+ghost use Rattle.log_entry.specs.Views.{tbs_parts, given_entry};
 
 use crate::entry::{EntryParts, TbsEntry};
 use crate::hashing::{HASH_HEAD, HEAD, key_hash};
@@ -57,20 +56,16 @@ pub fn entry_of<H: TreeHash>(alloc: Global, cert: &Cert) -> Result<Bytes, Memory
 /// grammar of their fields, [`read_entry`](crate::read_entry) reads them again from what is
 /// written, and it matches the key whose hash was given.
 pub fn write_entry(alloc: Global, parts: &EntryParts) -> Result<Bytes, Memory>
-    requires not_before { IsMoment parts.now.validity.not_before }
-    requires not_after { IsMoment parts.now.validity.not_after }
-    ensures exact { IfOk result (λ bytes. bytes ≡ tbs_text (given parts.now)) }
-    ensures read { IsTbs (given parts.now) → IfOk result
-        (λ bytes. entry_in bytes ≡ Ok (Some (given parts.now))) }
+    ensures exact { IfOk result (λ bytes. bytes ≡ tbs_text (given_entry parts.now)) }
+    ensures read { IsTbs (given_entry parts.now) → IfOk result
+        (λ bytes. entry_in bytes ≡ Ok (Some (given_entry parts.now))) }
 {
     with_validity(alloc, parts)
 }
 
 /// The entry, with its validity written out.
 fn with_validity(alloc: Global, parts: &EntryParts) -> Result<Bytes, Memory>
-    requires not_before { IsMoment parts.now.validity.not_before }
-    requires not_after { IsMoment parts.now.validity.not_after }
-    ensures { IfOk result (λ bytes. bytes ≡ tbs_text (given parts.now)) }
+    ensures { IfOk result (λ bytes. bytes ≡ tbs_text (given_entry parts.now)) }
 {
     let mut validity = Bytes::new(alloc);
     put_validity(&parts.validity, &mut validity)?;

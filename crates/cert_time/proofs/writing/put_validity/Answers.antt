@@ -2,7 +2,7 @@ use Rattle.std.proofs.Common.{◌∙◌, ap, arith, w64, ℤ, FitsSigned, to_z-o
 use Rattle.jiff_core.proofs.SignedLemmas.{signed_arith}
 use Rattle.cert_time.specs.Calendar.{civil_of, IsMoment}
 use Rattle.cert_time.specs.Times.{validity_element, time_tag, time_contents}
-use Rattle.cert_time.proofs.validity.put_validity.Goals as goal
+use Rattle.cert_time.proofs.writing.put_validity.Goals as goal
 
 fits : (z : ℤ) → IsMoment z → FitsSigned w64 z
 fits z h = omega (arith, signed_arith)
@@ -10,6 +10,11 @@ fits z h = omega (arith, signed_arith)
 pub returns-else-is_err-clause-ok : goal.returns-else-is_err-clause-ok
 unfolding validity_element time_tag time_contents
 returns-else-is_err-clause-ok c =
-    let before = c.civil_at-not_before.ensures.value ∙ ap civil_of (to_z-of_z (fits _ c.requires.not_before)) in
-    let after = c.civil_at-not_after.ensures.value ∙ ap civil_of (to_z-of_z (fits _ c.requires.not_after)) in
+    let v = c.args.validity.now in
+    let before =
+    c.civil_at-not_before.ensures.value ∙ ap civil_of (to_z-of_z (fits _ v.begins))
+    in
+    let after =
+    c.civil_at-not_after.ensures.value ∙ ap civil_of (to_z-of_z (fits _ v.ends))
+    in
     rw (← before, ← after) c.put_times-written.ensures.ok
