@@ -10,3 +10,4 @@ pub mod Folds
 pub mod Found
 pub mod Standing
 pub mod FoldSteps
+pub mod Windows

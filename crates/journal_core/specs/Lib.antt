@@ -6,4 +6,5 @@ pub mod Readings
 pub mod Settled
 pub mod Starts
 pub mod Walk
+pub mod Windows
 pub mod Words

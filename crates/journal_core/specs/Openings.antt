@@ -1,6 +1,7 @@
 -- What the opening of a journal shows, and what a step of it finds.
 use Rattle.std.specs.Prelude.{◌≡◌, ◌≢◌, ℕ, ◌+◌, ◌-◌, ◌<◌, ◌≤◌, Bool, true, false, List, [], ◌∷◌, ◌++◌, length, take, Option, Some, None, option_map, IfSome, Result, Ok, Err}
 use Rattle.std.specs.Borrow.{Bor}
+use Rattle.disk_core.specs.Disk.{part}
 use Rattle.disk_core.specs.Moments.{Looks}
 use Rattle.disk_core.specs.declared.disk.Disk.{Ghosts}
 use Rattle.journal_core.specs.Format.{header, StandsFor, records_before}
@@ -33,7 +34,7 @@ module _ {D : Type 0} {g : Ghosts D} where
 
   -- the body that was read last
   abbrev pub last_body : Opening D g → List ℕ
-  last_body opening = take opening.body opening.buffer.items
+  last_body opening = part opening.body.start opening.body.size opening.window.buffer.items
 
   -- the bytes that are left, which a loop over the records uses up
   abbrev pub bytes_left : Opening D g → ℕ

@@ -12,7 +12,7 @@ pub const MAX_BODY: usize = 131_072;
 pub(crate) const HEADER: [u8; 16] = *b"mtc-journal/v1\n\0";
 
 // Room for the first write of a new file with the longest body.
-const ROOM: usize = 131_094;
+pub(crate) const ROOM: usize = 131_094;
 
 /// The buffer of a journal, which is all the memory that it takes.
 pub(crate) fn buffer(alloc: Global) -> Result<Vec<u8>, Memory>

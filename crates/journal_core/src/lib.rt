@@ -13,10 +13,12 @@
 mod error;
 mod first_record;
 mod format;
+mod held;
 mod journal;
 mod laws;
 mod opening;
 mod record;
+mod window;
 
 pub use error::{AppendError, OpenError, Refused, StartError};
 pub use first_record::start;

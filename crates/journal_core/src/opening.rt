@@ -6,12 +6,14 @@ ghost use Rattle.disk_core.specs.Disk.{Only};
 ghost use Rattle.disk_core.specs.Moments.{Looks};
 ghost use Rattle.journal_core.specs.Format.{header, end_behind, IsClosedAt, StandsFor, records_before};
 ghost use Rattle.journal_core.specs.Opens.{HasReason, IsOfHeader};
+ghost use Rattle.journal_core.specs.Windows.{Holds, Holds-prop};
 ghost use Rattle.journal_core.specs.Settled.{IsReading, IsReading-prop, IsClosedAt-prop};
 
 use crate::error::{OpenError, Refused, hand_back};
 use crate::format::{HEADER, buffer};
 use crate::journal::Journal;
-use crate::record::read_record;
+use crate::record::{Body, read_record};
+use crate::window::Window;
 use disk_core::{Disk, look_at, look_len, look_settled};
 use mtc_io::{Failed, Memory};
 use std::alloc::Global;
@@ -23,12 +25,12 @@ pub struct Opening<D: Disk> {
     size: u64,
     place: u64,
     count: u64,
-    body: usize,
+    body: Body,
     ended: bool,
     refused: Option<OpenError>,
-    buffer: Vec<u8>,
-    ghost room: { length buffer.items ≡ 131094 },
-    ghost held: { body ≤ 131072 },
+    window: Window,
+    ghost inside: { body.start + body.size ≤ 131094 },
+    ghost held: { (b : List ℕ) → D.Disk.told disk ≡ Some b → Holds window b } by { Prim.hlevel (props, Holds-prop) },
     ghost known: { size ≤ D.Disk.known disk },
     ghost begun: { 16 ≤ place },
     ghost few: { count < place },
@@ -110,10 +112,10 @@ impl<D: Disk> Opening<D> {
             size,
             place: 16,
             count: 0,
-            body: 0,
+            body: Body { start: 0, size: 0 },
             ended: false,
             refused: None,
-            buffer,
+            window: Window::new(buffer),
         })
     }
 
@@ -153,7 +155,7 @@ impl<D: Disk> Opening<D> {
             disk: self.disk,
             end: self.place + 1,
             broken: false,
-            buffer: self.buffer,
+            buffer: self.window.buffer,
         }
     }
 
@@ -166,7 +168,7 @@ impl<D: Disk> Opening<D> {
     fn last(&self) -> &[u8]
         ensures { result.now ≡ last_body self.now }
     {
-        &self.buffer[..self.body]
+        &self.window.buffer[self.body.start..self.body.start + self.body.size]
     }
 
     // Reads on by one record: whether there was one.
@@ -180,11 +182,11 @@ impl<D: Disk> Opening<D> {
         if self.ended {
             return Ok(false);
         }
-        match read_record(&mut self.disk, self.size, self.place, &mut self.buffer) {
-            Ok(Some(length)) => {
-                self.place += 5 + length as u64;
+        match read_record(&mut self.disk, self.size, &mut self.window, self.place) {
+            Ok(Some(body)) => {
+                self.place += 5 + body.size as u64;
                 self.count += 1;
-                self.body = length;
+                self.body = body;
                 Ok(true)
             }
             Ok(None) => {

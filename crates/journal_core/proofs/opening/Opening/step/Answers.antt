@@ -1,60 +1,60 @@
-use Rattle.std.proofs.Common.{◌≡◌, ◌+◌, ◌≤◌, IfSome, Some, ℕ, List, length, take, [], ◌∷◌, ◌++◌, option_map, true, false, sym, ap, subst, ◌∙◌, refl, arith, rules}
-use Rattle.std.proofs.lemmas.List.{length-take, with_items_is}
-use Rattle.std.specs.Vec.{with_items}
-use Rattle.journal_core.specs.Format.{IsClosedAt, records_before}
+use Rattle.std.proofs.Common.{◌≡◌, ◌+◌, ◌≤◌, IfSome, Some, ℕ, List, length, true, false, sym, ◌∙◌, refl, arith}
+use Rattle.std.proofs.lemmas.List.{length-take, length-drop}
+use Rattle.disk_core.specs.Disk.{part}
+use Rattle.journal_core.specs.Format.{IsClosedAt}
 use Rattle.journal_core.proofs.OpeningSteps.{step_reading, step_list, step_count, same_reading, same_list, only_fails, refused_walk, ended_stands, ended_walk}
 use Rattle.disk_core.proofs.Moments.{no_look}
 use Rattle.journal_core.proofs.Told.{at_told}
 use Rattle.journal_core.proofs.opening.Opening.step.Goals as goal
 
-length_is : (n : ℕ) (buffer : List ℕ) → length buffer ≡ 131094 → n ≤ 131072 → length (take n buffer) ≡ n
-length_is n buffer room few = simp length-take (omega arith)
+length_is : (start n : ℕ) (buffer : List ℕ) → length buffer ≡ 131094 → start + n ≤ 131094
+    → length (part start n buffer) ≡ n
+length_is start n buffer room few = simp (length-take, length-drop) (omega arith)
 
 next_is : (place n : ℕ) (body : List ℕ) → length body ≡ n → place + (5 + n) ≡ place + 5 + length body
 next_is place n body size = omega arith
 
 pub invariant_of-self-clause-reading : goal.invariant_of-self-clause-reading
 invariant_of-self-clause-reading g c =
-    let n = c.in-Ok-Some.length in
-    let buffer = c.read_record.new.buffer in
-    let body : List ℕ = take n buffer in
-    let room : length buffer ≡ 131094 = search rules in
-    let within : (1 ≤ n) × (n ≤ 131072) × (c.args.self.now.place + 5 + n ≤ c.args.self.now.size) = rw c.in-Ok-Some.field-0-is at c.in-Ok-Some.ensures.within in
-    step_reading g.D.Disk c.args.self.now.disk c.read_record.new.disk c.read_record.ensures.looks c.args.self.now.place c.args.self.now.reading
-    body (rw c.in-Ok-Some.field-0-is at c.in-Ok-Some.ensures.found) (c.args.self.now.place + (5 + n))
-    (next_is c.args.self.now.place n body (length_is n buffer room within.1))
+    let place = c.args.self.now.place in
+    let lies = c.in-Ok-Some.body in
+    let buffer = c.read_record.new.window.buffer.items in
+    let body : List ℕ = part lies.start lies.size buffer in
+    let within : (1 ≤ lies.size) × (lies.size ≤ 131072) × (place + 5 + lies.size ≤ c.args.self.now.size) × (lies.start + lies.size ≤ 131094)
+    = rw c.in-Ok-Some.field-0-is at c.in-Ok-Some.ensures.within in
+    step_reading g.D.Disk c.args.self.now.disk c.read_record.new.disk c.read_record.ensures.looks place c.args.self.now.reading
+    body (rw c.in-Ok-Some.field-0-is at c.in-Ok-Some.ensures.found) (place + (5 + lies.size))
+    (next_is place lies.size body (length_is lies.start lies.size buffer c.read_record.new.window.room within.3))
 
 pub invariant_of-self-clause-counted : goal.invariant_of-self-clause-counted
 invariant_of-self-clause-counted g c =
-    let n = c.in-Ok-Some.length in
-    let buffer = c.read_record.new.buffer in
-    let body : List ℕ = take n buffer in
-    let room : length buffer ≡ 131094 = search rules in
-    let within : (1 ≤ n) × (n ≤ 131072) × (c.args.self.now.place + 5 + n ≤ c.args.self.now.size) = rw c.in-Ok-Some.field-0-is at c.in-Ok-Some.ensures.within in
-    step_count g.D.Disk c.args.self.now.disk c.read_record.new.disk c.read_record.ensures.looks c.args.self.now.place c.args.self.now.reading
-    body (rw c.in-Ok-Some.field-0-is at c.in-Ok-Some.ensures.found) (c.args.self.now.place + (5 + n))
-    (next_is c.args.self.now.place n body (length_is n buffer room within.1)) c.args.self.now.count c.args.self.now.counted
+    let place = c.args.self.now.place in
+    let lies = c.in-Ok-Some.body in
+    let buffer = c.read_record.new.window.buffer.items in
+    let body : List ℕ = part lies.start lies.size buffer in
+    let within : (1 ≤ lies.size) × (lies.size ≤ 131072) × (place + 5 + lies.size ≤ c.args.self.now.size) × (lies.start + lies.size ≤ 131094)
+    = rw c.in-Ok-Some.field-0-is at c.in-Ok-Some.ensures.within in
+    step_count g.D.Disk c.args.self.now.disk c.read_record.new.disk c.read_record.ensures.looks place c.args.self.now.reading
+    body (rw c.in-Ok-Some.field-0-is at c.in-Ok-Some.ensures.found) (place + (5 + lies.size))
+    (next_is place lies.size body (length_is lies.start lies.size buffer c.read_record.new.window.room within.3))
+    c.args.self.now.count c.args.self.now.counted
 
 pub returns-in-Ok-Some : goal.returns-in-Ok-Some
 returns-in-Ok-Some g c =
-    let n = c.in-Ok-Some.length in
     let place = c.args.self.now.place in
-    let buffer = c.read_record.new.buffer in
-    let body : List ℕ = take n buffer in
-    let room : length buffer ≡ 131094 = search rules in
-    let within : (1 ≤ n) × (n ≤ 131072) × (place + 5 + n ≤ c.args.self.now.size) = rw c.in-Ok-Some.field-0-is at c.in-Ok-Some.ensures.within in
-    let size : length body ≡ n = length_is n buffer room within.1 in
-    let kept : (with_items c.args.self.now.buffer buffer).items ≡ buffer = with_items_is c.args.self.now.buffer buffer (search rules) in
-    let last : take n (with_items c.args.self.now.buffer buffer).items ≡ body = ap (take n) kept in
-    let last_size : length (take n (with_items c.args.self.now.buffer buffer).items) ≡ n = ap length last ∙ size in
+    let lies = c.in-Ok-Some.body in
+    let n = lies.size in
+    let buffer = c.read_record.new.window.buffer.items in
+    let body : List ℕ = part lies.start n buffer in
+    let within : (1 ≤ n) × (n ≤ 131072) × (place + 5 + n ≤ c.args.self.now.size) × (lies.start + n ≤ 131094)
+    = rw c.in-Ok-Some.field-0-is at c.in-Ok-Some.ensures.within in
+    let size : length body ≡ n = length_is lies.start n buffer c.read_record.new.window.room within.3 in
     let some = within.0 in
     let few = within.1 in
     let ends = within.2 in (
       record {
-        list = subst (λ (b : List ℕ). option_map (λ bytes. records_before bytes (place + (5 + n))) (g.D.Disk.told c.read_record.new.disk)
-            ≡ option_map (λ list. list ++ b ∷ []) (option_map (λ bytes. records_before bytes place) (g.D.Disk.told c.args.self.now.disk))) (sym last)
-            (step_list g.D.Disk c.args.self.now.disk c.read_record.new.disk c.read_record.ensures.looks place c.args.self.now.reading
-            body (rw c.in-Ok-Some.field-0-is at c.in-Ok-Some.ensures.found) (place + (5 + n)) (next_is place n body size));
+        list = step_list g.D.Disk c.args.self.now.disk c.read_record.new.disk c.read_record.ensures.looks place c.args.self.now.reading
+            body (rw c.in-Ok-Some.field-0-is at c.in-Ok-Some.ensures.found) (place + (5 + n)) (next_is place n body size);
         some = omega arith;
         few = omega arith;
         place = omega arith;

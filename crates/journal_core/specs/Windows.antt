@@ -1,0 +1,13 @@
+-- The part of a file that is in memory while it is read.
+use Rattle.std.specs.Prelude.{◌≡◌, ℕ, ◌-◌, List, take}
+use Rattle.std.proofs.Props.{props}
+use Rattle.disk_core.specs.Disk.{part}
+use Rattle.journal_core.specs.declared.window.Window.{Window}
+
+-- the front of its buffer holds the bytes of the file from one place to the other
+pub record Holds (window : Window) (bytes : List ℕ) : Type 0 where
+  pub front : take (window.to - window.from) window.buffer.items
+      ≡ part window.from (window.to - window.from) bytes
+
+pub Holds-prop : (window : Window) (bytes : List ℕ) → IsProp (Holds window bytes)
+Holds-prop window bytes = hlevel props

@@ -1,0 +1,29 @@
+//! The part of a file that is in memory while it is read.
+ghost use Rattle.std.specs.Prelude.{◌≡◌, ◌≤◌, ◌+◌, ℕ, List, length};
+
+/// The bytes of a file from one place to another, in the front of a buffer.
+#[derive(Drop)]
+pub(crate) struct Window {
+    pub(crate) buffer: Vec<u8>,
+    pub(crate) from: u64,
+    pub(crate) to: u64,
+    ghost room: { length buffer.items ≡ 131094 },
+    ghost ordered: { from ≤ to },
+    ghost fits: { to ≤ from + 131094 },
+}
+
+impl Window {
+    ghost use Rattle.journal_core.specs.Windows.{Holds};
+
+    /// No bytes of a file yet.
+    pub(crate) fn new(buffer: Vec<u8>) -> Window
+        requires { length buffer.items ≡ 131094 }
+        ensures { (bytes : List ℕ) → Holds result bytes }
+    {
+        Window {
+            buffer,
+            from: 0,
+            to: 0,
+        }
+    }
+}
