@@ -71,6 +71,26 @@ def sentences_of(text):
     return re.split(r"(?<=[.!?])[\"')*]*\s+(?=[\"'(*]*[A-Z0-9])", text)
 
 
+# Words of art, and the plain ones in their place. GLOSSARY may name them.
+PLAIN_WORDS = {
+    r"([Ll]ack|[Ww]ant) of memory": "out of memory",
+    r"(mis)?spell(ed|ing|ings|s)": "encoded, encoding",
+    r"steps of the definitions": "what each word means",
+    r"table in line": "inline table",
+}
+
+
+def check_words():
+    """pages use plain words, code marks left out"""
+    for path in pages():
+        for line, text in blocks_of(path):
+            text = re.sub(r"`[^`]*`", "", text)
+            for word, plain in PLAIN_WORDS.items():
+                match = re.search(rf"\b{word}\b", text)
+                if match and path.name != "GLOSSARY.md":
+                    yield f"{shown(path, line)}: {match.group(0)}; {plain}"
+
+
 def check_sentences():
     """no sentence of a page has more than 40 words"""
     for path in pages():
