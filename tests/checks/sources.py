@@ -73,7 +73,7 @@ CLAUSE = re.compile(rf"\s*(requires|ensures)\*?\s*({NAME})?\s*\{{")
 WHERE = re.compile(r"\s*where\b[^{;]*?(?=\{|;|\brequires\b|\bensures\b)", re.S)
 FUNCTION = re.compile(rf"^([ \t]*)(pub(?:\([a-z]+\))? +)?(?:const +)?fn +({NAME})", re.M)
 OWNER = re.compile(rf"^(pub(?:\([a-z]+\))? +)?(impl|trait)\b([^{{;]*)\{{", re.M)
-MEMBER = re.compile(rf"^[ \t]+ghost +({NAME})\s*[:=]", re.M)
+MEMBER = re.compile(rf"^[ \t]+(?:pub +)?ghost +({NAME})\s*[:=]", re.M)
 
 
 def owner_name(kind, head):
