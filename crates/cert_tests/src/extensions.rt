@@ -21,6 +21,49 @@ fn end_of_field(alloc: Global, last: &[u8; 9]) -> Result<Result<usize, CertError
     Ok(check_extensions(field(alloc, last)?.as_slice(), 0))
 }
 
+// An extension whose identifier is this number in base 128.
+fn extension(number: u16) -> [u8; 9] {
+    let high = (number / 16384) as u8;
+    let middle = (number / 128 % 128) as u8;
+    let low = (number % 128) as u8;
+    [0x30, 0x07, 0x06, 0x03, high, middle, low, 0x04, 0x00]
+}
+
+// The extensions field with the extensions of the numbers below 32,769, and that of this number
+// behind them, up to offset 294,940.
+fn long_field(alloc: Global, last: u16) -> Result<Bytes, Memory> {
+    let mut out = Bytes::copy_of(
+        alloc,
+        &[0xA3, 0x83, 0x04, 0x80, 0x17, 0x30, 0x83, 0x04, 0x80, 0x12],
+    )?;
+    for number in 0..32_769u16 {
+        out.append(&extension(number))?;
+    }
+    out.append(&extension(last))?;
+    Ok(out)
+}
+
+fn end_of_long_field(alloc: Global, last: u16) -> Result<Result<usize, CertError>, Memory> {
+    Ok(check_extensions(long_field(alloc, last)?.as_slice(), 0))
+}
+
+#[test]
+fn a_repetition_is_told_over_more_than_a_block(rt: HostRuntime) -> Result<(), Fail> {
+    let cases: [(u16, Result<usize, CertError>); 4] = [
+        (32_769, Ok(294_940)),
+        (0, Err(CertError::RepeatedExtension)),
+        (32_767, Err(CertError::RepeatedExtension)),
+        (32_768, Err(CertError::RepeatedExtension)),
+    ];
+    for (last, wanted) in cases {
+        assert!(rt;
+            end_of_long_field(rt.alloc(), last)? == wanted,
+            "behind {last}"
+        );
+    }
+    Ok(())
+}
+
 #[test]
 fn a_repetition_among_many_is_told_at_its_turn(rt: HostRuntime) -> Result<(), Fail> {
     let cases: [(&[u8; 9], Result<usize, CertError>); 6] = [
