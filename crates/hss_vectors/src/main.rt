@@ -6,10 +6,10 @@
 //!
 //! - `hss LABEL KEY MESSAGE SIGNATURE`, and `lms` with the same words for one tree alone. A label
 //!   tells the height and the width of each level, as `h5w4/h10w1`, or what is tried (`one` and
-//!   `tree` are of one level, `3-levels` of three), and behind a colon what was changed: `q1023` the
-//!   number of the one-time key, `s7` or `k7` byte 7 of the signature or of the key, `L9` the number
-//!   of levels, `key59` the key's length, `message` the message, `cut4` all behind 4 bytes, `long` a
-//!   byte more.
+//!   `tree` are of one level, `3-levels` of three), and behind a colon what was changed: `q1023`
+//!   the number of the one-time key, `s7` or `k7` byte 7 of the signature or of the key, `L9` the
+//!   number of levels, `key59` the key's length, `message` the message, `cut4` all behind 4 bytes,
+//!   `long` a byte more.
 //! - `tree HEIGHT WIDTH SECRET`: the public key of the tree.
 //! - `sign HEIGHT WIDTH SECRET NEXT MESSAGE ..`: the public key, and for each message the number
 //!   used, the signature's length and SHA-256, and what `verify` says of it.

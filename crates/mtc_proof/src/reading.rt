@@ -34,7 +34,8 @@ fn check_list(bytes: &[u8], behind: usize, signatures: &[u8]) -> Result<(), Proo
     requires fits { length signatures.now ≤ behind }
     requires ends { drop (behind - length signatures.now) (take behind bytes.now) ≡ signatures.now }
     ensures { let place = behind - length signatures.now in
-        Gives (λ x. x) result (checked_signatures (record { place = place; rest = signatures.now })) }
+        Gives (λ x. x) result
+        (checked_signatures (record { place = place; rest = signatures.now })) }
 {
     check_from(&bytes[..behind], behind - signatures.len())
 }

@@ -1,12 +1,12 @@
-//! The proofs of every subtree of a list and of its beginnings, to be compared with those of another
-//! implementation of the same definitions.
+//! The proofs of every subtree of a list and of its beginnings, to be compared with those of
+//! another implementation of the same definitions.
 //!
 //! The lines of the input are the entries of the list, in hexadecimal. For each subtree of the list
-//! a line `START END HASH PATHS` is written: its hash, and the SHA-256 of the inclusion paths of its
-//! entries one behind the other. For each size from 1 to the list's and each subtree within it a line
-//! `START END SIZE COUNT PROOF` is written: the number of hashes of its consistency proof, and the
-//! first 16 digits of their SHA-256. Each path is evaluated and each proof checked here; one that
-//! fails ends the program.
+//! a line `START END HASH PATHS` is written: its hash, and the SHA-256 of the inclusion paths of
+//! its entries one behind the other. For each size from 1 to the list's and each subtree within it
+//! a line `START END SIZE COUNT PROOF` is written: the number of hashes of its consistency proof,
+//! and the first 16 digits of their SHA-256. Each path is evaluated and each proof checked here;
+//! one that fails ends the program.
 #![tactic(auto)]
 
 use anyhow::{Result, bail};

@@ -23,7 +23,7 @@ use tree_core::{TreeHash, evaluate};
 /// in the log at the serial number, in the interval of the proof; `LandmarkDiffers` where the
 /// interval is trusted with another hash than the path's value; `TooFewCosigners(0)` where the
 /// interval isn't trusted.
-#[tactic(auto, unfolding(policy_core::specs::Judgement::judged, policy_core::specs::Judgement::judgement))]
+#[tactic(auto, unfolding(policy_core::specs::Judgement::judgement))]
 pub fn judge<H: TreeHash>(cert: &[u8], store: &Store, now: i64) -> Result<Accepted, Refusal>
     ensures { result ≡ judgement H.hash cert.now store.now now }
 {
