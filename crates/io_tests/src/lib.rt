@@ -15,3 +15,5 @@ mod rooms;
 mod stops;
 #[cfg(test)]
 mod streams;
+#[cfg(test)]
+mod windows;

@@ -29,8 +29,8 @@ fn read_front<D: Disk>(
     Ok(())
 }
 
-/// The place in the window of so many bytes of the file. Where not all of them are there it reads on
-/// from the first of them, as far as the buffer reaches.
+/// The place in the window of so many bytes of the file. Where not all of them are there it reads
+/// on from the first of them, as far as the buffer reaches.
 pub(crate) fn hold<D: Disk>(
     disk: &mut D,
     size: u64,

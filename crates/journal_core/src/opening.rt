@@ -30,7 +30,8 @@ pub struct Opening<D: Disk> {
     refused: Option<OpenError>,
     window: Window,
     ghost inside: { body.start + body.size ≤ 131094 },
-    ghost held: { (b : List ℕ) → D.Disk.told disk ≡ Some b → Holds window b } by { Prim.hlevel (props, Holds-prop) },
+    ghost held: { (b : List ℕ) → D.Disk.told disk ≡ Some b
+        → Holds window b } by { Prim.hlevel (props, Holds-prop) },
     ghost known: { size ≤ D.Disk.known disk },
     ghost begun: { 16 ≤ place },
     ghost few: { count < place },

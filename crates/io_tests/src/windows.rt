@@ -1,0 +1,65 @@
+//! Journals that are read in windows of their disk.
+use disk_core::MemDisk;
+use journal_core::{OpenError, Opening};
+use mtc_io::{Bytes, Memory};
+use std::alloc::Global;
+use std::test::Fail;
+
+// A file of so many records of so many bytes.
+fn file_of(alloc: Global, count: u64, size: u32) -> Result<Bytes, Memory> {
+    let mut bytes = Bytes::copy_of(alloc, b"mtc-journal/v1\n\0")?;
+    let body = vec![in alloc; 7; size as usize]?;
+    for _ in 0..count {
+        bytes.append(&[1])?;
+        bytes.append_both(&size.to_be_bytes(), &body)?;
+    }
+    bytes.append(&[0])?;
+    Ok(bytes)
+}
+
+// How many records are read, how the reading ends, and how many calls of the disk it makes.
+type Read = (u64, Result<(), OpenError>, usize);
+
+fn ended(opening: Opening<MemDisk>, end: Result<(), OpenError>) -> Read {
+    let count = opening.read_count();
+    (count, end, opening.into_disk().calls().len())
+}
+
+fn read(alloc: Global, count: u64, size: u32, failing: &[u64]) -> Result<Option<Read>, Memory> {
+    let failing = Vec::from_slice(alloc, failing)?;
+    let disk = MemDisk::over(alloc, file_of(alloc, count, size)?, failing);
+    let Ok(mut opening) = Opening::begin(alloc, disk) else {
+        return Ok(None);
+    };
+    for _ in 0..2000 {
+        match opening.next() {
+            Ok(Some(_)) => {}
+            Ok(None) => return Ok(Some(ended(opening, Ok(())))),
+            Err(why) => return Ok(Some(ended(opening, Err(why)))),
+        }
+    }
+    Ok(None)
+}
+
+// A sync, the length and the header come first. A window has 131,094 bytes, and a fault comes at the
+// record that needs it.
+#[test]
+fn records_are_read_in_windows(rt: HostRuntime) -> Result<(), Fail> {
+    let cases: [(u64, u32, &[u64], Read); 8] = [
+        (0, 1, &[], (0, Ok(()), 4)),
+        (1000, 1, &[], (1000, Ok(()), 4)),
+        (1, 131_072, &[], (1, Ok(()), 4)),
+        (2, 131_072, &[], (2, Ok(()), 5)),
+        (3, 65_536, &[], (3, Ok(()), 5)),
+        (3, 65_536, &[3], (0, Err(OpenError::Failed), 4)),
+        (3, 65_536, &[4], (2, Err(OpenError::Failed), 5)),
+        (3, 65_536, &[5], (3, Ok(()), 5)),
+    ];
+    for (count, size, failing, wanted) in cases {
+        assert!(rt;
+            read(rt.alloc(), count, size, failing)? == Some(wanted),
+            "{count} of {size}, {failing:?}"
+        );
+    }
+    Ok(())
+}
