@@ -136,9 +136,9 @@ def sentence(costs, seconds):
     """What README says of the times of its two commands."""
     first, chain = program_seconds(costs)
     return (
-        "The first shows each crate as it is proved, as many side by side as there are processors, once: "
-        f"{first / 60:.0f} processor minutes by the sum of its crates' proofs, and by the clock no less than the "
-        f"{chain / 60:.0f} of their longest chain. "
+        "The first shows each crate as it is proved, as many side by side as there are processors. "
+        f"That is done once, and the proofs add up to {first / 60:.0f} processor minutes. "
+        f"By the clock it takes no less than {chain / 60:.0f} minutes, those of the longest chain of crates. "
         f"The second took {minutes_of(costs):.0f} processor minutes, and {by_clock(seconds)} ([GATE](docs/GATE.md))."
     )
 
