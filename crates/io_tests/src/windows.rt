@@ -41,8 +41,8 @@ fn read(alloc: Global, count: u64, size: u32, failing: &[u64]) -> Result<Option<
     Ok(None)
 }
 
-// A sync, the length and the header come first. A window has 131,094 bytes, and a fault comes at the
-// record that needs it.
+// A sync, the length and the header come first. A window has 131,094 bytes, and a fault comes at
+// the record that needs it.
 #[test]
 fn records_are_read_in_windows(rt: HostRuntime) -> Result<(), Fail> {
     let cases: [(u64, u32, &[u64], Read); 8] = [

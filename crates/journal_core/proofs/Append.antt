@@ -79,7 +79,7 @@ module _ (bytes : List ℕ) (records : List (List ℕ)) (body : List ℕ) (is : 
       sym (take-take 4 (5 + length body) (drop (behind 16 records + 1) bytes) (omega arith)) ∙ ap (take 4) is.tail
       ∙ ap (take 4) (append_assoc (to_be_bytes w32 (length body)) body (0 ∷ [])) ∙ take_at (to_be_bytes w32 (length body)) (body ++ 0 ∷ []) 4 refl
 
-  staged_body : part (behind 16 records + 5) (length body) bytes ≡ body
+  pub staged_body : part (behind 16 records + 5) (length body) bytes ≡ body
   staged_body =
       let behind_gate = drop (behind 16 records + 1) bytes in
       let split : behind 16 records + 5 ≡ (behind 16 records + 1) + 4 = omega arith in
@@ -166,3 +166,13 @@ first_staged body = record {
   };
   tail = take_all (5 + length body) (tail_of body) (omega (arith, length-tail body));
 }
+
+-- the body lies in the first bytes of a buffer that begins with a new file
+pub packed_body : (body buffer : List ℕ) → take (22 + length body) buffer ≡ new_file_of body
+    → part 21 (length body) buffer ≡ body
+packed_body body buffer is =
+    let whole : length (new_file_of body) ≡ 22 + length body = simp length-append (omega arith) in
+    let same : take (22 + length body) buffer ≡ take (22 + length body) (new_file_of body)
+    = is ∙ sym (take_all (22 + length body) (new_file_of body) (omega arith)) in
+    part_kept (22 + length body) 21 (length body) (new_file_of body) buffer same (omega arith)
+    ∙ staged_body (new_file_of body) [] body (first_staged body)

@@ -1,5 +1,5 @@
 pub mod Append
-pub mod FirstRecord
+pub mod Begun
 pub mod OpeningSteps
 pub mod ReadOn
 pub mod Records

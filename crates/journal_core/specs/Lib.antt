@@ -2,6 +2,7 @@ pub mod Folds
 pub mod Format
 pub mod Openings
 pub mod Opens
+pub mod Packed
 pub mod Readings
 pub mod Settled
 pub mod Starts

@@ -20,15 +20,15 @@ pub(crate) fn hand_back<D, E>(disk: D, why: E) -> Refused<D, E>
     Refused { disk, why }
 }
 
-/// Why a journal was not started.
+/// Why a journal was not started, in the order of the tests.
 #[derive(Clone, Copy, Debug, PartialEq, Eq)]
 pub enum StartError {
+    /// No memory for the journal's buffer.
+    Memory,
     /// The disk failed.
     Failed,
     /// The disk holds bytes already.
     NotEmpty,
-    /// No memory for the journal's buffer.
-    Memory,
 }
 
 /// Why a file is not read, or not read on.

@@ -1,7 +1,8 @@
 //! The first record of a journal.
-ghost use Rattle.std.specs.Prelude.{◌≡◌, ◌≤◌, ◌+◌, [], ◌∷◌, length, is_some, option_map, IfSome, IfOk, IfErr, OnOk};
+ghost use Rattle.std.specs.Prelude.{◌≡◌, ◌≢◌, ◌≤◌, ◌+◌, [], ◌∷◌, length, take, is_some, option_map, IfSome, IfOk, IfErr, OnOk};
 ghost use Rattle.mtc_io.specs.Counts.{HasCause};
-ghost use Rattle.disk_core.specs.Disk.{overwritten, Only};
+ghost use Rattle.disk_core.specs.Disk.{overwritten, part, Only};
+ghost use Rattle.journal_core.specs.Format.{new_file_of};
 ghost use Rattle.journal_core.specs.Starts.{HasStarted, IsNotStarted};
 
 use crate::error::{Refused, StartError, hand_back};
@@ -10,6 +11,18 @@ use crate::journal::Journal;
 use disk_core::{Disk, look_len, write_synced};
 use mtc_io::{Failed, Memory};
 use std::alloc::Global;
+
+/// The first record of a journal, packed for its disk. All the memory that the journal takes is
+/// taken.
+#[derive(Drop)]
+pub struct FirstRecord {
+    buffer: Vec<u8>,
+    size: usize,
+    ghost room: { length buffer.items ≡ 131094 },
+    ghost some: { 1 ≤ size },
+    ghost few: { size ≤ 131072 },
+    ghost packed: { take (22 + size) buffer.items ≡ new_file_of (part 21 size buffer.items) },
+}
 
 // The header, the record behind a closed gate, and then the gate.
 fn write_first<D: Disk>(disk: &mut D, bytes: &[u8]) -> Result<(), Failed>
@@ -26,14 +39,60 @@ fn write_first<D: Disk>(disk: &mut D, bytes: &[u8]) -> Result<(), Failed>
     write_synced(disk, 16, &[1])
 }
 
-/// Begins a journal on an empty disk, with one record of 1 to 131,072 bytes. At Ok a crash leaves
-/// that record.
+impl FirstRecord {
+    ghost use Rattle.journal_core.specs.Packed.{first_body};
+
+    /// Packs a record of 1 to 131,072 bytes.
+    pub fn pack(alloc: Global, first: &[u8]) -> Result<FirstRecord, Memory>
+        requires some { 1 ≤ length first.now }
+        requires few { length first.now ≤ 131072 }
+        ensures { IfOk result (λ it. first_body it ≡ first.now) }
+    {
+        let mut buffer = buffer(alloc)?;
+        pack_first(&mut buffer, first);
+        Ok(FirstRecord {
+            buffer,
+            size: first.len(),
+        })
+    }
+
+    /// Begins a journal on an empty disk, with this record. At Ok a crash leaves that record. It
+    /// takes no memory.
+    ///
+    /// Errors, in the order of the tests: `Failed`, `NotEmpty` where the disk holds bytes. A first
+    /// write that fails may leave anything. The disk is handed back.
+    pub fn start<D: Disk>(self, mut disk: D) -> Result<Journal<D>, Refused<D, StartError>>
+        ensures ok { IfOk result (HasStarted (first_body self) disk) }
+        ensures err { IfErr result (λ e. IsNotStarted D.Disk disk e.disk e.why) }
+        ensures never { IfErr result (λ e. e.why ≢ StartError.Memory) }
+    {
+        let length = match look_len(&mut disk) {
+            Ok(length) => length,
+            Err(failed) => return Err(hand_back(disk, failed.into())),
+        };
+        if length != 0 {
+            return Err(hand_back(disk, StartError::NotEmpty));
+        }
+        match write_first(&mut disk, &self.buffer[..self.size + 22]) {
+            Ok(()) => Ok(Journal {
+                disk,
+                end: self.size as u64 + 22,
+                broken: false,
+                buffer: self.buffer,
+            }),
+            Err(failed) => Err(hand_back(disk, failed.into())),
+        }
+    }
+}
+
+/// Packs a first record of 1 to 131,072 bytes, and begins a journal on an empty disk with it. At Ok
+/// a crash leaves that record.
 ///
-/// Errors, in the order of the tests: `Failed`, `NotEmpty` where the disk holds bytes, `Memory` for
-/// the buffer. A first write that fails may leave anything. The disk is handed back.
+/// Errors, in the order of the tests: `Memory` for the buffer, `Failed`, `NotEmpty` where the disk
+/// holds bytes. A first write that fails may leave anything. The disk is handed back.
 pub fn start<D: Disk>(
     alloc: Global,
-    mut disk: D,
+    disk: D,
     first: &[u8],
 ) -> Result<Journal<D>, Refused<D, StartError>>
     requires some { 1 ≤ length first.now }
@@ -41,25 +100,8 @@ pub fn start<D: Disk>(
     ensures ok { IfOk result (HasStarted first.now disk) }
     ensures err { IfErr result (λ e. IsNotStarted D.Disk disk e.disk e.why) }
 {
-    let length = match look_len(&mut disk) {
-        Ok(length) => length,
-        Err(failed) => return Err(hand_back(disk, failed.into())),
-    };
-    if length != 0 {
-        return Err(hand_back(disk, StartError::NotEmpty));
-    }
-    let mut buffer = match buffer(alloc) {
-        Ok(buffer) => buffer,
-        Err(Memory) => return Err(hand_back(disk, StartError::Memory)),
-    };
-    pack_first(&mut buffer, first);
-    match write_first(&mut disk, &buffer[..first.len() + 22]) {
-        Ok(()) => Ok(Journal {
-            disk,
-            end: first.len() as u64 + 22,
-            broken: false,
-            buffer,
-        }),
-        Err(failed) => Err(hand_back(disk, failed.into())),
+    match FirstRecord::pack(alloc, first) {
+        Ok(packed) => packed.start(disk),
+        Err(Memory) => Err(hand_back(disk, StartError::Memory)),
     }
 }
