@@ -9,12 +9,15 @@ use Rattle.journal_core.specs.Format.{StandsFor, StandsForEither, records_of}
 use Rattle.journal_core.specs.Settled.{IsSettled}
 use Rattle.journal_core.proofs.Told.{of_records}
 use Rattle.journal_core.specs.Words.{AllStandFor}
+use Rattle.journal_core.specs.declared.error.AppendError.{AppendError}
+use Rattle.journal_core.specs.declared.error.AppendError.TheVariants.{Broken}
 use Rattle.log_entry.specs.Matching.{matches}
 use Rattle.issuance_log.specs.Folds.{LogState, with_item, log_of}
 use Rattle.issuance_log.specs.Records.{entry_record}
 use Rattle.issuance_log.specs.Refusals.{add_refusal}
 use Rattle.issuance_log.specs.Sound.{IsSound}
 use Rattle.issuance_log.specs.declared.error.LogError.{LogError}
+use Rattle.issuance_log.specs.declared.error.LogError.TheVariants.{Append}
 use Rattle.issuance_log.proofs.Spelled.{length-entry, log_added}
 
 -- a log that isn't full has room
@@ -27,6 +30,9 @@ record_some body entry key is = let size : length body ≡ 5 + length entry + le
 
 pub record_few : (body entry key : List ℕ) → body ≡ entry_record entry key → length entry + length key ≤ 65535 → length body ≤ 131072
 record_few body entry key is few = let size : length body ≡ 5 + length entry + length key = ap length is ∙ length-entry entry key in omega arith
+
+pub same_item : (entry other key other_key : List ℕ) (s t : LogState) → entry ≡ other → key ≡ other_key → s ≡ t → with_item entry key s ≡ with_item other other_key t
+same_item entry other key other_key s t one two three = cc
 
 module _ (h : List ℕ → List ℕ) (s : LogState) (entry key : List ℕ) (belongs : matches h entry key ≡ true) where
   -- behind the records of a log the new record makes the log with the item
@@ -51,14 +57,18 @@ module _ (h : List ℕ → List ℕ) (s : LogState) (entry key : List ℕ) (belo
   added_unrefused records broken end agrees sound none =
       let first = passed _ _ _ none in
       let second = passed _ _ _ first.1 in
-      let third = passed _ _ _ second.1 in
+      let third = unbroken broken _ second.1 in
       let few = sound.few in
       let room : length s.entries < s.settings.limit = below _ _ few first.0 in
-      added_to records (agrees third.0) room (ltb-false 65535 (length entry + length key) second.0)
+      added_to records (agrees third) room (ltb-false 65535 (length entry + length key) second.0)
     where
       passed : (b : Bool) (e : LogError) (o : Option LogError) → (if b then Some e else o) ≡ None → (b ≡ false) × (o ≡ None)
       passed true e o is = let wrong : Some e ≡ None = is in cc
       passed false e o is = (refl, is)
+
+      unbroken : (b : Bool) (o : Option AppendError) → option_map Append (if b then Some Broken else o) ≡ None → b ≡ false
+      unbroken true o is = let wrong : Some (Append Broken) ≡ None = is in cc
+      unbroken false o is = refl
 
       below : (a b : ℕ) → a ≤ b → (a == b) ≡ false → a < b
       below a b few other = grind (arith, nat_tests)

@@ -1,9 +1,6 @@
 pub mod Adds
-mod Folds
-mod Found
+mod Growth
 pub mod Leaves
+mod Readings
 mod Rules
 mod Spelled
-mod Standing
-mod Steps
-mod Walks

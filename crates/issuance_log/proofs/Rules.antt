@@ -12,9 +12,9 @@ use Rattle.tls_wire.specs.declared.fault.AnchorBytesError.{AnchorBytesError}
 use Rattle.tls_wire.proofs.AnchorForm.{anchor_takes}
 use Rattle.issuance_log.specs.Folds.{LogState, new_log, with_item, with_entry, by_tag, begun, next_log}
 use Rattle.log_entry.specs.Matching.{matches}
-use Rattle.issuance_log.specs.Records.{settings_at, entry_at, all_of, are_allowed, AreAllowed, with_id, settings_with, tagged, settings_in, item_in, settings_record}
+use Rattle.issuance_log.specs.Records.{settings_at, entry_at, whole_of, with_id, settings_with, tagged, settings_in, item_in, settings_record}
 use Rattle.issuance_log.specs.Rules.{IsFirst, IsNext}
-use Rattle.issuance_log.specs.declared.settings.LogSettings.{LogSettings}
+use Rattle.issuance_log.specs.Settings.{Settings, are_allowed, AreAllowed}
 use Rattle.issuance_log.proofs.Spelled.{some_value, FitSettings, settings_text, settings_form, settings_again, item_takes, tagged_takes, next_added}
 
 option_from : {X : Type 0} (f : X → Option LogState) (o : Option X) (t : LogState) → option_and_then f o ≡ Some t → (x : X) × (o ≡ Some x) × (f x ≡ Some t)
@@ -40,12 +40,12 @@ next_is h s body t bytes is = go (number_at w8 (at body 0)) refl is
     go : (r : Result (ℕ × At) Short) → number_at w8 (at body 0) ≡ r → by_tag h s r ≡ Some t → IsNext h s body t
     go (Err short) was is = let wrong : None ≡ Some t = is in cc
     go (Ok tag) was is =
-        let test = test_from (tag.0 == 2) (option_and_then (with_entry h s) (all_of (entry_at tag.1))) t is in
-        let item = option_from (with_entry h s) (all_of (entry_at tag.1)) t test.1 in
+        let test = test_from (tag.0 == 2) (option_and_then (with_entry h s) (whole_of (entry_at tag.1))) t is in
+        let item = option_from (with_entry h s) (whole_of (entry_at tag.1)) t test.1 in
         let entry = item.0.0 in
         let key = item.0.1 in
         let found : item_in body ≡ Some (entry, key)
-        = ap (tagged 2 entry_at) was ∙ ap (λ (b : Bool). if b then all_of (entry_at tag.1) else None) test.0 ∙ item.1 in
+        = ap (tagged 2 entry_at) was ∙ ap (λ (b : Bool). if b then whole_of (entry_at tag.1) else None) test.0 ∙ item.1 in
         let spelled = item_takes body entry key bytes found in
         let made = test_from (nat_lt (length s.entries) s.settings.limit && matches h entry key) (Some (with_item entry key s)) t item.2 in
         let tests = both_true (nat_lt (length s.entries) s.settings.limit) (matches h entry key) made.0 in
@@ -74,7 +74,7 @@ first_is body s bytes is =
     let tests = test_from (are_allowed read.0.1.0 read.0.1.1) (with_id read.0.1.0 read.0.1.1 (anchor_of read.0.0)) found.0 read.2 in
     let made = id_from read.0.1.0 read.0.1.1 (anchor_of read.0.0) found.0 tests.1 in
     let id = anchor_takes read.0.0 made.0 (id_bytes body read.0 bytes spelled.0) made.1 in
-    let settings : LogSettings = record { id = read.0.0; max_active = read.0.1.0; limit = read.0.1.1 } in
+    let settings : Settings = record { id = read.0.0; max_active = read.0.1.0; limit = read.0.1.1 } in
     let same : found.0 ≡ settings = sym made.2 ∙ ap (λ (b : List ℕ). record { id = b; max_active = read.0.1.0; limit = read.0.1.1 }) id.0 in
     record {
       settings = settings;
@@ -84,16 +84,16 @@ first_is body s bytes is =
       made = sym found.2 ∙ ap new_log same;
     }
   where
-    map_from : (o : Option LogSettings) → option_map new_log o ≡ Some s → (x : LogSettings) × (o ≡ Some x) × (new_log x ≡ s)
+    map_from : (o : Option Settings) → option_map new_log o ≡ Some s → (x : Settings) × (o ≡ Some x) × (new_log x ≡ s)
     map_from None is = let wrong : None ≡ Some s = is in cc
     map_from (Some x) is = (x, refl, some_value (new_log x) s is)
 
-    option_from_settings : (o : Option (List ℕ × (ℕ × ℕ))) (x : LogSettings) → option_and_then settings_with o ≡ Some x
+    option_from_settings : (o : Option (List ℕ × (ℕ × ℕ))) (x : Settings) → option_and_then settings_with o ≡ Some x
         → (v : List ℕ × (ℕ × ℕ)) × (o ≡ Some v) × (settings_with v ≡ Some x)
     option_from_settings None x is = let wrong : None ≡ Some x = is in cc
     option_from_settings (Some v) x is = (v, refl, is)
 
-    id_from : (active limit : ℕ) (r : Result (List ℕ) AnchorBytesError) (x : LogSettings) → with_id active limit r ≡ Some x
+    id_from : (active limit : ℕ) (r : Result (List ℕ) AnchorBytesError) (x : Settings) → with_id active limit r ≡ Some x
         → (id : List ℕ) × (r ≡ Ok id) × (record { id = id; max_active = active; limit = limit } ≡ x)
     id_from active limit (Ok id) x is = (id, refl, some_value _ x is)
     id_from active limit (Err fault) x is = let wrong : None ≡ Some x = is in cc

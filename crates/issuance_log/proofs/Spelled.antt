@@ -17,16 +17,16 @@ use Rattle.tls_wire.specs.declared.cursor.Short.{Short}
 use Rattle.tls_wire.proofs.Numbers.{wide8, wide16, wide32, number_form}
 use Rattle.tls_wire.proofs.Vectors.{vector_form}
 use Rattle.tls_wire.proofs.AnchorForm.{anchor_again}
-use Rattle.issuance_log.specs.Folds.{LogState, new_log, with_item, with_entry, by_tag, begun, next_log, log_of}
+use Rattle.issuance_log.specs.Folds.{LogState, new_log, with_item, with_entry, by_tag, begun, next_log, log_fold, log_of}
 use Rattle.log_entry.specs.Matching.{matches}
-use Rattle.issuance_log.specs.Records.{settings_at, entry_at, all_of, are_allowed, AreAllowed, with_id, settings_with, tagged, settings_in, item_in, settings_record, entry_record}
+use Rattle.issuance_log.specs.Records.{settings_at, entry_at, whole_of, with_id, settings_with, tagged, settings_in, item_in, settings_record, entry_record}
 use Rattle.issuance_log.specs.Results.{Finds, Takes}
 use Rattle.issuance_log.specs.declared.error.RecordError.{RecordError}
 use Rattle.issuance_log.specs.declared.error.RecordError.TheVariants.{Unfit, Memory}
-use Rattle.issuance_log.specs.declared.settings.LogSettings.{LogSettings}
-use Rattle.issuance_log.proofs.Folds.{log_begins, log_next}
+use Rattle.issuance_log.specs.Settings.{Settings, are_allowed, AreAllowed}
+use Rattle.journal_core.proofs.Folds.{state_begins, state_next}
 
-pub length-settings : (s : LogSettings) → length (settings_record s) ≡ 10 + length s.id
+pub length-settings : (s : Settings) → length (settings_record s) ≡ 10 + length s.id
 unfolding settings_record
 length-settings s = simp length-append (omega arith)
 
@@ -40,7 +40,7 @@ length-entry entry key = simp length-append (omega arith)
 pub some_value : {X : Type 0} (y x : X) → Some y ≡ Some x → y ≡ x
 some_value {X} y x is = cc
 
-all_is : {X : Type 0} (r : Result (X × At) Short) (x : X) → all_of r ≡ Some x → (b : At) × (r ≡ Ok (x, b)) × (b.rest ≡ [])
+all_is : {X : Type 0} (r : Result (X × At) Short) (x : X) → whole_of r ≡ Some x → (b : At) × (r ≡ Ok (x, b)) × (b.rest ≡ [])
 all_is {X} (Err short) x is = let wrong : None ≡ Some x = is in cc
 all_is {X} (Ok v) x is =
     let test = when_some (length v.1.rest == 0) v.0 x is in
@@ -51,17 +51,17 @@ all_is {X} (Ok v) x is =
     when_some false y x is = let wrong : None ≡ Some x = is in cc
 
 module _ {X : Type 0} (wanted : ℕ) (small : wanted < 256) (spell : X → List ℕ) (Fits : X → Type 0) (read : At → Result (X × At) Short) (form : IsForm spell Fits Anything read) where
-  pub read_again : (x : X) → Fits x → all_of (read (record { place = 1; rest = spell x })) ≡ Some x
+  pub read_again : (x : X) → Fits x → whole_of (read (record { place = 1; rest = spell x })) ≡ Some x
   read_again x fits =
-      ap (λ (text : List ℕ). all_of (read (record { place = 1; rest = text }))) (sym (append-nil (spell x)))
-      ∙ ap all_of (form.again x 1 [] fits tt)
+      ap (λ (text : List ℕ). whole_of (read (record { place = 1; rest = text }))) (sym (append-nil (spell x)))
+      ∙ ap whole_of (form.again x 1 [] fits tt)
 
   pub tagged_again : (x : X) → Fits x → tagged wanted read (number_at w8 (at (number w8 wanted ++ spell x) 0)) ≡ Some x
   tagged_again x fits =
       let tag = (number_form w8 (2 ^ 8) wide8).again wanted 0 (spell x) small tt in
       let test : (wanted == wanted) ≡ true = eq-eqb wanted wanted refl in
       ap (tagged wanted read) tag
-      ∙ ap (λ (b : Bool). if b then all_of (read (record { place = 1; rest = spell x })) else None) test
+      ∙ ap (λ (b : Bool). if b then whole_of (read (record { place = 1; rest = spell x })) else None) test
       ∙ read_again x fits
 
   pub tagged_takes : (body : List ℕ) (x : X) → IsBytes body → tagged wanted read (number_at w8 (at body 0)) ≡ Some x → (body ≡ number w8 wanted ++ spell x) × Fits x
@@ -78,7 +78,7 @@ module _ {X : Type 0} (wanted : ℕ) (small : wanted < 256) (spell : X → List 
       go : (r : Result (ℕ × At) Short) → number_at w8 (at body 0) ≡ r → tagged wanted read r ≡ Some x → (body ≡ number w8 wanted ++ spell x) × Fits x
       go (Err short) was is = let wrong : None ≡ Some x = is in cc
       go (Ok tag) was is =
-          let test = chosen_some (tag.0 == wanted) (all_of (read tag.1)) is in
+          let test = chosen_some (tag.0 == wanted) (whole_of (read tag.1)) is in
           let rest = all_is (read tag.1) x test.1 in
           let one = (number_form w8 (2 ^ 8) wide8).takes (at body 0) tag.0 tag.1 bytes was in
           let two = form.takes tag.1 x rest.0 one.0.bytes rest.1 in
@@ -118,7 +118,7 @@ next_item h s body = go (number_at w8 (at body 0))
     chosen false o = refl
 
     go : (r : Result (ℕ × At) Short) → by_tag h s r ≡ option_and_then (with_entry h s) (tagged 2 entry_at r)
-    go (Ok tag) = chosen (tag.0 == 2) (all_of (entry_at tag.1))
+    go (Ok tag) = chosen (tag.0 == 2) (whole_of (entry_at tag.1))
     go (Err short) = refl
 
 -- a record in which no item is found
@@ -153,7 +153,7 @@ tests_allowed : (active limit : ℕ) → AreAllowed active limit → are_allowed
 tests_allowed active limit is =
     rw (le-leb 1 active is.some_active, le-leb active 10000 is.few_active, le-leb 2 limit is.some, le-leb limit 1048576 is.few) refl
 
-pub settings_again : (s : LogSettings) → IsAnchorId s.id → AreAllowed s.max_active s.limit → settings_in (settings_record s) ≡ Some s
+pub settings_again : (s : Settings) → IsAnchorId s.id → AreAllowed s.max_active s.limit → settings_in (settings_record s) ≡ Some s
 unfolding settings_in settings_record
 settings_again s id allowed =
     let active = allowed.few_active in
@@ -167,9 +167,9 @@ settings_again s id allowed =
 -- ---- a journal of records as they are spelled
 
 -- of a Log
-pub log_created : (h : List ℕ → List ℕ) (s : LogSettings) → IsAnchorId s.id → AreAllowed s.max_active s.limit → log_of h (settings_record s ∷ []) ≡ Ok (new_log s)
+pub log_created : (h : List ℕ → List ℕ) (s : Settings) → IsAnchorId s.id → AreAllowed s.max_active s.limit → log_of h (settings_record s ∷ []) ≡ Ok (new_log s)
 unfolding begun
-log_created h s id allowed = log_begins h (settings_record s) (new_log s) (ap (option_map new_log) (settings_again s id allowed))
+log_created h s id allowed = state_begins (log_fold h) (settings_record s) (new_log s) (ap (option_map new_log) (settings_again s id allowed))
 
 -- of one Entry more
 pub next_added : (h : List ℕ → List ℕ) (s : LogState) (entry key : List ℕ) → length s.entries < s.settings.limit → length entry < 65536 → length key < 65536
@@ -185,4 +185,4 @@ next_added h s entry key room few_entry few_key belongs =
 pub log_added : (h : List ℕ → List ℕ) (list : List (List ℕ)) (s : LogState) (entry key : List ℕ) → log_of h list ≡ Ok s → length s.entries < s.settings.limit
     → length entry + length key ≤ 65535 → matches h entry key ≡ true → log_of h (list ++ entry_record entry key ∷ []) ≡ Ok (with_item entry key s)
 log_added h list s entry key is room few belongs =
-    log_next h list s (entry_record entry key) (with_item entry key s) is (next_added h s entry key room (omega arith) (omega arith) belongs)
+    state_next (log_fold h) list s (entry_record entry key) (with_item entry key s) is (next_added h s entry key room (omega arith) (omega arith) belongs)

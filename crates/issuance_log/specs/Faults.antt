@@ -18,6 +18,6 @@ of_id (id.ArcTooLarge place) = Unfit
 of_id id.Memory = Memory
 
 -- a record of this number that is not taken
-abbrev pub refused : ℕ → RecordError → LogOpenError
-refused number Unfit = BadRecord number
-refused number Memory = Open open_error.Memory
+abbrev pub refusal_at : ℕ → RecordError → LogOpenError
+refusal_at number Unfit = BadRecord number
+refusal_at number Memory = Open open_error.Memory

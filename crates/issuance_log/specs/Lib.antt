@@ -1,10 +1,10 @@
 pub mod Faults
 pub mod Folds
 pub mod Openings
-pub mod Readings
 pub mod Records
 pub mod Refusals
 pub mod Results
 pub mod Rules
+pub mod Settings
 pub mod Sound
 pub mod Words

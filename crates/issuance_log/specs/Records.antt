@@ -1,7 +1,8 @@
 -- The records of a log's journal: a tag of one byte, and what it says. Numbers have their highest
 -- byte first.
-use Rattle.std.specs.Prelude.{ℕ, ◌≤◌, Bool, List, ◌++◌, length, ◌==◌, ◌&&◌, nat_le, Option, Some, None, option_and_then, Result, Ok, Err, if◌then◌else◌}
+use Rattle.std.specs.Prelude.{ℕ, ◌++◌, length, ◌==◌, Option, Some, None, option_and_then, Result, Ok, Err, if◌then◌else◌}
 use Rattle.std.specs.Int.{w8, w16, w32}
+use Rattle.byte_forms.specs.Types.{Text}
 use Rattle.byte_forms.specs.Places.{At, at}
 use Rattle.byte_forms.specs.Readings.{both_at}
 use Rattle.tls_wire.specs.Anchors.{anchor_of}
@@ -9,66 +10,54 @@ use Rattle.tls_wire.specs.Reading.{number_at, vector_at}
 use Rattle.tls_wire.specs.Spelling.{number, vector}
 use Rattle.tls_wire.specs.declared.cursor.Short.{Short}
 use Rattle.tls_wire.specs.declared.fault.AnchorBytesError.{AnchorBytesError}
-use Rattle.issuance_log.specs.declared.settings.LogSettings.{LogSettings}
+use Rattle.issuance_log.specs.Settings.{Settings, are_allowed}
 
 -- ---- spelled
 
 -- Log, with tag 1: the id behind its length of one byte, the most active landmarks and the limit in
 -- four bytes each
-unfoldable pub settings_record : LogSettings → List ℕ
+unfoldable pub settings_record : Settings → Text
 settings_record s =
     number w8 1 ++ (vector w8 s.id ++ (number w32 s.max_active ++ number w32 s.limit))
 
 -- Entry, with tag 2: the entry and its key, each behind its length of two bytes
-unfoldable pub entry_record : List ℕ → List ℕ → List ℕ
+unfoldable pub entry_record : Text → Text → Text
 entry_record entry key = number w8 2 ++ (vector w16 entry ++ vector w16 key)
 
 -- ---- read
 
 -- what stands behind the tag of a Log
-unfoldable pub settings_at : At → Result ((List ℕ × (ℕ × ℕ)) × At) Short
+unfoldable pub settings_at : At → Result ((Text × (ℕ × ℕ)) × At) Short
 settings_at a = both_at (vector_at w8) (both_at (number_at w32) (number_at w32)) a
 
 -- what stands behind the tag of an Entry
-unfoldable pub entry_at : At → Result ((List ℕ × List ℕ) × At) Short
+unfoldable pub entry_at : At → Result ((Text × Text) × At) Short
 entry_at a = both_at (vector_at w16) (vector_at w16) a
 
 -- what was read, where it is all there was
-abbrev pub all_of : {X : Type 0} → Result (X × At) Short → Option X
-all_of (Ok x) = if length x.1.rest == 0 then Some x.0 else None
-all_of (Err short) = None
+abbrev pub whole_of : {X : Type 0} → Result (X × At) Short → Option X
+whole_of (Ok x) = if length x.1.rest == 0 then Some x.0 else None
+whole_of (Err short) = None
 
 -- what stands behind this tag
 abbrev pub tagged : {X : Type 0} → ℕ → (At → Result (X × At) Short) → Result (ℕ × At) Short
     → Option X
-tagged wanted read (Ok tag) = if tag.0 == wanted then all_of (read tag.1) else None
+tagged wanted read (Ok tag) = if tag.0 == wanted then whole_of (read tag.1) else None
 tagged wanted read (Err short) = None
 
--- the numbers that a log may have
-abbrev pub are_allowed : ℕ → ℕ → Bool
-are_allowed active limit =
-    (nat_le 1 active && nat_le active 10000) && (nat_le 2 limit && nat_le limit 1048576)
-
--- the same as facts
-pub record AreAllowed (active limit : ℕ) : Type 0 where
-  pub some_active : 1 ≤ active
-  pub few_active : active ≤ 10000
-  pub some : 2 ≤ limit
-  pub few : limit ≤ 1048576
-
 -- settings with this id, where it is one
-abbrev pub with_id : ℕ → ℕ → Result (List ℕ) AnchorBytesError → Option LogSettings
+abbrev pub with_id : ℕ → ℕ → Result (Text) AnchorBytesError → Option Settings
 with_id active limit (Ok id) = Some (record { id = id; max_active = active; limit = limit })
 with_id active limit (Err fault) = None
 
 -- settings, where the numbers may be those of a log
-abbrev pub settings_with : List ℕ × (ℕ × ℕ) → Option LogSettings
+abbrev pub settings_with : Text × (ℕ × ℕ) → Option Settings
 settings_with x = if are_allowed x.1.0 x.1.1 then with_id x.1.0 x.1.1 (anchor_of x.0) else None
 
 -- the settings in a Log, which is the first record and nowhere else
-unfoldable pub settings_in : List ℕ → Option LogSettings
+unfoldable pub settings_in : Text → Option Settings
 settings_in body = option_and_then settings_with (tagged 1 settings_at (number_at w8 (at body 0)))
 
 -- the entry and the key in an Entry
-unfoldable pub item_in : List ℕ → Option (List ℕ × List ℕ)
+unfoldable pub item_in : Text → Option (Text × Text)
 item_in body = tagged 2 entry_at (number_at w8 (at body 0))

@@ -1,15 +1,16 @@
 -- The rules of a log's records, each for itself.
-use Rattle.std.specs.Prelude.{◌≡◌, ℕ, ◌<◌, true, List, length}
+use Rattle.std.specs.Prelude.{◌≡◌, ◌<◌, true, length}
+use Rattle.byte_forms.specs.Types.{Text, HashFunction}
 use Rattle.log_entry.specs.Matching.{matches}
 use Rattle.tls_wire.specs.Arcs.{IsAnchorId}
 use Rattle.issuance_log.specs.Folds.{LogState, new_log, with_item}
-use Rattle.issuance_log.specs.Records.{AreAllowed, settings_record, entry_record}
-use Rattle.issuance_log.specs.declared.settings.LogSettings.{LogSettings}
+use Rattle.issuance_log.specs.Records.{settings_record, entry_record}
+use Rattle.issuance_log.specs.Settings.{Settings, AreAllowed}
 
 -- The first record is a Log with an anchor id and allowed numbers. It makes a log of the null
 -- entry.
-pub record IsFirst (body : List ℕ) (s : LogState) : Type 0 where
-  pub settings : LogSettings
+pub record IsFirst (body : Text) (s : LogState) : Type 0 where
+  pub settings : Settings
   pub spelled : body ≡ settings_record settings
   pub id : IsAnchorId settings.id
   pub allowed : AreAllowed settings.max_active settings.limit
@@ -17,9 +18,9 @@ pub record IsFirst (body : List ℕ) (s : LogState) : Type 0 where
 
 -- Each later record is an Entry whose key matches, where the log isn't full. It makes the log with
 -- that item.
-pub record IsNext (h : List ℕ → List ℕ) (s : LogState) (body : List ℕ) (t : LogState) : Type 0 where
-  pub entry : List ℕ
-  pub key : List ℕ
+pub record IsNext (h : HashFunction) (s : LogState) (body : Text) (t : LogState) : Type 0 where
+  pub entry : Text
+  pub key : Text
   pub spelled : body ≡ entry_record entry key
   pub short_entry : length entry < 65536
   pub short_key : length key < 65536

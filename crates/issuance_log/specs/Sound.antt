@@ -1,19 +1,20 @@
 -- What holds of every log, over any disk.
-use Rattle.std.specs.Prelude.{◌≡◌, ℕ, ◌<◌, ◌≤◌, true, List, [], length, slice_index_or}
+use Rattle.std.specs.Prelude.{◌≡◌, ℕ, ◌<◌, ◌≤◌, true, [], length, slice_index_or}
+use Rattle.byte_forms.specs.Types.{Text, HashFunction}
 use Rattle.log_entry.specs.Matching.{matches}
 use Rattle.issuance_log.specs.Folds.{LogState, null_entry}
-use Rattle.issuance_log.specs.Records.{AreAllowed}
+use Rattle.issuance_log.specs.Settings.{AreAllowed}
 
 -- An item of a log behind the first: the entry reads as one of type 1, to which the key belongs,
 -- and each has fewer than 2^16 bytes.
-pub record IsItem (h : List ℕ → List ℕ) (entry key : List ℕ) : Type 0 where
+pub record IsItem (h : HashFunction) (entry key : Text) : Type 0 where
   pub belongs : matches h entry key ≡ true
   pub short_entry : length entry < 65536
   pub short_key : length key < 65536
 
 -- Its numbers are allowed, its entries are within its limit, and each has a key: the null entry
 -- none, each later one that which belongs to it.
-pub record IsSound (h : List ℕ → List ℕ) (s : LogState) : Type 0 where
+pub record IsSound (h : HashFunction) (s : LogState) : Type 0 where
   pub allowed : AreAllowed s.settings.max_active s.settings.limit
   pub some : 1 ≤ length s.entries
   pub few : length s.entries ≤ s.settings.limit

@@ -1,7 +1,7 @@
 //! What the records of a journal make of a log, with the leaf hashes of its entries.
-ghost use Rattle.std.specs.Prelude.{◌≡◌, ◌<◌, ◌≤◌, length, map, nat_lt, not, OnOk, OnErr};
-ghost use Rattle.issuance_log.specs.Folds.{begun, records_in, next_log, with_entry, with_item, first_items};
-ghost use Rattle.issuance_log.specs.Records.{AreAllowed};
+ghost use Rattle.std.specs.Prelude.{◌≡◌, ◌<◌, ◌≤◌, length, map, nat_lt, not, IfOk, OnOk};
+ghost use Rattle.issuance_log.specs.Folds.{begun, next_log, with_entry, with_item};
+ghost use Rattle.issuance_log.specs.Settings.{AreAllowed};
 ghost use Rattle.issuance_log.specs.Results.{Finds, Takes};
 ghost use Rattle.issuance_log.specs.Sound.{IsItem, IsSound};
 ghost use Rattle.tree_core.specs.Tree.{leaf_hash};
@@ -17,9 +17,18 @@ use std::marker::Model;
 use tree_core::{TreeHash, leaf};
 use tree_proofs::Listed;
 
-/// The settings and the items of a log, and the leaf hashes of its entries.
+/// An entry and its key, for which there is room in a log.
+#[derive(Drop)]
+pub(crate) struct Item {
+    entry: Bytes,
+    key: Bytes,
+}
+
+/// The settings and the items of a log, and the leaf hashes of its entries. Contracts see the log
+/// and how many items more need no memory.
 #[derive(Drop)]
 pub(crate) struct Contents<H: TreeHash> {
+    alloc: Global,
     settings: LogSettings,
     items: Items,
     leaves: Listed<H>,
@@ -27,15 +36,21 @@ pub(crate) struct Contents<H: TreeHash> {
 }
 
 impl<H: TreeHash> Model for Contents<H> {
-    ghost use Rattle.issuance_log.specs.Folds.{LogState};
+    ghost use Rattle.std.specs.Prelude.{◌-◌, min, vec_len, vec_capacity};
+    ghost use Rattle.issuance_log.specs.Folds.{LogContents};
     ghost use Rattle.issuance_log.specs.Sound.{IsSound};
 
-    ghost Value = { LogState };
+    ghost Value = { LogContents };
 
     ghost view = { λ c. record {
-      settings = c.settings;
-      entries = c.items.entries.items;
-      keys = c.items.keys.items;
+      state = record {
+        settings = c.settings;
+        entries = c.items.entries.items;
+        keys = c.items.keys.items;
+      };
+      spare = min c.leaves.spare
+          (min (vec_capacity c.items.entries - vec_len c.items.entries)
+          (vec_capacity c.items.keys - vec_len c.items.keys));
     } };
 
     ghost invariant = { λ c. IsSound H.TreeHash.hash (record {
@@ -49,13 +64,14 @@ impl<H: TreeHash> Contents<H> {
     /// The log that the first record begins.
     #[tactic(auto, unfolding(crate::specs::Folds::begun))]
     pub(crate) fn begin(alloc: Global, body: &[u8]) -> Result<Contents<H>, RecordError>
-        ensures { Finds (λ c. c) (begun body.now) result }
+        ensures { Finds (λ c. c.state) (begun body.now) result }
     {
         let settings = read_settings(alloc, body)?;
         let items = Items::begin(alloc)?;
         let mut leaves = Listed::new(alloc);
         leaves.push(&leaf::<H>(&NULL_ENTRY))?;
         Ok(Contents {
+            alloc,
             settings,
             items,
             leaves,
@@ -64,94 +80,104 @@ impl<H: TreeHash> Contents<H> {
 
     /// Takes one record more. `Unfit` comes exactly where it breaks the rules, and a refusal leaves
     /// the log as it was.
-    pub(crate) fn take(&mut self, alloc: Global, body: &[u8]) -> Result<(), RecordError>
-        ensures { Takes (next_log H.hash self.old body.now) self.old result self.new }
+    pub(crate) fn take(&mut self, body: &[u8]) -> Result<(), RecordError>
+        ensures { Takes (next_log H.hash self.old.state body.now)
+            self.old.state result self.new.state }
     {
         match read_item(body) {
-            Ok((entry, key)) => self.take_item(alloc, entry, key),
+            Ok((entry, key)) => self.take_item(entry, key),
             Err(why) => Err(why),
         }
     }
 
-    fn take_item(&mut self, alloc: Global, entry: &[u8], key: &[u8]) -> Result<(), RecordError>
+    fn take_item(&mut self, entry: &[u8], key: &[u8]) -> Result<(), RecordError>
         requires short_entry { length entry.now < 65536 }
         requires short_key { length key.now < 65536 }
-        ensures { Takes (with_entry H.hash self.old (entry.now, key.now)) self.old result self.new }
+        ensures { Takes (with_entry H.hash self.old.state (entry.now, key.now))
+            self.old.state result self.new.state }
     {
         if self.is_full() || !key_matches::<H>(entry, key) {
             return Err(RecordError::Unfit);
         }
-        self.push(alloc, entry, key)?;
+        let item = self.prepare(entry, key)?;
+        self.push(item);
         Ok(())
     }
 
     /// The log has as many entries as its limit allows.
     pub(crate) fn is_full(&self) -> bool
-        ensures full { result ≡ not (nat_lt (length self.now.entries) self.now.settings.limit) }
-        ensures sound { IsSound H.hash self.now }
+        ensures full { result
+            ≡ not (nat_lt (length self.now.state.entries) self.now.state.settings.limit) }
+        ensures sound { IsSound H.hash self.now.state }
     {
         self.items.len() as u64 >= self.settings.limit as u64
     }
 
     pub(crate) fn len(&self) -> usize
-        ensures value { result ≡ length self.now.entries }
-        ensures sound { IsSound H.hash self.now }
+        ensures value { result ≡ length self.now.state.entries }
+        ensures sound { IsSound H.hash self.now.state }
     {
         self.items.len()
     }
 
-    /// How many records made the log, so the number of the next one.
-    pub(crate) fn records(&self) -> u64
-        ensures { result ≡ records_in self.now }
-    {
-        self.items.len() as u64
+    pub(crate) fn allocator(&self) -> Global {
+        self.alloc
     }
 
     pub(crate) fn settings(&self) -> &LogSettings
-        ensures value { result.now ≡ self.now.settings }
+        ensures value { result.now ≡ self.now.state.settings }
         ensures allowed { AreAllowed result.now.max_active result.now.limit }
     {
         &self.settings
     }
 
     pub(crate) fn entries(&self) -> &[Bytes]
-        ensures { result.now ≡ self.now.entries }
+        ensures { result.now ≡ self.now.state.entries }
     {
         self.items.entries()
     }
 
     pub(crate) fn keys(&self) -> &[Bytes]
-        ensures value { result.now ≡ self.now.keys }
-        ensures even { length result.now ≡ length self.now.entries }
+        ensures value { result.now ≡ self.now.state.keys }
+        ensures even { length result.now ≡ length self.now.state.entries }
     {
         self.items.keys()
     }
 
     /// The leaf hashes of the entries, each at its index.
     pub(crate) fn leaves(&self) -> &Listed<H>
-        ensures { result.now.leaves ≡ map (leaf_hash H.hash) self.now.entries }
+        ensures { result.now.leaves ≡ map (leaf_hash H.hash) self.now.state.entries }
     {
         &self.leaves
     }
 
-    /// Puts an item behind the others. Where memory is refused the log stays as it was.
-    pub(crate) fn push(&mut self, alloc: Global, entry: &[u8], key: &[u8]) -> Result<(), Memory>
-        requires room { length self.old.entries < self.old.settings.limit }
-        requires item { IsItem H.hash entry.now key.now }
-        ensures ok { OnOk result (self.new ≡ with_item entry.now key.now self.old) }
-        ensures err { OnErr result (self.new ≡ self.old) }
+    /// A copy of an item, and room for it. The log stays as it was.
+    pub(crate) fn prepare(&mut self, entry: &[u8], key: &[u8]) -> Result<Item, Memory>
+        ensures entry { IfOk result (λ item. item.entry ≡ entry.now) }
+        ensures key { IfOk result (λ item. item.key ≡ key.now) }
+        ensures spare { OnOk result (1 ≤ self.new.spare) }
+        ensures same { self.new.state ≡ self.old.state }
     {
+        let item = Item {
+            entry: Bytes::copy_of(self.alloc, entry)?,
+            key: Bytes::copy_of(self.alloc, key)?,
+        };
+        self.items.reserve()?;
         self.leaves.reserve(1)?;
-        self.items.push(alloc, entry, key)?;
-        self.leaves.push(&leaf::<H>(entry))
+        Ok(item)
     }
 
-    /// Takes off all but the first `count` items.
-    pub(crate) fn truncate(&mut self, count: usize)
-        requires { 1 ≤ count }
-        ensures { self.new ≡ first_items count self.old }
+    /// Puts an item behind the others, where there is room.
+    pub(crate) fn push(&mut self, item: Item)
+        requires spare { 1 ≤ self.old.spare }
+        requires few { length self.old.state.entries < self.old.state.settings.limit }
+        requires item { IsItem H.hash item.entry item.key }
+        ensures { self.new.state ≡ with_item item.entry item.key self.old.state }
     {
-        self.items.truncate(count);
-        self.leaves.truncate(count);
+        match self.leaves.push(&leaf::<H>(item.entry.as_slice())) {
+            Ok(()) => {}
+            Err(Memory) => unreachable!(),
+        }
+        self.items.push(item.entry, item.key);
     }
 }

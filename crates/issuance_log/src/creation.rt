@@ -1,5 +1,6 @@
 //! The journal of a new log.
-ghost use Rattle.std.specs.Prelude.{◌≡◌, ◌≤◌, ℕ, List, [], ◌∷◌, Ok, IfOk, IfErr};
+ghost use Rattle.std.specs.Prelude.{◌≡◌, ◌≤◌, [], ◌∷◌, Ok, IfOk, IfErr};
+ghost use Rattle.byte_forms.specs.Types.{HashFunction};
 ghost use Rattle.journal_core.specs.Starts.{HasStarted, IsNotStarted};
 ghost use Rattle.issuance_log.specs.Folds.{log_of, new_log};
 ghost use Rattle.issuance_log.specs.Records.{settings_record};
@@ -11,8 +12,7 @@ use journal_core::{Journal, Refused, StartError, start};
 use mtc_io::Memory;
 use std::alloc::Global;
 
-/// Begins the journal of a new log on an empty disk. The settings are to allow from 1 to 10,000
-/// active landmarks, and from 2 to 1,048,576 entries. At Ok a crash leaves the journal, and its one
+/// Begins the journal of a new log on an empty disk. At Ok a crash leaves the journal, and its one
 /// record makes the log that has the null entry alone.
 ///
 /// Errors, in the order of the tests: `Memory` for the record, `Failed`, `NotEmpty` where the disk
@@ -22,13 +22,9 @@ pub fn create<D: Disk>(
     disk: D,
     settings: &LogSettings,
 ) -> Result<Journal<D>, Refused<D, StartError>>
-    requires some_active { 1 ≤ settings.now.max_active }
-    requires few_active { settings.now.max_active ≤ 10000 }
-    requires some { 2 ≤ settings.now.limit }
-    requires few { settings.now.limit ≤ 1048576 }
     ensures ok { IfOk result (HasStarted (settings_record settings.now) disk) }
     ensures err { IfErr result (λ e. IsNotStarted D.Disk disk e.disk e.why) }
-    ensures valid { (h : List ℕ → List ℕ)
+    ensures valid { (h : HashFunction)
         → log_of h (settings_record settings.now ∷ []) ≡ Ok (new_log settings.now) }
 {
     match settings_record(alloc, settings) {

@@ -1,5 +1,5 @@
 //! The items of a log: each entry with its key, at its index.
-ghost use Rattle.std.specs.Prelude.{◌≡◌, ◌+◌, ◌≤◌, ◌<◌, List, [], ◌∷◌, ◌++◌, length, take, vec_len, slice_index_or, IfOk, OnOk, OnErr};
+ghost use Rattle.std.specs.Prelude.{◌≡◌, ◌<◌, [], ◌∷◌, ◌++◌, length, vec_len, vec_capacity, IfOk, OnOk};
 ghost use Rattle.issuance_log.specs.Folds.{null_entry};
 
 use mtc_io::{Bytes, Memory};
@@ -49,33 +49,33 @@ impl Items {
         self.keys.as_slice()
     }
 
-    /// Puts a copy of an entry and of its key behind the others. Where memory is refused they stay
-    /// as they were.
-    pub(crate) fn push(&mut self, alloc: Global, entry: &[u8], key: &[u8]) -> Result<(), Memory>
-        ensures entries { OnOk result
-            (self.new.entries.items ≡ self.old.entries.items ++ entry.now ∷ []) }
-        ensures keys { OnOk result (self.new.keys.items ≡ self.old.keys.items ++ key.now ∷ []) }
-        ensures entries_err { OnErr result (self.new.entries.items ≡ self.old.entries.items) }
-        ensures keys_err { OnErr result (self.new.keys.items ≡ self.old.keys.items) }
+    /// Makes room for one item more. The items stay as they were.
+    pub(crate) fn reserve(&mut self) -> Result<(), Memory>
+        ensures entries { self.new.entries.items ≡ self.old.entries.items }
+        ensures keys { self.new.keys.items ≡ self.old.keys.items }
+        ensures entry_room { OnOk result
+            (vec_len self.new.entries < vec_capacity self.new.entries) }
+        ensures key_room { OnOk result (vec_len self.new.keys < vec_capacity self.new.keys) }
     {
-        let entry = Bytes::copy_of(alloc, entry)?;
-        let key = Bytes::copy_of(alloc, key)?;
-        self.entries.push(entry)?;
-        match self.keys.push(key) {
-            Ok(()) => Ok(()),
-            Err(refused) => {
-                self.entries.truncate(self.keys.len());
-                Err(refused.into())
-            }
-        }
+        self.entries.reserve(1)?;
+        self.keys.reserve(1)?;
+        Ok(())
     }
 
-    /// Takes off all but the first `count` items; where there are fewer, nothing.
-    pub(crate) fn truncate(&mut self, count: usize)
-        ensures entries { self.new.entries.items ≡ take count self.old.entries.items }
-        ensures keys { self.new.keys.items ≡ take count self.old.keys.items }
+    /// Puts an entry and its key behind the others.
+    pub(crate) fn push(&mut self, entry: Bytes, key: Bytes)
+        requires entry_room { vec_len self.old.entries < vec_capacity self.old.entries }
+        requires key_room { vec_len self.old.keys < vec_capacity self.old.keys }
+        ensures entries { self.new.entries.items ≡ self.old.entries.items ++ entry ∷ [] }
+        ensures keys { self.new.keys.items ≡ self.old.keys.items ++ key ∷ [] }
     {
-        self.entries.truncate(count);
-        self.keys.truncate(count);
+        match self.entries.push(entry) {
+            Ok(()) => {}
+            Err(_full) => unreachable!(),
+        }
+        match self.keys.push(key) {
+            Ok(()) => {}
+            Err(_full) => unreachable!(),
+        }
     }
 }

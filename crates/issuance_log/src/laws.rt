@@ -1,5 +1,6 @@
 //! Laws of a log's records: the clauses are the laws, and the functions do nothing.
-ghost use Rattle.std.specs.Prelude.{◌≡◌, ◌<◌, ℕ, List, length, Some, Ok};
+ghost use Rattle.std.specs.Prelude.{◌≡◌, ◌<◌, List, length, Some, Ok};
+ghost use Rattle.byte_forms.specs.Types.{Text, HashFunction};
 ghost use Rattle.byte_forms.specs.Places.{IsBytes};
 ghost use Rattle.journal_core.specs.Format.{StandsFor};
 ghost use Rattle.issuance_log.specs.Folds.{LogState, begun, next_log, log_of};
@@ -10,31 +11,31 @@ ghost use Rattle.issuance_log.specs.Rules.{IsFirst, IsNext};
 /// The body of an Entry is read as the entry and the key that it spells, and only what is spelled
 /// so is read.
 pub fn items_are_read_as_spelled()
-    ensures again { (entry key : List ℕ) → length entry < 65536 → length key < 65536
+    ensures again { (entry key : Text) → length entry < 65536 → length key < 65536
         → item_in (entry_record entry key) ≡ Some (entry, key) }
-    ensures only { (body entry key : List ℕ) → IsBytes body → item_in body ≡ Some (entry, key)
+    ensures only { (body entry key : Text) → IsBytes body → item_in body ≡ Some (entry, key)
         → (body ≡ entry_record entry key) × (length entry < 65536) × (length key < 65536) }
 {}
 
 /// A record begins a log, or makes a log of another one, exactly where it keeps to the rules.
 pub fn records_keep_to_the_rules()
-    ensures first { (body : List ℕ) (s : LogState) → IsFirst body s → begun body ≡ Some s }
-    ensures only_first { (body : List ℕ) (s : LogState) → IsBytes body → begun body ≡ Some s
+    ensures first { (body : Text) (s : LogState) → IsFirst body s → begun body ≡ Some s }
+    ensures only_first { (body : Text) (s : LogState) → IsBytes body → begun body ≡ Some s
         → IsFirst body s }
-    ensures next { (h : List ℕ → List ℕ) (s : LogState) (body : List ℕ) (t : LogState)
+    ensures next { (h : HashFunction) (s : LogState) (body : Text) (t : LogState)
         → IsNext h s body t
         → next_log h s body ≡ Some t }
-    ensures only_next { (h : List ℕ → List ℕ) (s : LogState) (body : List ℕ) (t : LogState)
+    ensures only_next { (h : HashFunction) (s : LogState) (body : Text) (t : LogState)
         → IsBytes body
         → next_log h s body ≡ Some t → IsNext h s body t }
 {}
 
 /// A file is read as a log exactly where it stands for records that make this log.
 pub fn logs_are_read_from_their_journals()
-    ensures read { (h : List ℕ → List ℕ) (bytes : List ℕ) (list : List (List ℕ)) (s : LogState)
+    ensures read { (h : HashFunction) (bytes : Text) (list : List Text) (s : LogState)
         → StandsFor bytes list
         → log_of h list ≡ Ok s → log_read h bytes ≡ Ok (record { records = list; state = s }) }
-    ensures only { (h : List ℕ → List ℕ) (bytes : List ℕ) (found : FoundLog) → IsBytes bytes
+    ensures only { (h : HashFunction) (bytes : Text) (found : FoundLog) → IsBytes bytes
         → log_read h bytes ≡ Ok found
         → StandsFor bytes found.records × (log_of h found.records ≡ Ok found.state) }
 {}

@@ -29,4 +29,4 @@ pub use laws::{
     items_are_read_as_spelled, logs_are_read_from_their_journals, records_keep_to_the_rules,
 };
 pub use log::Log;
-pub use settings::LogSettings;
+pub use settings::{LogSettings, MOST_ACTIVE, MOST_ENTRIES};

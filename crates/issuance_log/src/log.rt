@@ -1,6 +1,7 @@
 //! A log that is open for more entries.
-ghost use Rattle.std.specs.Prelude.{◌≡◌, ◌≢◌, ◌↔◌, ◌≤◌, ◌<◌, ◌+◌, ◌++◌, ℕ, List, [], ◌∷◌, length, map, take, true, false, slice_index_or, Some, None, Ok, IfSome, IfOk, IfErr, OnOk, OnErr, IsErrOf};
+ghost use Rattle.std.specs.Prelude.{◌≡◌, ◌≢◌, ◌↔◌, ◌≤◌, ◌<◌, ◌+◌, ◌++◌, [], ◌∷◌, length, map, take, true, false, slice_index_or, Some, None, Ok, IfSome, IfOk, IfErr, OnOk, OnErr, IsErrOf};
 ghost use Rattle.std.proofs.Props.{props};
+ghost use Rattle.byte_forms.specs.Types.{Text};
 ghost use Rattle.disk_core.specs.Moments.{LeavesOnly, Looks};
 ghost use Rattle.mtc_io.specs.Counts.{Rose};
 ghost use Rattle.journal_core.specs.Format.{StandsFor, StandsForEither, end_behind};
@@ -9,7 +10,8 @@ ghost use Rattle.issuance_log.specs.Folds.{log_of, with_item};
 ghost use Rattle.log_entry.specs.Matching.{matches};
 ghost use Rattle.tree_core.specs.Tree.{leaf_hash};
 ghost use Rattle.issuance_log.specs.Openings.{HasCauseOf, log_read};
-ghost use Rattle.issuance_log.specs.Records.{AreAllowed, entry_record};
+ghost use Rattle.issuance_log.specs.Records.{entry_record};
+ghost use Rattle.issuance_log.specs.Settings.{AreAllowed};
 ghost use Rattle.issuance_log.specs.Refusals.{add_refusal, KeepsTo, item_at, GivesItem};
 ghost use Rattle.issuance_log.specs.Sound.{IsSound};
 
@@ -37,7 +39,7 @@ pub struct Log<H: TreeHash, D: Disk> {
     journal: Journal<D>,
     contents: Contents<H>,
     ghost agrees: { is_broken journal ≡ false → IfSome (records journal)
-        (λ list. log_of H.TreeHash.hash list ≡ Ok contents) } by { Prim.hlevel props },
+        (λ list. log_of H.TreeHash.hash list ≡ Ok contents.state) } by { Prim.hlevel props },
 }
 
 // The same bytes into an empty byte string, which stays empty where memory is refused.
@@ -50,7 +52,7 @@ fn copy(bytes: &Bytes, out: &mut Bytes) -> Result<(), Memory>
 }
 
 impl<H: TreeHash, D: Disk> Log<H, D> {
-    ghost use Rattle.issuance_log.specs.Words.{log_disk, log_records, log_end, log_broken, state_of, Leaves};
+    ghost use Rattle.issuance_log.specs.Words.{log_disk, log_records, log_end, log_broken, state_of, LogLeaves};
 
     /// Opens the log in a journal. Its records are read and tested one by one.
     ///
@@ -97,19 +99,21 @@ impl<H: TreeHash, D: Disk> Log<H, D> {
     /// `Append(Failed)` it shows what it showed before, and each further call that passes the first
     /// tests answers `Append(Broken)`.
     #[tactic(auto, unfolding(crate::specs::Refusals::add_refusal))]
-    pub fn add(&mut self, alloc: Global, entry: &[u8], spki: &[u8]) -> Result<u64, LogError>
+    pub fn add(&mut self, entry: &[u8], spki: &[u8]) -> Result<u64, LogError>
         requires { matches H.hash entry.now spki.now ≡ true }
-        ensures leaves { Leaves entry.now spki.now self.old self.new result }
+        ensures leaves { LogLeaves (entry_record entry.now spki.now)
+            (with_item entry.now spki.now (state_of self.old)) self.old self.new result }
+        ensures index { IfOk result (λ index. index ≡ length (state_of self.old).entries) }
         ensures answer { KeepsTo (add_refusal (state_of self.old) (log_broken self.old)
             (log_end self.old) entry.now spki.now) result }
-        ensures kept { OnOk result (IfSome (log_records self.old) (λ list.
-            AllStandFor D.Disk (log_disk self.new) (list ++ entry_record entry.now spki.now ∷ []))) }
+        ensures kept { OnOk result (IfSome (log_records self.old) (λ list. AllStandFor D.Disk
+            (log_disk self.new) (list ++ entry_record entry.now spki.now ∷ []))) }
         ensures count { D.faults (log_disk self.old) ≤ D.faults (log_disk self.new) }
         ensures any_moment { log_broken self.old ≡ false → IfSome (log_records self.old) (λ list.
             LeavesOnly D.Disk (log_disk self.old) (log_disk self.new)
             (StandsForEither list (entry_record entry.now spki.now))) }
         ensures afterwards { log_broken self.old ≡ false
-            → IfSome (log_records self.old) (λ list. (c : List ℕ)
+            → IfSome (log_records self.old) (λ list. (c : Text)
             → D.may_leave (log_disk self.new) c
             → StandsForEither list (entry_record entry.now spki.now) c) }
         ensures valid { add_refusal (state_of self.old) (log_broken self.old)
@@ -125,15 +129,11 @@ impl<H: TreeHash, D: Disk> Log<H, D> {
         if entry.len() + spki.len() > MAX_ITEM {
             return Err(LogError::TooLarge);
         }
-        let record = entry_record(alloc, entry, spki)?;
-        self.contents.push(alloc, entry, spki)?;
-        match self.journal.append(record.as_slice()) {
-            Ok(()) => Ok(index as u64),
-            Err(why) => {
-                self.contents.truncate(index);
-                Err(LogError::Append(why))
-            }
-        }
+        let record = entry_record(self.contents.allocator(), entry, spki)?;
+        let item = self.contents.prepare(entry, spki)?;
+        self.journal.append(record.as_slice())?;
+        self.contents.push(item);
+        Ok(index as u64)
     }
 
     /// How many entries the log has, the null entry among them.
@@ -145,8 +145,9 @@ impl<H: TreeHash, D: Disk> Log<H, D> {
         self.contents.len() as u64
     }
 
-    /// What holds of every log, over any disk: the clause says it, and the call does nothing. Each entry but the first
-    /// reads as one of type 1 to which its key belongs, and both have fewer than 2^16 bytes.
+    /// What holds of every log, over any disk: the clause says it, and the call does nothing. Each
+    /// entry but the first reads as one of type 1 to which its key belongs, and both have fewer
+    /// than 2^16 bytes.
     pub fn sound(&self)
         ensures { IsSound H.hash (state_of self.now) }
     {

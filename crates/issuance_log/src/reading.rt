@@ -1,10 +1,11 @@
 //! The records of a file that is opened as a log.
 ghost use Rattle.std.specs.Prelude.{◌≡◌, ◌<◌, [], false, None, option_map, MatchBool, IfOk, IfErr, OnOk};
 ghost use Rattle.disk_core.specs.Moments.{Looks};
-ghost use Rattle.journal_core.specs.Openings.{opening_disk, read_list, is_ended, refusal, left_of};
-ghost use Rattle.issuance_log.specs.Faults.{refused};
+ghost use Rattle.journal_core.specs.Openings.{opening_disk, read_list, is_ended, refusal, bytes_left};
+ghost use Rattle.issuance_log.specs.Faults.{refusal_at};
 ghost use Rattle.issuance_log.specs.Openings.{HasCauseOf};
-ghost use Rattle.issuance_log.specs.Readings.{HasFolded, HasFound};
+ghost use Rattle.journal_core.specs.Readings.{HasFolded, HasFound};
+ghost use Rattle.issuance_log.specs.Folds.{log_fold};
 
 use crate::contents::Contents;
 use crate::error::{LogOpenError, RecordError};
@@ -14,8 +15,8 @@ use std::alloc::Global;
 use tree_core::TreeHash;
 
 // A record that is not taken is refused by its number.
-fn refused(number: u64, why: RecordError) -> LogOpenError
-    ensures { result ≡ refused number why }
+fn refusal_at(number: u64, why: RecordError) -> LogOpenError
+    ensures { result ≡ refusal_at number why }
 {
     match why {
         RecordError::Unfit => LogOpenError::BadRecord(number),
@@ -31,7 +32,7 @@ fn read_first<H: TreeHash, D: Disk>(
     requires list { read_list opening.old
         ≡ option_map (λ _. []) (D.told (opening_disk opening.old)) }
     requires goes_on { (is_ended opening.old ≡ false) × (refusal opening.old ≡ None) }
-    ensures folded { IfOk result (λ c. HasFolded H.hash c opening.new) }
+    ensures folded { IfOk result (λ c. HasFolded (log_fold H.hash) c.state opening.new) }
     ensures err { IfErr result (HasCauseOf D.Disk H.hash (opening_disk opening.old)
         (opening_disk opening.new)) }
     ensures looks { Looks D.Disk (opening_disk opening.old) (opening_disk opening.new) }
@@ -41,7 +42,7 @@ fn read_first<H: TreeHash, D: Disk>(
     match opening.next() {
         Ok(Some(body)) => match Contents::begin(alloc, body) {
             Ok(contents) => Ok(contents),
-            Err(why) => Err(refused(0, why)),
+            Err(why) => Err(refusal_at(0, why)),
         },
         Ok(None) => Err(LogOpenError::BadRecord(0)),
         Err(why) => Err(LogOpenError::Open(why)),
@@ -50,26 +51,26 @@ fn read_first<H: TreeHash, D: Disk>(
 
 // Reads and tests the next record: whether there was one.
 fn read_next<H: TreeHash, D: Disk>(
-    alloc: Global,
     opening: &mut Opening<D>,
     contents: &mut Contents<H>,
 ) -> Result<bool, LogOpenError>
-    requires { HasFolded H.hash contents.old opening.old }
-    ensures more { IfOk result (λ more. MatchBool more (HasFolded H.hash contents.new opening.new)
-        (HasFound H.hash contents.new opening.new)) }
+    requires { HasFolded (log_fold H.hash) contents.old.state opening.old }
+    ensures more { IfOk result (λ more. MatchBool more
+        (HasFolded (log_fold H.hash) contents.new.state opening.new)
+        (HasFound (log_fold H.hash) contents.new.state opening.new)) }
     ensures shorter { IfOk result
-        (λ more. MatchBool more (left_of opening.new < left_of opening.old) (Unit {0})) }
+        (λ more. MatchBool more (bytes_left opening.new < bytes_left opening.old) (Unit {0})) }
     ensures err { IfErr result (HasCauseOf D.Disk H.hash (opening_disk opening.old)
         (opening_disk opening.new)) }
     ensures looks { Looks D.Disk (opening_disk opening.old) (opening_disk opening.new) }
     ensures fine { OnOk result (D.faults (opening_disk opening.new)
         ≡ D.faults (opening_disk opening.old)) }
 {
-    let number = contents.records();
+    let number = opening.read_count();
     match opening.next() {
-        Ok(Some(body)) => match contents.take(alloc, body) {
+        Ok(Some(body)) => match contents.take(body) {
             Ok(()) => Ok(true),
-            Err(why) => Err(refused(number, why)),
+            Err(why) => Err(refusal_at(number, why)),
         },
         Ok(None) => Ok(false),
         Err(why) => Err(LogOpenError::Open(why)),
@@ -78,12 +79,11 @@ fn read_next<H: TreeHash, D: Disk>(
 
 // The records behind the first one, up to the closed gate.
 fn read_rest<H: TreeHash, D: Disk>(
-    alloc: Global,
     opening: &mut Opening<D>,
     contents: &mut Contents<H>,
 ) -> Result<(), LogOpenError>
-    requires { HasFolded H.hash contents.old opening.old }
-    ensures found { OnOk result (HasFound H.hash contents.new opening.new) }
+    requires { HasFolded (log_fold H.hash) contents.old.state opening.old }
+    ensures found { OnOk result (HasFound (log_fold H.hash) contents.new.state opening.new) }
     ensures err { IfErr result (HasCauseOf D.Disk H.hash (opening_disk opening.old)
         (opening_disk opening.new)) }
     ensures looks { Looks D.Disk (opening_disk opening.old) (opening_disk opening.new) }
@@ -91,7 +91,7 @@ fn read_rest<H: TreeHash, D: Disk>(
         ≡ D.faults (opening_disk opening.old)) }
 {
     'records: loop {
-        if !read_next::<H, D>(alloc, opening, contents)? {
+        if !read_next::<H, D>(opening, contents)? {
             return Ok(());
         }
     }
@@ -105,7 +105,7 @@ pub(crate) fn read_log<H: TreeHash, D: Disk>(
     requires list { read_list opening.old
         ≡ option_map (λ _. []) (D.told (opening_disk opening.old)) }
     requires goes_on { (is_ended opening.old ≡ false) × (refusal opening.old ≡ None) }
-    ensures found { IfOk result (λ c. HasFound H.hash c opening.new) }
+    ensures found { IfOk result (λ c. HasFound (log_fold H.hash) c.state opening.new) }
     ensures err { IfErr result (HasCauseOf D.Disk H.hash (opening_disk opening.old)
         (opening_disk opening.new)) }
     ensures looks { Looks D.Disk (opening_disk opening.old) (opening_disk opening.new) }
@@ -113,6 +113,6 @@ pub(crate) fn read_log<H: TreeHash, D: Disk>(
         ≡ D.faults (opening_disk opening.old)) }
 {
     let mut contents = read_first::<H, D>(alloc, opening)?;
-    read_rest::<H, D>(alloc, opening, &mut contents)?;
+    read_rest::<H, D>(opening, &mut contents)?;
     Ok(contents)
 }

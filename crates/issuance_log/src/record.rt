@@ -1,12 +1,13 @@
 //! The bodies of a log's records.
 ghost use Rattle.std.specs.Prelude.{◌≡◌, ◌+◌, ◌<◌, ◌≤◌, length, true, IfOk};
 ghost use Rattle.byte_forms.specs.Readings.{Moves};
-ghost use Rattle.issuance_log.specs.Records.{settings_at, entry_at, all_of, are_allowed, AreAllowed, settings_with, settings_in, item_in, settings_record, entry_record};
+ghost use Rattle.issuance_log.specs.Records.{settings_at, entry_at, settings_with, settings_in, item_in, settings_record, entry_record};
 ghost use Rattle.issuance_log.specs.Results.{Finds};
+ghost use Rattle.issuance_log.specs.Settings.{are_allowed, AreAllowed};
 ghost use Rattle.tls_wire.specs.Arcs.{IsAnchorId};
 
 use crate::error::RecordError;
-use crate::settings::LogSettings;
+use crate::settings::{LogSettings, MOST_ACTIVE, MOST_ENTRIES};
 use mtc_io::{Bytes, Memory};
 use std::alloc::Global;
 use tls_wire::{AnchorId, Cursor, Short, put_u8, put_u32, put_vec8, put_vec16};
@@ -42,7 +43,7 @@ fn are_allowed(max_active: u32, limit: u32) -> bool
     ensures exact { result ≡ are_allowed max_active limit }
     ensures allowed { result ≡ true → AreAllowed max_active limit }
 {
-    (1 <= max_active && max_active <= 10_000) && (2 <= limit && limit <= 1_048_576)
+    (1 <= max_active && max_active <= MOST_ACTIVE) && (2 <= limit && limit <= MOST_ENTRIES)
 }
 
 fn settings_with(
@@ -113,6 +114,7 @@ pub(crate) fn read_item(body: &[u8]) -> Result<(&[u8], &[u8]), RecordError>
 pub(crate) fn settings_record(alloc: Global, settings: &LogSettings) -> Result<Bytes, Memory>
     ensures value { IfOk result (λ body. body ≡ settings_record settings.now) }
     ensures id { IsAnchorId settings.now.id }
+    ensures allowed { AreAllowed settings.now.max_active settings.now.limit }
 {
     let id = settings.id.as_bytes();
     let mut body = Bytes::new(alloc);

@@ -1,13 +1,30 @@
 //! What is settled when a log begins.
+use std::marker::Model;
 use tls_wire::AnchorId;
 
-/// The settings of a log, which never change.
+/// The most landmarks that a log may have active.
+pub const MOST_ACTIVE: u32 = 10_000;
+
+/// The most entries that a log may have.
+pub const MOST_ENTRIES: u32 = 1_048_576;
+
+/// The settings of a log, which never change. Contracts see them as they are, within their ranges.
 #[derive(Debug, Drop)]
 pub struct LogSettings {
     /// The name of the log.
     pub id: AnchorId,
-    /// How many landmarks are active at most, from 1 to 10,000.
+    /// How many landmarks are active at most, from 1 to [`MOST_ACTIVE`].
     pub max_active: u32,
-    /// How many entries the log has at most, from 2 to 1,048,576. The null entry counts.
+    /// How many entries the log has at most, from 2 to [`MOST_ENTRIES`]. The null entry counts.
     pub limit: u32,
+}
+
+impl Model for LogSettings {
+    ghost use Rattle.issuance_log.specs.Settings.{Settings, AreAllowed};
+
+    ghost Value = { Settings };
+
+    ghost view = { λ s. record { id = s.id; max_active = s.max_active; limit = s.limit } };
+
+    ghost invariant = { λ s. AreAllowed s.max_active s.limit };
 }

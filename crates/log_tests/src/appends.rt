@@ -24,8 +24,8 @@ fn is_filled(alloc: Global) -> Result<bool, Memory> {
     let Ok(mut log) = open(alloc, made) else {
         return Ok(false);
     };
-    let first = add(alloc, &mut log, &ENTRY, &KEY);
-    let second = add(alloc, &mut log, &ENTRY, &KEY);
+    let first = add(&mut log, &ENTRY, &KEY);
+    let second = add(&mut log, &ENTRY, &KEY);
     let answers = first == Ok(1) && second == Err(LogError::Full) && log.size() == 2;
     Ok(answers && log.into_disk().bytes().len() == 221)
 }
@@ -82,7 +82,7 @@ fn add_long(alloc: Global, size: usize) -> Result<Option<Result<u64, LogError>>,
     if key.len() != size {
         return Ok(None);
     }
-    Ok(Some(add(alloc, &mut log, entry.as_slice(), key.as_slice())))
+    Ok(Some(add(&mut log, entry.as_slice(), key.as_slice())))
 }
 
 // The entry and its key have 131 bytes more than the key.
@@ -101,7 +101,7 @@ fn an_item_has_65535_bytes_at_most(rt: HostRuntime) -> Result<(), Fail> {
 // The log shows its old items, and a crash leaves these, or these and the entry.
 fn shows_the_old_log(alloc: Global, mut log: MemLog) -> Result<bool, Memory> {
     let broken = Err(LogError::Append(AppendError::Broken));
-    let kept = log.size() == 1 && add(alloc, &mut log, &ENTRY, &KEY) == broken && log.size() == 1;
+    let kept = log.size() == 1 && add(&mut log, &ENTRY, &KEY) == broken && log.size() == 1;
     let left = log.into_disk();
     for pick in 0..16 {
         let image = left.lend()?.crash(pick)?;
@@ -112,17 +112,17 @@ fn shows_the_old_log(alloc: Global, mut log: MemLog) -> Result<bool, Memory> {
     Ok(kept)
 }
 
-// Whether a log of which this call of the disk fails answers that, and stays as it was. Seven calls
+// Whether a log of which this call of the disk fails answers that, and stays as it was. Four calls
 // open the log, and the next four add the entry.
 fn fails_soundly(alloc: Global, call: u64) -> Result<bool, Memory> {
     match open(alloc, disk(alloc, &NEW_LOG, &[call])?) {
         Ok(mut log) => {
             let failed = Err(LogError::Append(AppendError::Failed));
-            let told = call >= 7 && add(alloc, &mut log, &ENTRY, &KEY) == failed;
+            let told = call >= 4 && add(&mut log, &ENTRY, &KEY) == failed;
             Ok(shows_the_old_log(alloc, log)? && told)
         }
         Err(LogRefused { disk, why }) => {
-            let told = call < 7 && why == LogOpenError::Open(OpenError::Failed);
+            let told = call < 4 && why == LogOpenError::Open(OpenError::Failed);
             Ok(told && disk.bytes() == NEW_LOG.as_slice())
         }
     }
@@ -130,7 +130,7 @@ fn fails_soundly(alloc: Global, call: u64) -> Result<bool, Memory> {
 
 #[test]
 fn each_call_of_the_disk_may_fail(rt: HostRuntime) -> Result<(), Fail> {
-    for call in 0..11 {
+    for call in 0..8 {
         assert!(rt; fails_soundly(rt.alloc(), call)?, "call {call}");
     }
     Ok(())

@@ -88,14 +88,9 @@ pub(crate) fn begin(
 }
 
 /// Adds an entry whose key matches.
-pub(crate) fn add(
-    alloc: Global,
-    log: &mut MemLog,
-    entry: &[u8],
-    key: &[u8],
-) -> Result<u64, LogError> {
+pub(crate) fn add(log: &mut MemLog, entry: &[u8], key: &[u8]) -> Result<u64, LogError> {
     if key_matches::<Sha>(entry, key) {
-        log.add(alloc, entry, key)
+        log.add(entry, key)
     } else {
         Err(LogError::NoSuchEntry)
     }

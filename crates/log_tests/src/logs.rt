@@ -76,7 +76,7 @@ fn written(alloc: Global) -> Result<Option<MemDisk>, Memory> {
     let Some(mut log) = log_in(alloc, &NEW_LOG)? else {
         return Ok(None);
     };
-    let added = add(alloc, &mut log, &ENTRY, &KEY) == Ok(1) && log.size() == 2;
+    let added = add(&mut log, &ENTRY, &KEY) == Ok(1) && log.size() == 2;
     let rooted = node_of_all(&mut log) == Ok(ROOT);
     Ok(if added && rooted {
         Some(log.into_disk())

@@ -1,10 +1,10 @@
 use Rattle.std.proofs.Common.{◌≡◌, ◌+◌, ℕ, List, length, ap, ◌∙◌, arith}
 use Rattle.issuance_log.specs.Records.{settings_record}
-use Rattle.issuance_log.specs.declared.settings.LogSettings.{LogSettings}
+use Rattle.issuance_log.specs.Settings.{Settings}
 use Rattle.issuance_log.proofs.Spelled.{length-settings, log_created}
 use Rattle.issuance_log.proofs.creation.create.Goals as goal
 
-length_of : (s : LogSettings) (body : List ℕ) → body ≡ settings_record s → length body ≡ 10 + length s.id
+length_of : (s : Settings) (body : List ℕ) → body ≡ settings_record s → length body ≡ 10 + length s.id
 length_of s body is = ap length is ∙ length-settings s
 
 pub start-requires-clause-some : goal.start-requires-clause-some
@@ -19,7 +19,7 @@ start-requires-clause-few g c =
     omega arith
 
 pub returns-in-Ok-clause-valid : goal.returns-in-Ok-clause-valid
-returns-in-Ok-clause-valid g c = λ h. log_created h c.args.settings.now c.in-Ok.ensures.id (record { some_active = c.requires.some_active; few_active = c.requires.few_active; some = c.requires.some; few = c.requires.few })
+returns-in-Ok-clause-valid g c = λ h. log_created h c.args.settings.now c.in-Ok.ensures.id c.in-Ok.ensures.allowed
 
 pub returns-in-Err-clause-valid : goal.returns-in-Err-clause-valid
-returns-in-Err-clause-valid g c = λ h. log_created h c.args.settings.now c.in-Err.ensures.id (record { some_active = c.requires.some_active; few_active = c.requires.few_active; some = c.requires.some; few = c.requires.few })
+returns-in-Err-clause-valid g c = λ h. log_created h c.args.settings.now c.in-Err.ensures.id c.in-Err.ensures.allowed

@@ -1,7 +1,9 @@
-use Rattle.std.proofs.Common.{refl, ap, subst, sym, ◌∙◌, Ok}
+use Rattle.std.proofs.Common.{ap, subst, sym, ◌∙◌, Ok}
 use Rattle.journal_core.specs.Openings.{opening_disk, Nexts}
 use Rattle.issuance_log.specs.Openings.{HasCauseOf}
-use Rattle.issuance_log.proofs.Steps.{folded_first, cause_begun, missing_first, cause_first}
+use Rattle.journal_core.proofs.FoldSteps.{folded_first, missing_first, cause_first}
+use Rattle.issuance_log.specs.Folds.{log_fold}
+use Rattle.issuance_log.proofs.Readings.{cause_begun}
 use Rattle.issuance_log.proofs.reading.read_first.Goals as goal
 
 pub returns-in-Ok-clause-folded : goal.returns-in-Ok-clause-folded
@@ -9,14 +11,14 @@ returns-in-Ok-clause-folded g c =
     let old = c.args.opening.now in
     let new = c.next.follows.lender-at-none in
     let read = subst (Nexts old new) (c.in-Ok-Some.is ∙ ap Ok c.in-Ok-Some.field-0-is) c.next.follows.holds-at-none in
-    folded_first g.H.TreeHash.hash old new c.in-Ok-Some.body.now read.0 read.1 c.in-Ok.contents c.requires.list c.in-Ok.ensures
+    folded_first (log_fold g.H.TreeHash.hash) old new c.in-Ok-Some.body.now read.0 read.1 c.in-Ok.contents.state c.requires.list c.in-Ok.ensures
 
 pub returns-in-Err-begin-clause-err : goal.returns-in-Err-begin-clause-err
 returns-in-Err-begin-clause-err g c =
     let old = c.args.opening.now in
     let new = c.next.follows.lender-at-none in
     let read = subst (Nexts old new) (c.in-Ok-Some.is ∙ ap Ok c.in-Ok-Some.field-0-is) c.next.follows.holds-at-none in
-    subst (HasCauseOf g.D.Disk g.H.TreeHash.hash (opening_disk old) (opening_disk new)) (sym c.refused.ensures)
+    subst (HasCauseOf g.D.Disk g.H.TreeHash.hash (opening_disk old) (opening_disk new)) (sym c.refusal_at.ensures)
     (cause_begun g.H.TreeHash.hash old new c.in-Ok-Some.body.now read.0 read.1 read.2.looks c.in-Err-begin.why c.requires.list (c.in-Err-begin.ensures))
 
 pub returns-in-Ok-None-clause-err : goal.returns-in-Ok-None-clause-err
@@ -24,18 +26,18 @@ returns-in-Ok-None-clause-err g c =
     let old = c.args.opening.now in
     let new = c.next.follows.lender-at-none in
     let ended = subst (Nexts old new) (c.in-Ok-None.is ∙ ap Ok c.in-Ok-None.field-0-is) c.next.follows.holds-at-none in
-    missing_first g.H.TreeHash.hash old new ended.0 ended.1.looks c.requires.list
+    missing_first (log_fold g.H.TreeHash.hash) old new ended.0 ended.1.looks c.requires.list
 
 pub returns-in-Err-clause-err : goal.returns-in-Err-clause-err
 returns-in-Err-clause-err g c =
     let old = c.args.opening.now in
     let new = c.next.follows.lender-at-none in
     let refused = subst (Nexts old new) c.in-Err.is c.next.follows.holds-at-none in
-    cause_first g.H.TreeHash.hash old new c.in-Err.why c.requires.list c.requires.goes_on.1 refused.1
+    cause_first (log_fold g.H.TreeHash.hash) old new c.in-Err.why c.requires.list c.requires.goes_on.1 refused.1
 
 pub returns-in-Ok-clause-fine : goal.returns-in-Ok-clause-fine
 returns-in-Ok-clause-fine g c =
     let old = c.args.opening.now in
     let new = c.next.follows.lender-at-none in
     let read = subst (Nexts old new) (c.in-Ok-Some.is ∙ ap Ok c.in-Ok-Some.field-0-is) c.next.follows.holds-at-none in
-    read.2.fine refl
+    read.2.fine tt

@@ -1,0 +1,29 @@
+-- The settings of a log, and the limits that they keep.
+use Rattle.std.specs.Prelude.{ℕ, ◌≤◌, ◌&&◌, nat_le, Bool}
+use Rattle.byte_forms.specs.Types.{Text}
+
+-- the id as its bytes, how many landmarks are active at most, and how many entries there are at
+-- most
+pub record Settings : Type 0 where
+  pub id : Text
+  pub max_active : ℕ
+  pub limit : ℕ
+
+-- the most that a log may allow
+abbrev pub most_active : ℕ
+most_active = 10000
+
+abbrev pub most_entries : ℕ
+most_entries = 1048576
+
+-- the numbers that a log may have
+abbrev pub are_allowed : ℕ → ℕ → Bool
+are_allowed active limit =
+    (nat_le 1 active && nat_le active most_active) && (nat_le 2 limit && nat_le limit most_entries)
+
+-- the same as facts
+pub record AreAllowed (active limit : ℕ) : Type 0 where
+  pub some_active : 1 ≤ active
+  pub few_active : active ≤ most_active
+  pub some : 2 ≤ limit
+  pub few : limit ≤ most_entries
