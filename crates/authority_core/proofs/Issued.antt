@@ -9,7 +9,7 @@ use Rattle.tls_wire.specs.Arcs.{IsAnchorId}
 use Rattle.tls_wire.specs.Anchors.{text_of}
 use Rattle.tls_wire.proofs.AnchorTexts.{text-short}
 use Rattle.der_core.specs.Elements.{element}
-use Rattle.der_core.specs.Forms.{IsElement, IsArc, IsOid, IsNext}
+use Rattle.der_core.specs.Forms.{IsElement, IsSubidentifier, IsOid, IsRisen}
 use Rattle.der_core.proofs.Elements.{element-longer, element-short}
 use Rattle.der_core.proofs.Fields.{tag_of}
 use Rattle.cert_names.specs.LogNames.{log_id, name_with}
@@ -27,16 +27,15 @@ use Rattle.log_entry.specs.Matching.{matches}
 use Rattle.log_entry.proofs.EntryForm.{entries_again}
 use Rattle.log_entry.proofs.Matches.{written_matches}
 use Rattle.authority_core.specs.Hosts.{IsHostName}
-use Rattle.authority_core.specs.Requests.{IsCommonName, CanBeIssued}
+use Rattle.authority_core.specs.Requests.{IsCommonName, CanBeIssued, RequestParts}
 use Rattle.authority_core.specs.Issuing.{common_name_id, subject_of, dns_names, alt_name_of, extensions_of, tbs_for, entry_for}
-use Rattle.authority_core.specs.declared.requests.parts.Request.{Request}
 use Rattle.authority_core.proofs.Labels.{host-short, host-ascii}
 use Rattle.authority_core.proofs.Sizes.{one_extension, names-short, contents-short, extension-short}
 
 -- ---- object identifiers
 
 -- An arc of one byte.
-short_arc : (b : ℕ) → b < 128 → IsArc (b ∷ [])
+short_arc : (b : ℕ) → b < 128 → IsSubidentifier (b ∷ [])
 short_arc b small = record { ends = small; fewest = λ same. absurd (omega (arith, small, same)) }
 
 common_name_oid : IsOid common_name_id
@@ -56,7 +55,7 @@ alt_name_oid = record {
 }
 
 -- The arc 44363.
-long_arc : IsArc (130 ∷ 218 ∷ 75 ∷ [])
+long_arc : IsSubidentifier (130 ∷ 218 ∷ 75 ∷ [])
 long_arc = record { ends = (omega arith, (omega arith, lit< tt)); fewest = λ same. absurd (omega (arith, same)) }
 
 log_oid : IsOid log_id
@@ -105,7 +104,7 @@ module _ (identifier text : List ℕ) (oid : IsOid identifier) (small : length i
   attribute_is : IsAttribute (set_contents identifier text)
   attribute_is = ((identifier, element 12 text), (((oid, omega (arith, small)), text_element text few), omega (arith, fields-few)), refl)
 
-  first_of_set : IsNext [] (set_contents identifier text)
+  first_of_set : IsRisen [] (set_contents identifier text)
   unfolding element
   first_of_set = record {
     is_element = record {
@@ -165,7 +164,7 @@ names-some : (names : List (List ℕ)) → 1 ≤ length names → 0 < length (dn
 names-some [] some = absurd (omega (arith, some))
 names-some (name ∷ names) some = omega (arith, element-longer 130 name, length-append (element 130 name) (dns_names names))
 
-octets_are : (r : Request) → CanBeIssued r → IsGeneralNames (element 48 (dns_names r.names))
+octets_are : (r : RequestParts) → CanBeIssued r → IsGeneralNames (element 48 (dns_names r.names))
 octets_are r f =
     let same : flat_map itself (map (element dns_name) r.names) ≡ dns_names r.names = flat_map-map itself (element dns_name) r.names in (
       map (element dns_name) r.names,
@@ -173,7 +172,7 @@ octets_are r f =
       ap (element 48) (sym same),
     )
 
-alt_name_is : (r : Request) → CanBeIssued r → IsExtension [] (alt_name_of r)
+alt_name_is : (r : RequestParts) → CanBeIssued r → IsExtension [] (alt_name_of r)
 alt_name_is r f = record {
   identifier = alt_name_oid;
   new = refl;
@@ -181,19 +180,19 @@ alt_name_is r f = record {
   short = omega (arith, contents-short r f);
 }
 
-extensions_are : (r : Request) → CanBeIssued r → AreExtensions (alt_name_of r ∷ [])
+extensions_are : (r : RequestParts) → CanBeIssued r → AreExtensions (alt_name_of r ∷ [])
 extensions_are r f = record {
   some = omega (arith, ap length (one_extension (alt_name_of r)), element-longer 48 (extension_contents (alt_name_of r)));
   each = (alt_name_is r f, tt);
 }
 
-list-few : (r : Request) → CanBeIssued r → length (flat_map extension (alt_name_of r ∷ [])) ≤ 26010
+list-few : (r : RequestParts) → CanBeIssued r → length (flat_map extension (alt_name_of r ∷ [])) ≤ 26010
 list-few r f = omega (arith, ap length (one_extension (alt_name_of r)), extension-short r f)
 
-sequence-few : (r : Request) → CanBeIssued r → length (element 48 (flat_map extension (alt_name_of r ∷ []))) ≤ 26020
+sequence-few : (r : RequestParts) → CanBeIssued r → length (element 48 (flat_map extension (alt_name_of r ∷ []))) ≤ 26020
 sequence-few r f = omega (arith, list-few r f, element-short 48 (flat_map extension (alt_name_of r ∷ [])))
 
-field_is : (r : Request) → CanBeIssued r → IsExtensionsField (extensions_of r)
+field_is : (r : RequestParts) → CanBeIssued r → IsExtensionsField (extensions_of r)
 unfolding extensions_of
 field_is r f =
     let list : List ℕ = flat_map extension (alt_name_of r ∷ []) in
@@ -201,11 +200,11 @@ field_is r f =
 
 -- ---- the entry
 
-module _ (h : List ℕ → List ℕ) (id : List ℕ) (r : Request) (sized : (bytes : List ℕ) → length (h bytes) ≡ 32) (anchor : IsAnchorId id) (f : CanBeIssued r) where
+module _ (h : List ℕ → List ℕ) (id : List ℕ) (r : RequestParts) (sized : (bytes : List ℕ) → length (h bytes) ≡ 32) (anchor : IsAnchorId id) (f : CanBeIssued r) where
   fields_are : IsTbs (tbs_for h id r)
   fields_are = record {
     issuer = issuer_is id anchor;
-    validity = record { not_before = f.not_before; not_after = f.not_after; spelled = refl };
+    validity = record { period = record { not_before = f.not_before; not_after = f.not_after }; spelled = refl };
     subject = subject_is r.common_name f.common_name;
     key_hash = sized r.key;
     extensions = inr (field_is r f);
@@ -221,7 +220,7 @@ module _ (h : List ℕ → List ℕ) (id : List ℕ) (r : Request) (sized : (byt
 
 -- ---- what is found in the extensions
 
-alone_found : (r : Request) → CanBeIssued r → extensions_in (extensions_of r) ≡ alt_name_of r ∷ []
+alone_found : (r : RequestParts) → CanBeIssued r → extensions_in (extensions_of r) ≡ alt_name_of r ∷ []
 unfolding extensions_of
 alone_found r f =
     extensions_found (alt_name_of r ∷ []) (extensions_are r f)
@@ -241,7 +240,7 @@ only_names : (names : List (List ℕ)) → dns_only (map as_name names) ≡ name
 only_names [] = refl
 only_names (name ∷ names) = ap (λ (rest : List (List ℕ)). name ∷ rest) (only_names names)
 
-pub names_asked : (r : Request) → CanBeIssued r → dns_names_in (extensions_of r) ≡ r.names
+pub names_asked : (r : RequestParts) → CanBeIssued r → dns_names_in (extensions_of r) ≡ r.names
 names_asked r f =
     let texts = name_texts r.names in
     ap (λ (xs : List ExtensionFields). names_in (alt_name_octets xs)) (alone_found r f)
@@ -249,7 +248,7 @@ names_asked r f =
     ∙ names_found (map as_name r.names) (names_fit r.names f.names) (omega (arith, ap length texts, names-short r.names f.names f.few))
     ∙ only_names r.names
 
-pub all_known : (r : Request) → CanBeIssued r → has_unknown_critical (extensions_of r) ≡ false
+pub all_known : (r : RequestParts) → CanBeIssued r → has_unknown_critical (extensions_of r) ≡ false
 all_known r f = ap (list_any is_unknown_critical) (alone_found r f) ∙ alone_known r.common_name
   where
     alone_known : (o : Option (List ℕ)) → list_any is_unknown_critical (record { identifier = subject_alt_name; critical = is_none o; octets = element 48 (dns_names r.names) } ∷ []) ≡ false

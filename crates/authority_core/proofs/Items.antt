@@ -3,11 +3,11 @@ use Rattle.std.proofs.Common.{◌≡◌, ℕ, zero, suc, ◌<◌, List, [], ◌�
 use Rattle.std.specs.List.{AllByRecursion}
 use Rattle.toml.specs.View.{items_view}
 use Rattle.toml.specs.declared.value.Value.{Value}
-use Rattle.authority_core.specs.Files.{count_of}
+use Rattle.authority_core.specs.Files.{item_count}
 
-pub count_of_view : (vs : List Value) → count_of (items_view vs) ≡ length vs
-count_of_view [] = refl
-count_of_view (v ∷ vs) = grind (arith, count_of_view vs)
+pub item_count_of_view : (vs : List Value) → item_count (items_view vs) ≡ length vs
+item_count_of_view [] = refl
+item_count_of_view (v ∷ vs) = grind (arith, item_count_of_view vs)
 
 pub AllByRecursion-push : {X : Type 0} (P : X → Type 0) (xs : List X) (x : X) → AllByRecursion P xs → P x → AllByRecursion P (xs ++ x ∷ [])
 AllByRecursion-push P [] x all this = (this, tt)

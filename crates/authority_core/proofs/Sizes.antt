@@ -7,9 +7,8 @@ use Rattle.der_core.proofs.Elements.{element-short}
 use Rattle.cert_fields.specs.Extensions.{ExtensionFields}
 use Rattle.cert_fields.specs.Grammar.{mark, extension, extension_contents}
 use Rattle.authority_core.specs.Hosts.{IsHostName}
-use Rattle.authority_core.specs.Requests.{CanBeIssued}
+use Rattle.authority_core.specs.Requests.{CanBeIssued, RequestParts}
 use Rattle.authority_core.specs.Issuing.{dns_names, alt_name_of}
-use Rattle.authority_core.specs.declared.requests.parts.Request.{Request}
 use Rattle.authority_core.proofs.Labels.{host-short}
 
 -- One extension alone.
@@ -31,7 +30,7 @@ mark-short : (critical : Bool) → length (mark critical) ≤ 3
 mark-short true = omega arith
 mark-short false = omega arith
 
-pub contents-short : (r : Request) → CanBeIssued r → length (extension_contents (alt_name_of r)) ≤ 26000
+pub contents-short : (r : RequestParts) → CanBeIssued r → length (extension_contents (alt_name_of r)) ≤ 26000
 contents-short r f =
     let x : ExtensionFields = alt_name_of r in
     let octets = octets-short r.names f.names f.few in
@@ -45,8 +44,8 @@ contents-short r f =
       element-short 4 x.octets,
     )
 
-pub extension-short : (r : Request) → CanBeIssued r → length (extension (alt_name_of r)) ≤ 26010
+pub extension-short : (r : RequestParts) → CanBeIssued r → length (extension (alt_name_of r)) ≤ 26010
 extension-short r f = omega (arith, contents-short r f, element-short 48 (extension_contents (alt_name_of r)))
 
-pub sequence-short : (r : Request) → CanBeIssued r → length (element 48 (extension (alt_name_of r))) ≤ 26020
+pub sequence-short : (r : RequestParts) → CanBeIssued r → length (element 48 (extension (alt_name_of r))) ≤ 26020
 sequence-short r f = omega (arith, extension-short r f, element-short 48 (extension (alt_name_of r)))

@@ -8,14 +8,14 @@ use Rattle.cert_fields.specs.Keys.{is_public_key}
 use Rattle.cert_time.specs.Texts.{text_moment}
 use Rattle.toml.specs.Data.{Data, Items, no_items, item, Members, as_array, as_str, get_member}
 use Rattle.toml_fields.specs.Tree.{tree_of, has_only}
-use Rattle.toml_fields.specs.Fields.{required, optional}
+use Rattle.toml_fields.specs.Fields.{required_field, optional_field}
 use Rattle.toml_fields.specs.Codes.{bytes_data}
 use Rattle.authority_core.specs.Hosts.{is_host_name}
+use Rattle.authority_core.specs.Requests.{RequestParts}
 use Rattle.authority_core.specs.declared.requests.error.Field.{Field}
 use Rattle.authority_core.specs.declared.requests.error.Field.TheVariants.{NotBefore, NotAfter, Dns, CommonName, PublicKey}
 use Rattle.authority_core.specs.declared.requests.error.RequestError.{RequestError}
 use Rattle.authority_core.specs.declared.requests.error.RequestError.TheVariants.{NotToml, UnknownKey, Missing, BadValue, DatesReversed, NoNames}
-use Rattle.authority_core.specs.declared.requests.parts.Request.{Request}
 
 -- The keys of a request.
 abbrev pub request_keys : List Text
@@ -24,11 +24,11 @@ request_keys =
 
 -- A field that has to be there, and one that may be absent.
 abbrev pub field : {A : Type 0} → Field → (Data → Option A) → Option Data → Result A RequestError
-field which read d = required (Missing which) (BadValue which) read d
+field which read d = required_field (Missing which) (BadValue which) read d
 
 abbrev pub field_or_none : {A : Type 0}
     → Field → (Data → Option A) → Option Data → Result (Option A) RequestError
-field_or_none which read d = optional (BadValue which) read d
+field_or_none which read d = optional_field (BadValue which) read d
 
 -- What passes a test.
 abbrev pub if_passes : {A : Type 0} → (A → Bool) → A → Option A
@@ -49,13 +49,13 @@ hosts_in (item d ds) =
     option_and_then (λ name. option_map (λ names. name ∷ names) (hosts_in ds)) (host_data d)
 
 -- How many items there are.
-abbrev pub count_of : Items → ℕ
-count_of no_items = 0
-count_of (item d ds) = count_of ds + 1
+abbrev pub item_count : Items → ℕ
+item_count no_items = 0
+item_count (item d ds) = item_count ds + 1
 
 -- An array of at most 100 host names.
 abbrev pub few_hosts : Items → Option (List Text)
-few_hosts ds = if nat_le (count_of ds) 100 then hosts_in ds else None
+few_hosts ds = if nat_le (item_count ds) 100 then hosts_in ds else None
 
 unfoldable pub names_data : Data → Option (List Text)
 names_data d = option_and_then few_hosts (as_array d)
@@ -72,20 +72,20 @@ unfoldable pub key_data : Data → Option Text
 key_data d = option_and_then (λ bytes. if_passes is_public_key bytes) (bytes_data d)
 
 -- The request as a whole.
-unfoldable pub checked : Request → Result Request RequestError
-checked r =
+unfoldable pub checked_request : RequestParts → Result RequestParts RequestError
+checked_request r =
     if int_lt r.validity.not_after r.validity.not_before then Err DatesReversed
     else (if length r.names == 0 then Err NoNames else Ok r)
 
 -- The request that the root's members say.
-unfoldable pub request_in : Members → Result Request RequestError
+unfoldable pub request_in : Members → Result RequestParts RequestError
 request_in ms = do
   not_before ← field NotBefore time_data (get_member (codes "not_before") ms)
   not_after ← field NotAfter time_data (get_member (codes "not_after") ms)
   names ← field Dns names_data (get_member (codes "dns") ms)
   common_name ← field_or_none CommonName common_name_data (get_member (codes "common_name") ms)
   key ← field PublicKey key_data (get_member (codes "key") ms)
-  checked (record {
+  checked_request (record {
     validity = record { not_before = not_before; not_after = not_after };
     names = names;
     common_name = common_name;
@@ -93,9 +93,9 @@ request_in ms = do
   })
 
 -- The request that a text says.
-abbrev pub request_of_tree : Option Members → Result Request RequestError
+abbrev pub request_of_tree : Option Members → Result RequestParts RequestError
 request_of_tree None = Err NotToml
 request_of_tree (Some ms) = if has_only request_keys ms then request_in ms else Err UnknownKey
 
-unfoldable pub request_of : Text → Result Request RequestError
+unfoldable pub request_of : Text → Result RequestParts RequestError
 request_of text = request_of_tree (tree_of text)

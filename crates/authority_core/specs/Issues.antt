@@ -1,23 +1,27 @@
 -- What issuing answers, beside what the log answers when an entry is added.
 use Rattle.std.specs.Prelude.{ℕ, Option, Result, Ok, Err}
 use Rattle.byte_forms.specs.Types.{Text, HashFunction}
-use Rattle.issuance_log.specs.Folds.{LogState}
+use Rattle.issuance_log.specs.Folds.{LogState, with_item}
 use Rattle.issuance_log.specs.Records.{entry_record}
 use Rattle.issuance_log.specs.Refusals.{KeepsTo}
 use Rattle.issuance_log.specs.declared.error.LogError.{LogError}
 use Rattle.issuance_log.specs.declared.error.LogError.TheVariants as log_error
 use Rattle.authority_core.specs.Issuing.{entry_for}
+use Rattle.authority_core.specs.Requests.{RequestParts}
 use Rattle.authority_core.specs.declared.issuing.error.IssueError.{IssueError}
 use Rattle.authority_core.specs.declared.issuing.error.IssueError.TheVariants.{Log}
-use Rattle.authority_core.specs.declared.requests.parts.Request.{Request}
 
 -- The entry that is issued for a request: under the id in the log's settings.
-abbrev pub issued_entry : HashFunction → LogState → Request → Text
+abbrev pub issued_entry : HashFunction → LogState → RequestParts → Text
 issued_entry h s r = entry_for h s.settings.id r
 
 -- The record of that entry with the key of the request.
-abbrev pub issued_record : HashFunction → LogState → Request → Text
+abbrev pub issued_record : HashFunction → LogState → RequestParts → Text
 issued_record h s r = entry_record (issued_entry h s r) r.key
+
+-- The log with that entry and its key.
+abbrev pub issued_log : HashFunction → LogState → RequestParts → LogState
+issued_log h s r = with_item (issued_entry h s r) r.key s
 
 -- The answer as one of the log.
 abbrev pub of_log : Result ℕ IssueError → Result ℕ LogError

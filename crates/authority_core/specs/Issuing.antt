@@ -12,7 +12,7 @@ use Rattle.cert_fields.specs.AltNames.{dns_name}
 use Rattle.cert_fields.specs.Extensions.{ExtensionFields}
 use Rattle.cert_fields.specs.Found.{extensions_text}
 use Rattle.log_entry.specs.Entries.{TbsParts, tbs_text}
-use Rattle.authority_core.specs.declared.requests.parts.Request.{Request}
+use Rattle.authority_core.specs.Requests.{RequestParts}
 
 -- ---- the subject (RFC 5280, sections 4.1.2.4 and 4.1.2.6)
 
@@ -32,7 +32,7 @@ abbrev pub dns_names : List Text → Text
 dns_names names = flat_map (element dns_name) names
 
 -- subjectAltName. It is critical exactly where the subject is empty.
-abbrev pub alt_name_of : Request → ExtensionFields
+abbrev pub alt_name_of : RequestParts → ExtensionFields
 alt_name_of r = record {
   identifier = subject_alt_name;
   critical = is_none r.common_name;
@@ -40,22 +40,22 @@ alt_name_of r = record {
 }
 
 -- The extensions field: subjectAltName alone.
-unfoldable pub extensions_of : Request → Text
+unfoldable pub extensions_of : RequestParts → Text
 extensions_of r = extensions_text (alt_name_of r ∷ [])
 
 -- ---- the entry
 
 -- The fields of the entry of a request in the log with this id, under the hash function h.
-abbrev pub tbs_for : HashFunction → Text → Request → TbsParts
+abbrev pub tbs_for : HashFunction → Text → RequestParts → TbsParts
 tbs_for h id r = record {
   issuer = name_with (text_of id);
   validity = r.validity;
-  validity_der = validity_element r.validity.not_before r.validity.not_after;
+  validity_der = validity_element r.validity;
   subject = subject_of r.common_name;
   key_hash = h r.key;
   extensions = extensions_of r;
 }
 
 -- The entry: of type 1, with these fields.
-unfoldable pub entry_for : HashFunction → Text → Request → Text
+unfoldable pub entry_for : HashFunction → Text → RequestParts → Text
 entry_for h id r = tbs_text (tbs_for h id r)

@@ -1,12 +1,18 @@
--- Requests that can be issued.
-use Rattle.std.specs.Prelude.{◌≤◌, ◌≤ℤ◌, length}
+-- Requests, and which can be issued.
+use Rattle.std.specs.Prelude.{◌≤◌, ◌≤ℤ◌, List, length, Option}
 use Rattle.std.specs.List.{AllByRecursion}
 use Rattle.std.specs.Option.{IfSome}
 use Rattle.byte_forms.specs.Types.{Text}
 use Rattle.cert_fields.specs.Grammar.{IsPublicKey}
-use Rattle.cert_time.specs.Calendar.{IsMoment}
+use Rattle.cert_time.specs.Calendar.{IsMoment, Period}
 use Rattle.authority_core.specs.Hosts.{IsHostName}
-use Rattle.authority_core.specs.declared.requests.parts.Request.{Request}
+
+-- What is asked for: the period, the host names, a common name or none, and the public key.
+pub record RequestParts : Type 0 where
+  pub validity : Period
+  pub names : List Text
+  pub common_name : Option Text
+  pub key : Text
 
 -- The length of a common name.
 abbrev pub IsCommonName : Text → Type 0
@@ -14,7 +20,7 @@ IsCommonName name = (1 ≤ length name) × (length name ≤ 64)
 
 -- The dates are moments in their order, the names are 1 to 100 host names, the common name has 1 to
 -- 64 bytes, and the key is one subjectPublicKeyInfo.
-pub record CanBeIssued (r : Request) : Type 0 where
+pub record CanBeIssued (r : RequestParts) : Type 0 where
   pub not_before : IsMoment r.validity.not_before
   pub not_after : IsMoment r.validity.not_after
   pub dates : r.validity.not_before ≤ℤ r.validity.not_after

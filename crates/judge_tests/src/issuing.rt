@@ -57,7 +57,8 @@ fn issued(
 fn holds(alloc: Global, disk: MemDisk, lines: &[&str]) -> Result<bool, Fail> {
     let mut log = open(alloc, disk)?;
     let asked = read_request(alloc, joined(alloc, lines)?.as_bytes())?;
-    let wanted = entry_of_request::<Sha>(alloc, &log.settings().id, &asked)?;
+    let settings = log.settings();
+    let wanted = entry_of_request::<Sha>(alloc, &settings.id, &asked)?;
     let mut entry = Bytes::new(alloc);
     let mut key = Bytes::new(alloc);
     if log.entry(1, &mut entry, &mut key).is_err() {

@@ -1,13 +1,12 @@
 //! Issuing: the entry of a request is added to the log.
 
-ghost use Rattle.std.specs.Prelude.{◌≡◌, ◌≤◌, ◌++◌, ℕ, List, [], ◌∷◌, IfSome, OnOk, false};
+ghost use Rattle.std.specs.Prelude.{◌≡◌, ◌≤◌, ◌++◌, ℕ, List, [], ◌∷◌, length, IfSome, IfOk, OnOk, false};
 ghost use Rattle.disk_core.specs.Moments.{LeavesOnly};
 ghost use Rattle.journal_core.specs.Format.{StandsForEither};
 ghost use Rattle.journal_core.specs.Words.{AllStandFor};
 ghost use Rattle.issuance_log.specs.Refusals.{add_refusal};
-ghost use Rattle.issuance_log.specs.Words.{log_disk, log_records, log_end, log_broken, state_of, Leaves};
-ghost use Rattle.authority_core.specs.Issues.{KeepsToOrMemory, issued_entry, issued_record, of_log};
-ghost use Rattle.authority_core.specs.Requests.{CanBeIssued};
+ghost use Rattle.issuance_log.specs.Words.{log_disk, log_records, log_end, log_broken, state_of, LogLeaves};
+ghost use Rattle.authority_core.specs.Issues.{KeepsToOrMemory, issued_entry, issued_log, issued_record, of_log};
 
 use crate::issuing::entry::entry_of_request;
 use crate::issuing::error::IssueError;
@@ -28,9 +27,9 @@ pub fn issue<H: TreeHash, D: Disk>(
     log: &mut Log<H, D>,
     request: &Request,
 ) -> Result<u64, IssueError>
-    requires { CanBeIssued request.now }
-    ensures leaves { Leaves (issued_entry H.hash (state_of log.old) request.now) request.now.key
-        log.old log.new (of_log result) }
+    ensures leaves { LogLeaves (issued_record H.hash (state_of log.old) request.now)
+        (issued_log H.hash (state_of log.old) request.now) log.old log.new (of_log result) }
+    ensures index { IfOk result (λ index. index ≡ length (state_of log.old).entries) }
     ensures answer { KeepsToOrMemory
         (add_refusal (state_of log.old) (log_broken log.old) (log_end log.old)
         (issued_entry H.hash (state_of log.old) request.now) request.now.key)
@@ -46,8 +45,8 @@ pub fn issue<H: TreeHash, D: Disk>(
         (c : List ℕ) → D.may_leave (log_disk log.new) c
         → StandsForEither list (issued_record H.hash (state_of log.old) request.now) c) }
 {
-    let index = log.size();
-    let entry = entry_of_request::<H>(alloc, &log.settings().id, request)?;
-    log.add(alloc, entry.as_slice(), request.key.as_slice())?;
+    let settings = log.settings();
+    let entry = entry_of_request::<H>(alloc, &settings.id, request)?;
+    let index = log.add(entry.as_slice(), request.key.as_slice())?;
     Ok(index)
 }

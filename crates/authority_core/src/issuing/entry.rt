@@ -4,7 +4,6 @@ ghost use Rattle.std.specs.Prelude.{◌≡◌, true, IfOk};
 ghost use Rattle.tls_wire.specs.Arcs.{IsAnchorId};
 ghost use Rattle.log_entry.specs.Matching.{matches};
 ghost use Rattle.authority_core.specs.Issuing.{entry_for};
-ghost use Rattle.authority_core.specs.Requests.{CanBeIssued};
 
 use crate::issuing::extensions::extensions_of;
 use crate::issuing::subject::subject_of;
@@ -19,7 +18,6 @@ use tree_core::TreeHash;
 // The entry, field by field.
 #[tactic(auto, unfolding(crate::specs::Issuing::entry_for))]
 fn written<H: TreeHash>(alloc: Global, id: &AnchorId, request: &Request) -> Result<Bytes, Memory>
-    requires { CanBeIssued request.now }
     ensures { IfOk result (λ bytes. bytes ≡ entry_for H.hash id.now request.now) }
 {
     let issuer = log_name(alloc, id)?;
@@ -48,12 +46,12 @@ pub fn entry_of_request<H: TreeHash>(
     id: &AnchorId,
     request: &Request,
 ) -> Result<Bytes, Memory>
-    requires { CanBeIssued request.now }
     ensures bytes { IfOk result (λ bytes. bytes ≡ entry_for H.hash id.now request.now) }
     ensures belongs { matches H.hash (entry_for H.hash id.now request.now) request.now.key ≡ true }
 {
     // The key belongs to the entry since these bytes are an anchor id, whose text is short enough
-    // for a name.
+    // for a name, and since the request can be issued.
     let _bytes = id.as_bytes();
+    let _key = &request.key;
     written::<H>(alloc, id, request)
 }

@@ -9,22 +9,15 @@ ghost use Rattle.authority_core.specs.Issuing.{alt_name_of, dns_names, extension
 ghost use Rattle.authority_core.specs.Requests.{CanBeIssued};
 
 use crate::requests::{Names, Request};
+use cert_fields::SUBJECT_ALT_NAME;
+use cert_fields::tags::{DNS_NAME, EXTENSIONS};
 use der_core::tags::{OBJECT_IDENTIFIER, OCTET_STRING, SEQUENCE};
 use der_core::{element_of, put};
 use mtc_io::{Bytes, Memory};
 use std::alloc::Global;
 
-// subjectAltName, 2.5.29.17.
-const SUBJECT_ALT_NAME: [u8; 3] = [0x55, 0x1D, 0x11];
-
 // A BOOLEAN of TRUE.
 const CRITICAL: [u8; 3] = [0x01, 0x01, 0xFF];
-
-// The tag of a dNSName: context-specific, primitive, 2.
-const DNS_NAME: u8 = 0x82;
-
-// The tag of the extensions field: context-specific, constructed, 3.
-const EXTENSIONS: u8 = 0xA3;
 
 // The names as dNSNames, in their order.
 fn dns_names(alloc: Global, names: &Names) -> Result<Bytes, Memory>
@@ -62,8 +55,8 @@ fn put_mark(critical: bool, out: &mut Bytes) -> Result<(), Memory>
 // The identifier, the mark and the names. The extension is critical exactly where the subject is
 // empty.
 fn alt_name(alloc: Global, request: &Request) -> Result<Bytes, Memory>
-    requires { CanBeIssued request.now }
-    ensures { IfOk result (λ bytes. bytes ≡ extension_contents (alt_name_of request.now)) }
+    ensures value { IfOk result (λ bytes. bytes ≡ extension_contents (alt_name_of request.now)) }
+    ensures valid { CanBeIssued request.now }
 {
     let octets = general_names(alloc, &request.names)?;
     let mut out = Bytes::new(alloc);
@@ -76,7 +69,6 @@ fn alt_name(alloc: Global, request: &Request) -> Result<Bytes, Memory>
 /// The extensions field, in which subjectAltName stands alone.
 #[tactic(auto, using(crate::proofs::Sizes::one_extension), unfolding(crate::specs::Issuing::extensions_of))]
 pub fn extensions_of(alloc: Global, request: &Request) -> Result<Bytes, Memory>
-    requires { CanBeIssued request.now }
     ensures { IfOk result (λ bytes. bytes ≡ extensions_of request.now) }
 {
     let contents = alt_name(alloc, request)?;

@@ -11,24 +11,23 @@ ghost use Rattle.log_entry.specs.Reading.{entry_in};
 ghost use Rattle.issuance_log.specs.Folds.{LogState, log_of, with_item};
 ghost use Rattle.authority_core.specs.Issues.{issued_entry, issued_record};
 ghost use Rattle.authority_core.specs.Issuing.{entry_for, tbs_for};
-ghost use Rattle.authority_core.specs.Requests.{CanBeIssued};
-ghost use Rattle.authority_core.specs.declared.requests.parts.Request.{Request};
+ghost use Rattle.authority_core.specs.Requests.{CanBeIssued, RequestParts};
 
 /// The entry of a request is read as its fields; its issuer names the log, its names are those of
 /// the request in their order, it has no critical extension that is unknown, and the key of the
 /// request belongs to it.
 pub fn entries_say_what_was_asked()
-    ensures read { (h : HashFunction) (id : Text) (r : Request)
+    ensures read { (h : HashFunction) (id : Text) (r : RequestParts)
         → ((bytes : Text) → length (h bytes) ≡ 32) → IsAnchorId id → CanBeIssued r
         → entry_in (entry_for h id r) ≡ Ok (Some (tbs_for h id r)) }
-    ensures belongs { (h : HashFunction) (id : Text) (r : Request)
+    ensures belongs { (h : HashFunction) (id : Text) (r : RequestParts)
         → ((bytes : Text) → length (h bytes) ≡ 32) → IsAnchorId id → CanBeIssued r
         → matches h (entry_for h id r) r.key ≡ true }
-    ensures issuer { (h : HashFunction) (id : Text) (r : Request) → IsAnchorId id
+    ensures issuer { (h : HashFunction) (id : Text) (r : RequestParts) → IsAnchorId id
         → log_in (tbs_for h id r).issuer ≡ Some (text_of id) }
-    ensures names { (h : HashFunction) (id : Text) (r : Request) → CanBeIssued r
+    ensures names { (h : HashFunction) (id : Text) (r : RequestParts) → CanBeIssued r
         → dns_names_in (tbs_for h id r).extensions ≡ r.names }
-    ensures known { (h : HashFunction) (id : Text) (r : Request) → CanBeIssued r
+    ensures known { (h : HashFunction) (id : Text) (r : RequestParts) → CanBeIssued r
         → has_unknown_critical (tbs_for h id r).extensions ≡ false }
 {}
 
@@ -36,7 +35,7 @@ pub fn entries_say_what_was_asked()
 /// log which has room, it makes that log with the entry and its key, where these have at most
 /// 65,535 bytes together.
 pub fn issued_entries_keep_to_the_rules()
-    ensures { (h : HashFunction) (list : List Text) (s : LogState) (r : Request)
+    ensures { (h : HashFunction) (list : List Text) (s : LogState) (r : RequestParts)
         → ((bytes : Text) → length (h bytes) ≡ 32) → IsAnchorId s.settings.id → CanBeIssued r
         → log_of h list ≡ Ok s → length s.entries < s.settings.limit
         → length (issued_entry h s r) + length r.key ≤ 65535

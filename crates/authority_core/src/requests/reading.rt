@@ -16,7 +16,7 @@ use toml::Table;
 use toml_fields::{TreeError, keys_are_among, read_tree};
 
 // The request that the fields of the root say.
-#[tactic(auto, unfolding(crate::specs::Files::request_in, crate::specs::Files::checked))]
+#[tactic(auto, unfolding(crate::specs::Files::request_in, crate::specs::Files::checked_request))]
 fn request_from(alloc: Global, root: &Table) -> Result<Request, RequestError>
     ensures exact { Answers RequestError.Memory (request_in (table_view root.now)) result }
     ensures valid { IfOk result CanBeIssued }
