@@ -95,8 +95,6 @@ eval-short_step : (h : List ℕ → List ℕ) (r p up : List ℕ) (m n a c i j :
 eval-short_step h r p up m n a c i j m_is n_is i_bit j_bit sibling some =
     let split = split_half n c j n_is j_bit some in
     let bounds = split_bounds c in
-    let positive = bounds.positive in
-    let below = bounds.below in
     let top = eval-short h a c up (omega arith) in
     ⊎_elim
     (λ (first : m < 2 * split_of c).
@@ -143,8 +141,6 @@ eval-step h r p up (z ∷ q) m n a c i j m_is n_is i_bit j_bit sibling left righ
     (λ (some : 1 < c).
     let split = split_half n c j n_is j_bit some in
     let bounds = split_bounds c in
-    let positive = bounds.positive in
-    let below = bounds.below in
     ⊎_elim
     (λ (first : a < split_of c).
     eval-left h m n (2 * split_of c) r z (q ++ p ∷ []) (omega arith) split (omega arith)
@@ -174,8 +170,6 @@ eval-promoted h r [] m n a c m_is n_is c_is some =
 eval-promoted h r (z ∷ q) m n a c m_is n_is c_is some =
     let split = split_half n c 0 (omega arith) (omega arith) (omega arith) in
     let bounds = split_bounds c in
-    let positive = bounds.positive in
-    let below = bounds.below in
     eval-right h m n (2 * split_of c) (m - 2 * split_of c) (n - 2 * split_of c) r z q (omega arith) split
     (omega arith) (omega arith)
     ∙ ap (option_map (λ x. pair_hash h z x))

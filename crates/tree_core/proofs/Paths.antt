@@ -7,7 +7,7 @@ use Rattle.std.proofs.lemmas.List.{drop-map, get_or-drop, get_or-map, get_or-tak
 use Rattle.std.proofs.lemmas.Nat.{pow_pos}
 use Rattle.tree_core.proofs.Evaluates.{eval-leaf, eval-left, eval-long, eval-right, evaluation-value}
 use Rattle.tree_core.proofs.Powers.{half_within, largest_unique, split_bounds}
-use Rattle.tree_core.proofs.Roots.{root_of-one, root_of-split}
+use Rattle.tree_core.proofs.Roots.{part_sizes, root_of-one, root_of-split}
 use Rattle.tree_core.proofs.Subtrees.{is_subtree-from}
 use Rattle.tree_core.specs.declared.error.EvalError.TheVariants.{WrongLength}
 use Rattle.tree_core.specs.Evaluation.{eval_from_root, eval_of}
@@ -52,11 +52,7 @@ path_within_more zero (suc e) h m leaves small same = sym (path_within-one e h m
 path_within_more (suc d) zero h m leaves small same = path_within-one d h m leaves (omega arith)
 path_within_more (suc d) (suc e) h m leaves small same =
     let k = split_of (length leaves) in
-    let bounds = split_bounds (length leaves) in
-    let positive = bounds.positive in
-    let below = bounds.below in
-    let front = length-take (split_of (length leaves)) leaves in
-    let back = length-drop (split_of (length leaves)) leaves in
+    let sizes = part_sizes leaves in
     ⊎_elim
     (λ (more : 1 < length leaves).
     ⊎_elim
@@ -91,7 +87,6 @@ path_of-left h m k [] more is left = let none : ⊥ = omega arith in absurd none
 path_of-left h m k (x ∷ rest) more is left =
     let leaves : List (List ℕ) = x ∷ rest in
     let bounds = split_bounds (length (x ∷ rest)) in
-    let below = bounds.below in
     let front = length-take (split_of (length (x ∷ rest))) (x ∷ rest) in
     path_within-left (length rest) h m (x ∷ rest) more (omega arith)
     ∙ ap (λ p. p ++ root_of h (drop (split_of (length leaves)) leaves) ∷ [])
@@ -107,7 +102,6 @@ path_of-right h m k [] more is right = let none : ⊥ = omega arith in absurd no
 path_of-right h m k (x ∷ rest) more is right =
     let leaves : List (List ℕ) = x ∷ rest in
     let bounds = split_bounds (length (x ∷ rest)) in
-    let positive = bounds.positive in
     let back = length-drop (split_of (length (x ∷ rest))) (x ∷ rest) in
     path_within-right (length rest) h m (x ∷ rest) more (omega arith)
     ∙ ap (λ p. p ++ root_of h (take (split_of (length leaves)) leaves) ∷ [])
@@ -161,11 +155,8 @@ path_evaluates (suc depth) h m leaves bound here =
     let n = length leaves in
     let k = split_of (length leaves) in
     let leaf = get_or leaves m [] in
-    let bounds = split_bounds (length leaves) in
-    let positive = bounds.positive in
-    let below = bounds.below in
-    let front = length-take (split_of (length leaves)) leaves in
-    let back = length-drop (split_of (length leaves)) leaves in
+    let sizes = part_sizes leaves in
+    let back = sizes.back in
     ⊎_elim
     (λ (more : 1 < length leaves).
     ⊎_elim
@@ -244,7 +235,6 @@ value-right : (h : List ℕ → List ℕ) (m n : ℕ) (leaf z : List ℕ) (q : L
     (eval_from_root h (m - split_of n) (n - split_of n) leaf q)
 value-right h m n leaf z q more right =
     let bounds = split_bounds n in
-    let below = bounds.below in
     ap is_some (eval-right h m n (split_of n) (m - split_of n) (n - split_of n) leaf z q more refl
     (omega arith) (omega arith))
     ∙ is_some-option_map (λ a. pair_hash h z a) (eval_from_root h (m - split_of n) (n - split_of n) leaf q)

@@ -51,7 +51,6 @@ split_unique n e above half =
     let power = split_power n in
     let positive = pow_pos e in
     let here = bounds.half in
-    let below = bounds.below in
     let up = power_below_double e power.0 (let s = power.1 in omega arith) in
     let down = power_below_double power.0 e (let s = power.1 in omega arith) in
     let s = power.1 in omega arith
@@ -61,8 +60,6 @@ pub split_half : (n c j : ℕ) → n + 1 ≡ 2 * c + j → j ≤ 1 → 1 < c →
 split_half n c j is small some =
     let bounds = split_bounds c in
     let power = split_power c in
-    let half = bounds.half in
-    let below = bounds.below in
     let s_is = power.1 in
     let double = pow-succ' 2 power.0 in
     split_unique n (suc power.0) (omega arith) (omega arith) ∙ double ∙ ap (λ k. 2 * k) (sym s_is)
@@ -96,7 +93,6 @@ pub split_largest : (n : ℕ) → 1 < n → IsLargestPowerBelow n (split_of n)
 split_largest n large =
     let bounds = split_bounds n in
     let power = split_power n in
-    let half = bounds.half in
     let below = bounds.below in
     record {
       power = power;
@@ -138,7 +134,6 @@ half_within n e more within =
     let power = split_power n in
     let is = power.1 in
     let bounds = split_bounds n in
-    let below = bounds.below in
     let less : power.0 < e = exponent_below power.0 e (omega arith) in
     let up : 2 ^ power.0 ≤ 2 ^ (e - 1) = pow_mono {i = power.0} {j = e - 1} (omega arith) in
     record { some = omega arith; half = omega arith }
@@ -168,7 +163,6 @@ power_over_least n =
         let bounds = split_bounds n in
         let power = split_power n in
         let half = bounds.half in
-        let below = bounds.below in
         record {
           power = (suc power.0, ap (λ k. 2 * k) power.1 ∙ sym (pow-succ' 2 power.0));
           from = half;

@@ -1,12 +1,30 @@
 -- The tree hash by the clauses of the standard.
-use Rattle.std.proofs.Common.{◌≡◌, ℕ, zero, suc, ◌<◌, ◌≤◌, List, [], ◌∷◌, length, take, drop, sym, ◌∙◌, ap, refl, arith}
+use Rattle.std.proofs.Common.{◌≡◌, ℕ, zero, suc, ◌-◌, ◌<◌, ◌≤◌, max, min, List, [], ◌∷◌, length, take, drop, sym, ◌∙◌, ap, refl, arith}
 use Rattle.std.specs.Prelude.{map}
 use Rattle.std.proofs.lemmas.List.{drop-map, length-drop, length-map, length-take, take-map}
 use Rattle.std.proofs.lemmas.Nat.{pow_pos}
+use Rattle.byte_forms.specs.Types.{Hash}
 use Rattle.tree_core.proofs.Powers.{largest_unique, split_bounds}
 use Rattle.tree_core.specs.Laws.{IsLargestPowerBelow, IsTreeHash}
 use Rattle.tree_core.specs.Split.{split_of}
 use Rattle.tree_core.specs.Tree.{leaf_hash, pair_hash, root_of, root_within, tree_hash}
+
+-- the sizes of both parts of a list that is split where its tree is
+pub record HasSizes (leaves : List Hash) : Type 0 where
+  pub positive : 1 ≤ split_of (length leaves)
+  pub below : split_of (length leaves) < max (length leaves) 2
+  pub front : length (take (split_of (length leaves)) leaves) ≡ min (split_of (length leaves)) (length leaves)
+  pub back : length (drop (split_of (length leaves)) leaves) ≡ length leaves - split_of (length leaves)
+
+pub part_sizes : (leaves : List Hash) → HasSizes leaves
+part_sizes leaves =
+    let bounds = split_bounds (length leaves) in
+    record {
+      positive = bounds.positive;
+      below = bounds.below;
+      front = length-take (split_of (length leaves)) leaves;
+      back = length-drop (split_of (length leaves)) leaves;
+    }
 
 -- a bound on the depth that is not below the number of leaves changes nothing
 root_within_more : (d e : ℕ) (h : List ℕ → List ℕ) (leaves : List (List ℕ)) → length leaves ≤ d
@@ -22,11 +40,7 @@ root_within_more (suc d) (suc e) h [] small same = refl
 root_within_more (suc d) (suc e) h (x ∷ []) small same = refl
 root_within_more (suc d) (suc e) h (x ∷ y ∷ rest) small same =
     let leaves : List (List ℕ) = x ∷ y ∷ rest in
-    let bounds = split_bounds (length leaves) in
-    let positive = bounds.positive in
-    let below = bounds.below in
-    let front = length-take (split_of (length leaves)) leaves in
-    let back = length-drop (split_of (length leaves)) leaves in
+    let sizes = part_sizes leaves in
     ap (λ l. pair_hash h l (root_within d h (drop (split_of (length leaves)) leaves)))
     (root_within_more d e h (take (split_of (length leaves)) leaves) (omega arith) (omega arith))
     ∙ ap (λ r. pair_hash h (root_within e h (take (split_of (length leaves)) leaves)) r)

@@ -1,5 +1,5 @@
 -- The hash function for tests.
-use Rattle.std.specs.Prelude.{ℕ, ◌%◌, List, ◌∷◌, sum, replicate}
+use Rattle.std.specs.Prelude.{◌%◌, ◌∷◌, sum, replicate}
 use Rattle.byte_forms.specs.Types.{HashFunction}
 
 -- The sum of the bytes modulo 256, and 31 bytes 0.

@@ -54,7 +54,6 @@ IsAligned-is start end is =
 pub IsAligned-first : (end : ℕ) → 0 < end → IsAligned 0 end
 IsAligned-first end some =
     let bounds = split_bounds end in
-    let half = bounds.half in
     let power = split_power end in
     let is = power.1 in
     let double = pow-succ' 2 power.0 in
@@ -82,9 +81,6 @@ IsAligned-halves low high is more =
     let e = power.0 in
     let power_is : split_of (high - low) ≡ 2 ^ power.0 = power.1 in
     let bounds = split_bounds (high - low) in
-    let half = bounds.half in
-    let below = bounds.below in
-    let positive = bounds.positive in
     let begins = is.begins in
     let within = is.within in
     let smaller : 2 ^ power.0 < 2 ^ is.exponent = omega arith in

@@ -2,10 +2,10 @@
 use Rattle.std.proofs.Common.{◌≡◌, ℕ, zero, suc, ◌+◌, ◌-◌, ◌^◌, ◌<◌, ◌≤◌, ⊎_elim, inl, inr, Bool, true, false, cond, eqb, leb, List, [], ◌∷◌, ◌++◌, length, take, drop, Some, None, Ok, Err, sym, ◌∙◌, ap, refl, subst, arith}
 use Rattle.std.specs.Prelude.{Option, Result, is_some, map, not, option_map, reverse, bytes_eq}
 use Rattle.std.proofs.lemmas.Bool.{cases_eq, eq-eqb, eqb-true, ne_eqb, cond-false, cond-true, false≢true, le-leb, leb-true, lt-leb, not_from_false, not_from_true}
-use Rattle.std.proofs.lemmas.List.{drop-map, length-drop, length-map, length-reverse, length-take, length_push, reverse-append, take-map}
+use Rattle.std.proofs.lemmas.List.{drop-map, length-map, length-reverse, length_push, reverse-append, take-map}
 use Rattle.std.proofs.lemmas.Slice.Eq.{bytes_eq-Decides}
 use Rattle.tree_core.proofs.Powers.{split_bounds, split_power, split_unique}
-use Rattle.tree_core.proofs.Roots.{root_of-split}
+use Rattle.tree_core.proofs.Roots.{part_sizes, root_of-split}
 use Rattle.tree_core.proofs.Subtrees.{is_subtree-from}
 use Rattle.tree_core.specs.Path.{part_of}
 use Rattle.tree_core.specs.Split.{split_of}
@@ -31,7 +31,6 @@ aligned_right s e n aligned within behind =
     let power = split_power n in
     let is : split_of n ≡ 2 ^ power.0 = power.1 in
     let bounds = split_bounds n in
-    let half = bounds.half in
     subst (λ k. IsAligned (s - k) (e - k)) (sym is)
     (IsAligned-right s e n power.0 aligned within (omega arith) (omega arith))
 
@@ -40,7 +39,6 @@ aligned_over s e n aligned within before behind =
     let power = split_power n in
     let is : split_of n ≡ 2 ^ power.0 = power.1 in
     let bounds = split_bounds n in
-    let half = bounds.half in
     IsAligned-over s e n power.0 aligned within (omega arith) (omega arith) (omega arith)
 
 -- an interval that goes beyond a split is split there too
@@ -49,7 +47,6 @@ split_same e n within behind =
     let power = split_power n in
     let is : split_of n ≡ 2 ^ power.0 = power.1 in
     let bounds = split_bounds n in
-    let half = bounds.half in
     split_unique e power.0 (omega arith) (omega arith) ∙ sym is
 
 whole_opens : (known : Bool) (node root : List ℕ) → (known ≡ true → node ≡ root)
@@ -69,11 +66,8 @@ proof_opens (suc depth) h s e known node leaves bound aligned within is =
     let n = length leaves in
     let k = split_of (length leaves) in
     let some = aligned.inhabited in
-    let bounds = split_bounds (length leaves) in
-    let positive = bounds.positive in
-    let below = bounds.below in
-    let front = length-take (split_of (length leaves)) leaves in
-    let back = length-drop (split_of (length leaves)) leaves in
+    let sizes = part_sizes leaves in
+    let back = sizes.back in
     cases_place s e (length leaves) some within
     (λ first last.
     let all : root_of h (part_of leaves s e) ≡ root_of h leaves =
@@ -290,12 +284,10 @@ has_value (suc depth) h s e known node leaves [] bound aligned within =
     ∙ ap (λ p. eqb 0 (length p)) (sym (proof_of-whole h s e known leaves first last (omega arith))))
     (λ more le.
     let bounds = split_bounds (length leaves) in
-    let below = bounds.below in
     ap is_some (open-short h s e (length leaves) known node (inr (omega arith)))
     ∙ none_more _ _ _ (proof_of-left h s e (split_of (length leaves)) known leaves more refl some le))
     (λ more le.
     let bounds = split_bounds (length leaves) in
-    let positive = bounds.positive in
     ap is_some (open-short h s e (length leaves) known node (inl (omega arith)))
     ∙ none_more _ _ _ (proof_of-right h s e (split_of (length leaves)) known leaves refl some within le))
     (λ more inner before behind.
@@ -305,11 +297,8 @@ has_value (suc depth) h s e known node leaves (z ∷ q) bound aligned within =
     let n = length leaves in
     let k = split_of (length leaves) in
     let some = aligned.inhabited in
-    let bounds = split_bounds (length leaves) in
-    let positive = bounds.positive in
-    let below = bounds.below in
-    let front = length-take (split_of (length leaves)) leaves in
-    let back = length-drop (split_of (length leaves)) leaves in
+    let sizes = part_sizes leaves in
+    let back = sizes.back in
     cases_place s e (length leaves) some within
     (λ first last.
     ap is_some (open-whole h s e n known node (z ∷ q) first last)

@@ -7,6 +7,7 @@ use Rattle.std.proofs.lemmas.List.{drop-map, length-drop, length-map, length-tak
 use Rattle.std.proofs.lemmas.Nat.{pow_pos}
 use Rattle.tree_core.proofs.Paths.{split_of-entries}
 use Rattle.tree_core.proofs.Powers.{split_bounds}
+use Rattle.tree_core.proofs.Roots.{part_sizes}
 use Rattle.tree_core.specs.Laws.{IsLargestPowerBelow}
 use Rattle.tree_core.specs.Path.{part_of}
 use Rattle.tree_core.specs.Split.{split_of}
@@ -40,7 +41,6 @@ proof_within-left : (depth : ℕ) (h : List ℕ → List ℕ) (s e : ℕ) (known
 unfolding proof_within
 proof_within-left depth h s e known leaves more left =
     let bounds = split_bounds (length leaves) in
-    let below = bounds.below in
     cond-false _ _ _ (other-whole s e (length leaves) (inr (omega arith)))
     ∙ cond-true _ _ _ (le-leb e (split_of (length leaves)) left)
 
@@ -53,7 +53,6 @@ proof_within-right : (depth : ℕ) (h : List ℕ → List ℕ) (s e : ℕ) (know
 unfolding proof_within
 proof_within-right depth h s e known leaves some right =
     let bounds = split_bounds (length leaves) in
-    let positive = bounds.positive in
     cond-false _ _ _ (other-whole s e (length leaves) (inl (omega arith)))
     ∙ cond-false _ _ _ (lt-leb e (split_of (length leaves)) (omega arith))
     ∙ cond-true _ _ _ (le-leb (split_of (length leaves)) s right)
@@ -105,11 +104,7 @@ proof_within_more zero f h s e known leaves small same some within = let none : 
 proof_within_more (suc d) zero h s e known leaves small same some within = let none : ⊥ = omega arith in absurd none
 proof_within_more (suc d) (suc f) h s e known leaves small same some within =
     let k = split_of (length leaves) in
-    let bounds = split_bounds (length leaves) in
-    let below = bounds.below in
-    let positive = bounds.positive in
-    let front = length-take (split_of (length leaves)) leaves in
-    let back = length-drop (split_of (length leaves)) leaves in
+    let sizes = part_sizes leaves in
     cases_place s e (length leaves) some within
     (λ first last.
     proof_within-whole d h s e known leaves first last
@@ -153,7 +148,6 @@ proof_of-left h s e k known [] more is some left = let none : ⊥ = omega arith 
 proof_of-left h s e k known (x ∷ rest) more is some left =
     let leaves : List (List ℕ) = x ∷ rest in
     let bounds = split_bounds (length (x ∷ rest)) in
-    let below = bounds.below in
     let size = length-take (split_of (length (x ∷ rest))) (x ∷ rest) in
     proof_within-left (length rest) h s e known (x ∷ rest) more (omega arith)
     ∙ ap (λ p. p ++ root_of h (drop (split_of (length leaves)) leaves) ∷ [])
@@ -170,7 +164,6 @@ proof_of-right h s e k known [] is some within right = let none : ⊥ = omega ar
 proof_of-right h s e k known (x ∷ rest) is some within right =
     let leaves : List (List ℕ) = x ∷ rest in
     let bounds = split_bounds (length (x ∷ rest)) in
-    let positive = bounds.positive in
     let size = length-drop (split_of (length (x ∷ rest))) (x ∷ rest) in
     proof_within-right (length rest) h s e known (x ∷ rest) some (omega arith)
     ∙ ap (λ p. p ++ root_of h (take (split_of (length leaves)) leaves) ∷ [])
@@ -188,7 +181,6 @@ proof_of-over h s e k known [] is within part before behind = let none : ⊥ = o
 proof_of-over h s e k known (x ∷ rest) is within part before behind =
     let leaves : List (List ℕ) = x ∷ rest in
     let bounds = split_bounds (length (x ∷ rest)) in
-    let positive = bounds.positive in
     let size = length-drop (split_of (length (x ∷ rest))) (x ∷ rest) in
     proof_within-over (length rest) h s e known (x ∷ rest) part (omega arith) (omega arith)
     ∙ ap (λ p. p ++ root_of h (take (split_of (length leaves)) leaves) ∷ [])
@@ -255,7 +247,6 @@ pub part_proof-left : (h : List ℕ → List ℕ) (xs : List (List ℕ)) (first 
     ≡ proof_of h (first - low) (end - low) known (part_of xs low middle) ++ root_of h (part_of xs middle high) ∷ []
 part_proof-left h xs first end low middle high known within more is from some left =
     let bounds = split_bounds (high - low) in
-    let below = bounds.below in
     let size = part-length xs low high within in
     proof_of-left h (first - low) (end - low) (middle - low) known (part_of xs low high)
     (omega arith) (ap split_of size ∙ omega arith) (omega arith) (omega arith)
@@ -271,7 +262,6 @@ pub part_proof-right : (h : List ℕ → List ℕ) (xs : List (List ℕ)) (first
     ≡ proof_of h (first - middle) (end - middle) known (part_of xs middle high) ++ root_of h (part_of xs low middle) ∷ []
 part_proof-right h xs first end low middle high known within more is right some inside =
     let bounds = split_bounds (high - low) in
-    let below = bounds.below in
     let size = part-length xs low high within in
     let begin : (first - low) - (middle - low) ≡ first - middle = omega arith in
     let stop : (end - low) - (middle - low) ≡ end - middle = omega arith in
@@ -286,7 +276,6 @@ pub part_proof-over : (h : List ℕ → List ℕ) (xs : List (List ℕ)) (first 
     ≡ proof_of h (middle - middle) (end - middle) false (part_of xs middle high) ++ root_of h (part_of xs low middle) ∷ []
 part_proof-over h xs first end low middle high known within more is from part before behind inside =
     let bounds = split_bounds (high - low) in
-    let below = bounds.below in
     let size = part-length xs low high within in
     let begin : 0 ≡ middle - middle = omega arith in
     let stop : (end - low) - (middle - low) ≡ end - middle = omega arith in

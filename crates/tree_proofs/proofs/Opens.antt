@@ -32,7 +32,6 @@ pub open-left : (h : List ℕ → List ℕ) (s e n k : ℕ) (known : Bool) (node
 unfolding open_from_root
 open-left h s e n k known node z q more is within =
     let bounds = split_bounds n in
-    let below = bounds.below in
     let here : e ≤ split_of n = omega arith in
     cond-false _ _ _ (other-whole s e n (inr (omega arith)))
     ∙ cond-false _ _ _ (lt-leb n 1 more)
@@ -46,7 +45,6 @@ pub open-right : (h : List ℕ → List ℕ) (s e n k a b c : ℕ) (known : Bool
 unfolding open_from_root
 open-right h s e n k a b c known node z q more is s_is e_is n_is some =
     let bounds = split_bounds n in
-    let positive = bounds.positive in
     let first : s - split_of n ≡ a = omega arith in
     let last : e - split_of n ≡ b = omega arith in
     let size : n - split_of n ≡ c = omega arith in
@@ -65,7 +63,6 @@ pub open-over : (h : List ℕ → List ℕ) (s e n k b c : ℕ) (known : Bool) (
 unfolding open_from_root
 open-over h s e n k b c known node z q more is s_is e_is n_is some part =
     let bounds = split_bounds n in
-    let positive = bounds.positive in
     let last : e - split_of n ≡ b = omega arith in
     let size : n - split_of n ≡ c = omega arith in
     cond-false _ _ _ (other-whole s e n (inr part))
@@ -173,9 +170,7 @@ open-height h [] s e n height known node some within near gives = omega arith
 open-height h (z ∷ q) s e n height known node some within near gives =
     let k = split_of n in
     let bounds = split_bounds n in
-    let positive = bounds.positive in
     let rest_near = bounds.half in
-    let below = bounds.below in
     cases_place s e n some within
     (λ first last. whole known q (ap is_some (sym (open-whole h s e n known node (z ∷ q) first last)) ∙ gives))
     (λ more le.

@@ -57,7 +57,6 @@ pub part-root : (h : List ℕ → List ℕ) (xs : List (List ℕ)) (low middle h
     ≡ pair_hash h (root_of h (part_of xs low middle)) (root_of h (part_of xs middle high))
 part-root h xs low middle high within more is =
     let bounds = split_bounds (high - low) in
-    let below = bounds.below in
     let size = part-length xs low high within in
     let split : split_of (length (part_of xs low high)) ≡ middle - low = ap split_of size ∙ omega arith in
     root_of-split h (part_of xs low high) (omega arith)
@@ -83,7 +82,6 @@ pub path-left : (h : List ℕ → List ℕ) (xs : List (List ℕ)) (index low mi
     ≡ path_of h (index - low) (part_of xs low middle) ++ root_of h (part_of xs middle high) ∷ []
 path-left h xs index low middle high within more is from left =
     let bounds = split_bounds (high - low) in
-    let below = bounds.below in
     let size = part-length xs low high within in
     path_of-left h (index - low) (middle - low) (part_of xs low high) (omega arith) (ap split_of size ∙ omega arith) (omega arith)
     ∙ ap (λ l. path_of h (index - low) l ++ root_of h (drop (middle - low) (part_of xs low high)) ∷ [])
@@ -98,7 +96,6 @@ pub path-right : (h : List ℕ → List ℕ) (xs : List (List ℕ)) (index low m
     ≡ path_of h (index - middle) (part_of xs middle high) ++ root_of h (part_of xs low middle) ∷ []
 path-right h xs index low middle high within more is right =
     let bounds = split_bounds (high - low) in
-    let below = bounds.below in
     let size = part-length xs low high within in
     let place : (index - low) - (middle - low) ≡ index - middle = omega arith in
     path_of-right h (index - low) (middle - low) (part_of xs low high) (omega arith) (ap split_of size ∙ omega arith) (omega arith)

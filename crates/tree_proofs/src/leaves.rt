@@ -1,6 +1,6 @@
 //! A list of leaf hashes as nodes.
 
-ghost use Rattle.std.specs.Prelude.{◌≡◌, ◌+◌, ◌-◌, ◌*◌, ◌^◌, ◌<◌, ◌≤◌, [], ◌∷◌, ◌++◌, length, take, Some, refl, vec_len, vec_capacity, OnOk, OnErr};
+ghost use Rattle.std.specs.Prelude.{◌≡◌, ◌+◌, ◌-◌, ◌*◌, ◌^◌, ◌<◌, ◌≤◌, [], ◌∷◌, ◌++◌, length, Some, refl, vec_len, vec_capacity, OnOk, OnErr};
 ghost use Rattle.std.proofs.Common.{◌∙◌};
 ghost use Rattle.tree_core.specs.Path.{part_of};
 ghost use Rattle.tree_core.specs.Tree.{root_of};
@@ -63,13 +63,6 @@ impl<H: TreeHash> Listed<H> {
     {
         self.items.push(*leaf)?;
         Ok(())
-    }
-
-    /// Takes off all but the first `count` leaves; where there are fewer, nothing.
-    pub fn truncate(&mut self, count: usize)
-        ensures { self.new.leaves ≡ take count self.old.leaves }
-    {
-        self.items.truncate(count);
     }
 
     /// The hash of the `2^level` leaves from `place * 2^level` on. It takes no memory.
