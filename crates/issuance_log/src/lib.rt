@@ -1,9 +1,10 @@
 //! The issuance log of a certificate authority, kept in a journal.
 //!
 //! A log is a list of entries with their keys, each at its index, and settings that never change.
-//! [`create`] begins the journal of a new log, which has the null entry at index 0. [`Log::open`]
-//! reads and tests the records of a journal one by one, and [`Log::add`] adds an entry: once it has
-//! answered Ok, a crash of the machine leaves the entry.
+//! [`create`] begins the journal of a new log, which has the null entry at index 0; [`pack`] takes
+//! the memory for it before there is a disk. [`Log::open`] reads and tests the records of a journal
+//! one by one, and [`Log::add`] adds an entry: once it has answered Ok, a crash of the machine
+//! leaves the entry.
 //!
 //! What the records of a journal make of a log is one function of them. A log keeps to it: unless
 //! an append has failed, its settings and items are what the records on its disk make.
@@ -23,7 +24,7 @@ mod reading;
 mod record;
 mod settings;
 
-pub use creation::create;
+pub use creation::{create, pack};
 pub use error::{LogError, LogOpenError, LogRefused};
 pub use laws::{
     items_are_read_as_spelled, logs_are_read_from_their_journals, records_keep_to_the_rules,
