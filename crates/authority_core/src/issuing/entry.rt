@@ -1,7 +1,6 @@
 //! The entry of a request.
 
 ghost use Rattle.std.specs.Prelude.{◌≡◌, true, IfOk};
-ghost use Rattle.tls_wire.specs.Arcs.{IsAnchorId};
 ghost use Rattle.log_entry.specs.Matching.{matches};
 ghost use Rattle.authority_core.specs.Issuing.{entry_for};
 

@@ -1,7 +1,7 @@
 //! The extensions of what is issued: subjectAltName alone (RFC 5280, section 4.2.1.6).
 
-ghost use Rattle.std.specs.Prelude.{◌≡◌, ◌≤◌, ◌++◌, [], ◌∷◌, length, is_none, IfOk, OnOk};
-ghost use Rattle.std.specs.List.{AllByRecursion, flat_map};
+ghost use Rattle.std.specs.Prelude.{◌≡◌, ◌≤◌, ◌++◌, length, is_none, IfOk, OnOk};
+ghost use Rattle.std.specs.List.{AllByRecursion};
 ghost use Rattle.der_core.specs.Elements.{element};
 ghost use Rattle.cert_fields.specs.Grammar.{extension, extension_contents, mark};
 ghost use Rattle.authority_core.specs.Hosts.{IsHostName};

@@ -1,7 +1,6 @@
 //! Reading a request file.
 
-ghost use Rattle.std.specs.Prelude.{◌≡◌, ◌≤◌, length, IfOk, IfSome};
-ghost use Rattle.std.specs.List.{AllByRecursion};
+ghost use Rattle.std.specs.Prelude.{IfOk};
 ghost use Rattle.byte_forms.specs.Readings.{Answers};
 ghost use Rattle.toml.specs.View.{table_view};
 ghost use Rattle.authority_core.specs.Files.{request_in, request_of};

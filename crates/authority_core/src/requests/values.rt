@@ -1,6 +1,6 @@
 //! The values of a request's fields.
 
-ghost use Rattle.std.specs.Prelude.{◌≡◌, ◌≤◌, List, length, codes, IfOk, IfSome};
+ghost use Rattle.std.specs.Prelude.{◌≡◌, ◌≤◌, length, codes, IfOk, IfSome};
 ghost use Rattle.std.specs.List.{AllByRecursion};
 ghost use Rattle.byte_forms.specs.Readings.{Answers};
 ghost use Rattle.cert_fields.specs.Grammar.{IsPublicKey};
