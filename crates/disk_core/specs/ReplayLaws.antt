@@ -3,6 +3,7 @@
 use Rattle.std.specs.Prelude.{◌≡◌, ℕ, ◌≤◌, Bool, true, false, List, [], ◌∷◌, length, take, refl, Some}
 use Rattle.std.proofs.Common.{arith, sym, subst}
 use Rattle.std.proofs.lemmas.List.{take_all}
+use Rattle.byte_forms.specs.Places.{IsBytes}
 use Rattle.disk_core.specs.Writes.{torn_none, torn_all}
 use Rattle.disk_core.specs.Replay.{State, settled, after_call, step, run, state_now, IsImage, LeftSince}
 use Rattle.disk_core.specs.declared.memory.call.Call.{Call}
@@ -51,6 +52,11 @@ pub told_seen : (first : List ℕ) (calls : List Made) (bytes : List ℕ)
 told_seen first calls bytes is =
     let same : (state_now first calls).seen ≡ bytes = cc in
     subst (λ (c : List ℕ). IsImage (state_now first calls) c) same (now_seen first calls)
+
+pub told_are : (seen bytes : List ℕ) → IsBytes seen → Some seen ≡ Some bytes → IsBytes bytes
+told_are seen bytes are is =
+    let same : seen ≡ bytes = cc in
+    subst IsBytes same are
 
 pub told_length : (known : ℕ) (seen bytes : List ℕ) → known ≤ length seen → Some seen ≡ Some bytes
     → known ≤ length bytes

@@ -1,5 +1,6 @@
 //! A disk as its user sees it: what a read gives, and what a crash leaves.
 ghost use Rattle.std.specs.Prelude.{◌≡◌, ℕ, ◌+◌, ◌^◌, ◌<◌, ◌≤◌, max, Bool, List, length, Option, is_some, is_ok, option_map, Some, IfSome, IfOk, OnOk, OnErr, MatchResult};
+ghost use Rattle.byte_forms.specs.Places.{IsBytes};
 ghost use Rattle.mtc_io.specs.Counts.{Rose, HasCause};
 ghost use Rattle.disk_core.specs.Disk.{overwritten, part, Torn, Follows, NoNew, Only, Elapses};
 ghost use Rattle.disk_core.specs.declared.memory.call.Call.{Call};
@@ -94,6 +95,9 @@ pub trait Disk {
 
     /// What a read gives is one of the images.
     ghost reads_image: { (d : Self) (b : List ℕ) → told d ≡ Some b → may_leave d b };
+
+    /// What is told are bytes.
+    ghost told_bytes: { (d : Self) (b : List ℕ) → told d ≡ Some b → IsBytes b };
 
     /// Where the bytes are told, the known length is at most their number.
     ghost known_there: { (d : Self) (b : List ℕ) → told d ≡ Some b → known d ≤ length b };

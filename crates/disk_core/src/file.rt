@@ -111,6 +111,8 @@ impl<F: OpenFile + FileExt> Disk for FileDisk<F> {
 
     ghost reads_image = { λ _ _ _. tt };
 
+    ghost told_bytes = { λ _ _ is _. Prim.cc };
+
     ghost known_there = { λ _ _ is. Prim.cc };
 
     ghost counts_now = { λ _ _ _ _ _. tt };

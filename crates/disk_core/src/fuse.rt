@@ -124,6 +124,8 @@ impl<D: Disk> Disk for Fuse<D> {
 
     ghost reads_image = { λ f b is. D.Disk.reads_image f.disk b is };
 
+    ghost told_bytes = { λ f b is. D.Disk.told_bytes f.disk b is };
+
     ghost known_there = { λ f b is. D.Disk.known_there f.disk b is };
 
     ghost counts_now = { λ f t c le is. D.Disk.counts_now f.disk t c le is };

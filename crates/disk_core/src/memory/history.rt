@@ -1,5 +1,6 @@
 //! What a disk in memory held at first, and its calls since: all that it tells is read off these.
 ghost use Rattle.std.specs.Prelude.{◌≡◌, ◌+◌, ◌<◌, [], ℕ, List, length, true, false, if◌then◌else◌, is_ok, IfOk, OnOk, OnErr};
+ghost use Rattle.byte_forms.specs.Places.{IsBytes};
 ghost use Rattle.disk_core.specs.Disk.{overwritten, Torn, Follows, NoNew, Only, Elapses};
 ghost use Rattle.disk_core.specs.Replay.{State, after_call, state_now, IsImage, LeftSince, noted};
 
@@ -16,6 +17,7 @@ pub(crate) struct History {
     pub(crate) live: Vec<u8>,
     pub(crate) is_live: bool,
     pub(crate) calls: Vec<Made>,
+    ghost are_bytes: { IsBytes (state_now first calls.items).seen },
     ghost shown: { (if is_live then live.items else first) ≡ (state_now first calls.items).seen },
 }
 
@@ -81,6 +83,13 @@ fn write_noted(
     }
 }
 
+// Each item of a slice of bytes is one.
+fn known_bytes(bytes: &[u8])
+    ensures { IsBytes bytes.now }
+{
+    let _ = bytes;
+}
+
 impl History {
     ghost use Rattle.disk_core.specs.History.{seen_of, left_of, moment_of, since_of};
 
@@ -88,6 +97,7 @@ impl History {
         ensures first { result.first ≡ first }
         ensures calls { result.calls.items ≡ [] }
     {
+        known_bytes(first.as_slice());
         History {
             first,
             live: Vec::new(alloc),

@@ -1,4 +1,5 @@
 use Rattle.std.proofs.Common.{refl, sym, false, is_ok, subst, List, ℕ, length, ◌∙◌}
+use Rattle.byte_forms.specs.Places.{IsBytes}
 use Rattle.disk_core.specs.Disk.{Torn, Follows}
 use Rattle.disk_core.specs.History.{left_of}
 use Rattle.disk_core.specs.Replay.{IsImage, state_now}
@@ -7,11 +8,13 @@ use Rattle.disk_core.proofs.Replay.{torn_pushed, torn_same, seen_kept, time_push
 use Rattle.disk_core.proofs.memory.history.History.fail_write.Goals as goal
 
 pub invariant_of-self : goal.invariant_of-self
-invariant_of-self c = record {
-  shown = c.args.self.now.shown
-      ∙ sym (seen_kept c.args.self.now.first c.args.self.now.calls.items c.push.new.self.items (record { call = Write c.args.place c.in_ok-piece.piece; ok = false })
-      (is_ok c.push.result) (λ s. refl) c.push.ensures.items);
-}
+invariant_of-self c =
+    let kept = seen_kept c.args.self.now.first c.args.self.now.calls.items c.push.new.self.items (record { call = Write c.args.place c.in_ok-piece.piece; ok = false })
+    (is_ok c.push.result) (λ s. refl) c.push.ensures.items in
+    record {
+      are_bytes = subst IsBytes (sym kept) c.args.self.now.are_bytes;
+      shown = c.args.self.now.shown ∙ sym kept;
+    }
 
 pub returns-in_err-push-clause-crash : goal.returns-in_err-push-clause-crash
 returns-in_err-push-clause-crash c = torn_same _ _ _ _ _ c.in_err-push.ensures.items

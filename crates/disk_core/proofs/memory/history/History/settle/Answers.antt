@@ -1,4 +1,5 @@
 use Rattle.std.proofs.Common.{refl, sym, subst, true, is_ok, ◌∙◌, List, ℕ}
+use Rattle.byte_forms.specs.Places.{IsBytes}
 use Rattle.disk_core.specs.Replay.{IsImage, state_now}
 use Rattle.disk_core.specs.ReplayLaws.{now_seen}
 use Rattle.disk_core.specs.declared.memory.call.Call.TheVariants.{Sync}
@@ -6,11 +7,13 @@ use Rattle.disk_core.proofs.Replay.{sync_pushed, seen_kept, time_pushed}
 use Rattle.disk_core.proofs.memory.history.History.settle.Goals as goal
 
 pub invariant_of-self : goal.invariant_of-self
-invariant_of-self c = record {
-  shown = c.args.self.now.shown
-      ∙ sym (seen_kept c.args.self.now.first c.args.self.now.calls.items c.push.new.self.items (record { call = Sync; ok = true })
-      (is_ok c.push.result) (λ s. refl) c.push.ensures.items);
-}
+invariant_of-self c =
+    let kept = seen_kept c.args.self.now.first c.args.self.now.calls.items c.push.new.self.items (record { call = Sync; ok = true })
+    (is_ok c.push.result) (λ s. refl) c.push.ensures.items in
+    record {
+      are_bytes = subst IsBytes (sym kept) c.args.self.now.are_bytes;
+      shown = c.args.self.now.shown ∙ sym kept;
+    }
 
 pub returns-clause-durable : goal.returns-clause-durable
 returns-clause-durable c = sync_pushed _ _ _ c.in_ok-push.ensures.items
