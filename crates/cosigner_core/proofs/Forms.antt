@@ -3,7 +3,7 @@ use Rattle.std.proofs.Common.{◌≡◌, ℕ, ◌^◌, ◌<◌, true, List, [], 
 use Rattle.std.specs.Prelude.{if◌then◌else◌, ◌==◌}
 use Rattle.std.specs.Int.{w8, w64}
 use Rattle.std.proofs.lemmas.List.{nil_from_length}
-use Rattle.byte_forms.specs.Types.{Text}
+use Rattle.byte_forms.specs.Types.{Hash, Text}
 use Rattle.byte_forms.specs.Places.{At, IsBytes, at, has_bytes}
 use Rattle.byte_forms.specs.Readings.{◌>>=◌, both_at, lifted_at, mapped_at}
 use Rattle.byte_forms.specs.Forms.{Anything, FitsBoth, IsForm, both, itself}
@@ -47,9 +47,9 @@ proof_form = lifted_form hashes AreHashes Anything hashes_at hashes_fault hashes
 -- ---- to hold a larger log
 
 abbrev Root : Type 0
-Root = List ℕ × List (List ℕ)
+Root = Text × List Hash
 
-abbrev root_text : Root → List ℕ
+abbrev root_text : Root → Text
 root_text = both itself hashes
 
 abbrev IsRoot : Root → Type 0
@@ -62,12 +62,12 @@ sized_form : IsForm (both (number w64) root_text) (FitsBoth IsWord IsRoot) Anyth
 sized_form = both_form (number w64) IsWord Anything u64_at root_text IsRoot Anything (both_at hash_at proof_at) size_form root_form (λ y rest f q. tt)
 
 abbrev Advance : Type 0
-Advance = List ℕ × (ℕ × Root)
+Advance = Text × (ℕ × Root)
 
 abbrev from_advance : AdvanceParts → Advance
 from_advance r = (r.log, (r.size, (r.root, r.proof)))
 
-abbrev advance_spelled : Advance → List ℕ
+abbrev advance_spelled : Advance → Text
 advance_spelled = both (vector w8) (both (number w64) root_text)
 
 abbrev AreAdvance : Advance → Type 0
@@ -103,12 +103,12 @@ spanned_form = both_form (number w64) IsWord Anything u64_at (both (number w64) 
     (both_at u64_at (both_at hash_at proof_at)) size_form sized_form (λ y rest f q. tt)
 
 abbrev Subtree : Type 0
-Subtree = List ℕ × (ℕ × (ℕ × Root))
+Subtree = Text × (ℕ × (ℕ × Root))
 
 abbrev from_subtree : SubtreeParts → Subtree
 from_subtree r = (r.log, (r.start, (r.end, (r.hash, r.proof))))
 
-abbrev subtree_spelled : Subtree → List ℕ
+abbrev subtree_spelled : Subtree → Text
 subtree_spelled = both (vector w8) (both (number w64) (both (number w64) root_text))
 
 abbrev AreSubtree : Subtree → Type 0
@@ -139,9 +139,9 @@ subtree_form =
 
 -- ---- all of the bytes
 
-whole_only : {X : Type 0} (spell : X → List ℕ) (Fits : X → Type 0) (read : At → Result (X × At) FormError)
+whole_only : {X : Type 0} (spell : X → Text) (Fits : X → Type 0) (read : At → Result (X × At) FormError)
     → IsForm spell Fits Anything read
-    → (bytes : List ℕ) (r : X) → IsBytes bytes → whole_in read bytes ≡ Ok r → (bytes ≡ spell r) × Fits r
+    → (bytes : Text) (r : X) → IsBytes bytes → whole_in read bytes ≡ Ok r → (bytes ≡ spell r) × Fits r
 whole_only {X} spell Fits read form bytes r h e =
     let s = bind_ok (read (at bytes 0)) (λ (x : X × At). if length x.1.rest == 0 then Ok x.0 else Err Trailing) r e in
     let g = pass_ok (length s.0.1.rest == 0) (Ok s.0.0) Trailing r s.2 in
@@ -151,15 +151,15 @@ whole_only {X} spell Fits read form bytes r h e =
     let P : X → Type 0 = λ x. (bytes ≡ spell x) × Fits x in
     subst P (ok_is FormError s.0.0 r g.1) (all, known.1)
 
-whole_again : {X : Type 0} (spell : X → List ℕ) (Fits : X → Type 0) (read : At → Result (X × At) FormError)
+whole_again : {X : Type 0} (spell : X → Text) (Fits : X → Type 0) (read : At → Result (X × At) FormError)
     → IsForm spell Fits Anything read → (r : X) → Fits r → whole_in read (spell r) ≡ Ok r
 whole_again {X} spell Fits read form r f =
     let step = form.again r 0 [] f tt in
     let same : spell r ≡ spell r ++ [] = sym (append-nil (spell r)) in
-    ap (λ (c : List ℕ). read (record { place = 0; rest = c }) >>= λ (x : X × At). if length x.1.rest == 0 then Ok x.0 else Err Trailing) same
+    ap (λ (c : Text). read (record { place = 0; rest = c }) >>= λ (x : X × At). if length x.1.rest == 0 then Ok x.0 else Err Trailing) same
     ∙ rw step refl
 
-pub advance_only : (bytes : List ℕ) (r : AdvanceParts) → IsBytes bytes → advance_in bytes ≡ Ok r → (bytes ≡ advance_text r) × IsAdvance r
+pub advance_only : (bytes : Text) (r : AdvanceParts) → IsBytes bytes → advance_in bytes ≡ Ok r → (bytes ≡ advance_text r) × IsAdvance r
 unfolding advance_in
 advance_only = whole_only advance_text IsAdvance advance_at advance_form
 
@@ -167,7 +167,7 @@ pub advance_again : (r : AdvanceParts) → IsAdvance r → advance_in (advance_t
 unfolding advance_in
 advance_again = whole_again advance_text IsAdvance advance_at advance_form
 
-pub subtree_only : (bytes : List ℕ) (r : SubtreeParts) → IsBytes bytes → subtree_in bytes ≡ Ok r → (bytes ≡ subtree_text r) × IsSubtreeRequest r
+pub subtree_only : (bytes : Text) (r : SubtreeParts) → IsBytes bytes → subtree_in bytes ≡ Ok r → (bytes ≡ subtree_text r) × IsSubtreeRequest r
 unfolding subtree_in
 subtree_only = whole_only subtree_text IsSubtreeRequest subtree_at subtree_form
 

@@ -1,10 +1,11 @@
 -- Pieces put one behind the other.
-use Rattle.std.proofs.Common.{◌≡◌, List, ℕ, [], ◌++◌, ap, ◌∙◌}
+use Rattle.std.proofs.Common.{◌≡◌, List, [], ◌++◌, ap, ◌∙◌}
 use Rattle.std.proofs.lemmas.List.{append_assoc}
+use Rattle.byte_forms.specs.Types.{Hash, Text}
 use Rattle.tls_wire.specs.Spelling.{hashes}
 
 -- the last of them is the spelling of hashes
-pub four_pieces : (o first second third last a b c : List ℕ) (items proof : List (List ℕ))
+pub four_pieces : (o first second third last a b c : Text) (items proof : List Hash)
     → o ≡ [] → first ≡ o ++ a → second ≡ first ++ b → third ≡ second ++ c → last ≡ third ++ hashes items → items ≡ proof
     → last ≡ a ++ (b ++ (c ++ hashes proof))
 four_pieces o first second third last a b c items proof o_is first_is second_is third_is last_is items_is =
@@ -16,7 +17,7 @@ four_pieces o first second third last a b c items proof o_is first_is second_is 
     ∙ append_assoc first b (c ++ hashes proof)
     ∙ ap (λ f. f ++ (b ++ (c ++ hashes proof))) (first_is ∙ ap (λ n. n ++ a) o_is)
 
-pub five_pieces : (o first second third fourth last a b c d : List ℕ) (items proof : List (List ℕ))
+pub five_pieces : (o first second third fourth last a b c d : Text) (items proof : List Hash)
     → o ≡ [] → first ≡ o ++ a → second ≡ first ++ b → third ≡ second ++ c → fourth ≡ third ++ d
     → last ≡ fourth ++ hashes items → items ≡ proof
     → last ≡ a ++ (b ++ (c ++ (d ++ hashes proof)))

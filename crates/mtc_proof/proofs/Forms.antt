@@ -4,7 +4,7 @@ use Rattle.std.specs.Prelude.{if◌then◌else◌, ◌==◌, OnOk, IsOk}
 use Rattle.std.specs.List.{flat_map, AllByRecursion}
 use Rattle.std.specs.Int.{w8, w16, w64}
 use Rattle.std.proofs.lemmas.List.{length-append, nil_from_length, take_at, drop_at}
-use Rattle.byte_forms.specs.Types.{Text}
+use Rattle.byte_forms.specs.Types.{Hash, Text}
 use Rattle.byte_forms.specs.Places.{At, IsBytes, at, has_bytes}
 use Rattle.byte_forms.specs.Readings.{◌>>=◌, discarded, both_at, mapped_at, tested_at, Gives}
 use Rattle.byte_forms.specs.Lists.{up_to_end}
@@ -46,7 +46,7 @@ id_form = record {
 long_form : IsForm (vector w16) IsShort Anything (text_at w16)
 long_form = lifted_form (vector w16) IsShort Anything (vector_at w16) of_short (vector_form w16 (2 ^ 16) wide16)
 
-abbrev from_signature : SigParts → List ℕ × List ℕ
+abbrev from_signature : SigParts → Text × Text
 from_signature s = (s.cosigner, s.signature)
 
 signature_to : (s : SigParts) → FitsBoth IsId IsShort (from_signature s) → IsMtcSignature s
@@ -58,7 +58,7 @@ signature_from s f = ((f.cosigner, some-has_bytes s.cosigner f.some), f.signatur
 pub signature_form : IsForm signature_text IsMtcSignature Anything mtc_signature_at
 unfolding mtc_signature_at
 signature_form =
-    let read : At → Result ((List ℕ × List ℕ) × At) ProofError = both_at id_at (text_at w16) in
+    let read : At → Result ((Text × Text) × At) ProofError = both_at id_at (text_at w16) in
     said_form (λ s. both (vector w8) (vector w16) (from_signature s)) (λ s. FitsBoth IsId IsShort (from_signature s)) IsMtcSignature Anything Anything
     (mapped_at to_signature read) signature_to signature_from (λ rest q. q)
     (mapped_form (both (vector w8) (vector w16)) (FitsBoth IsId IsShort) Anything read to_signature from_signature (λ x f. refl) (λ s f. refl)
@@ -82,25 +82,25 @@ checked_only a done h e =
     record {
       list = t.0;
       each = known.1;
-      spelled = known.0.parts ∙ (ap (λ (c : List ℕ). flat_map signature_text t.0 ++ c) none ∙ append-nil (flat_map signature_text t.0));
+      spelled = known.0.parts ∙ (ap (λ (c : Text). flat_map signature_text t.0 ++ c) none ∙ append-nil (flat_map signature_text t.0));
     }
 
-pub checked_again : (place : ℕ) (bytes : List ℕ) → AreSignatures bytes → checked_signatures (record { place = place; rest = bytes }) ≡ Ok tt
+pub checked_again : (place : ℕ) (bytes : Text) → AreSignatures bytes → checked_signatures (record { place = place; rest = bytes }) ≡ Ok tt
 checked_again place bytes f =
-    let text : List ℕ = flat_map signature_text f.list in
+    let text : Text = flat_map signature_text f.list in
     let same : bytes ≡ text ++ [] = f.spelled ∙ sym (append-nil text) in
     let step = list_form.again f.list place [] f.each refl in
-    ap (λ (c : List ℕ). checked_signatures (record { place = place; rest = c })) same ∙ rw step refl
+    ap (λ (c : Text). checked_signatures (record { place = place; rest = c })) same ∙ rw step refl
 
 -- ---- proofs
 
 abbrev Four : Type 0
-Four = ℕ × (ℕ × (List (List ℕ) × List ℕ))
+Four = ℕ × (ℕ × (List Hash × Text))
 
 abbrev IsWord : ℕ → Type 0
 IsWord n = n < 2 ^ 64
 
-abbrev four_text : Four → List ℕ
+abbrev four_text : Four → Text
 four_text = both (number w64) (both (number w64) (both hashes (vector w16)))
 
 abbrev AreFour : Four → Type 0
@@ -134,22 +134,22 @@ parts_form =
     to_proof from_proof (λ x f. refl) (λ p f. refl) four_form
 
 -- All before the signatures.
-abbrev front : ProofParts → List ℕ
+abbrev front : ProofParts → Text
 front p = number w64 p.start ++ (number w64 p.end ++ (hashes p.path ++ number w16 (length p.signatures)))
 
 regrouped : (p : ProofParts) → proof_text p ≡ front p ++ p.signatures
 regrouped p = simp append_assoc
 
 -- The signatures end at this offset of the proof.
-pub record EndsAt (bytes signatures : List ℕ) (behind : ℕ) : Type 0 where
+pub record EndsAt (bytes signatures : Text) (behind : ℕ) : Type 0 where
   pub within : behind ≤ length bytes
   pub fits : length signatures ≤ behind
   pub ends : drop (behind - length signatures) (take behind bytes) ≡ signatures
 
-parts_end : (bytes : List ℕ) (p : ProofParts) (b : At) → IsBytes bytes → proof_parts_at (at bytes 0) ≡ Ok (p, b) → EndsAt bytes p.signatures b.place
+parts_end : (bytes : Text) (p : ProofParts) (b : At) → IsBytes bytes → proof_parts_at (at bytes 0) ≡ Ok (p, b) → EndsAt bytes p.signatures b.place
 parts_end bytes p b h e =
     let known = parts_form.takes (at bytes 0) p b h e in
-    let whole : bytes ≡ (front p ++ p.signatures) ++ b.rest = known.0.parts ∙ ap (λ (t : List ℕ). t ++ b.rest) (regrouped p) in
+    let whole : bytes ≡ (front p ++ p.signatures) ++ b.rest = known.0.parts ∙ ap (λ (t : Text). t ++ b.rest) (regrouped p) in
     let far : b.place ≡ length (front p ++ p.signatures) = omega (arith, known.0.place, ap length (regrouped p)) in
     let size = length-append (front p) p.signatures in
     let all = length-append (front p ++ p.signatures) b.rest in
@@ -164,7 +164,7 @@ parts_end bytes p b h e =
       ends = rest;
     }
 
-pub list_end : (bytes : List ℕ) (p : ProofParts) (behind : ℕ) → IsBytes bytes → (a b : At) → a ≡ at bytes 0 → proof_parts_at a ≡ Ok (p, b) → behind ≡ b.place
+pub list_end : (bytes : Text) (p : ProofParts) (behind : ℕ) → IsBytes bytes → (a b : At) → a ≡ at bytes 0 → proof_parts_at a ≡ Ok (p, b) → behind ≡ b.place
     → EndsAt bytes p.signatures behind
 list_end bytes p behind h a b start e far =
     let P : ℕ → Type 0 = λ n. EndsAt bytes p.signatures n in
@@ -173,7 +173,7 @@ list_end bytes p behind h a b start e far =
 proof_to : (p : ProofParts) → AreFour (from_proof p) → AreSignatures p.signatures → IsProof p
 proof_to p f list = record { start = f.0; end = f.1.0; path = f.1.1.0; short = f.1.1.1; signatures = list }
 
-pub proofs_only : (bytes : List ℕ) (p : ProofParts) → IsBytes bytes → proof_in bytes ≡ Ok p → (bytes ≡ proof_text p) × IsProof p
+pub proofs_only : (bytes : Text) (p : ProofParts) → IsBytes bytes → proof_in bytes ≡ Ok p → (bytes ≡ proof_text p) × IsProof p
 unfolding proof_in
 proofs_only bytes p h e =
     let s = bind_ok (proof_parts_at (at bytes 0)) (λ (x : ProofParts × At). checked_signatures (inside_list x) >>= λ (done : Unit {0}). if length x.1.rest == 0 then Ok x.0 else Err Trailing) p e in
@@ -182,7 +182,7 @@ proofs_only bytes p h e =
     let g = pass_ok (length s.0.1.rest == 0) (Ok q) Trailing p t.2 in
     let known = parts_form.takes (at bytes 0) q s.0.1 h s.1 in
     let none : s.0.1.rest ≡ [] = nil_from_length s.0.1.rest (eqb-true (length s.0.1.rest) 0 g.0) in
-    let spelled : bytes ≡ proof_text q = known.0.parts ∙ (ap (λ (c : List ℕ). proof_text q ++ c) none ∙ append-nil (proof_text q)) in
+    let spelled : bytes ≡ proof_text q = known.0.parts ∙ (ap (λ (c : Text). proof_text q ++ c) none ∙ append-nil (proof_text q)) in
     let inner : IsBytes q.signatures = IsBytes-back (front q) q.signatures (subst IsBytes (spelled ∙ regrouped q) h) in
     let list = checked_only (inside_list s.0) t.0 inner t.1 in
     let P : ProofParts → Type 0 = λ v. (bytes ≡ proof_text v) × IsProof v in
@@ -193,7 +193,7 @@ unfolding proof_in
 proofs_again p f =
     let end : At = record { place = 0 + length (proof_text p); rest = [] } in
     let step : proof_parts_at (at (proof_text p) 0) ≡ Ok (p, end) =
-    ap (λ (c : List ℕ). proof_parts_at (record { place = 0; rest = c })) (sym (append-nil (proof_text p)))
+    ap (λ (c : Text). proof_parts_at (record { place = 0; rest = c })) (sym (append-nil (proof_text p)))
     ∙ parts_form.again p 0 [] (f.start, (f.end, (f.path, f.short))) tt in
     let list : checked_signatures (inside_list (p, end)) ≡ Ok tt = checked_again (end.place - length p.signatures) p.signatures f.signatures in
     rw step (rw list refl)
@@ -203,12 +203,12 @@ one_proof p q x y same = ok_is ProofError p q (sym (proofs_again p x) ∙ (ap pr
 
 -- ---- an answer that is exactly what is wanted
 
-pub gives_found : (bytes : List ℕ) (r : Result Proof ProofError) → IsBytes bytes → Gives proof_parts r (proof_in bytes)
+pub gives_found : (bytes : Text) (r : Result Proof ProofError) → IsBytes bytes → Gives proof_parts r (proof_in bytes)
     → IfOk r (λ p. (bytes ≡ proof_text (proof_parts p)) × IsProof (proof_parts p))
 gives_found bytes (Ok p) h e = proofs_only bytes (proof_parts p) h e
 gives_found bytes (Err fault) h e = tt
 
-pub gives_only : (bytes : List ℕ) (r : Result Proof ProofError) → Gives proof_parts r (proof_in bytes)
+pub gives_only : (bytes : Text) (r : Result Proof ProofError) → Gives proof_parts r (proof_in bytes)
     → (p : ProofParts) → IsProof p → bytes ≡ proof_text p → Gives proof_parts r (Ok p)
 gives_only bytes r given p f same =
     let P : Result ProofParts ProofError → Type 0 = λ wanted. Gives proof_parts r wanted in

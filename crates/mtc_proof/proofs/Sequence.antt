@@ -4,6 +4,7 @@ use Rattle.std.specs.Prelude.{if◌then◌else◌}
 use Rattle.std.specs.List.{flat_map, AllByRecursion}
 use Rattle.std.specs.Int.{w8, w16}
 use Rattle.std.proofs.lemmas.List.{length-append}
+use Rattle.byte_forms.specs.Types.{Text}
 use Rattle.byte_forms.specs.Places.{At, at, has_bytes}
 use Rattle.byte_forms.specs.Readings.{◌>>=◌, both_at}
 use Rattle.byte_forms.proofs.Steps.{bind_ok, lifted_ok, pass_ok, ok_is}
@@ -18,15 +19,15 @@ use Rattle.mtc_proof.proofs.Forms.{signature_form, signature_some}
 signature_forward : (a : At) (x : SigParts × At) → mtc_signature_at a ≡ Ok x → length x.1.rest < length a.rest
 unfolding mtc_signature_at
 signature_forward a x e =
-    let s = bind_ok (both_at id_at (text_at w16) a) (λ (v : (List ℕ × List ℕ) × At). Ok (to_signature v.0, v.1)) x e in
-    let t = bind_ok (id_at a) (λ (v : List ℕ × At). text_at w16 v.1 >>= λ (w : List ℕ × At). Ok ((v.0, w.0), w.1)) s.0 s.1 in
-    let u = bind_ok (text_at w16 t.0.1) (λ (w : List ℕ × At). Ok ((t.0.0, w.0), w.1)) s.0 t.2 in
-    let v = bind_ok (text_at w8 a) (λ (y : List ℕ × At). if has_bytes y.0 then Ok y else Err (EmptyId a.place)) t.0 t.1 in
+    let s = bind_ok (both_at id_at (text_at w16) a) (λ (v : (Text × Text) × At). Ok (to_signature v.0, v.1)) x e in
+    let t = bind_ok (id_at a) (λ (v : Text × At). text_at w16 v.1 >>= λ (w : Text × At). Ok ((v.0, w.0), w.1)) s.0 s.1 in
+    let u = bind_ok (text_at w16 t.0.1) (λ (w : Text × At). Ok ((t.0.0, w.0), w.1)) s.0 t.2 in
+    let v = bind_ok (text_at w8 a) (λ (y : Text × At). if has_bytes y.0 then Ok y else Err (EmptyId a.place)) t.0 t.1 in
     let g = pass_ok (has_bytes v.0.0) (Ok v.0) (EmptyId a.place) t.0 v.2 in
     let id : length v.0.1.rest + 1 ≤ length a.rest = vector_forward w8 a v.0.0 v.0.1 (lifted_ok of_short (vector_at w8 a) v.0 v.1) in
     let long : length u.0.1.rest + 2 ≤ length t.0.1.rest = vector_forward w16 t.0.1 u.0.0 u.0.1 (lifted_ok of_short (vector_at w16 t.0.1) u.0 u.1) in
-    let same : length v.0.1.rest ≡ length t.0.1.rest = ap (λ (y : List ℕ × At). length y.1.rest) (ok_is ProofError v.0 t.0 g.1) in
-    let behind : length u.0.1.rest ≡ length s.0.1.rest = ap (λ (y : (List ℕ × List ℕ) × At). length y.1.rest) (ok_is ProofError ((t.0.0, u.0.0), u.0.1) s.0 u.2) in
+    let same : length v.0.1.rest ≡ length t.0.1.rest = ap (λ (y : Text × At). length y.1.rest) (ok_is ProofError v.0 t.0 g.1) in
+    let behind : length u.0.1.rest ≡ length s.0.1.rest = ap (λ (y : (Text × Text) × At). length y.1.rest) (ok_is ProofError ((t.0.0, u.0.0), u.0.1) s.0 u.2) in
     let last : length s.0.1.rest ≡ length x.1.rest = ap (λ (y : SigParts × At). length y.1.rest) (ok_is ProofError (to_signature s.0.0, s.0.1) x s.2) in
     omega arith
 

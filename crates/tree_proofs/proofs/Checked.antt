@@ -67,7 +67,6 @@ proof_opens (suc depth) h s e known node leaves bound aligned within is =
     let k = split_of (length leaves) in
     let some = aligned.inhabited in
     let sizes = part_sizes leaves in
-    let back = sizes.back in
     cases_place s e (length leaves) some within
     (λ first last.
     let all : root_of h (part_of leaves s e) ≡ root_of h leaves =
@@ -104,7 +103,7 @@ proof_opens (suc depth) h s e known node leaves bound aligned within is =
     ∙ ap (open_from_root h s e n known node) (reverse-append p (z ∷ []))
     ∙ open-right h s e n k (s - k) (e - k) (n - k) known node z (reverse p) more refl
     (omega arith) (omega arith) (omega arith) (omega arith)
-    ∙ ap (λ i. option_map (root_right_of h z) (open_from_root h (s - k) (e - k) i known node (reverse p))) (sym back)
+    ∙ ap (λ i. option_map (root_right_of h z) (open_from_root h (s - k) (e - k) i known node (reverse p))) (sym sizes.back)
     ∙ ap (option_map (root_right_of h z)) rest
     ∙ ap (λ u. Some (opened_at u (pair_hash h z (root_of h (drop k leaves))))) (ap (root_of h) part)
     ∙ ap (λ r. Some (opened_at (root_of h (part_of leaves s e)) r)) (sym (root_of-split h leaves more)))
@@ -134,7 +133,7 @@ proof_opens (suc depth) h s e known node leaves bound aligned within is =
     ∙ ap (open_from_root h s e n known node) (reverse-append p (z ∷ []))
     ∙ open-over h s e n k (e - k) (n - k) known node z (reverse p) more refl zeroth
     (omega arith) (omega arith) (omega arith) part_is
-    ∙ ap (λ i. option_map (both_right_of h z) (open_from_root h 0 (e - k) i false node (reverse p))) (sym back)
+    ∙ ap (λ i. option_map (both_right_of h z) (open_from_root h 0 (e - k) i false node (reverse p))) (sym sizes.back)
     ∙ ap (option_map (both_right_of h z)) rest
     ∙ ap (λ u. Some (opened_at u (pair_hash h z (root_of h (drop k leaves))))) joined
     ∙ ap (λ r. Some (opened_at (root_of h (part_of leaves s e)) r)) (sym (root_of-split h leaves more)))
@@ -298,7 +297,6 @@ has_value (suc depth) h s e known node leaves (z ∷ q) bound aligned within =
     let k = split_of (length leaves) in
     let some = aligned.inhabited in
     let sizes = part_sizes leaves in
-    let back = sizes.back in
     cases_place s e (length leaves) some within
     (λ first last.
     ap is_some (open-whole h s e n known node (z ∷ q) first last)
@@ -319,7 +317,7 @@ has_value (suc depth) h s e known node leaves (z ∷ q) bound aligned within =
     ∙ is_some-map (root_right_of h z) (open_from_root h (s - k) (e - k) (n - k) known node q)
     ∙ one_more _ _ _ (open_from_root h (s - k) (e - k) (n - k) known node q)
     (proof_of-right h s e k known leaves refl some within le) q
-    (ap (λ i. is_some (open_from_root h (s - k) (e - k) i known node q)) (sym back) ∙ rest))
+    (ap (λ i. is_some (open_from_root h (s - k) (e - k) i known node q)) (sym sizes.back) ∙ rest))
     (λ more inner before behind.
     let zeroth = aligned_over s e (length leaves) aligned within before behind in
     let part : e < length leaves =
@@ -334,7 +332,7 @@ has_value (suc depth) h s e known node leaves (z ∷ q) bound aligned within =
     ∙ is_some-map (both_right_of h z) (open_from_root h 0 (e - k) (n - k) false node q)
     ∙ one_more _ _ _ (open_from_root h 0 (e - k) (n - k) false node q)
     (proof_of-over h s e k known leaves refl within inner before behind) q
-    (ap (λ i. is_some (open_from_root h 0 (e - k) i false node q)) (sym back) ∙ rest))
+    (ap (λ i. is_some (open_from_root h 0 (e - k) i false node q)) (sym sizes.back) ∙ rest))
 
 -- the answer of a value or none
 not_length : (node root : List ℕ) (o : Opened) → compared node root (Some o) ≡ Err WrongLength → ⊥
