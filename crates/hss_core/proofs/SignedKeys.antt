@@ -16,7 +16,7 @@ use Rattle.lms_core.specs.Trees.{lms_public, lms_signature}
 use Rattle.lms_core.specs.Refusals.{check_refusal}
 use Rattle.lms_core.proofs.Parts.{part}
 use Rattle.lms_core.proofs.Verifies.{check_refusal-lms_signature, front_types-append, key_types-lms_public, length-lms_public, length-lms_signature}
-use Rattle.hss_core.specs.Hss.{behind_key, front_length, hss_key_types, hss_refusal, key_behind, levels_public, levels_refusal, levels_signature, parts_fit, refusal_at, SignedKeyVerifies, Verifies}
+use Rattle.hss_core.specs.Hss.{behind_key, front_length, hss_key_types, hss_refusal, key_behind, levels_public, levels_refusal, levels_signature, parts_fit, refusal_of_types, SignedKeyVerifies, Verifies}
 use Rattle.hss_core.proofs.Parts.{levels_refusal-passed, parts_fit-pair}
 
 -- the number in front of a key or a signature
@@ -36,7 +36,7 @@ right_true true b both = both
 right_true false b both = cc
 
 -- what verifies has whole parts, which pass from the top down
-parts_passed : (o : Option (ℕ × LmsType × OtsType)) (key message s : Text) → refusal_at o key message s ≡ None
+parts_passed : (o : Option (ℕ × LmsType × OtsType)) (key message s : Text) → refusal_of_types o key message s ≡ None
     → (parts_fit (u32_at s 0) (drop 4 s) ≡ true) × (levels_refusal (u32_at s 0) (drop 4 key) message (drop 4 s) ≡ None)
 parts_passed None key message s passed = cc
 parts_passed (Some (levels, l, t)) key message s passed =
@@ -44,7 +44,7 @@ parts_passed (Some (levels, l, t)) key message s passed =
 
 -- and its key has the length of keys
 key_long : (a b c : Bool) (o : Option (ℕ × LmsType × OtsType)) (key message s : Text)
-    → refusal_at (if a && b && c then o else None) key message s ≡ None → a ≡ true
+    → refusal_of_types (if a && b && c then o else None) key message s ≡ None → a ≡ true
 key_long true b c o key message s passed = refl
 key_long false b c o key message s passed = cc
 

@@ -75,16 +75,16 @@ levels_refusal (suc pairs) key message s =
     (levels_refusal pairs (key_behind n s) message (behind_key n s)))
     (front_length s) (Some BadLength)
 
-abbrev pub refusal_at : Option (ℕ × LmsType × OtsType) → Text → Text → Text → Option SigError
-refusal_at None key message s = Some BadKey
-refusal_at (Some (levels, l, t)) key message s =
+abbrev pub refusal_of_types : Option (ℕ × LmsType × OtsType) → Text → Text → Text → Option SigError
+refusal_of_types None key message s = Some BadKey
+refusal_of_types (Some (levels, l, t)) key message s =
     if not (nat_le 4 (length s) && parts_fit (u32_at s 0) (drop 4 s)) then Some BadLength
     else (if not (u32_at s 0 + 1 == levels) then Some TypeDiffers
     else levels_refusal (u32_at s 0) (drop 4 key) message (drop 4 s))
 
 -- What a public key, a message and a signature are answered: the first refusal that holds, if any.
 unfoldable pub hss_refusal : Text → Text → Text → Option SigError
-hss_refusal key message s = refusal_at (hss_key_types key) key message s
+hss_refusal key message s = refusal_of_types (hss_key_types key) key message s
 
 -- The signature verifies: forms and types fit, and each level leads to its key's root.
 abbrev pub Verifies : Text → Text → Text → Type 0

@@ -10,7 +10,7 @@ use Rattle.sha2.proofs.Facts256.{length-sha256}
 use Rattle.lms_core.specs.declared.private_key.PrivateKey.{PrivateKey}
 use Rattle.lms_core.specs.Heights.{height}
 use Rattle.lms_core.specs.Trees.{inner_node, leaf_node, path_node, sibling, tree_value}
-use Rattle.lms_core.specs.Held.{Holds, HoldsFrom}
+use Rattle.lms_core.specs.Held.{HoldsNodes, HoldsFrom}
 use Rattle.lms_core.proofs.Places.{pow_half, pow_most, sibling_within}
 
 -- every node has 32 bytes
@@ -64,7 +64,7 @@ HoldsFrom-more key nodes value p some low count held made d k within from to bey
     ]
 
 -- what a path has of a level is the sibling there
-pub path_node-held : (key : PrivateKey) (nodes : List Hash) (q i place : ℕ) → Holds key nodes
+pub path_node-held : (key : PrivateKey) (nodes : List Hash) (q i place : ℕ) → HoldsNodes key nodes
     → i < height key.lms → place ≡ (2 ^ height key.lms + q) / 2 ^ i
     → 2 ^ (height key.lms - i) ≤ place → place < 2 * 2 ^ (height key.lms - i)
     → slice_index_or nodes (sibling place) [] ≡ path_node key q i

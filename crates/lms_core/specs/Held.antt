@@ -12,7 +12,7 @@ HoldsFrom key p nodes = (d k : ℕ) → d ≤ height key.lms → 2 ^ (height key
     → k < 2 * 2 ^ (height key.lms - d) → p ≤ k → slice_index_or nodes k [] ≡ tree_value key d k
 
 -- The list has the values of all nodes of a tree of height 5 or 10; nothing is said of its place 0.
-pub record Holds (key : PrivateKey) (nodes : List Hash) : Type 0 where
+pub record HoldsNodes (key : PrivateKey) (nodes : List Hash) : Type 0 where
   pub low : height key.lms ≤ 10
   pub id : length key.id ≡ 16
   pub count : length nodes ≡ 2 * 2 ^ height key.lms

@@ -2,7 +2,7 @@
 ghost use Rattle.std.specs.Prelude.{◌≡◌, ◌+◌, ◌*◌, ◌<◌, ◌≤◌, ◌^◌, ◌++◌, length};
 ghost use Rattle.lmots_core.specs.Strings.{concatenated};
 ghost use Rattle.lms_core.specs.Heights.{height};
-ghost use Rattle.lms_core.specs.Held.{Holds};
+ghost use Rattle.lms_core.specs.Held.{HoldsNodes};
 ghost use Rattle.lms_core.specs.Trees.{climbed, path_node};
 
 use crate::nodes::{parent, sibling};
@@ -12,7 +12,7 @@ use lmots_core::{SigBuf, read_32};
 // Puts the path of leaf q behind what `out` holds: the nodes beside the way up, the lowest first.
 #[tactic(auto, unfolding(lmots_core::specs::Strings::concatenated))]
 pub fn put_path(key: &PrivateKey, nodes: &[[u8; 32]], q: u32, out: &mut SigBuf)
-    requires held { Holds key.now nodes.now }
+    requires held { HoldsNodes key.now nodes.now }
     requires index { q < 2 ^ height key.now.lms }
     requires room { length out.old + 32 * height key.now.lms ≤ 17748 }
     ensures bytes { out.new ≡ out.old ++ concatenated (path_node key.now q) (height key.now.lms) }

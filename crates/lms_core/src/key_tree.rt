@@ -27,11 +27,11 @@ impl Model for Tree {
 
     ghost Value = { PrivateKey };
 
-    ghost use Rattle.lms_core.specs.Held.{Holds};
+    ghost use Rattle.lms_core.specs.Held.{HoldsNodes};
 
     ghost view = { λ t. t.key };
 
-    ghost invariant = { λ t. Holds t.key t.nodes.items };
+    ghost invariant = { λ t. HoldsNodes t.key t.nodes.items };
 }
 
 impl Tree {
