@@ -9,8 +9,9 @@ use std::fs::{File, OpenFile};
 use std::io;
 use std::os::unix::fs::FileExt;
 
-/// An open file. It tells nothing of its bytes, nor of what a crash leaves: that the operating system keeps the rules
-/// of [`Disk`] is taken on trust. It keeps the known length, a clock and a count of its faults.
+/// An open file. It tells nothing of its bytes, nor of what a crash leaves: that the operating
+/// system keeps the rules of [`Disk`] is taken on trust. It keeps the known length, a clock and a
+/// count of its faults.
 #[derive(Debug, Drop)]
 pub struct FileDisk<F = File> {
     file: F,
@@ -20,7 +21,8 @@ pub struct FileDisk<F = File> {
 }
 
 impl<F: OpenFile + FileExt> FileDisk<F> {
-    /// The file as it stands, with a known length of 0, no fault so far, and the clock at its start.
+    /// The file as it stands, with a known length of 0, no fault so far, and the clock at its
+    /// start.
     pub fn new(file: F) -> FileDisk<F>
         ensures file { file_of result ≡ file }
         ensures known { file_known result ≡ 0 }

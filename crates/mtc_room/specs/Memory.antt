@@ -13,8 +13,8 @@ pub record FileState : Type 0 where
   pub bytes : List ℕ
   pub failing : List ℕ
 
--- a room in memory: the file of each name, the calls that fail of each file that is yet to be made, the objects that
--- are out, the faults so far, and those that came from want of memory
+-- a room in memory: the file of each name, the calls that fail of each file that is yet to be made,
+-- the objects that are out, the faults so far, and those that came from want of memory
 pub record RoomState : Type 0 where
   pub file : List ℕ → Option FileState
   pub fresh_failing : List ℕ
@@ -44,7 +44,8 @@ state room = record {
 abbrev pub bytes_in : MemRoom → List ℕ → Option (List ℕ)
 bytes_in room name = option_map bytes_of (disk_in room name)
 
--- a count of faults after a call that lends: the room in memory fails for want of memory alone, and counts that once
+-- a count of faults after a call that lends: the room in memory fails for want of memory alone, and
+-- counts that once
 abbrev pub count_after : {T : Type 0} → ℕ → Result T RoomError → ℕ
 count_after count (Ok lent) = count
 count_after count (Err Absent) = count

@@ -5,6 +5,7 @@ use Rattle.disk_core.specs.Memory.{bytes_of}
 use Rattle.disk_core.specs.declared.memory.mem_disk.MemDisk.{MemDisk}
 use Rattle.mtc_room.specs.Room.{TellsFile}
 
-pub told_in : (disk : Option MemDisk) → TellsFile (λ d. Some (bytes_of d)) (option_map bytes_of disk) disk
+pub told_in : (disk : Option MemDisk)
+    → TellsFile (λ d. Some (bytes_of d)) (option_map bytes_of disk) disk
 told_in None = refl
 told_in (Some d) = (refl, refl)

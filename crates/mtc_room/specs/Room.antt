@@ -1,12 +1,14 @@
--- What the calls of a room do. A room's files are a function from names to bytes, and one from names to devices.
+-- What the calls of a room do. A room's files are a function from names to bytes, and one from
+-- names to devices.
 use Rattle.std.specs.Prelude.{◌≡◌, ◌≢◌, ℕ, ◌+◌, ◌≤◌, List, Option, None, Some, Result, is_ok, IsSome, IsErrOf, OnOk, if◌then◌else◌}
 use Rattle.mtc_io.specs.Counts.{Rose}
 use Rattle.mtc_room.specs.declared.error.RoomError.{RoomError}
 use Rattle.mtc_room.specs.declared.error.RoomError.TheVariants.{Absent, Exists, Failed}
 
--- A call that lends: on Ok one object more is out. `Failed` comes only with a fault, and Ok and the other refusals
--- without one.
-pub record Lending {T : Type 0} (lent lent' faults faults' : ℕ) (result : Result T RoomError) : Type 0 where
+-- A call that lends: on Ok one object more is out. `Failed` comes only with a fault, and Ok and the
+-- other refusals without one.
+pub record Lending {T : Type 0} (lent lent' faults faults' : ℕ)
+    (result : Result T RoomError) : Type 0 where
   pub out : lent' ≡ (if is_ok result then lent + 1 else lent)
   pub later : faults ≤ faults'
   pub fine : OnOk result (faults' ≡ faults)
@@ -15,17 +17,21 @@ pub record Lending {T : Type 0} (lent lent' faults faults' : ℕ) (result : Resu
   pub exists : IsErrOf result Exists → faults' ≡ faults
 
 -- the file of this name, and its device, are as they were
-pub record Stays {D : Type 0} (file file' : List ℕ → Option (List ℕ)) (device device' : List ℕ → Option D) (name : List ℕ) : Type 0 where
+pub record Stays {D : Type 0} (file file' : List ℕ → Option (List ℕ))
+    (device device' : List ℕ → Option D) (name : List ℕ) : Type 0 where
   pub bytes : file' name ≡ file name
   pub disk : device' name ≡ device name
 
 -- each file, and each device, is as it was
-abbrev pub AllStay : {D : Type 0} → (List ℕ → Option (List ℕ)) → (List ℕ → Option (List ℕ)) → (List ℕ → Option D) → (List ℕ → Option D) → Type 0
+abbrev pub AllStay : {D : Type 0} → (List ℕ → Option (List ℕ)) → (List ℕ → Option (List ℕ))
+    → (List ℕ → Option D) → (List ℕ → Option D) → Type 0
 AllStay file file' device device' = (name : List ℕ) → Stays file file' device device' name
 
 -- so is each of another name
-abbrev pub OthersStay : {D : Type 0} → (List ℕ → Option (List ℕ)) → (List ℕ → Option (List ℕ)) → (List ℕ → Option D) → (List ℕ → Option D) → List ℕ → Type 0
-OthersStay file file' device device' but = (name : List ℕ) → name ≢ but → Stays file file' device device' name
+abbrev pub OthersStay : {D : Type 0} → (List ℕ → Option (List ℕ)) → (List ℕ → Option (List ℕ))
+    → (List ℕ → Option D) → (List ℕ → Option D) → List ℕ → Type 0
+OthersStay file file' device device' but
+    = (name : List ℕ) → name ≢ but → Stays file file' device device' name
 
 -- there is a file, and what was lent tells its bytes
 pub record LendsBytes (file lent : Option (List ℕ)) : Type 0 where

@@ -1,5 +1,5 @@
 //! A room in memory.
-ghost use Rattle.std.specs.Prelude.{◌≡◌, ◌≢◌, ⊤, ℕ, ◌+◌, ◌<◌, ◌^◌, List, [], Option, Result, Ok, Some, None, IfOk, OnOk, OnErr, IsErrOf, IsSome, IfErr, IsErr, ◌≤◌, length};
+ghost use Rattle.std.specs.Prelude.{◌≡◌, ◌≢◌, ⊤, ℕ, ◌+◌, ◌<◌, ◌^◌, List, [], Option, Result, Ok, Some, None, IfOk, OnOk, OnErr, IsErrOf, IsSome, IfErr, IsErr, length};
 ghost use Rattle.std.specs.Option.{option_copied, IsSomeAnd};
 ghost use Rattle.mtc_io.specs.Counts.{with_count};
 ghost use Rattle.disk_core.specs.Same.{SameDevice};
@@ -12,9 +12,10 @@ use mtc_io::{Bytes, MemSource, Memory};
 use std::alloc::Global;
 use std::collections::BTreeMap;
 
-/// A room whose files stand in memory. It tells them. Each file has a list of the calls that fail. For its device they
-/// are counted over all lendings, and for a source anew from each lending. Sources and devices are lent as copies. Where
-/// the room finds no memory it fails; such faults are counted apart too, its own and those of devices that it takes back.
+/// A room whose files stand in memory. It tells them. Each file has a list of the calls that fail.
+/// For its device they are counted over all lendings, and for a source anew from each lending.
+/// Sources and devices are lent as copies. Where the room finds no memory it fails; such faults are
+/// counted apart too, its own and those of devices that it takes back.
 #[derive(Debug, Drop)]
 pub struct MemRoom {
     alloc: Global,
@@ -69,13 +70,15 @@ impl MemRoom {
         self.fresh_failing = failing;
     }
 
-    /// Puts a file with these bytes and failing calls in the place of any file of that name. It has had no call, and a
-    /// crash leaves its bytes. Where memory is refused the room stays as it was.
+    /// Puts a file with these bytes and failing calls in the place of any file of that name. It has
+    /// had no call, and a crash leaves its bytes. Where memory is refused the room stays as it was.
     pub fn place(&mut self, name: &str, bytes: Bytes, failing: Vec<u64>) -> Result<(), Memory>
         ensures placed { OnOk result (IsSomeAnd (disk_in self.new name.now)
             (λ d. IsFresh bytes d × (failing_of d ≡ failing.items))) }
-        ensures others { (other : List ℕ) → other ≢ name.now → disk_in self.new other ≡ disk_in self.old other }
-        ensures err { OnErr result ((other : List ℕ) → disk_in self.new other ≡ disk_in self.old other) }
+        ensures others { (other : List ℕ) → other ≢ name.now
+            → disk_in self.new other ≡ disk_in self.old other }
+        ensures err { OnErr result ((other : List ℕ)
+            → disk_in self.new other ≡ disk_in self.old other) }
         ensures fresh_failing { (state self.new).fresh_failing ≡ (state self.old).fresh_failing }
         ensures lent { (state self.new).lent ≡ (state self.old).lent }
         ensures faults { (state self.new).faults ≡ (state self.old).faults }
@@ -107,7 +110,8 @@ impl MemRoom {
     // Counts the loan of what was made, or the want of memory.
     fn lend_out<T>(&mut self, made: Result<T, Memory>) -> Result<T, RoomError>
         requires { self.old.lent < 2 ^ 32 }
-        ensures lending { Lending self.old.lent self.new.lent self.old.faults self.new.faults result }
+        ensures lending { Lending self.old.lent self.new.lent
+            self.old.faults self.new.faults result }
         ensures ok { IfOk result (λ it. made ≡ Ok it) }
         ensures err { IfErr result (λ why. (why ≡ RoomError.Failed) × IsErr made) }
         ensures files { self.new.files ≡ self.old.files }
@@ -130,7 +134,8 @@ impl MemRoom {
 
     // Makes an empty file, and a copy of its device to lend.
     fn make(&mut self, name: &str) -> Result<MemDisk, Memory>
-        ensures others { (other : List ℕ) → other ≢ name.now → disk_in self.new other ≡ disk_in self.old other }
+        ensures others { (other : List ℕ) → other ≢ name.now
+            → disk_in self.new other ≡ disk_in self.old other }
         ensures err { OnErr result (disk_in self.new name.now ≡ disk_in self.old name.now) }
         ensures made { IfOk result (λ d. IsSomeAnd (disk_in self.new name.now)
             (λ e. IsFresh [] e × SameDevice ⟦<MemDisk as Disk>⟧ e d)) }
@@ -175,10 +180,13 @@ impl Room for MemRoom {
 
     fn source(&mut self, name: &str) -> Result<MemSource, RoomError>
         requires { (state self.old).lent < 2 ^ 32 }
-        ensures lending { Lending (state self.old).lent (state self.new).lent (state self.old).faults (state self.new).faults result }
-        ensures stay { AllStay (bytes_in self.old) (bytes_in self.new) (disk_in self.old) (disk_in self.new) }
+        ensures lending { Lending (state self.old).lent (state self.new).lent
+            (state self.old).faults (state self.new).faults result }
+        ensures stay { AllStay (bytes_in self.old) (bytes_in self.new)
+            (disk_in self.old) (disk_in self.new) }
         ensures tells { ⊤ → ⊤ }
-        ensures bytes { IfOk result (λ s. ⊤ → LendsBytes (bytes_in self.old name.now) (Some s.left)) }
+        ensures bytes { IfOk result (λ s. ⊤
+            → LendsBytes (bytes_in self.old name.now) (Some s.left)) }
         ensures begins { IfOk result (λ s. s.faults ≡ 0) }
         ensures absent { IsErrOf result RoomError.Absent → ⊤ → bytes_in self.old name.now ≡ None }
         ensures never { IsErrOf result RoomError.Exists → ⊥ }
@@ -198,10 +206,13 @@ impl Room for MemRoom {
 
     fn disk(&mut self, name: &str) -> Result<MemDisk, RoomError>
         requires { (state self.old).lent < 2 ^ 32 }
-        ensures lending { Lending (state self.old).lent (state self.new).lent (state self.old).faults (state self.new).faults result }
-        ensures stay { AllStay (bytes_in self.old) (bytes_in self.new) (disk_in self.old) (disk_in self.new) }
+        ensures lending { Lending (state self.old).lent (state self.new).lent
+            (state self.old).faults (state self.new).faults result }
+        ensures stay { AllStay (bytes_in self.old) (bytes_in self.new)
+            (disk_in self.old) (disk_in self.new) }
         ensures tells { ⊤ → ⊤ }
-        ensures bytes { IfOk result (λ d. ⊤ → LendsBytes (bytes_in self.old name.now) (Some (bytes_of d))) }
+        ensures bytes { IfOk result (λ d. ⊤
+            → LendsBytes (bytes_in self.old name.now) (Some (bytes_of d))) }
         ensures device { IfOk result (λ d. ⊤
             → IsSomeAnd (disk_in self.old name.now) (λ e. SameDevice ⟦<MemDisk as Disk>⟧ e d)) }
         ensures begins { IfOk result (λ d. faults_of d ≡ 0) }
@@ -222,13 +233,17 @@ impl Room for MemRoom {
 
     fn fresh(&mut self, name: &str) -> Result<MemDisk, RoomError>
         requires { (state self.old).lent < 2 ^ 32 }
-        ensures lending { Lending (state self.old).lent (state self.new).lent (state self.old).faults (state self.new).faults result }
-        ensures others { OthersStay (bytes_in self.old) (bytes_in self.new) (disk_in self.old) (disk_in self.new) name.now }
-        ensures err { OnErr result (Stays (bytes_in self.old) (bytes_in self.new) (disk_in self.old) (disk_in self.new) name.now) }
+        ensures lending { Lending (state self.old).lent (state self.new).lent
+            (state self.old).faults (state self.new).faults result }
+        ensures others { OthersStay (bytes_in self.old) (bytes_in self.new)
+            (disk_in self.old) (disk_in self.new) name.now }
+        ensures err { OnErr result (Stays (bytes_in self.old) (bytes_in self.new)
+            (disk_in self.old) (disk_in self.new) name.now) }
         ensures tells { ⊤ → ⊤ }
         ensures was_absent { OnOk result (⊤ → bytes_in self.old name.now ≡ None) }
         ensures no_device { OnOk result (⊤ → disk_in self.old name.now ≡ None) }
-        ensures empty { IfOk result (λ d. ⊤ → (bytes_in self.new name.now ≡ Some []) × (Some (bytes_of d) ≡ Some [])) }
+        ensures empty { IfOk result (λ d. ⊤ → (bytes_in self.new name.now ≡ Some [])
+            × (Some (bytes_of d) ≡ Some [])) }
         ensures device { IfOk result (λ d. ⊤
             → IsSomeAnd (disk_in self.new name.now) (λ e. SameDevice ⟦<MemDisk as Disk>⟧ e d)) }
         ensures only { IfOk result (λ d. ⊤ → (c : List ℕ) → images_of d c → c ≡ []) }
@@ -236,7 +251,8 @@ impl Room for MemRoom {
         ensures begins { IfOk result (λ d. faults_of d ≡ 0) }
         ensures exists { IsErrOf result RoomError.Exists → ⊤ → IsSome (bytes_in self.old name.now) }
         ensures never { IsErrOf result RoomError.Absent → ⊥ }
-        ensures counted { IfOk result (λ d. (failing_of d ≡ (state self.old).fresh_failing) × (made_of d ≡ 0)) }
+        ensures counted { IfOk result (λ d. (failing_of d ≡ (state self.old).fresh_failing)
+            × (made_of d ≡ 0)) }
         ensures made { OnOk result ((state self.new).file name.now
             ≡ Some (record { bytes = []; failing = (state self.old).fresh_failing })) }
         ensures fresh_failing { (state self.new).fresh_failing ≡ (state self.old).fresh_failing }
@@ -256,7 +272,8 @@ impl Room for MemRoom {
         requires { 0 < (state self.old).lent }
         ensures out { (state self.new).lent + 1 ≡ (state self.old).lent }
         ensures count { (state self.new).faults ≡ with_count (state self.old).faults source.faults }
-        ensures stay { AllStay (bytes_in self.old) (bytes_in self.new) (disk_in self.old) (disk_in self.new) }
+        ensures stay { AllStay (bytes_in self.old) (bytes_in self.new)
+            (disk_in self.old) (disk_in self.new) }
         ensures tells { ⊤ → ⊤ }
         ensures fresh_failing { (state self.new).fresh_failing ≡ (state self.old).fresh_failing }
         ensures starved { (state self.new).starved ≡ (state self.old).starved }
@@ -268,8 +285,10 @@ impl Room for MemRoom {
     fn keep(&mut self, name: &str, disk: MemDisk)
         requires { 0 < (state self.old).lent }
         ensures out { (state self.new).lent + 1 ≡ (state self.old).lent }
-        ensures count { (state self.new).faults ≡ with_count (state self.old).faults (faults_of disk) }
-        ensures others { OthersStay (bytes_in self.old) (bytes_in self.new) (disk_in self.old) (disk_in self.new) name.now }
+        ensures count { (state self.new).faults
+            ≡ with_count (state self.old).faults (faults_of disk) }
+        ensures others { OthersStay (bytes_in self.old) (bytes_in self.new)
+            (disk_in self.old) (disk_in self.new) name.now }
         ensures tells { ⊤ → ⊤ }
         ensures bytes { ⊤ → IsSome (bytes_in self.old name.now)
             → LendsBytes (bytes_in self.new name.now) (Some (bytes_of disk)) }
@@ -278,7 +297,8 @@ impl Room for MemRoom {
         ensures kept { IsSome (bytes_in self.old name.now) → disk_in self.new name.now ≡ Some disk }
         ensures none { ⊤ → bytes_in self.old name.now ≡ None → bytes_in self.new name.now ≡ None }
         ensures fresh_failing { (state self.new).fresh_failing ≡ (state self.old).fresh_failing }
-        ensures starved { (state self.new).starved ≡ with_count (state self.old).starved (starved_of disk) }
+        ensures starved { (state self.new).starved
+            ≡ with_count (state self.old).starved (starved_of disk) }
     {
         self.faults = self.faults.saturating_add(disk.faults());
         self.starved = self.starved.saturating_add(disk.starved());

@@ -21,37 +21,42 @@ pub trait Room {
     /// The room tells its files. A room of real files doesn't.
     ghost tells: { Self → Type 0 };
 
-    /// The bytes of each name's file, or none where there is no such file. It says nothing where the room doesn't
-    /// tell its files.
+    /// The bytes of each name's file, or none where there is no such file. It says nothing where
+    /// the room doesn't tell its files.
     ghost file: { Self → List ℕ → Option (List ℕ) };
 
     /// The device of each name's file, as it was when it was last put back.
     ghost device: { Self → List ℕ → Option Self.Dsk };
 
-    /// How often it has failed. The count never falls.
+    /// How often it has failed, with the faults of what was put back. The count never falls.
     ghost faults: { Self → ℕ };
 
     /// How many lent objects are out.
     ghost lent: { Self → ℕ };
 
-    /// Lends the bytes of a file that exists. `Absent` comes exactly where there is none, and `Failed` only with a
-    /// fault of the room; `Exists` never comes. The lent source has no fault so far, and gives the file's bytes.
+    /// Lends the bytes of a file that exists. `Absent` comes exactly where there is none, and
+    /// `Failed` only with a fault of the room; `Exists` never comes. The lent source has no fault
+    /// so far, and gives the file's bytes.
     fn source(&mut self, name: &str) -> Result<Self::Src, RoomError>
         requires { lent self.old < 2 ^ 32 }
-        ensures lending { Lending (lent self.old) (lent self.new) (faults self.old) (faults self.new) result }
+        ensures lending { Lending (lent self.old) (lent self.new)
+            (faults self.old) (faults self.new) result }
         ensures stay { AllStay (file self.old) (file self.new) (device self.old) (device self.new) }
         ensures tells { tells self.old → tells self.new }
         ensures bytes { IfOk result (λ s. tells self.old
             → LendsBytes (file self.old name.now) (Self.Src.left s)) }
         ensures begins { IfOk result (λ s. Self.Src.faults s ≡ 0) }
-        ensures absent { IsErrOf result RoomError.Absent → tells self.old → file self.old name.now ≡ None }
+        ensures absent { IsErrOf result RoomError.Absent → tells self.old
+            → file self.old name.now ≡ None }
         ensures never { IsErrOf result RoomError.Exists → ⊥ };
 
-    /// Lends the device of a file that exists, with the refusals of [`Room::source`]. The lent device has no fault
-    /// so far, reads as the file does, and leaves after a crash what the file's device leaves.
+    /// Lends the device of a file that exists, with the refusals of [`Room::source`]. The lent
+    /// device has no fault so far, reads as the file does, and leaves after a crash what the file's
+    /// device leaves.
     fn disk(&mut self, name: &str) -> Result<Self::Dsk, RoomError>
         requires { lent self.old < 2 ^ 32 }
-        ensures lending { Lending (lent self.old) (lent self.new) (faults self.old) (faults self.new) result }
+        ensures lending { Lending (lent self.old) (lent self.new)
+            (faults self.old) (faults self.new) result }
         ensures stay { AllStay (file self.old) (file self.new) (device self.old) (device self.new) }
         ensures tells { tells self.old → tells self.new }
         ensures bytes { IfOk result (λ d. tells self.old
@@ -59,17 +64,21 @@ pub trait Room {
         ensures device { IfOk result (λ d. tells self.old
             → IsSomeAnd (device self.old name.now) (λ e. SameDevice Self.Dsk.Disk e d)) }
         ensures begins { IfOk result (λ d. Self.Dsk.faults d ≡ 0) }
-        ensures absent { IsErrOf result RoomError.Absent → tells self.old → file self.old name.now ≡ None }
+        ensures absent { IsErrOf result RoomError.Absent → tells self.old
+            → file self.old name.now ≡ None }
         ensures never { IsErrOf result RoomError.Exists → ⊥ };
 
-    /// Makes an empty file and lends its device, which has no fault so far, and of which a crash leaves nothing.
-    /// `Exists` comes exactly where the name has a file, and `Failed` only with a fault of the room; `Absent` never
-    /// comes. A refusal makes no file.
+    /// Makes an empty file and lends its device, which has no fault so far, and of which a crash
+    /// leaves nothing. `Exists` comes exactly where the name has a file, and `Failed` only with a
+    /// fault of the room; `Absent` never comes. A refusal makes no file.
     fn fresh(&mut self, name: &str) -> Result<Self::Dsk, RoomError>
         requires { lent self.old < 2 ^ 32 }
-        ensures lending { Lending (lent self.old) (lent self.new) (faults self.old) (faults self.new) result }
-        ensures others { OthersStay (file self.old) (file self.new) (device self.old) (device self.new) name.now }
-        ensures err { OnErr result (Stays (file self.old) (file self.new) (device self.old) (device self.new) name.now) }
+        ensures lending { Lending (lent self.old) (lent self.new)
+            (faults self.old) (faults self.new) result }
+        ensures others { OthersStay (file self.old) (file self.new)
+            (device self.old) (device self.new) name.now }
+        ensures err { OnErr result (Stays (file self.old) (file self.new)
+            (device self.old) (device self.new) name.now) }
         ensures tells { tells self.old → tells self.new }
         ensures was_absent { OnOk result (tells self.old → file self.old name.now ≡ None) }
         ensures no_device { OnOk result (tells self.old → device self.old name.now ≡ None) }
@@ -77,10 +86,12 @@ pub trait Room {
             → (file self.new name.now ≡ Some []) × (Self.Dsk.told d ≡ Some [])) }
         ensures device { IfOk result (λ d. tells self.old
             → IsSomeAnd (device self.new name.now) (λ e. SameDevice Self.Dsk.Disk e d)) }
-        ensures only { IfOk result (λ d. tells self.old → (c : List ℕ) → Self.Dsk.may_leave d c → c ≡ []) }
+        ensures only { IfOk result (λ d. tells self.old
+            → (c : List ℕ) → Self.Dsk.may_leave d c → c ≡ []) }
         ensures time { IfOk result (λ d. Self.Dsk.moment d ≡ 0) }
         ensures begins { IfOk result (λ d. Self.Dsk.faults d ≡ 0) }
-        ensures exists { IsErrOf result RoomError.Exists → tells self.old → IsSome (file self.old name.now) }
+        ensures exists { IsErrOf result RoomError.Exists → tells self.old
+            → IsSome (file self.old name.now) }
         ensures never { IsErrOf result RoomError.Absent → ⊥ };
 
     /// Takes a source back, and adds its faults to its own.
@@ -91,20 +102,23 @@ pub trait Room {
         ensures stay { AllStay (file self.old) (file self.new) (device self.old) (device self.new) }
         ensures tells { tells self.old → tells self.new };
 
-    /// Takes a device back, puts it in the place of that file's, and adds its faults to its own. Where the name has
-    /// no file, none is made.
+    /// Takes a device back, puts it in the place of that file's, and adds its faults to its own.
+    /// Where the name has no file, none is made.
     fn keep(&mut self, name: &str, disk: Self::Dsk)
         requires { 0 < lent self.old }
         ensures out { lent self.new + 1 ≡ lent self.old }
         ensures count { faults self.new ≡ with_count (faults self.old) (Self.Dsk.faults disk) }
-        ensures others { OthersStay (file self.old) (file self.new) (device self.old) (device self.new) name.now }
+        ensures others { OthersStay (file self.old) (file self.new)
+            (device self.old) (device self.new) name.now }
         ensures tells { tells self.old → tells self.new }
-        ensures none { tells self.old → file self.old name.now ≡ None → file self.new name.now ≡ None }
+        ensures none { tells self.old → file self.old name.now ≡ None
+            → file self.new name.now ≡ None }
         ensures bytes { tells self.old → IsSome (file self.old name.now)
             → LendsBytes (file self.new name.now) (Self.Dsk.told disk) }
         ensures device { tells self.old → IsSome (file self.old name.now)
             → IsSomeAnd (device self.new name.now) (λ e. SameDevice Self.Dsk.Disk disk e) };
 
     /// Where the room tells its files, each has a device, and that tells the same bytes.
-    ghost told_file: { (m : Self) (name : List ℕ) → tells m → TellsFile Self.Dsk.told (file m name) (device m name) };
+    ghost told_file: { (m : Self) (name : List ℕ) → tells m
+        → TellsFile Self.Dsk.told (file m name) (device m name) };
 }

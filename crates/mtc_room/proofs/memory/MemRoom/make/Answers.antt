@@ -12,11 +12,14 @@ returns-clause-others c = grind (arith, text_keys)
 
 pub returns-clause-made : goal.returns-clause-made
 returns-clause-made c =
-    let is : get_by_text c.insert.new.self c.args.name.now ≡ Some c.new-disk.result = grind (arith, text_keys) in
+    let is : get_by_text c.insert.new.self c.args.name.now ≡ Some c.new-disk.result
+    = grind (arith, text_keys) in
     subst (λ x. IsSomeAnd x (λ e. IsFresh [] e × SameDevice ghosts e c.in_ok-lent.lent)) (sym is)
     (c.new-disk.ensures.fresh, c.in_ok-lent.ensures.same)
 
 pub returns-clause-listed : goal.returns-clause-listed
 returns-clause-listed c =
-    let is : get_by_text c.insert.new.self c.args.name.now ≡ Some c.new-disk.result = grind (arith, text_keys) in
-    subst (λ x. IsSomeAnd x (λ e. failing_of e ≡ c.args.self.now.fresh_failing.items)) (sym is) (grind arith)
+    let is : get_by_text c.insert.new.self c.args.name.now ≡ Some c.new-disk.result
+    = grind (arith, text_keys) in
+    subst (λ x. IsSomeAnd x (λ e. failing_of e ≡ c.args.self.now.fresh_failing.items)) (sym is)
+    (grind arith)
