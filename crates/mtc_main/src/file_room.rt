@@ -1,7 +1,10 @@
 //! The files of the system as a room.
-ghost use Rattle.std.specs.Prelude.{◌≡◌, ◌≤◌, None};
+ghost use Rattle.std.specs.Prelude.{◌≡◌, ◌≤◌, ◌<◌, ◌^◌, None, IfOk, IfErr};
 ghost use Rattle.mtc_io.specs.Counts.{Rose};
+ghost use Rattle.mtc_room.specs.Room.{Lending};
+ghost use Rattle.disk_core.specs.File.{file_faults, file_moment};
 
+use crate::journal::{hold, make, open_to_write};
 use disk_core::{Disk, FileDisk};
 use mtc_io::{Failed, Source, StdSource};
 use mtc_room::{Room, RoomError};
@@ -9,12 +12,18 @@ use std::fs::{self, File};
 use std::io::{self, ErrorKind};
 use std::rt::Files;
 
-/// The files of the system. It tells nothing of them: what a file holds is taken as it comes.
+/// The files of the system. It tells nothing of them: what a file holds is taken as it comes. A
+/// journal is lent to this process alone, and its name is on the disk before it is lent.
 #[derive(Drop)]
 pub struct FileRoom<'a, R> {
     files: &'a R,
     lent: u64,
     faults: u64,
+}
+
+// Whether the system has no file of that name, also where the name goes on behind a file.
+fn is_absent(why: &io::Error) -> bool {
+    matches!(why.kind(), ErrorKind::NotFound | ErrorKind::NotADirectory)
 }
 
 impl<'a, R: Files<File = File>> FileRoom<'a, R> {
@@ -30,7 +39,7 @@ impl<'a, R: Files<File = File>> FileRoom<'a, R> {
         }
     }
 
-    // The system's error, where no answer of a room's stands for it, as a fault.
+    // An error of the system that no answer of a room's stands for: a fault.
     fn fail(&mut self) -> RoomError
         ensures error { result ≡ RoomError.Failed }
         ensures lent { self.new.lent ≡ self.old.lent }
@@ -40,20 +49,24 @@ impl<'a, R: Files<File = File>> FileRoom<'a, R> {
         self.faults = self.faults.saturating_add(1);
         RoomError::Failed
     }
-}
 
-// Opens a file that exists, to read and to write.
-fn open<R: Files>(files: &R, name: &str) -> io::Result<R::File> {
-    File::options().read(true).write(true).open(files, name)
-}
-
-// Makes an empty file, and opens it to read and to write.
-fn make<R: Files>(files: &R, name: &str) -> io::Result<R::File> {
-    File::options()
-        .read(true)
-        .write(true)
-        .create_new(true)
-        .open(files, name)
+    // Lends a journal that this process holds, or counts the fault.
+    fn lend(&mut self, held: io::Result<File>) -> Result<FileDisk, RoomError>
+        requires { self.old.lent < 2 ^ 32 }
+        ensures lending { Lending self.old.lent self.new.lent self.old.faults self.new.faults result
+            }
+        ensures failed { IfErr result (λ why. why ≡ RoomError.Failed) }
+        ensures time { IfOk result (λ disk. file_moment disk ≡ 0) }
+        ensures begins { IfOk result (λ disk. file_faults disk ≡ 0) }
+    {
+        match held {
+            Ok(file) => {
+                self.lent += 1;
+                Ok(FileDisk::new(file))
+            }
+            Err(_) => Err(self.fail()),
+        }
+    }
 }
 
 impl<'a, R: Files<File = File>> Room for FileRoom<'a, R> {
@@ -77,18 +90,18 @@ impl<'a, R: Files<File = File>> Room for FileRoom<'a, R> {
                 self.lent += 1;
                 Ok(StdSource::new(file))
             }
-            Err(why) if why.kind() == ErrorKind::NotFound => Err(RoomError::Absent),
+            Err(why) if is_absent(&why) => Err(RoomError::Absent),
             Err(_) => Err(self.fail()),
         }
     }
 
     fn disk(&mut self, name: &str) -> Result<FileDisk, RoomError> {
-        match open(self.files, name) {
+        match open_to_write(self.files, name) {
             Ok(file) => {
-                self.lent += 1;
-                Ok(FileDisk::new(file))
+                let held = hold(self.files, file, name);
+                self.lend(held)
             }
-            Err(why) if why.kind() == ErrorKind::NotFound => Err(RoomError::Absent),
+            Err(why) if is_absent(&why) => Err(RoomError::Absent),
             Err(_) => Err(self.fail()),
         }
     }
@@ -96,8 +109,11 @@ impl<'a, R: Files<File = File>> Room for FileRoom<'a, R> {
     fn fresh(&mut self, name: &str) -> Result<FileDisk, RoomError> {
         match make(self.files, name) {
             Ok(file) => {
-                self.lent += 1;
-                Ok(FileDisk::new(file))
+                let held = hold(self.files, file, name);
+                if held.is_err() {
+                    let _ = fs::remove_file(self.files, name);
+                }
+                self.lend(held)
             }
             Err(why) if why.kind() == ErrorKind::AlreadyExists => Err(RoomError::Exists),
             Err(_) => Err(self.fail()),
