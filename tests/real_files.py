@@ -1,0 +1,348 @@
+#!/usr/bin/env python3
+"""Runs the program on real files and streams, and checks what a proof can't see: locks, modes, closed streams, the order
+of the system's calls, commands at once, and commands that are killed.
+
+Prints a line for each check, and below it what is wrong. As root it runs the program as nobody, so that modes count.
+Usage: tests/real_files.py [KILLS [CHECK ..]]      `issue` is killed so many times, 100 if nothing is said
+"""
+
+import fcntl
+import os
+import random
+import re
+import resource
+import shutil
+import subprocess
+import sys
+import tempfile
+import time
+from pathlib import Path
+
+ROOT = Path(__file__).resolve().parent.parent
+NOBODY = 65534
+ROUNDS = 60
+AT_ONCE = 4
+KEY = "MCowBQYDK2VwAyEAAAAAAAAAAAAAAAAAAAAAAAAAAAAAAAAAAAAAAAAAAAA="
+NEW_LOG = ["init-log", "j", "32473.1", "2", "100000"]
+FAILED = (5, "", "mtc: {}: {}: Failed\n")
+
+
+class Folder:
+    """A folder with the program and a request `r`, in which the program runs."""
+
+    def __init__(self, program):
+        self.path = Path(tempfile.mkdtemp())
+        self.notes = []
+        self.program = self.path / "mtc"
+        shutil.copy(program, self.program)
+        self.program.chmod(0o755)
+        self.owner = {"user": NOBODY, "group": NOBODY, "extra_groups": []} if os.getuid() == 0 else {}
+        self.request("r", "a.example")
+        self.own(self.path)
+
+    def own(self, *paths):
+        for path in paths if self.owner else ():
+            os.chown(path, NOBODY, NOBODY)
+
+    def request(self, file, name):
+        dates = 'not_before = "2026-01-01T00:00:00Z"\nnot_after = "2026-01-08T00:00:00Z"\n'
+        (self.path / file).write_text(f'{dates}dns = ["{name}"]\nkey = "{KEY}"\n')
+
+    def start(self, words, before=(), **options):
+        streams = {"stdin": subprocess.DEVNULL, "stdout": subprocess.PIPE, "stderr": subprocess.PIPE}
+        line = [*before, self.program, *words]
+        return subprocess.Popen(line, cwd=self.path, **{**streams, **self.owner, **options})
+
+    def run(self, words, **options):
+        """The status, standard output and standard error."""
+        process = self.start(words, **options)
+        out, err = process.communicate()
+        return process.returncode, (out or b"").decode("latin-1"), (err or b"").decode("latin-1")
+
+    def new_log(self, file="j"):
+        (self.path / file).unlink(missing_ok=True)
+        return self.run(["init-log", file, *NEW_LOG[2:]])
+
+    def size(self, file="j"):
+        """How many entries the log has, or what is wrong."""
+        status, out, err = self.run(["checkpoint", file])
+        found = re.match(r"size (\d+)\n", out)
+        return int(found[1]) if status == 0 and found else f"checkpoint: {status} {out}{err}"
+
+    def entries(self, size, file="j"):
+        _, text, _ = self.run(["entries", file, str(size)])
+        fields, place = [], 0
+        while place < len(text):
+            length = ord(text[place]) * 256 + ord(text[place + 1])
+            fields.append(text[place + 2:place + 2 + length])
+            place += 2 + length
+        return fields[0::2]
+
+    def bytes(self, file="j"):
+        return (self.path / file).read_bytes()
+
+    def names(self):
+        return sorted(path.name for path in self.path.iterdir())
+
+
+def unlike(what, found, wanted):
+    if found != wanted:
+        yield f"{what}: {found!r} in place of {wanted!r}"
+
+
+def failed(command, file):
+    status, out, err = FAILED
+    return status, out, err.format(command, file)
+
+
+def check_locks(folder, _kills):
+    """A journal that another process has locked is not opened, and stays as it is; inputs are not locked"""
+    folder.new_log()
+    before = folder.bytes()
+    with open(folder.path / "j", "rb") as held, open(folder.path / "r", "rb") as request:
+        fcntl.flock(request, fcntl.LOCK_EX)
+        for how in (fcntl.LOCK_EX, fcntl.LOCK_SH):
+            fcntl.flock(held, how)
+            for words in (["checkpoint", "j"], ["issue", "j", "r"], ["entries", "j", "1"], ["subtree", "j", "0", "1", "1"]):
+                yield from unlike(words[0], folder.run(words), failed(words[0], "j"))
+        yield from unlike("the journal", folder.bytes(), before)
+        fcntl.flock(held, fcntl.LOCK_UN)
+        yield from unlike("issue", folder.run(["issue", "j", "r"]), (0, "issued 1\n", ""))
+
+
+def check_refusals(folder, _kills):
+    """Each error of the system has its answer, and a refusal makes no file"""
+    folder.new_log()
+    (folder.path / "folder").mkdir()
+    (folder.path / "link").symlink_to("nowhere")
+    shutil.copy(folder.path / "j", folder.path / "copy")
+    (folder.path / "copy").chmod(0o400)
+    folder.own(folder.path / "copy", folder.path / "folder")
+    before, names = folder.bytes("copy"), folder.names()
+    for words, status, name in (
+            ("member none", 7, "Absent"), ("member r/x", 7, "Absent"), ("member folder", 5, "Failed"),
+            ("checkpoint none", 7, "Absent"), ("checkpoint r/x", 7, "Absent"), ("checkpoint none/x", 7, "Absent"),
+            ("checkpoint folder", 5, "Failed"), ("checkpoint link", 7, "Absent"), ("checkpoint copy", 5, "Failed"),
+            ("init-log none/x 32473.1 2 9", 5, "Failed"), ("init-log r/x 32473.1 2 9", 5, "Failed"),
+            ("init-log folder 32473.1 2 9", 7, "Exists"), ("init-log link 32473.1 2 9", 7, "Exists"),
+            ("init-log j 32473.1 2 9", 7, "Exists"), ("issue j folder", 5, "Failed")):
+        command, *rest = words.split()
+        file = rest[1] if command == "issue" else rest[0]
+        wanted = (status, "", f"mtc: {command}: {file}: {name}\n")
+        yield from unlike(words, folder.run([command, *rest]), wanted)
+    yield from unlike("the copy", folder.bytes("copy"), before)
+    yield from unlike("the folder", folder.names(), names)
+
+
+def check_modes(folder, _kills):
+    """A new journal is its owner's alone"""
+    folder.new_log()
+    (folder.path / "j").unlink()
+    folder.run(NEW_LOG, umask=0)
+    yield from unlike("the mode", oct((folder.path / "j").stat().st_mode & 0o7777), "0o600")
+
+
+def closed(*descriptors):
+    def close():
+        for descriptor in descriptors:
+            os.close(descriptor)
+    return close
+
+
+def check_streams(folder, _kills):
+    """Standard output that fails is status 6, standard error that fails changes nothing, and neither ends in a signal"""
+    yield from unlike("init-log", folder.new_log(), (0, "log 32473.1\n", ""))
+    reader, broken = os.pipe()
+    os.close(reader)
+    with open("/dev/full", "wb") as full:
+        for command, words in (("checkpoint", []), ("entries", ["1"]), ("issue", ["r"])):
+            wanted = (6, "", f"mtc: {command}: OutputFailed\n")
+            for options in ({"stdout": full}, {"stdout": broken}, {"preexec_fn": closed(1)}):
+                yield from unlike(f"{command} {[*options]}", folder.run([command, "j", *words], **options), wanted)
+        for options in ({"stderr": full}, {"stderr": broken}, {"preexec_fn": closed(2)}):
+            yield from unlike(f"frob {[*options]}", folder.run(["frob"], **options), (1, "", ""))
+    os.close(broken)
+    before = folder.bytes()
+    status, _, _ = folder.run(["issue", "j", "r"], preexec_fn=closed(0, 1, 2))
+    after = folder.bytes()
+    # The last byte is the gate of the next record, which is opened.
+    yield from unlike("issue without streams", (status, after[:len(before) - 1] == before[:-1]), (6, True))
+    yield from unlike("the size", folder.size(), 5)
+    (folder.path / "j").unlink()
+    yield from unlike("init-log without streams", folder.run(NEW_LOG, preexec_fn=closed(0, 1, 2))[0], 6)
+    yield from unlike("the journal", len(folder.bytes()), 36)
+
+
+def traced(folder, words, *more):
+    """The calls on files that a command makes, each with its file, and the command's status."""
+    trace = folder.path / "trace"
+    trace.write_bytes(b"")
+    folder.own(trace)
+    calls = "trace=flock,fsync,fdatasync,fadvise64,pwrite64"
+    status, _, _ = folder.run(words, before=["strace", "-y", "-qq", "-o", trace, "-e", calls, *more])
+    lines = re.findall(r"^(\w+)\((\d+)<([^>]*)>", trace.read_text(), re.M)
+    return status, [(call, Path(file).name, int(number)) for call, number, file in lines]
+
+
+def can_trace(folder):
+    return shutil.which("strace") and folder.run(["member"], before=["strace", "-qq", "-o", "/dev/null"])[0] == 1
+
+
+OPENING = ["flock j", "fsync j", "fadvise64 j", "fsync d"]
+RECORD = ["pwrite64 j", "fsync j", "pwrite64 j", "fsync j"]
+
+
+def check_order(folder, _kills):
+    """A journal is locked, synced, dropped from the kernel's pages, and its folder synced, before it is read or written"""
+    if not can_trace(folder):
+        folder.notes.append("left out: strace isn't here, or may not trace")
+        return
+    inner = folder.path / "d"
+    inner.mkdir(exist_ok=True)
+    folder.own(inner)
+    for words, wanted in (
+            (["init-log", "d/j", *NEW_LOG[2:]], [*OPENING, *RECORD]),
+            (["issue", "d/j", "r"], [*OPENING, "fsync j", *RECORD]),
+            (["checkpoint", "d/j"], [*OPENING, "fsync j"])):
+        status, calls = traced(folder, words)
+        yield from unlike(words[0], (status, [f"{call} {file}" for call, file, _ in calls]), (0, wanted))
+    shell = ["sh", "-c", 'exec "$0" "$@" <&- >&- 2>&-']
+    status, calls = traced(folder, ["issue", "d/j", "r"], *shell)
+    numbers = {number > 2 for _, file, number in calls if file == "j"}
+    yield from unlike("issue without streams", (status, numbers), (6, {True}))
+
+
+def check_faults(folder, _kills):
+    """A call of the system that fails while a journal is opened or made is status 5, and leaves the folder as it was"""
+    if not can_trace(folder):
+        folder.notes.append("left out: strace isn't here, or may not trace")
+        return
+    faults = ["flock:error=EAGAIN", "flock:error=ENOLCK", "fsync:error=EIO:when=1", "fadvise64:error=EIO",
+              "fsync:error=EIO:when=2"]
+    (folder.path / "j").unlink(missing_ok=True)
+    names = sorted({*folder.names(), "trace"})
+    for fault in faults:
+        yield from unlike(f"init-log {fault}", traced(folder, NEW_LOG, "-e", f"inject={fault}")[0], 5)
+        yield from unlike("the folder", folder.names(), names)
+    folder.new_log()
+    before = folder.bytes()
+    for fault in [*faults, "fsync:error=EIO:when=3"]:
+        yield from unlike(f"issue {fault}", traced(folder, ["issue", "j", "r"], "-e", f"inject={fault}")[0], 5)
+        yield from unlike("the journal", folder.bytes(), before)
+
+
+def check_memory(folder, _kills):
+    """With less and less memory `init-log` makes its log, or answers status 8 and makes no file"""
+    folder.new_log()
+    met = {0: 0, 8: 0}
+    for limit in range(24 << 20, 1 << 20, -(64 << 10)):
+        (folder.path / "j").unlink(missing_ok=True)
+        bound = (limit, limit)
+        found = folder.run(NEW_LOG, preexec_fn=lambda bound=bound: resource.setrlimit(resource.RLIMIT_AS, bound))
+        files = len(folder.bytes()) if (folder.path / "j").exists() else None
+        if found[0] not in met:
+            yield from unlike(f"{limit} bytes, the program isn't started", files, None)
+            break
+        met[found[0]] += 1
+        wanted = (0, "log 32473.1\n", "", 36) if found[0] == 0 else (8, "", "mtc: init-log: Memory\n", None)
+        yield from unlike(f"{limit} bytes", (*found, files), wanted)
+    yield from unlike("runs of both kinds", [count > 0 for count in met.values()], [True, True])
+
+
+def acknowledged(out):
+    found = re.fullmatch(r"issued (\d+)\n", out)
+    return int(found[1]) if found else None
+
+
+def misplaced(entries, told):
+    """The names of acknowledged entries that don't stand at their indexes."""
+    for index, name in told:
+        if not (index < len(entries) and name in entries[index]):
+            yield f"{name} was acknowledged as {index}, and isn't there"
+
+
+def check_at_once(folder, _kills):
+    """Of `issue` given several times at once, each is acknowledged under its own index, or answers status 5"""
+    folder.new_log()
+    told, tries = [], 0
+    for _ in range(ROUNDS):
+        running = []
+        for _ in range(AT_ONCE):
+            tries += 1
+            folder.request(f"r{tries}", f"n{tries}.example")
+            running.append((f"n{tries}.example", folder.start(["issue", "j", f"r{tries}"])))
+        for name, process in running:
+            out, err = (text.decode() for text in process.communicate())
+            index = acknowledged(out)
+            if index is not None:
+                told.append((index, name))
+            else:
+                yield from unlike(name, (process.returncode, out, err), failed("issue", "j"))
+    size = folder.size()
+    yield from unlike("the size and the indexes", [index for index, _ in told], [*range(1, size)])
+    yield from misplaced(folder.entries(size), told)
+    yield from unlike("a round without an entry", len(told) >= ROUNDS, True)
+    folder.notes.append(f"{tries} times, {len(told)} acknowledged")
+
+
+def killed(folder, number, moment):
+    """What `issue` printed of the request with this number until it was killed at this moment."""
+    folder.request("k", f"k{number}.example")
+    process = folder.start(["issue", "j", "k"])
+    time.sleep(moment)
+    process.kill()
+    return process.communicate()[0].decode()
+
+
+def one_issue(folder):
+    began = time.monotonic()
+    folder.run(["issue", "j", "r"])
+    return time.monotonic() - began
+
+
+def check_kills(folder, kills):
+    """`issue` is killed at random moments: the journal opens each time, and each acknowledged entry is at its index"""
+    folder.new_log()
+    takes = sorted(one_issue(folder) for _ in range(9))[4]
+    before, told, unsaid = folder.size(), [], 0
+    for number in range(kills):
+        out = killed(folder, number, random.uniform(0, 1.3 * takes))
+        index, size = acknowledged(out), folder.size()
+        if index is not None:
+            told.append((index, f"k{number}.example"))
+            yield from unlike(f"issue {number}", (index, size), (before, before + 1))
+        elif size == before + 1:
+            unsaid += 1
+        else:
+            yield from unlike(f"the size behind issue {number}", size, before)
+        if not isinstance(size, int):
+            return
+        before = size
+    yield from misplaced(folder.entries(before), told)
+    yield from unlike("entries", before, 10 + len(told) + unsaid)
+    folder.notes.append(f"{kills} times, {len(told)} acknowledged, {unsaid} not acknowledged and there")
+
+
+CHECKS = [check_locks, check_refusals, check_modes, check_streams, check_order, check_faults, check_memory, check_at_once,
+          check_kills]
+
+
+def main(words):
+    kills = int(words[0]) if words else 100
+    if subprocess.run([ROOT / "mtc", "member", ROOT / "examples/first.member"], stdout=subprocess.DEVNULL).returncode:
+        return 70
+    status = 0
+    for check in CHECKS:
+        name = check.__name__.removeprefix("check_")
+        if words[1:] and name not in words[1:]:
+            continue
+        folder = Folder(ROOT / "crates/mtc_main/out/mtc_main")
+        wrong = list(check(folder, kills))
+        shutil.rmtree(folder.path)
+        print(f"{'wrong' if wrong else 'ok'}: {name}: {check.__doc__}", *wrong, *folder.notes, sep="\n    ")
+        status |= bool(wrong)
+    return status
+
+
+if __name__ == "__main__":
+    sys.exit(main(sys.argv[1:]))
