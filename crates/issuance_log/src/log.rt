@@ -167,21 +167,6 @@ impl<H: TreeHash, D: Disk> Log<H, D> {
         self.contents.leaves()
     }
 
-    /// The entries, each at its index.
-    pub fn entries(&self) -> &[Bytes]
-        ensures { result.now ≡ (state_of self.now).entries }
-    {
-        self.contents.entries()
-    }
-
-    /// The keys, each at the index of its entry.
-    pub fn keys(&self) -> &[Bytes]
-        ensures value { result.now ≡ (state_of self.now).keys }
-        ensures even { length result.now ≡ length (state_of self.now).entries }
-    {
-        self.contents.keys()
-    }
-
     /// The entry at an index and its key, in the place of what the two byte strings held.
     ///
     /// Errors, in the order of the tests: `NoSuchEntry` where the index isn't below the size;

@@ -34,7 +34,7 @@ impl<H: TreeHash, D: Disk> Nodes for Log<H, D> {
     ghost stays_on = { λ _ _ _ first second. second ∙ first };
 
     fn size(&self) -> u64 {
-        self.entries().len() as u64
+        Log::size(self)
     }
 
     fn node(&mut self, level: u32, place: u64) -> Result<[u8; 32], Failed> {
