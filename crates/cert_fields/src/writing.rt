@@ -14,7 +14,7 @@ use der_core::{put, put_unsigned};
 use mtc_io::{Bytes, Memory};
 use std::alloc::Global;
 
-const VERSION: [u8; 5] = [0xA0, 0x03, 0x02, 0x01, 0x02];
+const VERSION_3: [u8; 5] = [0xA0, 0x03, 0x02, 0x01, 0x02];
 
 /// Writes a certificate (RFC 5280, section 4.1) whose algorithm is that of Merkle tree proofs. Want
 /// of memory is the only refusal.
@@ -64,7 +64,7 @@ fn signed_contents(alloc: Global, parts: &CertParts) -> Result<Bytes, Memory>
     ensures serial { IfOk result (λ _. parts.now.serial < 2 ^ 64) }
 {
     let mut out = Bytes::new(alloc);
-    out.append(&VERSION)?;
+    out.append(&VERSION_3)?;
     put_unsigned(parts.serial, &mut out)?;
     out.append(&MTC_PROOF)?;
     out.append(parts.issuer.as_slice())?;

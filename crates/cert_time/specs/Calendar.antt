@@ -28,11 +28,12 @@ moment_from first_year c = if nat_le first_year c.year && exists c then Some (mo
 abbrev pub IsMoment : ℤ → Type 0
 IsMoment z = (negsuc 631151999 ≤ℤ z) × (z ≤ℤ pos 253402300799)
 
--- The first and the last of the moments at which a certificate is valid, in either order.
+-- The two times of a validity, in seconds since 1970: any two numbers.
 pub record Period : Type 0 where
   pub not_before : ℤ
   pub not_after : ℤ
 
+-- Both are moments that a certificate can tell, in either order.
 pub record IsPeriod (p : Period) : Type 0 where
   pub not_before : IsMoment p.not_before
   pub not_after : IsMoment p.not_after

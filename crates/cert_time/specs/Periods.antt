@@ -2,6 +2,6 @@
 use Rattle.cert_time.specs.Calendar.{Period}
 use Rattle.cert_time.specs.declared.validity.Validity.{Validity}
 
--- Its moments alone, of which any two make a period.
+-- Its two moments alone.
 abbrev pub period : Validity → Period
 period v = record { not_before = v.not_before; not_after = v.not_after }

@@ -58,12 +58,13 @@ EndsOnce [] = ⊥
 EndsOnce (b ∷ []) = b < 0x80
 EndsOnce (b ∷ c ∷ bytes) = (0x80 ≤ b) × EndsOnce (c ∷ bytes)
 
--- The bytes of one arc, in the fewest: the first digit in base 128 isn't 0 (X.690, 8.19.2).
+-- The bytes of one subidentifier, in the fewest: the first digit in base 128 isn't 0
+-- (X.690, 8.19.2).
 pub record IsSubidentifier (bytes : Text) : Type 0 where
   pub ends : EndsOnce bytes
   pub fewest : slice_index bytes 0 ≢ 0x80
 
--- The contents of an OBJECT IDENTIFIER: arcs one behind the other, at least one.
+-- The contents of an OBJECT IDENTIFIER: subidentifiers one behind the other, at least one.
 pub record IsOid (contents : Text) : Type 0 where
   pub arcs : List Text
   pub are_arcs : AllByRecursion IsSubidentifier arcs
