@@ -204,7 +204,7 @@ module _ (h : List ℕ → List ℕ) (id : List ℕ) (r : RequestParts) (sized :
   fields_are : IsTbs (tbs_for h id r)
   fields_are = record {
     issuer = issuer_is id anchor;
-    validity = record { period = record { not_before = f.not_before; not_after = f.not_after }; spelled = refl };
+    validity = record { period = f.validity; spelled = refl };
     subject = subject_is r.common_name f.common_name;
     key_hash = sized r.key;
     extensions = inr (field_is r f);

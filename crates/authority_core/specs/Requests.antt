@@ -4,7 +4,7 @@ use Rattle.std.specs.List.{AllByRecursion}
 use Rattle.std.specs.Option.{IfSome}
 use Rattle.byte_forms.specs.Types.{Text}
 use Rattle.cert_fields.specs.Grammar.{IsPublicKey}
-use Rattle.cert_time.specs.Calendar.{IsMoment, Period}
+use Rattle.cert_time.specs.Calendar.{IsPeriod, Period}
 use Rattle.authority_core.specs.Hosts.{IsHostName}
 
 -- What is asked for: the period, the host names, a common name or none, and the public key.
@@ -21,8 +21,7 @@ IsCommonName name = (1 ≤ length name) × (length name ≤ 64)
 -- The dates are moments in their order, the names are 1 to 100 host names, the common name has 1 to
 -- 64 bytes, and the key is one subjectPublicKeyInfo.
 pub record CanBeIssued (r : RequestParts) : Type 0 where
-  pub not_before : IsMoment r.validity.not_before
-  pub not_after : IsMoment r.validity.not_after
+  pub validity : IsPeriod r.validity
   pub dates : r.validity.not_before ≤ℤ r.validity.not_after
   pub some : 1 ≤ length r.names
   pub few : length r.names ≤ 100
