@@ -185,7 +185,8 @@ def traced(folder, words, *more):
 
 
 def can_trace(folder):
-    return shutil.which("strace") and folder.run(["member"], before=["strace", "-qq", "-o", "/dev/null"])[0] == 1
+    probe = ["strace", "-qq", "-o", "/dev/null", "true"]
+    return shutil.which("strace") and subprocess.run(probe, **folder.owner).returncode == 0
 
 
 OPENING = ["flock j", "fsync j", "fadvise64 j", "fsync d"]
@@ -303,10 +304,10 @@ def one_issue(folder):
 def check_kills(folder, kills):
     """`issue` is killed at random moments: the journal opens each time, and each acknowledged entry is at its index"""
     folder.new_log()
-    takes = sorted(one_issue(folder) for _ in range(9))[4]
+    span = sorted(one_issue(folder) for _ in range(9))[4]
     before, told, unsaid = folder.size(), [], 0
     for number in range(kills):
-        out = killed(folder, number, random.uniform(0, 1.3 * takes))
+        out = killed(folder, number, random.uniform(0, span))
         index, size = acknowledged(out), folder.size()
         if index is not None:
             told.append((index, f"k{number}.example"))
@@ -317,6 +318,8 @@ def check_kills(folder, kills):
             yield from unlike(f"the size behind issue {number}", size, before)
         if not isinstance(size, int):
             return
+        # So that some three of ten entries are there, however long an `issue` takes by now.
+        span = min(span * (1.1 if size == before else 0.8), 10)
         before = size
     yield from misplaced(folder.entries(before), told)
     yield from unlike("entries", before, 10 + len(told) + unsaid)

@@ -5,7 +5,6 @@
 
 mod file_room;
 mod journal;
-mod stream;
 #[cfg(test)]
 mod tests;
 
@@ -15,7 +14,6 @@ use mtc_top::run;
 use std::env::Env;
 use std::process::ExitCode;
 use std::{env, io};
-use stream::Stream;
 use tree_core::Sha;
 
 const BAD_WORDS: u8 = 1;
@@ -43,11 +41,11 @@ fn refuse(err: &mut impl Sink, why: &io::Error) -> u8 {
 }
 
 fn main(rt: HostRuntime) -> ExitCode {
-    let mut err = StdSink::new(Stream::err());
+    let mut err = StdSink::new(rt.stderr());
     let status = match words_behind_name(&rt) {
         Ok(words) => {
             let mut room = FileRoom::new(&rt);
-            let mut out = StdSink::new(Stream::out());
+            let mut out = StdSink::new(rt.stdout());
             run::<Sha, _, _, _>(rt.alloc(), &words, &mut room, &mut out, &mut err)
         }
         Err(why) => refuse(&mut err, &why),
