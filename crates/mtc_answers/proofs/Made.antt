@@ -1,106 +1,201 @@
--- What a command leaves of its journal: from the device as it was opened to the device before, and from the lent device to
--- the room's.
-use Rattle.std.proofs.Common.{◌≡◌, ◌⊎◌, inl, inr, ℕ, List, Option, None, Some, sym, subst}
+-- What a command leaves of its journal: from the device as it was opened to the device before, and
+-- from the lent device to the room's.
+use Rattle.std.proofs.Common.{◌≡◌, inl, inr, ℕ, ◌≤◌, List, Option, None, Some, sym, subst, arith}
 use Rattle.std.specs.Option.{IsSomeAnd}
 use Rattle.disk_core.specs.Moments.{LeavesOnly, Looks}
 use Rattle.disk_core.specs.Same.{SameDevice}
 use Rattle.disk_core.specs.declared.disk.Disk.{Ghosts}
 use Rattle.journal_core.specs.Format.{StandsForEither}
-use Rattle.mtc_answers.specs.Made.{Journaled, untouched, reads, appended, started, images_of, moment_of, left_of, Kept, WasRead, HasRead, HasMade, MayHaveMade, IsOpen, Adds, MayAdd}
+use Rattle.mtc_answers.specs.Made.{Journaled, untouched, reads, appended, started, Images, Leaving, Kept, WasRead, HasAdded, HasKept, HasMade, MayHaveMade, IsOpen, Adds, MayAdd, Leaves}
+use Rattle.mtc_answers.specs.Settled.{LeftBy}
+use Rattle.mtc_answers.specs.declared.answer.Stop.{Stop}
+use Rattle.mtc_answers.specs.declared.answer.Stop.TheVariants.{Room, Memory}
 
 module _ {D : Type 0} (g : Ghosts D) where
-  -- a look leaves nothing new
-  pub kept_of : (old mid : D) → Looks g old mid → Kept (g.may_leave old) (g.may_leave mid) (g.left_since mid (g.moment old))
-  kept_of old mid looks = record { now_is = looks.crash; since_is = looks.moments.each }
+  -- what a disk tells is an image; and of this moment there are only the images of now
+  abbrev pub ReadsImage : Type 0
+  ReadsImage = (d : D) (b : List ℕ) → g.told d ≡ Some b → g.may_leave d b
 
-  was_read : (old mid : D) (list : List (List ℕ)) → ((d : D) (b : List ℕ) → g.told d ≡ Some b → g.may_leave d b)
-      → Looks g old mid → IsOpen g mid list → WasRead (g.may_leave old) list
+  abbrev pub OnlyNow : Type 0
+  OnlyNow = (d : D) (c : List ℕ) → g.left_since d (g.moment d) c → g.may_leave d c
+
+  -- a look leaves nothing new
+  pub kept_of : (old mid : D) (did : Journaled) → Looks g old mid
+      → Leaves g (HasKept did) (Some old) (Some mid)
+  kept_of old mid did looks = record {
+    later = looks.moments.later;
+    images = record { now_is = looks.crash; since_is = looks.moments.each };
+  }
+
+  was_read : (old mid : D) (list : List (List ℕ)) → ReadsImage → Looks g old mid → IsOpen g mid list
+      → WasRead (g.may_leave old) list
   was_read old mid list image looks is = record {
     bytes = is.bytes;
     image = looks.crash is.bytes (image mid is.bytes is.told);
     stands = is.stands;
   }
 
-  since_old : (old mid new : D) (P : List ℕ → Type 0) → Looks g old mid → LeavesOnly g mid new P
-      → (c : List ℕ) → g.left_since new (g.moment old) c → g.may_leave old c ⊎ P c
-  since_old old mid new P looks run c since =
-      elim (run.before (g.moment old) c looks.moments.later since) [ inl past ↦ inl (looks.moments.each c past) | inr is ↦ inr is ]
+  -- the images behind an opening and an append, seen from the device before
+  has_added : (old mid new : D) (list : List (List ℕ)) (body : List ℕ) (Now : Images)
+      → ReadsImage → Looks g old mid → IsOpen g mid list
+      → LeavesOnly g mid new (StandsForEither list body)
+      → ((c : List ℕ) → g.may_leave new c → Now c)
+      → HasAdded list body Now (g.may_leave old) (g.may_leave new) (g.left_since new (g.moment old))
+  has_added old mid new list body Now image looks is run now = record {
+    read = was_read old mid list image looks is;
+    now_is = now;
+    since_is = λ c since. elim (run.before (g.moment old) c looks.moments.later since) [
+      | inl past ↦ inl (looks.moments.each c past)
+      | inr either ↦ inr either
+    ];
+  }
 
-  -- what the work behind an opening has made, seen from the device before
-  pub has_made : (old mid new : D) (did : Journaled) → ((d : D) (b : List ℕ) → g.told d ≡ Some b → g.may_leave d b)
-      → Looks g old mid → Adds g did mid new → HasMade did (g.may_leave old) (g.may_leave new) (g.left_since new (g.moment old))
+  later_still : (old mid new : D) (P : List ℕ → Type 0) → Looks g old mid → LeavesOnly g mid new P
+      → g.moment old ≤ g.moment new
+  later_still old mid new P looks run = omega (arith, looks.moments.later, run.later)
+
+  -- what the work behind an opening has made
+  pub has_made : (old mid new : D) (did : Journaled) → ReadsImage
+      → Looks g old mid → Adds g did mid new → Leaves g (HasMade did) (Some old) (Some new)
   has_made old mid new untouched image looks made = absurd made
   has_made old mid new (reads list) image looks made =
-      subst (λ d. HasRead list (g.may_leave old) (g.may_leave d) (g.left_since d (g.moment old))) (sym made.1)
-      (record { read = was_read old mid list image looks made.0; now_is = made.0.all; since_is = looks.moments.each })
+      subst (λ d. Leaves g (HasMade (reads list)) (Some old) (Some d)) (sym made.1) (record {
+        later = looks.moments.later;
+        images = record {
+          read = was_read old mid list image looks made.0;
+          now_is = made.0.all;
+          since_is = looks.moments.each;
+        };
+      })
   has_made old mid new (appended list body) image looks made = record {
-    read = was_read old mid list image looks made.0;
-    now_is = made.2;
-    since_is = since_old old mid new (StandsForEither list body) looks made.1;
+    later = later_still old mid new _ looks made.1;
+    images = has_added old mid new list body _ image looks made.0 made.1 made.2;
   }
   has_made old mid new (started body) image looks made = absurd made
 
-  pub may_have_made : (old mid new : D) (did : Journaled) → ((d : D) (b : List ℕ) → g.told d ≡ Some b → g.may_leave d b)
-      → Looks g old mid → MayAdd g did mid new → MayHaveMade did (g.may_leave old) (g.may_leave new) (g.left_since new (g.moment old))
+  pub may_have_made : (old mid new : D) (did : Journaled) → ReadsImage
+      → Looks g old mid → MayAdd g did mid new → Leaves g (MayHaveMade did) (Some old) (Some new)
   may_have_made old mid new untouched image looks made = absurd made
   may_have_made old mid new (reads list) image looks made = absurd made
-  may_have_made old mid new (appended list body) image looks made = inr (record {
-    read = was_read old mid list image looks made.0;
-    now_is = made.2;
-    since_is = since_old old mid new (StandsForEither list body) looks made.1;
-  })
+  may_have_made old mid new (appended list body) image looks made = record {
+    later = later_still old mid new _ looks made.1;
+    images = inr (has_added old mid new list body _ image looks made.0 made.1 made.2);
+  }
   may_have_made old mid new (started body) image looks made = absurd made
 
+-- Nothing new is left also by a command that a fault has ended.
+pub may_kept : (did : Journaled) (before now since : Images) → Kept before now since
+    → MayHaveMade did before now since
+may_kept untouched before now since kept = kept
+may_kept (reads list) before now since kept = kept
+may_kept (appended list body) before now since kept = inl kept
+may_kept (started body) before now since kept = tt
+
+module _ {D : Type 0} (g : Ghosts D) where
+  pub left_kept : (stop : Stop) (did : Journaled) (old new : Option D)
+      → Leaves g (HasKept did) old new → Leaves g (LeftBy stop did) old new
+  left_kept (Room file) did old new kept = record {
+    later = kept.later;
+    images = may_kept did _ _ _ kept.images;
+  }
+  left_kept Memory did old new kept = record { later = kept.later; images = kept.images }
+
+  -- a device that was left alone
+  still_at : (x : Option D) (did : Journaled) → OnlyNow g → Leaves g (HasKept did) x x
+  still_at None did only_now = record {
+    later = omega arith;
+    images = record { now_is = λ c is. is; since_is = λ c is. is };
+  }
+  still_at (Some d) did only_now = record {
+    later = omega arith;
+    images = record { now_is = λ c is. is; since_is = only_now d };
+  }
+
+  pub still : (x y : Option D) (did : Journaled) → OnlyNow g → y ≡ x → Leaves g (HasKept did) x y
+  still x y did only_now same =
+      subst (λ z. Leaves g (HasKept did) x z) (sym same) (still_at x did only_now)
+
 -- Images may be exchanged: those before for more, those now and since for fewer.
-pub record Wider (before before' now now' since since' : List ℕ → Type 0) : Type 0 where
+record Wider (before before' now now' since since' : Images) : Type 0 where
   pub from_before : (c : List ℕ) → before c → before' c
   pub to_now : (c : List ℕ) → now' c → now c
   pub to_since : (c : List ℕ) → since' c → since c
 
-pub kept_through : (b b' n n' s s' : List ℕ → Type 0) → Wider b b' n n' s s' → Kept b n s → Kept b' n' s'
-kept_through b b' n n' s s' w k = record {
-  now_is = λ c is. w.from_before c (k.now_is c (w.to_now c is));
-  since_is = λ c is. w.from_before c (k.since_is c (w.to_since c is));
-}
-
-read_through : (b b' : List ℕ → Type 0) (list : List (List ℕ)) → ((c : List ℕ) → b c → b' c) → WasRead b list → WasRead b' list
-read_through b b' list from r = record { bytes = r.bytes; image = from r.bytes r.image; stands = r.stands }
-
-pub made_through : (b b' n n' s s' : List ℕ → Type 0) (did : Journaled) → Wider b b' n n' s s' → HasMade did b n s → HasMade did b' n' s'
-made_through b b' n n' s s' untouched w k = kept_through b b' n n' s s' w k
-made_through b b' n n' s s' (reads list) w k = record {
-  read = read_through b b' list w.from_before k.read;
-  now_is = λ c is. k.now_is c (w.to_now c is);
-  since_is = λ c is. w.from_before c (k.since_is c (w.to_since c is));
-}
-made_through b b' n n' s s' (appended list body) w k = record {
-  read = read_through b b' list w.from_before k.read;
-  now_is = λ c is. k.now_is c (w.to_now c is);
-  since_is = λ c is. elim (k.since_is c (w.to_since c is)) [ inl past ↦ inl (w.from_before c past) | inr either ↦ inr either ];
-}
-made_through b b' n n' s s' (started body) w k = λ c is. k c (w.to_now c is)
-
-pub may_through : (b b' n n' s s' : List ℕ → Type 0) (did : Journaled) → Wider b b' n n' s s' → MayHaveMade did b n s → MayHaveMade did b' n' s'
-may_through b b' n n' s s' untouched w k = kept_through b b' n n' s s' w k
-may_through b b' n n' s s' (reads list) w k = kept_through b b' n n' s s' w k
-may_through b b' n n' s s' (appended list body) w k = elim k [
-  | inl kept ↦ inl (kept_through b b' n n' s s' w kept)
-  | inr may ↦ inr (record {
-    read = read_through b b' list w.from_before may.read;
-    now_is = λ c is. may.now_is c (w.to_now c is);
-    since_is = λ c is. elim (may.since_is c (w.to_since c is)) [ inl past ↦ inl (w.from_before c past) | inr either ↦ inr either ];
-  })
-]
-may_through b b' n n' s s' (started body) w k = tt
-
-module _ {D : Type 0} (g : Ghosts D) where
-  -- a device d was lent as a copy of x's, and e was put back as z's
-  pub lent : (x z : Option D) (d e : D) → IsSomeAnd x (λ a. SameDevice g a d) → IsSomeAnd z (λ b. SameDevice g e b)
-      → Wider (g.may_leave d) (images_of g x) (g.may_leave e) (images_of g z) (g.left_since e (g.moment d)) (left_of g z (moment_of g x))
-  lent None z d e out back = absurd out
-  lent (Some a) None d e out back = absurd back
-  lent (Some a) (Some b) d e out back = record {
-    from_before = λ c is. (out.leaves c).0 is;
-    to_now = λ c is. (back.leaves c).0 is;
-    to_since = λ c is. subst (λ t. g.left_since e t c) (sym out.time) ((back.left (g.moment a) c).0 is);
+module _ (b b' n n' s s' : Images) (w : Wider b b' n n' s s') where
+  kept_through : Kept b n s → Kept b' n' s'
+  kept_through k = record {
+    now_is = λ c is. w.from_before c (k.now_is c (w.to_now c is));
+    since_is = λ c is. w.from_before c (k.since_is c (w.to_since c is));
   }
+
+  read_through : (list : List (List ℕ)) → WasRead b list → WasRead b' list
+  read_through list r = record {
+    bytes = r.bytes;
+    image = w.from_before r.bytes r.image;
+    stands = r.stands;
+  }
+
+  added_through : (list : List (List ℕ)) (body : List ℕ) (Now : Images)
+      → HasAdded list body Now b n s → HasAdded list body Now b' n' s'
+  added_through list body Now k = record {
+    read = read_through list k.read;
+    now_is = λ c is. k.now_is c (w.to_now c is);
+    since_is = λ c is. elim (k.since_is c (w.to_since c is)) [
+      | inl past ↦ inl (w.from_before c past)
+      | inr either ↦ inr either
+    ];
+  }
+
+  made_through : (did : Journaled) → HasMade did b n s → HasMade did b' n' s'
+  made_through untouched k = kept_through k
+  made_through (reads list) k = record {
+    read = read_through list k.read;
+    now_is = λ c is. k.now_is c (w.to_now c is);
+    since_is = λ c is. w.from_before c (k.since_is c (w.to_since c is));
+  }
+  made_through (appended list body) k = added_through list body _ k
+  made_through (started body) k = λ c is. k c (w.to_now c is)
+
+  may_through : (did : Journaled) → MayHaveMade did b n s → MayHaveMade did b' n' s'
+  may_through untouched k = kept_through k
+  may_through (reads list) k = kept_through k
+  may_through (appended list body) k = elim k [
+    | inl kept ↦ inl (kept_through kept)
+    | inr may ↦ inr (added_through list body _ may)
+  ]
+  may_through (started body) k = tt
+
+-- a device d was lent as a copy of x's, and e was put back as z's
+module _ {D : Type 0} (g : Ghosts D) where
+  abbrev pub Lent : Option D → D → Type 0
+  Lent x d = IsSomeAnd x (λ a. SameDevice g a d)
+
+  abbrev pub PutBack : Option D → D → Type 0
+  PutBack z e = IsSomeAnd z (λ b. SameDevice g e b)
+
+  lent : (How : Leaving)
+      → ((b b' n n' s s' : Images) → Wider b b' n n' s s' → How b n s → How b' n' s')
+      → (x z : Option D) (d e : D) → Lent x d → PutBack z e
+      → Leaves g How (Some d) (Some e) → Leaves g How x z
+  lent How through None z d e out back k = absurd out
+  lent How through (Some a) None d e out back k = absurd back
+  lent How through (Some a) (Some b) d e out back k = record {
+    later = omega (arith, out.time, back.time, k.later);
+    images = through _ _ _ _ _ _ (record {
+      from_before = λ c is. (out.leaves c).0 is;
+      to_now = λ c is. (back.leaves c).0 is;
+      to_since = λ c is. subst (λ t. g.left_since e t c) (sym out.time)
+          ((back.left (g.moment a) c).0 is);
+    }) k.images;
+  }
+
+  pub made_lent : (did : Journaled) (x z : Option D) (d e : D) → Lent x d → PutBack z e
+      → Leaves g (HasMade did) (Some d) (Some e) → Leaves g (HasMade did) x z
+  made_lent did = lent (HasMade did) (λ b b' n n' s s' w. made_through b b' n n' s s' w did)
+
+  pub left_lent : (stop : Stop) (did : Journaled) (x z : Option D) (d e : D)
+      → Lent x d → PutBack z e → Leaves g (LeftBy stop did) (Some d) (Some e)
+      → Leaves g (LeftBy stop did) x z
+  left_lent (Room file) did =
+      lent (MayHaveMade did) (λ b b' n n' s s' w. may_through b b' n n' s s' w did)
+  left_lent Memory did = lent (HasKept did) kept_through

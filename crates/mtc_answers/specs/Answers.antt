@@ -35,4 +35,5 @@ err_of (Stops why line) = line
 
 -- The statuses of a command that may not have opened its journal.
 abbrev pub IsEarly : ℕ → Type 0
-IsEarly status = (status ≡ 1) ⊎ ((status ≡ 2) ⊎ ((status ≡ 5) ⊎ ((status ≡ 7) ⊎ ((status ≡ 8) ⊎ (status ≡ 9)))))
+IsEarly status =
+    (status ≡ 1) ⊎ ((status ≡ 2) ⊎ ((status ≡ 5) ⊎ ((status ≡ 7) ⊎ ((status ≡ 8) ⊎ (status ≡ 9)))))

@@ -16,12 +16,14 @@ command_line command refusal = codes "mtc: " ++ (command ++ (codes ": " ++ (refu
 
 -- A refusal of one of a command's files.
 abbrev pub file_line : List ℕ → List ℕ → List ℕ → List ℕ
-file_line command file refusal = codes "mtc: " ++ (command ++ (codes ": " ++ (file ++ (codes ": " ++ (refusal ++ codes "\n")))))
+file_line command file refusal =
+    codes "mtc: " ++ (command ++ (codes ": " ++ (file ++ (codes ": " ++ (refusal ++ codes "\n")))))
 
 -- Want of memory, also before a command is known.
 abbrev pub memory_line : List ℕ → List ℕ
 memory_line command =
-    if length command == 0 then bare_line (codes "Memory") else command_line command (codes "Memory")
+    if length command == 0 then bare_line (codes "Memory")
+    else command_line command (codes "Memory")
 
 -- A line goes to a sink: all of it, or where the sink failed a prefix.
 pub record WritesLine (Fault : Type 0) (old new : Option (List ℕ)) (line : List ℕ) : Type 0 where

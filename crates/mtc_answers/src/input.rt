@@ -28,7 +28,8 @@ pub fn read_input<'a, R: Room>(
     limit: u64,
 ) -> Result<Result<Bytes, NoInput>, Stop<'a>>
     requires { R.lent room.old < 2 ^ 32 }
-    ensures settled { Settled (R.lent room.old) (R.lent room.new) (R.faults room.old) (R.faults room.new)
+    ensures settled { Settled (R.lent room.old) (R.lent room.new)
+        (R.faults room.old) (R.faults room.new)
         (R.file room.old) (R.file room.new) (R.device room.old) (R.device room.new) }
     ensures tells { R.tells room.old → R.tells room.new }
     ensures bytes { IfOk result (λ read. IfOk read (λ bytes. R.tells room.old
