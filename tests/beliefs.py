@@ -1,5 +1,5 @@
 #!/usr/bin/env python3
-"""What the statement of `run` rests on: the definitions that its contract names, and those that these name.
+"""What the statement of `run` and its laws rests on: the definitions of its page, and those that these name.
 
 docs/BELIEFS.md has the counts in a table.
 Usage: tests/beliefs.py            prints the table
@@ -16,6 +16,8 @@ from checks.sources import ROOT, crates
 PAGE = ROOT / "docs" / "BELIEFS.md"
 BEGIN, END = "<!-- counted by tests/beliefs.py -->", "<!-- end -->"
 TOP = ROOT / "crates" / "mtc_top" / "src"
+# The record that `run` ensures, and the statements of its laws.
+STATEMENT = ("mtc_top.specs.Run", "mtc_top.specs.RunLaws")
 
 USE = re.compile(r"^\s*(?:pub |ghost )*(?:use|open) Rattle\.([\w.]+)\.\{([^}]*)\};?", re.M)
 HEAD = re.compile(r"^( *)(?:abbrev|unfoldable|opaque|pub record|pub data|record|data)(?: pub)? +([^\s:({]+)")
@@ -85,15 +87,13 @@ def module_of(dotted):
     return None
 
 
-def statement():
-    """The contract of `run`, and the imports of its file."""
+def contracts():
+    """The contracts of `run` and of its laws, each with the imports of its file."""
     for path in sorted(TOP.rglob("*.rt")):
         text = path.read_text()
-        match = re.search(r"^pub fn run\b.*?^\{", text, re.M | re.S)
-        if match:
+        for match in re.finditer(r"^pub fn (?:run|runs_\w+)\b.*?^\{", text, re.M | re.S):
             bare = re.sub(r"//[^\n]*", "", match.group())
-            return bare, {sign_of(name): origin for name, origin in imports_of(text).items()}
-    raise SystemExit("no function run in mtc_top")
+            yield bare, {sign_of(name): origin for name, origin in imports_of(text).items()}
 
 
 def declared(dotted):
@@ -103,9 +103,20 @@ def declared(dotted):
 
 
 def named_first():
-    """What the contract of `run` names itself, as (module, name)."""
-    contract, imports = statement()
-    return [imports[token] for token in set(TOKEN.findall(contract)) if token in imports]
+    """What the contracts name, and what the definitions of the statement name, as (module, name)."""
+    found, waiting = set(), []
+    for contract, imports in contracts():
+        waiting += [imports[token] for token in set(TOKEN.findall(contract)) if token in imports]
+    while waiting:
+        dotted, name = waiting.pop()
+        module = module_of(dotted)
+        whole = module.owners.get(sign_of(name), name) if module else name
+        if (dotted, whole) in found:
+            continue
+        found.add((dotted, whole))
+        if dotted in STATEMENT and whole in module.bodies:
+            waiting += [(inner or dotted, other) for inner, other in module.names_in("\n".join(module.bodies[whole]))]
+    return sorted(found)
 
 
 def reached(waiting):
@@ -137,14 +148,14 @@ def row(name, own, types):
 
 
 def first_rows():
-    """The definitions that the contract names itself, with their lengths."""
+    """The definitions of the statement and those that it names, with their lengths."""
     found = {}
     for dotted, name in named_first():
         module = module_of(dotted)
         whole = module.owners.get(sign_of(name), name) if module else None
         if module and whole in module.bodies:
             found[dotted, whole] = len(module.bodies[whole])
-    rows = ["| The contract names | In | Lines |", "|---|---|---|"]
+    rows = ["| The statement names | In | Lines |", "|---|---|---|"]
     for (dotted, name), count in sorted(found.items()):
         crate, _, place = dotted.partition(".")
         rows.append(f"| `{name}` | `{crate}/{place.replace('.', '/')}` | {count} |")

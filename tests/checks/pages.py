@@ -129,9 +129,7 @@ def squeezed(text):
     return " ".join(text.split())
 
 
-def check_quotations():
-    """what ONE_PROMISE quotes stands in the file that is named before it"""
-    page = DOCS / "ONE_PROMISE.md"
+def wrong_quotations(page):
     file, block, quotes = None, None, 0
     for number, line in enumerate(page.read_text().split("\n"), 1):
         if line.startswith("```") and block is None:
@@ -150,6 +148,12 @@ def check_quotations():
                 file = ROOT / path
     if quotes < 1:
         yield f"{shown(page)}: it quotes nothing"
+
+
+def check_quotations():
+    """what ONE_PROMISE and RUN quote stands in the file that is named before it"""
+    for name in ("ONE_PROMISE.md", "RUN.md"):
+        yield from wrong_quotations(DOCS / name)
 
 
 def spelled_in(page, what):

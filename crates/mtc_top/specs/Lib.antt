@@ -1,3 +1,5 @@
 pub mod Nodes
 pub mod Outcome
+pub mod Run
+pub mod RunLaws
 pub mod WordsOutcome

@@ -16,7 +16,8 @@ abbrev pub word_fault_text : WordError → List ℕ
 word_fault_text NoCommand = codes "NoCommand"
 word_fault_text UnknownCommand = codes "UnknownCommand"
 word_fault_text (BadWord place) = codes "BadWord " ++ decimal place
-word_fault_text (WrongCount have want) = codes "WrongCount " ++ (decimal have ++ (codes " " ++ decimal want))
+word_fault_text (WrongCount have want) =
+    codes "WrongCount " ++ (decimal have ++ (codes " " ++ decimal want))
 word_fault_text (BadNumber place) = codes "BadNumber " ++ decimal place
 word_fault_text (BadId place) = codes "BadId " ++ decimal place
 word_fault_text Memory = codes "Memory"
@@ -26,7 +27,8 @@ abbrev pub words_line : List ℕ → WordError → List ℕ
 words_line first NoCommand = bare_line (word_fault_text NoCommand)
 words_line first UnknownCommand = bare_line (word_fault_text UnknownCommand)
 words_line first (BadWord place) = command_line first (word_fault_text (BadWord place))
-words_line first (WrongCount have want) = command_line first (word_fault_text (WrongCount have want))
+words_line first (WrongCount have want) =
+    command_line first (word_fault_text (WrongCount have want))
 words_line first (BadNumber place) = command_line first (word_fault_text (BadNumber place))
 words_line first (BadId place) = command_line first (word_fault_text (BadId place))
 words_line first Memory = command_line first (word_fault_text Memory)

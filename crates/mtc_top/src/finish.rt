@@ -39,22 +39,22 @@ fn code_stopped(why: Stopped) -> u8
 
 // The lines of failures are written in pieces, so that they take no memory.
 fn write_line<E: Sink>(err: &mut E, pieces: &[&[u8]])
-    ensures { WritesLine (Rose (E.faults err.old) (E.faults err.new)) (E.taken err.old) (E.taken err.new)
-        (joined pieces.now) }
+    ensures { WritesLine (Rose (E.faults err.old) (E.faults err.new))
+        (E.taken err.old) (E.taken err.new) (joined pieces.now) }
 {
     let _ = write_pieces(err, pieces);
 }
 
 fn write_command_line<E: Sink>(err: &mut E, command: &str, refusal: &[u8])
-    ensures { WritesLine (Rose (E.faults err.old) (E.faults err.new)) (E.taken err.old) (E.taken err.new)
-        (command_line command.now refusal.now) }
+    ensures { WritesLine (Rose (E.faults err.old) (E.faults err.new))
+        (E.taken err.old) (E.taken err.new) (command_line command.now refusal.now) }
 {
     write_line(err, &[b"mtc: ", command.as_bytes(), b": ", refusal, b"\n"]);
 }
 
 fn write_file_line<E: Sink>(err: &mut E, command: &str, file: &str, refusal: &[u8])
-    ensures { WritesLine (Rose (E.faults err.old) (E.faults err.new)) (E.taken err.old) (E.taken err.new)
-        (file_line command.now file.now refusal.now) }
+    ensures { WritesLine (Rose (E.faults err.old) (E.faults err.new))
+        (E.taken err.old) (E.taken err.new) (file_line command.now file.now refusal.now) }
 {
     write_line(
         err,
@@ -71,8 +71,8 @@ fn write_file_line<E: Sink>(err: &mut E, command: &str, file: &str, refusal: &[u
 }
 
 fn write_memory_line<E: Sink>(err: &mut E, command: &str)
-    ensures { WritesLine (Rose (E.faults err.old) (E.faults err.new)) (E.taken err.old) (E.taken err.new)
-        (memory_line command.now) }
+    ensures { WritesLine (Rose (E.faults err.old) (E.faults err.new))
+        (E.taken err.old) (E.taken err.new) (memory_line command.now) }
 {
     if command.is_empty() {
         write_line(err, &[b"mtc: ", b"Memory", b"\n"]);
@@ -84,8 +84,8 @@ fn write_memory_line<E: Sink>(err: &mut E, command: &str)
 // Ends a command that has no answer of its own.
 pub fn fail<E: Sink>(command: &str, err: &mut E, stop: Stop) -> u8
     ensures status { result ≡ stop_code stop.entry }
-    ensures line { WritesLine (Rose (E.faults err.old) (E.faults err.new)) (E.taken err.old) (E.taken err.new)
-        (stop_line command.now stop.entry) }
+    ensures line { WritesLine (Rose (E.faults err.old) (E.faults err.new))
+        (E.taken err.old) (E.taken err.new) (stop_line command.now stop.entry) }
 {
     match stop {
         Stop::Room(file) => {
@@ -106,7 +106,8 @@ pub fn conclude<O: Sink, E: Sink>(command: &str, out: &mut O, err: &mut E, answe
     ensures line { result ≢ 6 → WritesLine (Rose (E.faults err.old) (E.faults err.new))
         (E.taken err.old) (E.taken err.new) (err_of answer.now) }
     ensures out_failed { result ≡ 6 → Rose (O.faults out.old) (O.faults out.new) }
-    ensures prefix { result ≡ 6 → AppendsPrefix (O.taken out.old) (O.taken out.new) (out_of answer.now) }
+    ensures prefix { result ≡ 6
+        → AppendsPrefix (O.taken out.old) (O.taken out.new) (out_of answer.now) }
     ensures out_line { result ≡ 6 → WritesLine (Rose (E.faults err.old) (E.faults err.new))
         (E.taken err.old) (E.taken err.new) (command_line command.now (codes "OutputFailed")) }
     ensures early { IsEarly (status_of answer.now) → result ≡ status_of answer.now }

@@ -2,13 +2,15 @@
 //!
 //! It reads the words of a command, reads the named files from a room, decides, and writes the
 //! outcome. What a command has to answer is one definition over its words and the room's files
-//! (`specs/Outcome.antt`), and the contract of `run` says that this is what comes out, or that
-//! something outside failed.
+//! (`specs/Outcome.antt`), and the contract of `run` is one record (`specs/Run.antt`), which says
+//! that this is what comes out, or that something outside failed.
 #![tactic(auto)]
 
 mod finish;
+mod laws;
 mod refused_words;
 mod top;
 
+pub use laws::runs_are_steps;
 pub use mtc_room::{MemRoom, Room, RoomError};
 pub use top::run;

@@ -1,0 +1,75 @@
+-- What follows of each run, and how it ends as steps of the nodes whose journals it works on.
+use Rattle.std.specs.Prelude.{◌≡◌, ◌≢◌, ◌≤◌, ℕ, List, [], ◌∷◌, ◌++◌, IfSome}
+use Rattle.disk_core.specs.declared.disk.Disk.{Ghosts as Disks}
+use Rattle.journal_core.specs.Format.{StandsFor}
+use Rattle.mtc_io.specs.Counts.{Rose}
+use Rattle.mtc_io.specs.declared.sink.Sink.{Ghosts as Sinks}
+use Rattle.mtc_room.specs.declared.room.Room.{Ghosts as Rooms}
+use Rattle.mtc_answers.specs.Made.{Journaled, appended, started, Images, IsOnOld, images_at, moment_at, images_since}
+use Rattle.mtc_answers.specs.Served.{OfEach}
+use Rattle.mtc_top.specs.Nodes.{NodeState, StandsForNode, AllStandForNode, EndsWell, TookSome, fresh_node}
+use Rattle.mtc_top.specs.Run.{journals, Prints, Answered, HasRun}
+
+module _ {R S D O E : Type 0} (h : List ℕ → List ℕ) (rooms : Rooms R S D) (disks : Disks D)
+    (outs : Sinks O) (errs : Sinks E) (words : List (List ℕ))
+    (old new : R) (out out' : O) (err err' : E) where
+  -- What follows of each run.
+  pub record RunShows (status : ℕ) : Type 0 where
+    -- The status is one of the ten.
+    pub known : status ≤ 9
+    -- Without a failure and want of memory it answers.
+    pub complete : (Rose (rooms.faults old) (rooms.faults new) → ⊥)
+        → (Rose (outs.faults out) (outs.faults out') → ⊥) → status ≢ 8
+        → Answered h rooms disks outs errs words old new out out' err err' status
+    -- A refusal, a failure of the room and want of memory print nothing.
+    pub silent : status ≢ 0 → status ≢ 3 → status ≢ 6
+        → Prints h rooms disks outs errs words old new out out' err err' []
+
+  -- A byte went out.
+  abbrev pub took : Type 0
+  took = TookSome (outs.taken out) (outs.taken out')
+
+  -- The images of a name's file: before the run, after it, and at any moment since it began.
+  abbrev pub images_before : List ℕ → Images
+  images_before name = images_at disks (rooms.device old name)
+
+  abbrev pub images_after : List ℕ → Images
+  images_after name = images_at disks (rooms.device new name)
+
+  abbrev pub images_between : List ℕ → Images
+  images_between name =
+      images_since disks (rooms.device new name) (moment_at disks (rooms.device old name))
+
+  -- The run as steps of a node, whose journal has this name.
+  pub record RunSteps (status : ℕ) (name : List ℕ) (did : Journaled) : Type 0 where
+    -- It ends in one of five ways, for each state for which all images stood before.
+    pub ends : IsOnOld did → (n : NodeState) → AllStandForNode n (images_before name)
+        → EndsWell did status took n (images_after name) (images_between name)
+    -- What the room tells of the file stands for each state for which all images stand.
+    pub as_read : (n : NodeState) → AllStandForNode n (images_after name)
+        → IfSome (rooms.file new name) (StandsForNode n)
+    -- Time goes on.
+    pub later : moment_at disks (rooms.device old name) ≤ moment_at disks (rooms.device new name)
+    -- Where a byte went out each image holds the record.
+    pub recorded : (list : List (List ℕ)) (body : List ℕ) → did ≡ appended list body → took
+        → (c : List ℕ) → images_after name c → StandsFor c (list ++ body ∷ [])
+    -- A new journal that was made is a node with its first record alone.
+    pub begins : status ≡ 0 → (body : List ℕ) → did ≡ started body
+        → AllStandForNode (fresh_node body) (images_after name)
+
+-- So it is of each run.
+abbrev pub RunsShow : {R S D O E : Type 0} → (List ℕ → List ℕ) → Rooms R S D → Disks D
+    → Sinks O → Sinks E → Type 0
+RunsShow {R} {S} {D} {O} {E} h rooms disks outs errs =
+    (words : List (List ℕ)) (old new : R) (out out' : O) (err err' : E) (status : ℕ)
+    → HasRun h rooms disks outs errs words old new out out' err err' status
+    → RunShows h rooms disks outs errs words old new out out' err err' status
+
+-- And of each journal that a run works on, where the room tells its files.
+abbrev pub RunsAreSteps : {R S D O E : Type 0} → (List ℕ → List ℕ) → Rooms R S D → Disks D
+    → Sinks O → Sinks E → Type 0
+RunsAreSteps {R} {S} {D} {O} {E} h rooms disks outs errs =
+    (words : List (List ℕ)) (old new : R) (out out' : O) (err err' : E) (status : ℕ)
+    → HasRun h rooms disks outs errs words old new out out' err err' status → rooms.tells old
+    → OfEach (RunSteps h rooms disks outs errs words old new out out' err err' status)
+    (journals h rooms disks outs errs words old new out out' err err')
