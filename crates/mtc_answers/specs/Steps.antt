@@ -1,11 +1,11 @@
 -- The steps of which each command's outcome is made, in the order of the program's steps.
-use Rattle.std.specs.Prelude.{ℕ, nat_lt, List, length, codes, Option, Some, None, if◌then◌else◌}
+use Rattle.std.specs.Prelude.{ℕ, nat_lt, List, length, codes, Option, Some, None, Result, Ok, Err, if◌then◌else◌}
 use Rattle.mtc_answers.specs.declared.answer.Answer.{Answer}
 use Rattle.mtc_answers.specs.declared.answer.Answer.TheVariants.{Says, Stops}
 use Rattle.mtc_answers.specs.declared.answer.Said.{Said}
 use Rattle.mtc_answers.specs.declared.answer.Said.TheVariants.{Done}
 use Rattle.mtc_answers.specs.declared.answer.Stopped.{Stopped}
-use Rattle.mtc_answers.specs.declared.answer.Stopped.TheVariants.{Missing, Beyond}
+use Rattle.mtc_answers.specs.declared.answer.Stopped.TheVariants.{BadForm, Missing, Beyond}
 use Rattle.mtc_answers.specs.declared.input.NoInput.{NoInput}
 use Rattle.mtc_answers.specs.declared.input.NoInput.TheVariants.{Absent, TooLong}
 use Rattle.mtc_answers.specs.Lines.{file_line}
@@ -61,3 +61,11 @@ with_bytes limit command file (Some bytes) next =
 abbrev pub with_fresh : List ℕ → List ℕ → Option (List ℕ) → Outcome → Outcome
 with_fresh command file None next = next
 with_fresh command file (Some bytes) next = stops Missing (file_line command file (codes "Exists"))
+
+-- A file is read by a grammar, and then comes the rest of the command. One that isn't in it is
+-- refused with the name of the fault.
+abbrev pub with_form : {F E : Type 0} → (E → List ℕ) → List ℕ → List ℕ → Result F E
+    → (F → Outcome) → Outcome
+with_form fault_text command file (Ok form) next = next form
+with_form fault_text command file (Err why) next =
+    stops BadForm (file_line command file (fault_text why))

@@ -11,4 +11,4 @@ mod line;
 
 pub use answer::{Answer, Said, Stop, Stopped};
 pub use input::{INPUT_LIMIT, NoInput, read_input};
-pub use line::{line_bare, line_of_command, line_of_file, no_input};
+pub use line::{line_bare, line_of_command, no_input, refuse, refuse_file};

@@ -34,16 +34,36 @@ pub fn line_of_file(
     Ok(Bytes::from_vec(format!(in alloc; "mtc: {command}: {file}: {refusal}\n")?.into_bytes()))
 }
 
+/// The answer of a command that is refused.
+pub fn refuse(alloc: Global, why: Stopped, command: &str, refusal: &str) -> Result<Answer, Memory>
+    ensures { IfOk result (λ answer. answer
+        ≡ Answer.Stops why (command_line command.now refusal.now)) }
+{
+    let line = line_of_command(alloc, command, refusal)?;
+    Ok(Answer::Stops { why, line })
+}
+
+/// The answer of a command that is refused for one of its files.
+pub fn refuse_file(
+    alloc: Global,
+    why: Stopped,
+    command: &str,
+    file: &str,
+    refusal: &str,
+) -> Result<Answer, Memory>
+    ensures { IfOk result (λ answer. answer
+        ≡ Answer.Stops why (file_line command.now file.now refusal.now)) }
+{
+    let line = line_of_file(alloc, command, file, refusal)?;
+    Ok(Answer::Stops { why, line })
+}
+
 /// The answer where an input file isn't there, or is over its limit.
 pub fn no_input(alloc: Global, command: &str, file: &str, why: NoInput) -> Result<Answer, Memory>
     ensures { IfOk result (λ answer. answer ≡ (no_input_says command.now file.now why).answer) }
 {
-    let (why, refusal) = match why {
-        NoInput::Absent => (Stopped::Missing, "Absent"),
-        NoInput::TooLong => (Stopped::Beyond, "TooLong"),
-    };
-    Ok(Answer::Stops {
-        why,
-        line: line_of_file(alloc, command, file, refusal)?,
-    })
+    match why {
+        NoInput::Absent => refuse_file(alloc, Stopped::Missing, command, file, "Absent"),
+        NoInput::TooLong => refuse_file(alloc, Stopped::Beyond, command, file, "TooLong"),
+    }
 }
