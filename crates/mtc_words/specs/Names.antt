@@ -4,8 +4,8 @@ use Rattle.mtc_words.specs.declared.name.Name.{Name}
 use Rattle.mtc_words.specs.declared.name.Name.TheVariants.{Member, Show, Verify, InitLog, Issue, Checkpoint, Entries, Consist, Subtree, Keygen}
 
 -- The command that a word names.
-unfoldable pub name_of : List ℕ → Option Name
-name_of word =
+unfoldable pub named_command : List ℕ → Option Name
+named_command word =
     if bytes_eq word (codes "member") then Some Member
     else (if bytes_eq word (codes "show") then Some Show
     else (if bytes_eq word (codes "verify") then Some Verify
@@ -19,14 +19,14 @@ name_of word =
     else None)))))))))
 
 -- How many words stand behind a command.
-abbrev pub count_of : Name → ℕ
-count_of Member = 1
-count_of Show = 1
-count_of Verify = 3
-count_of InitLog = 4
-count_of Issue = 2
-count_of Checkpoint = 1
-count_of Entries = 2
-count_of Consist = 3
-count_of Subtree = 4
-count_of Keygen = 3
+abbrev pub word_count : Name → ℕ
+word_count Member = 1
+word_count Show = 1
+word_count Verify = 3
+word_count InitLog = 4
+word_count Issue = 2
+word_count Checkpoint = 1
+word_count Entries = 2
+word_count Consist = 3
+word_count Subtree = 4
+word_count Keygen = 3

@@ -8,7 +8,7 @@ use Rattle.mtc_words.specs.declared.error.WordError.TheVariants.{NoCommand, Unkn
 use Rattle.mtc_words.specs.declared.name.Name.{Name}
 use Rattle.mtc_words.specs.declared.name.Name.TheVariants.{Member, Show, Verify, InitLog, Issue, Checkpoint, Entries, Consist, Subtree, Keygen}
 use Rattle.mtc_words.specs.Commands.{CommandValue, member, show, verify, init_log, issue, checkpoint, entries, consist, subtree, keygen, is_height, is_width, is_time, is_active, is_limit, is_any}
-use Rattle.mtc_words.specs.Names.{name_of, count_of}
+use Rattle.mtc_words.specs.Names.{named_command, word_count}
 use Rattle.mtc_words.specs.Numbers.{number_of}
 
 -- Empty, or begins with a hyphen.
@@ -39,42 +39,43 @@ abbrev pub ranged : ℕ → (ℕ → Bool) → Option ℕ → Result ℕ WordErr
 ranged place test None = Err (BadNumber place)
 ranged place test (Some n) = if test n then Ok n else Err (BadNumber place)
 
-abbrev pub number_at : ℕ → (ℕ → Bool) → List ℕ → Result ℕ WordError
-number_at place test w = ranged place test (number_of w)
+-- The number that a word is, where it passes a test.
+abbrev pub number_word : ℕ → (ℕ → Bool) → List ℕ → Result ℕ WordError
+number_word place test w = ranged place test (number_of w)
 
 -- The anchor id with this text; else the word of this number is a bad one.
-abbrev pub id_at : ℕ → List ℕ → Result (List ℕ) WordError
-id_at place w = blamed (BadId place) (anchor_text w)
+abbrev pub id_word : ℕ → List ℕ → Result (List ℕ) WordError
+id_word place w = blamed (BadId place) (anchor_text w)
 
 -- The command of this name with its words, of which there are as many as it wants.
 abbrev pub command_from : Name → List (List ℕ) → Result CommandValue WordError
 command_from Member ws = Ok (member (word ws 0))
 command_from Show ws = Ok (show (word ws 0))
 command_from Verify ws = do
-  moment ← number_at 3 is_time (word ws 2)
+  moment ← number_word 3 is_time (word ws 2)
   Ok (verify (word ws 0) (word ws 1) moment)
 command_from InitLog ws = do
-  active ← number_at 3 is_active (word ws 2)
-  limit ← number_at 4 is_limit (word ws 3)
-  id ← id_at 2 (word ws 1)
+  active ← number_word 3 is_active (word ws 2)
+  limit ← number_word 4 is_limit (word ws 3)
+  id ← id_word 2 (word ws 1)
   Ok (init_log (word ws 0) id active limit)
 command_from Issue ws = Ok (issue (word ws 0) (word ws 1))
 command_from Checkpoint ws = Ok (checkpoint (word ws 0))
 command_from Entries ws = do
-  size ← number_at 2 is_any (word ws 1)
+  size ← number_word 2 is_any (word ws 1)
   Ok (entries (word ws 0) size)
 command_from Consist ws = do
-  old ← number_at 2 is_any (word ws 1)
-  new ← number_at 3 is_any (word ws 2)
+  old ← number_word 2 is_any (word ws 1)
+  new ← number_word 3 is_any (word ws 2)
   Ok (consist (word ws 0) old new)
 command_from Subtree ws = do
-  start ← number_at 2 is_any (word ws 1)
-  end ← number_at 3 is_any (word ws 2)
-  size ← number_at 4 is_any (word ws 3)
+  start ← number_word 2 is_any (word ws 1)
+  end ← number_word 3 is_any (word ws 2)
+  size ← number_word 4 is_any (word ws 3)
   Ok (subtree (word ws 0) start end size)
 command_from Keygen ws = do
-  height ← number_at 1 is_height (word ws 0)
-  width ← number_at 2 is_width (word ws 1)
+  height ← number_word 1 is_height (word ws 0)
+  width ← number_word 2 is_width (word ws 1)
   Ok (keygen height width (word ws 2))
 
 -- The fault, or else the command.
@@ -85,14 +86,14 @@ unless_fault None wanted = wanted
 -- What the words behind a name say.
 abbrev pub command_named : Option Name → List (List ℕ) → Result CommandValue WordError
 command_named None ws = Err UnknownCommand
-command_named (Some name) ws = unless_fault (word_fault (count_of name) ws) (command_from name ws)
+command_named (Some name) ws = unless_fault (word_fault (word_count name) ws) (command_from name ws)
 
 -- What words say.
 unfoldable pub command_of : List (List ℕ) → Result CommandValue WordError
 command_of [] = Err NoCommand
-command_of (w ∷ ws) = command_named (name_of w) ws
+command_of (w ∷ ws) = command_named (named_command w) ws
 
 -- The first word where it is a command, and else no bytes.
 abbrev pub known_word : List (List ℕ) → List ℕ
 known_word [] = []
-known_word (w ∷ ws) = if is_some (name_of w) then w else []
+known_word (w ∷ ws) = if is_some (named_command w) then w else []

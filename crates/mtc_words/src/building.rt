@@ -2,8 +2,8 @@
 ghost use Rattle.std.specs.Prelude.{◌≡◌, length, map, string_bytes, IfOk};
 ghost use Rattle.byte_forms.specs.Readings.{Answers};
 ghost use Rattle.mtc_words.specs.Commands.{command_value, said, is_height, is_width, is_time, is_active, is_limit, is_any, IsInRange};
-ghost use Rattle.mtc_words.specs.Names.{count_of};
-ghost use Rattle.mtc_words.specs.Words.{command_from, number_at, id_at};
+ghost use Rattle.mtc_words.specs.Names.{word_count};
+ghost use Rattle.mtc_words.specs.Words.{command_from, number_word, id_word};
 
 use crate::command::Command;
 use crate::error::WordError;
@@ -14,7 +14,7 @@ use tls_wire::{AnchorError, AnchorId};
 
 // A height of keys that are made.
 fn height(place: usize, word: &str) -> Result<u64, WordError>
-    ensures { result ≡ number_at place is_height word.now }
+    ensures { result ≡ number_word place is_height word.now }
 {
     match read_number(word) {
         Some(height) if height == 5 || height == 10 => Ok(height),
@@ -24,7 +24,7 @@ fn height(place: usize, word: &str) -> Result<u64, WordError>
 
 // A width of keys that are made.
 fn width(place: usize, word: &str) -> Result<u64, WordError>
-    ensures { result ≡ number_at place is_width word.now }
+    ensures { result ≡ number_word place is_width word.now }
 {
     match read_number(word) {
         Some(width) if width == 1 || width == 2 || width == 4 || width == 8 => Ok(width),
@@ -34,7 +34,7 @@ fn width(place: usize, word: &str) -> Result<u64, WordError>
 
 // A moment, up to the end of the year 9999.
 fn time(place: usize, word: &str) -> Result<u64, WordError>
-    ensures { result ≡ number_at place is_time word.now }
+    ensures { result ≡ number_word place is_time word.now }
 {
     match read_number(word) {
         Some(seconds) if seconds <= 253_402_300_799 => Ok(seconds),
@@ -44,7 +44,7 @@ fn time(place: usize, word: &str) -> Result<u64, WordError>
 
 // A number of active landmarks.
 fn active(place: usize, word: &str) -> Result<u64, WordError>
-    ensures { result ≡ number_at place is_active word.now }
+    ensures { result ≡ number_word place is_active word.now }
 {
     match read_number(word) {
         Some(count) if 1 <= count && count <= 10_000 => Ok(count),
@@ -54,7 +54,7 @@ fn active(place: usize, word: &str) -> Result<u64, WordError>
 
 // The most entries of a log.
 fn limit(place: usize, word: &str) -> Result<u64, WordError>
-    ensures { result ≡ number_at place is_limit word.now }
+    ensures { result ≡ number_word place is_limit word.now }
 {
     match read_number(word) {
         Some(count) if 2 <= count && count <= 1_048_576 => Ok(count),
@@ -64,7 +64,7 @@ fn limit(place: usize, word: &str) -> Result<u64, WordError>
 
 // Any number.
 fn number(place: usize, word: &str) -> Result<u64, WordError>
-    ensures { result ≡ number_at place is_any word.now }
+    ensures { result ≡ number_word place is_any word.now }
 {
     match read_number(word) {
         Some(number) => Ok(number),
@@ -73,7 +73,7 @@ fn number(place: usize, word: &str) -> Result<u64, WordError>
 }
 
 fn id(alloc: Global, place: usize, word: &str) -> Result<AnchorId, WordError>
-    ensures { Answers WordError.Memory (id_at place word.now) result }
+    ensures { Answers WordError.Memory (id_word place word.now) result }
 {
     match AnchorId::from_text(alloc, word) {
         Ok(id) => Ok(id),
@@ -84,7 +84,7 @@ fn id(alloc: Global, place: usize, word: &str) -> Result<AnchorId, WordError>
 
 // The words of `init-log`.
 fn init_log<'a>(alloc: Global, words: &'a [String]) -> Result<Command<'a>, WordError>
-    requires { length words.now ≡ count_of Name.InitLog }
+    requires { length words.now ≡ word_count Name.InitLog }
     ensures exact { Answers WordError.Memory (command_from Name.InitLog (map string_bytes words.now)) (said result) }
     ensures range { IfOk result (λ command. IsInRange (command_value command)) }
 {
@@ -96,7 +96,7 @@ fn init_log<'a>(alloc: Global, words: &'a [String]) -> Result<Command<'a>, WordE
 
 // The words of the commands that ask for proofs.
 fn consist<'a>(words: &'a [String]) -> Result<Command<'a>, WordError>
-    requires { length words.now ≡ count_of Name.Consist }
+    requires { length words.now ≡ word_count Name.Consist }
     ensures exact { said result ≡ command_from Name.Consist (map string_bytes words.now) }
     ensures range { IfOk result (λ command. IsInRange (command_value command)) }
 {
@@ -106,7 +106,7 @@ fn consist<'a>(words: &'a [String]) -> Result<Command<'a>, WordError>
 }
 
 fn subtree<'a>(words: &'a [String]) -> Result<Command<'a>, WordError>
-    requires { length words.now ≡ count_of Name.Subtree }
+    requires { length words.now ≡ word_count Name.Subtree }
     ensures exact { said result ≡ command_from Name.Subtree (map string_bytes words.now) }
     ensures range { IfOk result (λ command. IsInRange (command_value command)) }
 {
@@ -117,7 +117,7 @@ fn subtree<'a>(words: &'a [String]) -> Result<Command<'a>, WordError>
 }
 
 fn keygen<'a>(words: &'a [String]) -> Result<Command<'a>, WordError>
-    requires { length words.now ≡ count_of Name.Keygen }
+    requires { length words.now ≡ word_count Name.Keygen }
     ensures exact { said result ≡ command_from Name.Keygen (map string_bytes words.now) }
     ensures range { IfOk result (λ command. IsInRange (command_value command)) }
 {
@@ -127,7 +127,7 @@ fn keygen<'a>(words: &'a [String]) -> Result<Command<'a>, WordError>
 }
 
 fn verify<'a>(words: &'a [String]) -> Result<Command<'a>, WordError>
-    requires { length words.now ≡ count_of Name.Verify }
+    requires { length words.now ≡ word_count Name.Verify }
     ensures exact { said result ≡ command_from Name.Verify (map string_bytes words.now) }
     ensures range { IfOk result (λ command. IsInRange (command_value command)) }
 {
@@ -136,7 +136,7 @@ fn verify<'a>(words: &'a [String]) -> Result<Command<'a>, WordError>
 }
 
 fn entries<'a>(words: &'a [String]) -> Result<Command<'a>, WordError>
-    requires { length words.now ≡ count_of Name.Entries }
+    requires { length words.now ≡ word_count Name.Entries }
     ensures exact { said result ≡ command_from Name.Entries (map string_bytes words.now) }
     ensures range { IfOk result (λ command. IsInRange (command_value command)) }
 {
@@ -146,7 +146,7 @@ fn entries<'a>(words: &'a [String]) -> Result<Command<'a>, WordError>
 
 // The command of this name with its words, of which there are as many as it wants.
 pub fn build<'a>(alloc: Global, name: Name, words: &'a [String]) -> Result<Command<'a>, WordError>
-    requires { length words.now ≡ count_of name }
+    requires { length words.now ≡ word_count name }
     ensures exact { Answers WordError.Memory (command_from name (map string_bytes words.now)) (said result) }
     ensures range { IfOk result (λ command. IsInRange (command_value command)) }
 {

@@ -1,6 +1,6 @@
 //! The names of the commands.
 ghost use Rattle.std.specs.Prelude.{◌≡◌};
-ghost use Rattle.mtc_words.specs.Names.{name_of, count_of};
+ghost use Rattle.mtc_words.specs.Names.{named_command, word_count};
 
 /// The name of a command.
 #[derive(Clone, Copy, Debug, PartialEq, Eq)]
@@ -18,9 +18,9 @@ pub enum Name {
 }
 
 // The name that a word is, if it is one.
-#[tactic(auto, unfolding(crate::specs::Names::name_of))]
+#[tactic(auto, unfolding(crate::specs::Names::named_command))]
 pub fn read_name(word: &str) -> Option<Name>
-    ensures { result ≡ name_of word.now }
+    ensures { result ≡ named_command word.now }
 {
     match word {
         "member" => Some(Name::Member),
@@ -39,7 +39,7 @@ pub fn read_name(word: &str) -> Option<Name>
 
 // How many words a command wants.
 pub fn wanted_count(name: Name) -> usize
-    ensures { result ≡ count_of name }
+    ensures { result ≡ word_count name }
 {
     match name {
         Name::Member | Name::Show | Name::Checkpoint => 1,
