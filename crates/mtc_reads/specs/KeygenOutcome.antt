@@ -1,5 +1,6 @@
 -- The outcome of `keygen HEIGHT WIDTH SECRET`.
-use Rattle.std.specs.Prelude.{ℕ, ◌==◌, nat_lt, List, ◌++◌, length, codes, if◌then◌else◌}
+use Rattle.std.specs.Prelude.{ℕ, ◌==◌, nat_lt, ◌++◌, length, codes, if◌then◌else◌}
+use Rattle.byte_forms.specs.Types.{Text}
 use Rattle.base64.specs.Engines.{standard}
 use Rattle.base64.specs.GeneralPurpose.{encode_of}
 use Rattle.lmots_core.specs.declared.parameters.OtsType.{OtsType}
@@ -21,15 +22,21 @@ abbrev pub ots_type : ℕ → OtsType
 ots_type n = if n == 1 then W1 else (if n == 2 then W2 else (if n == 4 then W4 else W8))
 
 -- The public key of a secret, in base64.
-abbrev pub public_text : ℕ → ℕ → List ℕ → List ℕ
-public_text height width secret = encode_of standard (one_level_public (private_key (lms_type height) (ots_type width) secret))
+abbrev pub public_text : ℕ → ℕ → Text → Text
+public_text height width secret = encode_of standard
+    (one_level_public (private_key (lms_type height) (ots_type width) secret))
+
+-- A file that is no secret.
+abbrev pub bad_secret : Text → Text → Outcome
+bad_secret file refusal = stops BadForm (file_line (codes "keygen") file refusal)
 
 -- A secret file has 48 bytes: 16 of identifier and 32 of seed.
-abbrev pub keygen_says : ℕ → ℕ → List ℕ → List ℕ → Outcome
+abbrev pub keygen_says : ℕ → ℕ → Text → Text → Outcome
 keygen_says height width file secret =
-    if nat_lt (length secret) 48 then stops BadForm (file_line (codes "keygen") file (codes "Short 0"))
-    else (if nat_lt 48 (length secret) then stops BadForm (file_line (codes "keygen") file (codes "Trailing"))
+    if nat_lt (length secret) 48 then bad_secret file (codes "Short 0")
+    else (if nat_lt 48 (length secret) then bad_secret file (codes "Trailing")
     else says Done (public_text height width secret ++ codes "\n"))
 
-abbrev pub keygen_outcome : ℕ → ℕ → List ℕ → Files → Outcome
-keygen_outcome height width file files = with_bytes 16777216 (codes "keygen") file (files file) (keygen_says height width file)
+abbrev pub keygen_outcome : ℕ → ℕ → Text → Files → Outcome
+keygen_outcome height width file files =
+    with_bytes 16777216 (codes "keygen") file (files file) (keygen_says height width file)

@@ -1,6 +1,7 @@
 -- The outcome of `verify CERT STORE NOW`.
-use Rattle.std.specs.Prelude.{ℕ, List, ◌++◌, codes, Result, Ok, Err, pos}
+use Rattle.std.specs.Prelude.{ℕ, ◌++◌, codes, Result, Ok, Err, pos}
 use Rattle.std.specs.Fmt.{decimal}
+use Rattle.byte_forms.specs.Types.{HashFunction, Text}
 use Rattle.tree_core.specs.declared.error.EvalError.{EvalError}
 use Rattle.tree_core.specs.declared.error.EvalError.TheVariants as eval_error
 use Rattle.mtc_proof.specs.declared.fault.ProofError.{ProofError}
@@ -13,15 +14,15 @@ use Rattle.policy_core.specs.declared.error.StoreError.{StoreError}
 use Rattle.policy_core.specs.declared.error.StoreError.TheVariants.{NotToml, UnknownKey, Missing as MissingKey, BadValue, RepeatedSubtree, BadRange, Memory}
 use Rattle.policy_core.specs.declared.refusal.Refusal.{Refusal}
 use Rattle.policy_core.specs.declared.refusal.Refusal.TheVariants.{Grammar, Algorithm, UnknownLog, NotYet, Expired, UnknownCritical, Revoked, ProofGrammar, ProofShape, LandmarkDiffers, TooFewCosigners}
-use Rattle.policy_core.specs.declared.store.Store.{Store}
 use Rattle.policy_core.specs.Judgement.{judgement}
 use Rattle.mtc_answers.specs.declared.answer.Said.TheVariants.{Done, Against}
 use Rattle.mtc_answers.specs.declared.answer.Stopped.TheVariants.{BadForm}
 use Rattle.mtc_reads.specs.CertFaults.{cert_fault_text}
 use Rattle.mtc_answers.specs.Lines.{file_line}
-use Rattle.mtc_answers.specs.Steps.{Outcome, Files, says, stops, with_bytes}
+use Rattle.mtc_answers.specs.Steps.{Outcome, Files, says, stops, with_bytes, with_form}
 
-abbrev pub key_text : Key → List ℕ
+-- A key of a store.
+abbrev pub key_text : Key → Text
 key_text LogId = codes "LogId"
 key_text Start = codes "Start"
 key_text End = codes "End"
@@ -29,7 +30,7 @@ key_text Hash = codes "Hash"
 key_text Table = codes "Table"
 
 -- Why a file is no store.
-abbrev pub store_fault_text : StoreError → List ℕ
+abbrev pub store_fault_text : StoreError → Text
 store_fault_text NotToml = codes "NotToml"
 store_fault_text UnknownKey = codes "UnknownKey"
 store_fault_text (MissingKey key) = codes "Missing " ++ key_text key
@@ -39,46 +40,51 @@ store_fault_text BadRange = codes "BadRange"
 store_fault_text Memory = codes "Memory"
 
 -- Why bytes are no proof.
-abbrev pub proof_fault_text : ProofError → List ℕ
+abbrev pub proof_fault_text : ProofError → Text
 proof_fault_text (proof_error.Short place) = codes "Short " ++ decimal place
 proof_fault_text proof_error.HashLength = codes "HashLength"
 proof_fault_text proof_error.Trailing = codes "Trailing"
 proof_fault_text (proof_error.EmptyId place) = codes "EmptyId " ++ decimal place
 
-abbrev pub shape_text : EvalError → List ℕ
+-- Why a proof has not the form of its interval.
+abbrev pub shape_text : EvalError → Text
 shape_text eval_error.BadSubtree = codes "BadSubtree"
 shape_text eval_error.Outside = codes "Outside"
 shape_text eval_error.WrongLength = codes "WrongLength"
 
 -- A refusal: bytes that are no certificate or no proof are faults of the file, and all others are
 -- told as a judgement.
-abbrev pub refused : List ℕ → List ℕ → Refusal → Outcome
-refused command cert (Grammar why) = stops BadForm (file_line command cert (cert_fault_text why))
-refused command cert Algorithm = says Against (codes "refused Algorithm\n")
-refused command cert UnknownLog = says Against (codes "refused UnknownLog\n")
-refused command cert NotYet = says Against (codes "refused NotYet\n")
-refused command cert Expired = says Against (codes "refused Expired\n")
-refused command cert UnknownCritical = says Against (codes "refused UnknownCritical\n")
-refused command cert Revoked = says Against (codes "refused Revoked\n")
-refused command cert (ProofGrammar why) = stops BadForm (file_line command cert (proof_fault_text why))
-refused command cert (ProofShape why) = says Against (codes "refused ProofShape " ++ (shape_text why ++ codes "\n"))
-refused command cert LandmarkDiffers = says Against (codes "refused LandmarkDiffers\n")
-refused command cert (TooFewCosigners rule) = says Against (codes "refused TooFewCosigners " ++ (decimal rule ++ codes "\n"))
+abbrev pub refusal_says : Text → Refusal → Outcome
+refusal_says cert (Grammar why) =
+    stops BadForm (file_line (codes "verify") cert (cert_fault_text why))
+refusal_says cert Algorithm = says Against (codes "refused Algorithm\n")
+refusal_says cert UnknownLog = says Against (codes "refused UnknownLog\n")
+refusal_says cert NotYet = says Against (codes "refused NotYet\n")
+refusal_says cert Expired = says Against (codes "refused Expired\n")
+refusal_says cert UnknownCritical = says Against (codes "refused UnknownCritical\n")
+refusal_says cert Revoked = says Against (codes "refused Revoked\n")
+refusal_says cert (ProofGrammar why) =
+    stops BadForm (file_line (codes "verify") cert (proof_fault_text why))
+refusal_says cert (ProofShape why) =
+    says Against (codes "refused ProofShape " ++ (shape_text why ++ codes "\n"))
+refusal_says cert LandmarkDiffers = says Against (codes "refused LandmarkDiffers\n")
+refusal_says cert (TooFewCosigners rule) =
+    says Against (codes "refused TooFewCosigners " ++ (decimal rule ++ codes "\n"))
 
-abbrev pub judged : List ℕ → Result Accepted Refusal → Outcome
-judged cert (Ok accepted) = says Done (codes "accepted " ++ (decimal accepted.index ++ codes "\n"))
-judged cert (Err why) = refused (codes "verify") cert why
+-- What is told of a judgement.
+abbrev pub verdict_says : Text → Result Accepted Refusal → Outcome
+verdict_says cert (Ok accepted) =
+    says Done (codes "accepted " ++ (decimal accepted.index ++ codes "\n"))
+verdict_says cert (Err why) = refusal_says cert why
 
--- A file is read as a store, and then comes the rest of the command.
-abbrev pub with_store : List ℕ → List ℕ → Result Store StoreError → (Store → Outcome) → Outcome
-with_store command file (Ok store) next = next store
-with_store command file (Err why) next = stops BadForm (file_line command file (store_fault_text why))
-
-abbrev pub verify_says : (List ℕ → List ℕ) → List ℕ → List ℕ → ℕ → List ℕ → List ℕ → Outcome
+-- The store is read, and the certificate is judged by it.
+abbrev pub verify_says : HashFunction → Text → Text → ℕ → Text → Text → Outcome
 verify_says h cert store moment bytes text =
-    with_store (codes "verify") store (store_of text) (λ s. judged cert (judgement h bytes s (pos moment)))
+    with_form store_fault_text (codes "verify") store (store_of text)
+    (λ s. verdict_says cert (judgement h bytes s (pos moment)))
 
-abbrev pub verify_outcome : (List ℕ → List ℕ) → List ℕ → List ℕ → ℕ → Files → Outcome
+abbrev pub verify_outcome : HashFunction → Text → Text → ℕ → Files → Outcome
 verify_outcome h cert store moment files =
     with_bytes 16777216 (codes "verify") cert (files cert)
-    (λ bytes. with_bytes 16777216 (codes "verify") store (files store) (verify_says h cert store moment bytes))
+    (λ bytes. with_bytes 16777216 (codes "verify") store (files store)
+    (verify_says h cert store moment bytes))

@@ -9,7 +9,7 @@ ghost use Rattle.mtc_answers.specs.Served.{HasAnswered};
 
 use base64::engine::general_purpose::STANDARD;
 use hss_core::{Key, LmsType, OtsType};
-use mtc_answers::{Answer, INPUT_LIMIT, Said, Stop, Stopped, line_of_file, no_input, read_input};
+use mtc_answers::{Answer, INPUT_LIMIT, Said, Stop, Stopped, no_input, read_input, refuse_file};
 use mtc_io::{Bytes, Memory};
 use mtc_room::Room;
 use std::alloc::{AllocError, Global};
@@ -74,13 +74,10 @@ fn public_answer(
 }
 
 fn bad_secret(alloc: Global, file: &str, refusal: &str) -> Result<Answer, Memory>
-    ensures { IfOk result (λ answer. answer
-        ≡ Answer.Stops Stopped.BadForm (file_line (codes "keygen") file.now refusal.now)) }
+    ensures { IfOk result (λ answer. answer ≡ Answer.Stops Stopped.BadForm
+        (file_line (codes "keygen") file.now refusal.now)) }
 {
-    Ok(Answer::Stops {
-        why: Stopped::BadForm,
-        line: line_of_file(alloc, "keygen", file, refusal)?,
-    })
+    refuse_file(alloc, Stopped::BadForm, "keygen", file, refusal)
 }
 
 fn answer_of(
@@ -92,7 +89,8 @@ fn answer_of(
 ) -> Result<Answer, Memory>
     requires height { is_height height ≡ true }
     requires width { is_width width ≡ true }
-    ensures { IfOk result (λ answer. answer ≡ (keygen_says height width file.now secret.now).answer) }
+    ensures { IfOk result (λ answer. answer
+        ≡ (keygen_says height width file.now secret.now).answer) }
 {
     if secret.len() < SECRET_LENGTH {
         return bad_secret(alloc, file, "Short 0");
@@ -114,7 +112,8 @@ pub fn keygen<'a, R: Room>(
     requires lent { R.lent room.old < 2 ^ 32 }
     requires height { is_height height ≡ true }
     requires width { is_width width ≡ true }
-    ensures { HasAnswered R.Room (keygen_outcome height width file.now (R.file room.old)) room.old room.new result }
+    ensures { HasAnswered R.Room R.Dsk.Disk (keygen_outcome height width file.now (R.file room.old))
+        room.old room.new result }
 {
     match read_input(alloc, room, file, INPUT_LIMIT)? {
         Ok(secret) => Ok(answer_of(alloc, height, width, file, secret.as_slice())?),

@@ -1,24 +1,19 @@
 //! The command `show`: what a certificate says.
-ghost use Rattle.std.specs.Prelude.{◌≡◌, ◌<◌, ◌^◌, ◌++◌, IfOk, OnOk, codes, string_bytes};
+ghost use Rattle.std.specs.Prelude.{◌≡◌, ◌<◌, ◌^◌, ◌++◌, IfOk, OnOk, string_bytes};
 ghost use Rattle.std.specs.List.{list_all, flat_map};
 ghost use Rattle.cert_names.specs.LogNames.{log_in};
-ghost use Rattle.cert_time.specs.Calendar.{IsMoment};
-ghost use Rattle.cert_fields.specs.Certificate.{parts_of};
 ghost use Rattle.cert_fields.specs.Views.{parts};
 ghost use Rattle.tls_wire.specs.Anchors.{anchor_of};
 ghost use Rattle.mtc_proof.specs.Views.{proof_parts, sig_parts};
 ghost use Rattle.mtc_io.specs.Streams.{joined};
-ghost use Rattle.mtc_reads.specs.CertFaults.{cert_fault_text};
-ghost use Rattle.mtc_answers.specs.Lines.{file_line};
 ghost use Rattle.mtc_answers.specs.Served.{HasAnswered};
-ghost use Rattle.mtc_reads.specs.ShowOutcome.{issuer_text, subject_text, is_graphic, name_line, fields_text, cosigner_text, signature_line, interval_text, proof_text, show_text, shown, show_outcome};
+ghost use Rattle.mtc_reads.specs.ShowOutcome.{issuer_text, subject_text, is_graphic, name_line, fields_text, cosigner_text, signature_line, interval_text, proof_section, show_text, show_says, show_outcome};
 
 use crate::cert_fault::cert_fault;
 use cert_fields::{Cert, DnsNames, MTC_PROOF, dns_names, parse};
 use cert_names::log_of;
 use cert_time::seconds_to_text;
-use der_core::CertError;
-use mtc_answers::{Answer, INPUT_LIMIT, Said, Stop, Stopped, line_of_file, no_input, read_input};
+use mtc_answers::{Answer, INPUT_LIMIT, Said, Stop, Stopped, no_input, read_input, refuse_file};
 use mtc_io::{Bytes, Memory};
 use mtc_proof::{Proof, SigRef, Signatures, read_proof, signatures};
 use mtc_room::Room;
@@ -55,8 +50,6 @@ fn subject_name(alloc: Global, subject: &[u8]) -> Result<String, AllocError>
 }
 
 fn put_fields(alloc: Global, out: &mut Bytes, cert: &Cert) -> Result<(), Memory>
-    requires begins { IsMoment cert.now.validity.not_before }
-    requires ends { IsMoment cert.now.validity.not_after }
     ensures { OnOk result (out.new ≡ out.old ++ fields_text (parts cert.now)) }
 {
     let serial = format!(in alloc; "{}", cert.serial)?;
@@ -173,7 +166,7 @@ fn put_interval(alloc: Global, out: &mut Bytes, proof: &Proof) -> Result<(), Mem
 
 // The lines of the proof.
 fn put_proof(alloc: Global, out: &mut Bytes, cert: &Cert) -> Result<(), Memory>
-    ensures { OnOk result (out.new ≡ out.old ++ proof_text (parts cert.now)) }
+    ensures { OnOk result (out.new ≡ out.old ++ proof_section (parts cert.now)) }
 {
     if cert.algorithm != MTC_PROOF.as_slice() {
         return out.append(b"proof none\n");
@@ -189,8 +182,6 @@ fn put_proof(alloc: Global, out: &mut Bytes, cert: &Cert) -> Result<(), Memory>
 
 // The lines of a certificate.
 fn lines(alloc: Global, cert: &Cert) -> Result<Bytes, Memory>
-    requires begins { IsMoment cert.now.validity.not_before }
-    requires ends { IsMoment cert.now.validity.not_after }
     ensures { IfOk result (λ text. text ≡ show_text (parts cert.now)) }
 {
     let mut out = Bytes::new(alloc);
@@ -200,33 +191,26 @@ fn lines(alloc: Global, cert: &Cert) -> Result<Bytes, Memory>
     Ok(out)
 }
 
-fn fault_answer(alloc: Global, file: &str, why: CertError) -> Result<Answer, Memory>
-    ensures { IfOk result (λ answer. answer
-        ≡ Answer.Stops Stopped.BadForm (file_line (codes "show") file.now (cert_fault_text why))) }
-{
-    let refusal = cert_fault(alloc, why)?;
-    Ok(Answer::Stops {
-        why: Stopped::BadForm,
-        line: line_of_file(alloc, "show", file, refusal.as_str())?,
-    })
-}
-
 fn answer_of(alloc: Global, file: &str, bytes: &[u8]) -> Result<Answer, Memory>
-    ensures { IfOk result (λ answer. answer ≡ (shown file.now (parts_of bytes.now)).answer) }
+    ensures { IfOk result (λ answer. answer ≡ (show_says file.now bytes.now).answer) }
 {
     match parse(bytes) {
         Ok(cert) => Ok(Answer::Says {
             status: Said::Done,
             text: lines(alloc, &cert)?,
         }),
-        Err(why) => fault_answer(alloc, file, why),
+        Err(why) => {
+            let refusal = cert_fault(alloc, why)?;
+            refuse_file(alloc, Stopped::BadForm, "show", file, refusal.as_str())
+        }
     }
 }
 
 /// The command `show CERT`.
 pub fn show<'a, R: Room>(alloc: Global, room: &mut R, file: &'a str) -> Result<Answer, Stop<'a>>
     requires { R.lent room.old < 2 ^ 32 }
-    ensures { HasAnswered R.Room (show_outcome file.now (R.file room.old)) room.old room.new result }
+    ensures { HasAnswered R.Room R.Dsk.Disk (show_outcome file.now (R.file room.old))
+        room.old room.new result }
 {
     match read_input(alloc, room, file, INPUT_LIMIT)? {
         Ok(bytes) => Ok(answer_of(alloc, file, bytes.as_slice())?),

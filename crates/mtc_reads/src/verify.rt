@@ -1,12 +1,12 @@
 //! The command `verify`: a certificate is judged by a store.
-ghost use Rattle.std.specs.Prelude.{◌≡◌, ◌<◌, ◌^◌, true, IfOk, string_bytes};
+ghost use Rattle.std.specs.Prelude.{◌≡◌, ◌<◌, ◌^◌, true, codes, IfOk, string_bytes};
 ghost use Rattle.mtc_words.specs.Commands.{is_time};
 ghost use Rattle.mtc_answers.specs.Lines.{file_line};
 ghost use Rattle.mtc_answers.specs.Served.{HasAnswered};
-ghost use Rattle.mtc_reads.specs.VerifyOutcome.{key_text, store_fault_text, proof_fault_text, shape_text, refused, judged, verify_says, verify_outcome};
+ghost use Rattle.mtc_reads.specs.VerifyOutcome.{key_text, store_fault_text, proof_fault_text, shape_text, refusal_says, verdict_says, verify_says, verify_outcome};
 
 use crate::cert_fault::cert_fault;
-use mtc_answers::{Answer, INPUT_LIMIT, Said, Stop, Stopped, line_of_file, no_input, read_input};
+use mtc_answers::{Answer, INPUT_LIMIT, Said, Stop, Stopped, no_input, read_input, refuse_file};
 use mtc_io::{Bytes, Memory};
 use mtc_proof::ProofError;
 use mtc_room::Room;
@@ -64,17 +64,6 @@ fn shape_name(why: EvalError) -> &'static str
     }
 }
 
-// A file that isn't in its grammar.
-fn bad_form(alloc: Global, command: &str, file: &str, refusal: &str) -> Result<Answer, Memory>
-    ensures { IfOk result (λ answer. answer
-        ≡ Answer.Stops Stopped.BadForm (file_line command.now file.now refusal.now)) }
-{
-    Ok(Answer::Stops {
-        why: Stopped::BadForm,
-        line: line_of_file(alloc, command, file, refusal)?,
-    })
-}
-
 // A judgement against, which is a line.
 fn against(alloc: Global, line: &str) -> Result<Answer, Memory>
     ensures { IfOk result (λ answer. answer ≡ Answer.Says Said.Against line.now) }
@@ -85,21 +74,27 @@ fn against(alloc: Global, line: &str) -> Result<Answer, Memory>
     })
 }
 
+// The answer to a certificate that isn't in its grammar, or its proof.
+fn bad_cert(alloc: Global, cert: &str, refusal: &str) -> Result<Answer, Memory>
+    ensures { IfOk result (λ answer. answer ≡ Answer.Stops Stopped.BadForm
+        (file_line (codes "verify") cert.now refusal.now)) }
+{
+    refuse_file(alloc, Stopped::BadForm, "verify", cert, refusal)
+}
+
 // The answer to a certificate that is refused.
-fn refuse(alloc: Global, command: &str, cert: &str, why: Refusal) -> Result<Answer, Memory>
-    ensures { IfOk result (λ answer. answer ≡ (refused command.now cert.now why).answer) }
+fn refused(alloc: Global, cert: &str, why: Refusal) -> Result<Answer, Memory>
+    ensures { IfOk result (λ answer. answer ≡ (refusal_says cert.now why).answer) }
 {
     match why {
-        Refusal::Grammar(why) => bad_form(alloc, command, cert, cert_fault(alloc, why)?.as_str()),
+        Refusal::Grammar(why) => bad_cert(alloc, cert, cert_fault(alloc, why)?.as_str()),
         Refusal::Algorithm => against(alloc, "refused Algorithm\n"),
         Refusal::UnknownLog => against(alloc, "refused UnknownLog\n"),
         Refusal::NotYet => against(alloc, "refused NotYet\n"),
         Refusal::Expired => against(alloc, "refused Expired\n"),
         Refusal::UnknownCritical => against(alloc, "refused UnknownCritical\n"),
         Refusal::Revoked => against(alloc, "refused Revoked\n"),
-        Refusal::ProofGrammar(why) => {
-            bad_form(alloc, command, cert, proof_fault(alloc, why)?.as_str())
-        }
+        Refusal::ProofGrammar(why) => bad_cert(alloc, cert, proof_fault(alloc, why)?.as_str()),
         Refusal::ProofShape(why) => {
             let line = format!(in alloc; "refused ProofShape {}\n", shape_name(why))?;
             against(alloc, line.as_str())
@@ -118,7 +113,7 @@ fn judgement_answer(
     cert: &str,
     verdict: Result<Accepted, Refusal>,
 ) -> Result<Answer, Memory>
-    ensures { IfOk result (λ answer. answer ≡ (judged cert.now verdict).answer) }
+    ensures { IfOk result (λ answer. answer ≡ (verdict_says cert.now verdict).answer) }
 {
     match verdict {
         Ok(accepted) => {
@@ -128,7 +123,7 @@ fn judgement_answer(
                 text: Bytes::from_vec(text.into_bytes()),
             })
         }
-        Err(why) => refuse(alloc, "verify", cert, why),
+        Err(why) => refused(alloc, cert, why),
     }
 }
 
@@ -148,7 +143,10 @@ fn answer_of<H: TreeHash>(
     match Store::read(alloc, text) {
         Ok(trusted) => judgement_answer(alloc, cert, judge::<H>(bytes, &trusted, now as i64)),
         Err(StoreError::Memory) => Err(Memory),
-        Err(why) => bad_form(alloc, "verify", store, store_fault(alloc, why)?.as_str()),
+        Err(why) => {
+            let refusal = store_fault(alloc, why)?;
+            refuse_file(alloc, Stopped::BadForm, "verify", store, refusal.as_str())
+        }
     }
 }
 
@@ -162,7 +160,8 @@ pub fn verify<'a, H: TreeHash, R: Room>(
 ) -> Result<Answer, Stop<'a>>
     requires lent { R.lent room.old < 2 ^ 32 }
     requires time { is_time now ≡ true }
-    ensures { HasAnswered R.Room (verify_outcome H.hash cert.now store.now now (R.file room.old)) room.old room.new result }
+    ensures { HasAnswered R.Room R.Dsk.Disk (verify_outcome H.hash cert.now store.now now (R.file room.old))
+        room.old room.new result }
 {
     let bytes = match read_input(alloc, room, cert, INPUT_LIMIT)? {
         Ok(bytes) => bytes,

@@ -1,23 +1,21 @@
-ghost use Rattle.std.specs.Prelude.{◌≡◌, ◌≢◌, ◌<◌, ◌^◌, IfOk, IfErr, codes};
-ghost use Rattle.mtc_io.specs.Counts.{Rose};
-ghost use Rattle.mtc_answers.specs.Answers.{status_of};
-ghost use Rattle.mtc_answers.specs.Lines.{file_line};
-ghost use Rattle.mtc_reads.specs.Member.{judged, member_view};
+//! The command `member`: its file is read, judged and answered.
+ghost use Rattle.std.specs.Prelude.{◌≡◌, ◌<◌, ◌^◌, IfOk, string_bytes};
+ghost use Rattle.mtc_reads.specs.Member.{member_judgement, member_view};
 ghost use Rattle.mtc_reads.specs.MemberOutcome.{fault_text, judgement_says, member_says, member_outcome};
 ghost use Rattle.mtc_answers.specs.Served.{HasAnswered};
 
 use crate::member::file::{MemberFile, read_member};
 use crate::member::judgement::{MemberError, MemberRefusal};
-use mtc_answers::{Answer, INPUT_LIMIT, Said, Stop, Stopped, line_of_file, no_input, read_input};
+use mtc_answers::{Answer, INPUT_LIMIT, Said, Stop, Stopped, no_input, read_input, refuse_file};
 use mtc_io::{Bytes, Memory};
 use mtc_room::Room;
-use std::alloc::Global;
+use std::alloc::{AllocError, Global};
 use tree_core::{TreeHash, evaluate, leaf};
 
 // The index of the member, or the first refusal.
-#[tactic(auto, unfolding(crate::specs::Member::judged))]
+#[tactic(auto, unfolding(crate::specs::Member::member_judgement))]
 fn judge<H: TreeHash>(member: &MemberFile) -> Result<u64, MemberRefusal>
-    ensures { result ≡ judged H.hash (member_view member.now) }
+    ensures { result ≡ member_judgement H.hash (member_view member.now) }
 {
     let leaf = leaf::<H>(member.entry);
     let hash = evaluate::<H>(&leaf, member.index, member.start, member.end, member.path)?;
@@ -44,17 +42,13 @@ fn judgement_answer(alloc: Global, judgement: Result<u64, MemberRefusal>) -> Res
     })
 }
 
-fn fault_answer(alloc: Global, file: &str, why: MemberError) -> Result<Answer, Memory>
-    ensures { IfOk result (λ answer. answer ≡ Answer.Stops Stopped.BadForm (file_line (codes "member") file.now (fault_text why))) }
+fn fault(alloc: Global, why: MemberError) -> Result<String, AllocError>
+    ensures { IfOk result (λ text. string_bytes text ≡ fault_text why) }
 {
-    let refusal = match why {
-        MemberError::Short(place) => format!(in alloc; "Short {place}")?,
-        MemberError::HashLength => String::from_str(alloc, "HashLength")?,
-    };
-    Ok(Answer::Stops {
-        why: Stopped::BadForm,
-        line: line_of_file(alloc, "member", file, refusal.as_str())?,
-    })
+    match why {
+        MemberError::Short(place) => format!(in alloc; "Short {place}"),
+        MemberError::HashLength => String::from_str(alloc, "HashLength"),
+    }
 }
 
 fn answer_of<H: TreeHash>(alloc: Global, file: &str, bytes: &[u8]) -> Result<Answer, Memory>
@@ -62,7 +56,10 @@ fn answer_of<H: TreeHash>(alloc: Global, file: &str, bytes: &[u8]) -> Result<Ans
 {
     match read_member(bytes) {
         Ok(member) => judgement_answer(alloc, judge::<H>(&member)),
-        Err(why) => fault_answer(alloc, file, why),
+        Err(why) => {
+            let refusal = fault(alloc, why)?;
+            refuse_file(alloc, Stopped::BadForm, "member", file, refusal.as_str())
+        }
     }
 }
 
@@ -73,7 +70,8 @@ pub fn member<'a, H: TreeHash, R: Room>(
     file: &'a str,
 ) -> Result<Answer, Stop<'a>>
     requires { R.lent room.old < 2 ^ 32 }
-    ensures { HasAnswered R.Room (member_outcome H.hash file.now (R.file room.old)) room.old room.new result }
+    ensures { HasAnswered R.Room R.Dsk.Disk (member_outcome H.hash file.now (R.file room.old))
+        room.old room.new result }
 {
     match read_input(alloc, room, file, INPUT_LIMIT)? {
         Ok(bytes) => Ok(answer_of::<H>(alloc, file, bytes.as_slice())?),

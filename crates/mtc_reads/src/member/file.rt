@@ -1,5 +1,5 @@
+//! The file of `member`.
 ghost use Rattle.byte_forms.specs.Readings.{Gives};
-ghost use Rattle.std.specs.Prelude.{◌≡◌};
 ghost use Rattle.mtc_reads.specs.Member.{member_file, member_view};
 
 use crate::member::judgement::MemberError;
@@ -20,8 +20,8 @@ pub struct MemberFile<'a> {
     pub entry: &'a [u8],
 }
 
-// Cuts a member file into its parts. Refuses the first form that doesn't fit, with its offset, and a length of
-// hashes that is no multiple of 32.
+// Cuts a member file into its parts. Refuses the first form that doesn't fit, with its offset, and
+// a length of hashes that is no multiple of 32.
 #[tactic(auto, unfolding(crate::specs::Member::member_file))]
 pub fn read_member(bytes: &[u8]) -> Result<MemberFile<'_>, MemberError>
     ensures { Gives member_view result (member_file bytes.now) }

@@ -1,3 +1,4 @@
+//! Why the file of `member` is refused, and why it is judged against.
 ghost use Rattle.std.specs.Prelude.{◌≡◌};
 ghost use Rattle.mtc_reads.specs.MemberNames.{member_fault, member_refusal, refusal_name};
 
