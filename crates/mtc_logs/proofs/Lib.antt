@@ -1,3 +1,4 @@
 pub mod LogSteps
-pub mod Lengths
+pub mod Items
 pub mod Asked
+pub mod Starts

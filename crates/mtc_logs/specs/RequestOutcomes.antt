@@ -1,5 +1,6 @@
 -- The outcomes of the commands `consist` and `subtree`: requests to a cosigner of the log.
 use Rattle.std.specs.Prelude.{ℕ, ◌==◌, true, nat_lt, nat_le, not, List, [], length, take, map, codes, if◌then◌else◌}
+use Rattle.byte_forms.specs.Types.{Hash, HashFunction, Text}
 use Rattle.cosigner_core.specs.Requests.{AdvanceParts, SubtreeParts, advance_text, subtree_text}
 use Rattle.issuance_log.specs.Folds.{LogState}
 use Rattle.issuance_log.specs.Openings.{FoundLog}
@@ -16,20 +17,21 @@ use Rattle.mtc_logs.specs.LogOutcomes.{beyond}
 use Rattle.mtc_answers.specs.Steps.{Outcome, answers_on}
 
 -- The state of the log doesn't allow the request.
-abbrev pub refuses : List ℕ → List ℕ → Answer
+abbrev pub refuses : Text → Text → Answer
 refuses command refusal = Stops Refused (command_line command refusal)
 
 -- The consistency proof of the subtree [start, end) in the first size entries.
-abbrev pub proof_at : (List ℕ → List ℕ) → List (List ℕ) → ℕ → ℕ → ℕ → List (List ℕ)
-proof_at h entries start end size = proof_of h start end true (map (leaf_hash h) (take size entries))
+abbrev pub prefix_proof : HashFunction → List Text → ℕ → ℕ → ℕ → List Hash
+prefix_proof h entries start end size =
+    proof_of h start end true (map (leaf_hash h) (take size entries))
 
 -- The first new entries: the id of the log, their number, their tree hash, and the proof that the
 -- first old ones are among them. Of no old ones there is nothing to prove.
 
-abbrev pub growth_at : (List ℕ → List ℕ) → List (List ℕ) → ℕ → ℕ → List (List ℕ)
-growth_at h entries old new = if old == 0 then [] else proof_at h entries 0 old new
+abbrev pub growth_at : HashFunction → List Text → ℕ → ℕ → List Hash
+growth_at h entries old new = if old == 0 then [] else prefix_proof h entries 0 old new
 
-abbrev pub advance_of : (List ℕ → List ℕ) → LogState → ℕ → ℕ → AdvanceParts
+abbrev pub advance_of : HashFunction → LogState → ℕ → ℕ → AdvanceParts
 advance_of h s old new = record {
   log = s.settings.id;
   size = new;
@@ -38,35 +40,35 @@ advance_of h s old new = record {
 }
 
 -- There must be more of them than old ones, and the log must have them.
-abbrev pub consist_answer : (List ℕ → List ℕ) → ℕ → ℕ → LogState → Answer
+abbrev pub consist_answer : HashFunction → ℕ → ℕ → LogState → Answer
 consist_answer h old new s =
     if nat_le new old then refuses (codes "consist") (codes "NothingNew")
     else (if nat_lt (length s.entries) new then beyond (codes "consist") (length s.entries)
     else Says Done (advance_text (advance_of h s old new)))
 
-abbrev pub consist_says : (List ℕ → List ℕ) → ℕ → ℕ → FoundLog → Outcome
+abbrev pub consist_says : HashFunction → ℕ → ℕ → FoundLog → Outcome
 consist_says h old new found = answers_on found.records (consist_answer h old new found.state)
 
 -- A subtree: the id of the log, the interval, the tree hash of its entries, and its consistency
 -- proof in the first size entries.
 
-abbrev pub subtree_of : (List ℕ → List ℕ) → LogState → ℕ → ℕ → ℕ → SubtreeParts
+abbrev pub subtree_of : HashFunction → LogState → ℕ → ℕ → ℕ → SubtreeParts
 subtree_of h s start end size = record {
   log = s.settings.id;
   start = start;
   end = end;
   hash = tree_hash h (part_of s.entries start end);
-  proof = proof_at h s.entries start end size;
+  proof = prefix_proof h s.entries start end size;
 }
 
 -- The interval must be a subtree, the log must have so many entries, and the subtree must lie among
 -- them.
-abbrev pub subtree_answer : (List ℕ → List ℕ) → ℕ → ℕ → ℕ → LogState → Answer
+abbrev pub subtree_answer : HashFunction → ℕ → ℕ → ℕ → LogState → Answer
 subtree_answer h start end size s =
     if not (is_subtree start end) then refuses (codes "subtree") (codes "BadSubtree")
     else (if nat_lt (length s.entries) size then beyond (codes "subtree") (length s.entries)
     else (if nat_lt size end then beyond (codes "subtree") size
     else Says Done (subtree_text (subtree_of h s start end size))))
 
-abbrev pub subtree_says : (List ℕ → List ℕ) → ℕ → ℕ → ℕ → FoundLog → Outcome
+abbrev pub subtree_says : HashFunction → ℕ → ℕ → ℕ → FoundLog → Outcome
 subtree_says h start end size found = answers_on found.records (subtree_answer h start end size found.state)

@@ -1,32 +1,29 @@
 //! The command `init-log`: a new log.
-ghost use Rattle.std.specs.Prelude.{◌≡◌, ◌≢◌, ◌≤◌, ◌<◌, ◌^◌, ℕ, List, [], ◌∷◌, true, IfOk, IsOk, IsErrOf, Some, codes};
+ghost use Rattle.std.specs.Prelude.{◌≡◌, ◌≢◌, ◌≤◌, ◌<◌, ◌^◌, ℕ, List, [], ◌∷◌, true, IfOk, IfErr, IsOk, IsErrOf, Some, codes};
 ghost use Rattle.mtc_io.specs.Counts.{Rose};
 ghost use Rattle.mtc_words.specs.Commands.{is_active, is_limit};
 ghost use Rattle.journal_core.specs.Format.{StandsFor};
-ghost use Rattle.issuance_log.specs.Records.{settings_record};
+ghost use Rattle.journal_core.specs.Packed.{first_body};
 ghost use Rattle.mtc_answers.specs.Lines.{file_line};
-ghost use Rattle.mtc_logs.specs.LogOutcomes.{log_line, init_log_outcome};
-ghost use Rattle.mtc_answers.specs.Made.{Kept};
+ghost use Rattle.mtc_logs.specs.LogOutcomes.{log_line, init_log_outcome, made_outcome};
 ghost use Rattle.mtc_answers.specs.Served.{HasServed};
+ghost use Rattle.mtc_logs.specs.Works.{AnswersStart};
 
 use disk_core::Disk;
-use issuance_log::{LogSettings, create};
-use journal_core::{Refused, StartError};
-use mtc_answers::{Answer, Said, Stop, Stopped, line_of_file};
+use issuance_log::{LogSettings, pack};
+use journal_core::{FirstRecord, Refused, StartError};
+use mtc_answers::{Answer, Said, Stop, Stopped, refuse_file};
 use mtc_io::{Bytes, Memory};
 use mtc_room::{Room, RoomError};
 use std::alloc::Global;
 use tls_wire::AnchorId;
 
-// The answer where the name of a new journal has a file.
-fn exists(alloc: Global, command: &str, file: &str) -> Result<Answer, Memory>
-    ensures { IfOk result (λ answer. answer
-        ≡ Answer.Stops Stopped.Missing (file_line command.now file.now (codes "Exists"))) }
+// The answer where the name of a new journal has a file, or the new journal has bytes.
+fn taken(alloc: Global, journal: &str, refusal: &str) -> Result<Answer, Memory>
+    ensures { IfOk result (λ answer. answer ≡ Answer.Stops Stopped.Missing
+        (file_line (codes "init-log") journal.now refusal.now)) }
 {
-    Ok(Answer::Stops {
-        why: Stopped::Missing,
-        line: line_of_file(alloc, command, file, "Exists")?,
-    })
+    refuse_file(alloc, Stopped::Missing, "init-log", journal, refusal)
 }
 
 fn text_of_log(alloc: Global, id: &AnchorId) -> Result<Bytes, Memory>
@@ -39,26 +36,66 @@ fn text_of_log(alloc: Global, id: &AnchorId) -> Result<Bytes, Memory>
 }
 
 // Makes the journal on an empty device. The device is handed back.
-fn begin<D: Disk>(alloc: Global, disk: D, settings: &LogSettings) -> (D, Result<(), StartError>)
-    requires some_active { 1 ≤ settings.now.max_active }
-    requires few_active { settings.now.max_active ≤ 10000 }
-    requires some { 2 ≤ settings.now.limit }
-    requires few { settings.now.limit ≤ 1048576 }
-    ensures made { IsOk result.1 → D.told disk ≡ Some [] → (c : List ℕ) → D.may_leave result.0 c
-        → StandsFor c (settings_record settings.now ∷ []) }
-    ensures no_memory { IsErrOf result.1 StartError.Memory
-        → Kept (D.may_leave disk) (D.may_leave result.0) (D.left_since result.0 (D.moment disk)) }
+fn begin<D: Disk>(first: FirstRecord, disk: D) -> (D, Result<(), StartError>)
+    ensures made { IsOk result.1 → D.told disk ≡ Some [] → (c : List ℕ)
+        → D.may_leave result.0 c → StandsFor c (first_body first ∷ []) }
     ensures empty { IsErrOf result.1 StartError.NotEmpty → D.told disk ≢ Some [] }
+    ensures never { IfErr result.1 (λ why. why ≢ StartError.Memory) }
     ensures count { D.faults disk ≤ D.faults result.0 }
     ensures fault { IsErrOf result.1 StartError.Failed → Rose (D.faults disk) (D.faults result.0) }
 {
-    match create(alloc, disk, settings) {
+    match first.start(disk) {
         Ok(journal) => (journal.into_disk(), Ok(())),
         Err(Refused { disk, why }) => (disk, Err(why)),
     }
 }
 
-/// The command `init-log J LOGID MAXACTIVE LIMIT`.
+// The answer to what came of making the journal.
+fn made_answer<'a>(
+    alloc: Global,
+    journal: &'a str,
+    text: Bytes,
+    made: Result<(), StartError>,
+) -> Result<Answer, Stop<'a>>
+    requires { IfErr made (λ why. why ≢ StartError.Memory) }
+    ensures { AnswersStart journal.now text made result }
+{
+    match made {
+        Ok(()) => Ok(Answer::Says {
+            status: Said::Done,
+            text,
+        }),
+        Err(StartError::NotEmpty) => Ok(taken(alloc, journal, "NotEmpty")?),
+        Err(StartError::Failed) => Err(Stop::Room(journal)),
+        Err(StartError::Memory) => unreachable!(),
+    }
+}
+
+// Makes a journal of this first record, under a name that has no file.
+fn make<'a, R: Room>(
+    alloc: Global,
+    room: &mut R,
+    journal: &'a str,
+    first: FirstRecord,
+    text: Bytes,
+) -> Result<Answer, Stop<'a>>
+    requires { R.lent room.old < 2 ^ 32 }
+    ensures { HasServed R.Room R.Dsk.Disk journal.now
+        (made_outcome journal.now (first_body first) text (R.file room.old journal.now))
+        room.old room.new result }
+{
+    let disk = match room.fresh(journal) {
+        Ok(disk) => disk,
+        Err(RoomError::Exists) => return Ok(taken(alloc, journal, "Exists")?),
+        Err(RoomError::Absent) => unreachable!(),
+        Err(RoomError::Failed) => return Err(Stop::Room(journal)),
+    };
+    let (disk, made) = begin(first, disk);
+    room.keep(journal, disk);
+    made_answer(alloc, journal, text, made)
+}
+
+/// The command `init-log J LOGID MAXACTIVE LIMIT`. All memory is taken before the journal is made.
 pub fn init_log<'a, R: Room>(
     alloc: Global,
     room: &mut R,
@@ -70,7 +107,8 @@ pub fn init_log<'a, R: Room>(
     requires lent { R.lent room.old < 2 ^ 32 }
     requires active { is_active max_active ≡ true }
     requires limit { is_limit limit ≡ true }
-    ensures { HasServed R.Room R.Dsk.Disk journal.now (init_log_outcome journal.now id max_active limit (R.file room.old))
+    ensures { HasServed R.Room R.Dsk.Disk journal.now
+        (init_log_outcome journal.now id max_active limit (R.file room.old))
         room.old room.new result }
 {
     let settings = LogSettings {
@@ -79,21 +117,6 @@ pub fn init_log<'a, R: Room>(
         limit: limit as u32,
     };
     let text = text_of_log(alloc, &settings.id)?;
-    let disk = match room.fresh(journal) {
-        Ok(disk) => disk,
-        Err(RoomError::Exists) => return Ok(exists(alloc, "init-log", journal)?),
-        Err(RoomError::Absent) => unreachable!(),
-        Err(RoomError::Failed) => return Err(Stop::Room(journal)),
-    };
-    let (disk, made) = begin(alloc, disk, &settings);
-    room.keep(journal, disk);
-    match made {
-        Ok(()) => Ok(Answer::Says {
-            status: Said::Done,
-            text,
-        }),
-        Err(StartError::NotEmpty) => Ok(exists(alloc, "init-log", journal)?),
-        Err(StartError::Failed) => Err(Stop::Room(journal)),
-        Err(StartError::Memory) => Err(Stop::Memory),
-    }
+    let first = pack(alloc, &settings)?;
+    make(alloc, room, journal, first, text)
 }

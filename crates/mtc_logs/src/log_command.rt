@@ -1,19 +1,18 @@
 //! The commands on a log that has a journal: the journal is lent, opened, worked on and put back.
-ghost use Rattle.std.specs.Prelude.{◌≡◌, ◌≢◌, ◌≤◌, ◌<◌, ◌^◌, IfOk, IfErr, IfSome, IsOk, string_bytes};
+ghost use Rattle.std.specs.Prelude.{◌≡◌, ◌≢◌, ◌≤◌, ◌<◌, ◌^◌, IfOk, IfErr, IfSome, IsOk, string_bytes, Some};
 ghost use Rattle.mtc_io.specs.Counts.{Rose};
-ghost use Rattle.issuance_log.specs.Openings.{log_read};
 ghost use Rattle.mtc_answers.specs.Answers.{status_of, IsEarly};
-ghost use Rattle.mtc_logs.specs.LogSteps.{open_fault_text, on_log};
-ghost use Rattle.mtc_answers.specs.Made.{HasMade, untouched};
+ghost use Rattle.mtc_logs.specs.LogSteps.{open_fault_text};
+ghost use Rattle.mtc_answers.specs.Made.{HasMade, Leaves, untouched};
 ghost use Rattle.mtc_answers.specs.Served.{HasServed};
 ghost use Rattle.mtc_answers.specs.Settled.{FailedOnly, LeftBy};
-ghost use Rattle.mtc_logs.specs.Works.{Refuses, Names, CanBeDone, work_says, journal_outcome};
+ghost use Rattle.mtc_logs.specs.Works.{Blames, Refuses, bytes_say, journal_outcome};
 
-use crate::work::{Fallen, Work, carry_out};
+use crate::work::{Work, carry_out};
 use disk_core::Disk;
 use issuance_log::{Log, LogOpenError, LogRefused};
 use journal_core::OpenError;
-use mtc_answers::{Answer, NoInput, Stop, Stopped, line_of_file, no_input};
+use mtc_answers::{Answer, NoInput, Stop, Stopped, no_input, refuse_file};
 use mtc_room::{Room, RoomError};
 use std::alloc::{AllocError, Global};
 use tree_core::TreeHash;
@@ -47,22 +46,8 @@ fn refuse_log<'a>(
         LogOpenError::Open(OpenError::Memory) => Err(Stop::Memory),
         why => {
             let refusal = open_fault(alloc, why)?;
-            Ok(Answer::Stops {
-                why: Stopped::BadForm,
-                line: line_of_file(alloc, command, journal, refusal.as_str())?,
-            })
+            Ok(refuse_file(alloc, Stopped::BadForm, command, journal, refusal.as_str())?)
         }
-    }
-}
-
-// The end of the work, with the journal named where its device failed.
-fn named<'a>(journal: &'a str, answer: Result<Answer, Fallen>) -> Result<Answer, Stop<'a>>
-    ensures { Names answer result }
-{
-    match answer {
-        Ok(answer) => Ok(answer),
-        Err(Fallen::Device) => Err(Stop::Room(journal)),
-        Err(Fallen::Memory) => Err(Stop::Memory),
     }
 }
 
@@ -74,26 +59,26 @@ fn on_device<'a, H: TreeHash, D: Disk>(
     journal: &'a str,
     work: Work,
 ) -> (D, Result<Answer, Stop<'a>>)
-    requires { CanBeDone work }
-    ensures answer { IfOk result.1 (λ answer. IfSome (D.told disk) (λ bytes. answer
-        ≡ (on_log command.now journal.now (log_read H.hash bytes) (work_says H.hash work)).answer)) }
+    ensures answer { IfOk result.1 (λ answer. IfSome (D.told disk) (λ bytes.
+        answer ≡ (bytes_say H.hash command.now journal.now work bytes).answer)) }
     ensures not_words { IfOk result.1 (λ answer. status_of answer ≢ 1) }
     ensures count { D.faults disk ≤ D.faults result.0 }
     ensures fault { IfErr result.1 (FailedOnly (Rose (D.faults disk) (D.faults result.0))) }
+    ensures named { IfErr result.1 (Blames journal.now) }
     ensures made { IsOk result.1 → IfSome (D.told disk) (λ bytes.
-        HasMade (on_log command.now journal.now (log_read H.hash bytes) (work_says H.hash work)).journal
-        (D.may_leave disk) (D.may_leave result.0) (D.left_since result.0 (D.moment disk))) }
+        Leaves D.Disk (HasMade (bytes_say H.hash command.now journal.now work bytes).journal)
+        (Some disk) (Some result.0)) }
     ensures left { IfErr result.1 (λ stop. IfSome (D.told disk) (λ bytes.
-        LeftBy stop (on_log command.now journal.now (log_read H.hash bytes) (work_says H.hash work)).journal
-        (D.may_leave disk) (D.may_leave result.0) (D.left_since result.0 (D.moment disk)))) }
+        Leaves D.Disk (LeftBy stop (bytes_say H.hash command.now journal.now work bytes).journal)
+        (Some disk) (Some result.0))) }
     ensures early { IfOk result.1 (λ answer. IfSome (D.told disk) (λ bytes.
-        (on_log command.now journal.now (log_read H.hash bytes) (work_says H.hash work)).journal ≡ untouched
+        (bytes_say H.hash command.now journal.now work bytes).journal ≡ untouched
         → IsEarly (status_of answer))) }
 {
     match Log::<H, D>::open(alloc, disk) {
-        Ok(log) => {
-            let (disk, answer) = carry_out(alloc, log, work);
-            (disk, named(journal, answer))
+        Ok(mut log) => {
+            let answer = carry_out(alloc, journal, &mut log, work);
+            (log.into_disk(), answer)
         }
         Err(LogRefused { disk, why }) => (disk, refuse_log(alloc, command, journal, why)),
     }
@@ -108,9 +93,9 @@ pub fn on_journal<'a, H: TreeHash, R: Room>(
     journal: &'a str,
     work: Work,
 ) -> Result<Answer, Stop<'a>>
-    requires lent { R.lent room.old < 2 ^ 32 }
-    requires possible { CanBeDone work }
-    ensures { HasServed R.Room R.Dsk.Disk journal.now (journal_outcome H.hash command.now journal.now (R.file room.old journal.now) work)
+    requires { R.lent room.old < 2 ^ 32 }
+    ensures { HasServed R.Room R.Dsk.Disk journal.now
+        (journal_outcome H.hash command.now journal.now (R.file room.old journal.now) work)
         room.old room.new result }
 {
     let disk = match room.disk(journal) {

@@ -6,35 +6,24 @@ ghost use Rattle.tree_core.specs.Path.{part_of};
 ghost use Rattle.tree_core.specs.Subtree.{is_subtree};
 ghost use Rattle.tree_core.specs.Tree.{leaf_hash, root_of};
 ghost use Rattle.tree_proofs.specs.Proof.{proof_of};
-ghost use Rattle.mtc_logs.specs.RequestOutcomes.{refuses, advance_of, consist_answer, consist_says, subtree_of, subtree_answer, subtree_says};
-ghost use Rattle.mtc_logs.specs.Works.{HasWorked, IsReady};
+ghost use Rattle.mtc_logs.specs.RequestOutcomes.{advance_of, consist_answer, subtree_of, subtree_answer};
 
 use crate::checkpoint::beyond;
-use crate::work::Fallen;
 use cosigner_core::{write_advance, write_subtree};
 use disk_core::Disk;
 use issuance_log::Log;
-use mtc_answers::{Answer, Said, Stopped, line_of_command};
+use mtc_answers::{Answer, Said, Stopped, refuse};
 use mtc_io::{Bytes, Failed, Memory};
 use std::alloc::Global;
 use tree_core::{TreeHash, subtree_ok};
-use tree_proofs::{Path, consist, node_of};
-
-// The answer where the state of the log doesn't allow the request.
-fn refuse(alloc: Global, command: &str, refusal: &str) -> Result<Answer, Memory>
-    ensures { IfOk result (λ answer. answer ≡ refuses command.now refusal.now) }
-{
-    Ok(Answer::Stops {
-        why: Stopped::Refused,
-        line: line_of_command(alloc, command, refusal)?,
-    })
-}
+use tree_proofs::{Path, node_of};
 
 // The hash of the subtree `[start, end)` of the entries.
 pub(crate) fn hash_of<H: TreeHash, D: Disk>(log: &mut Log<H, D>, start: u64, end: u64) -> [u8; 32]
     requires valid { is_subtree start end ≡ true }
     requires within { end ≤ length (state_of log.old).entries }
-    ensures hash { result ≡ root_of H.hash (part_of (map (leaf_hash H.hash) (state_of log.old).entries) start end) }
+    ensures hash { result ≡ root_of H.hash
+        (part_of (map (leaf_hash H.hash) (state_of log.old).entries) start end) }
     ensures same { log.new ≡ log.old }
 {
     match node_of(log, start, end) {
@@ -48,11 +37,12 @@ fn proof_of<H: TreeHash, D: Disk>(log: &mut Log<H, D>, start: u64, end: u64, siz
     requires valid { is_subtree start end ≡ true }
     requires inside { end ≤ size }
     requires within { size ≤ length (state_of log.old).entries }
-    ensures proof { result ≡ proof_of H.hash start end true (take size (map (leaf_hash H.hash) (state_of log.old).entries)) }
+    ensures proof { result ≡ proof_of H.hash start end true
+        (take size (map (leaf_hash H.hash) (state_of log.old).entries)) }
     ensures same { log.new ≡ log.old }
 {
     let mut proof = Path::new();
-    match consist(log, start, end, size, &mut proof) {
+    match tree_proofs::consist(log, start, end, size, &mut proof) {
         Ok(()) => proof,
         Err(Failed) => unreachable!(),
     }
@@ -83,26 +73,29 @@ fn advance_request<H: TreeHash, D: Disk>(
 ) -> Result<Bytes, Memory>
     requires more { old < new }
     requires within { new ≤ length (state_of log.old).entries }
-    ensures text { IfOk result (λ text. text ≡ advance_text (advance_of H.hash (state_of log.old) old new)) }
+    ensures text { IfOk result (λ text. text
+        ≡ advance_text (advance_of H.hash (state_of log.old) old new)) }
     ensures same { log.new ≡ log.old }
 {
     let root = hash_of(log, 0, new);
     let proof = growth_of(log, old, new);
-    let id = log.settings().id.as_bytes();
-    write_advance(alloc, id, new, &root, &proof)
+    let settings = log.settings();
+    write_advance(alloc, settings.id.as_bytes(), new, &root, &proof)
 }
 
-fn consist_answer<H: TreeHash, D: Disk>(
+/// The work of `consist J OLD NEW`.
+pub fn consist<H: TreeHash, D: Disk>(
     alloc: Global,
     log: &mut Log<H, D>,
     old: u64,
     new: u64,
 ) -> Result<Answer, Memory>
-    ensures answer { IfOk result (λ answer. answer ≡ consist_answer H.hash old new (state_of log.old)) }
+    ensures answer { IfOk result (λ answer. answer
+        ≡ consist_answer H.hash old new (state_of log.old)) }
     ensures same { log.new ≡ log.old }
 {
     if new <= old {
-        return refuse(alloc, "consist", "NothingNew");
+        return refuse(alloc, Stopped::Refused, "consist", "NothingNew");
     }
     if log.size() < new {
         return beyond(alloc, "consist", log.size());
@@ -111,22 +104,6 @@ fn consist_answer<H: TreeHash, D: Disk>(
         status: Said::Done,
         text: advance_request(alloc, log, old, new)?,
     })
-}
-
-/// The work of `consist J OLD NEW`.
-pub fn ask_advance<H: TreeHash, D: Disk>(
-    alloc: Global,
-    mut log: Log<H, D>,
-    old: u64,
-    new: u64,
-) -> (D, Result<Answer, Fallen>)
-    requires { IsReady log }
-    ensures { HasWorked (consist_says H.hash old new) log result }
-{
-    match consist_answer(alloc, &mut log, old, new) {
-        Ok(answer) => (log.into_disk(), Ok(answer)),
-        Err(Memory) => (log.into_disk(), Err(Fallen::Memory)),
-    }
 }
 
 // The request to sign the subtree `[start, end)` of the first `size` entries.
@@ -140,27 +117,30 @@ fn subtree_request<H: TreeHash, D: Disk>(
     requires valid { is_subtree start end ≡ true }
     requires inside { end ≤ size }
     requires within { size ≤ length (state_of log.old).entries }
-    ensures text { IfOk result (λ text. text ≡ subtree_text (subtree_of H.hash (state_of log.old) start end size)) }
+    ensures text { IfOk result (λ text. text
+        ≡ subtree_text (subtree_of H.hash (state_of log.old) start end size)) }
     ensures same { log.new ≡ log.old }
 {
     let hash = hash_of(log, start, end);
     let proof = proof_of(log, start, end, size);
-    let id = log.settings().id.as_bytes();
-    write_subtree(alloc, id, start, end, &hash, &proof)
+    let settings = log.settings();
+    write_subtree(alloc, settings.id.as_bytes(), start, end, &hash, &proof)
 }
 
-fn subtree_answer<H: TreeHash, D: Disk>(
+/// The work of `subtree J START END SIZE`.
+pub fn subtree<H: TreeHash, D: Disk>(
     alloc: Global,
     log: &mut Log<H, D>,
     start: u64,
     end: u64,
     size: u64,
 ) -> Result<Answer, Memory>
-    ensures answer { IfOk result (λ answer. answer ≡ subtree_answer H.hash start end size (state_of log.old)) }
+    ensures answer { IfOk result (λ answer. answer
+        ≡ subtree_answer H.hash start end size (state_of log.old)) }
     ensures same { log.new ≡ log.old }
 {
     if !subtree_ok(start, end) {
-        return refuse(alloc, "subtree", "BadSubtree");
+        return refuse(alloc, Stopped::Refused, "subtree", "BadSubtree");
     }
     if log.size() < size {
         return beyond(alloc, "subtree", log.size());
@@ -172,21 +152,4 @@ fn subtree_answer<H: TreeHash, D: Disk>(
         status: Said::Done,
         text: subtree_request(alloc, log, start, end, size)?,
     })
-}
-
-/// The work of `subtree J START END SIZE`.
-pub fn ask_subtree<H: TreeHash, D: Disk>(
-    alloc: Global,
-    mut log: Log<H, D>,
-    start: u64,
-    end: u64,
-    size: u64,
-) -> (D, Result<Answer, Fallen>)
-    requires { IsReady log }
-    ensures { HasWorked (subtree_says H.hash start end size) log result }
-{
-    match subtree_answer(alloc, &mut log, start, end, size) {
-        Ok(answer) => (log.into_disk(), Ok(answer)),
-        Err(Memory) => (log.into_disk(), Err(Fallen::Memory)),
-    }
 }

@@ -1,37 +1,16 @@
 //! The work of a command on a log whose journal is open: its own refusals, its text, and at most
 //! one append, which is its last step.
-ghost use Rattle.std.specs.Prelude.{◌≡◌};
-ghost use Rattle.mtc_logs.specs.Works.{CanBeDone, HasWorked, IsReady, work_says};
+ghost use Rattle.mtc_logs.specs.Works.{HasWorked, IsReady, work_says};
 
 use crate::checkpoint::{checkpoint, entries};
 use crate::issue::issue_on;
-use crate::requests::{ask_advance, ask_subtree};
+use crate::requests::{consist, subtree};
 use authority_core::Request;
 use disk_core::Disk;
 use issuance_log::Log;
-use mtc_answers::Answer;
-use mtc_io::Memory;
+use mtc_answers::{Answer, Stop};
 use std::alloc::Global;
 use tree_core::TreeHash;
-
-/// What ends the work on a journal without an answer of its own.
-#[derive(Clone, Copy, Debug, PartialEq, Eq)]
-pub enum Fallen {
-    /// The journal's device failed.
-    Device,
-    /// Memory was refused.
-    Memory,
-}
-
-impl From<Memory> for Fallen {
-    ghost use Rattle.mtc_logs.specs.declared.work.Fallen.TheVariants.{Memory as NoMemory};
-
-    ghost from_gives = { λ _ e. e ≡ NoMemory };
-
-    fn from(_refused: Memory) -> Fallen {
-        Fallen::Memory
-    }
-}
 
 /// What a command does with a log.
 #[derive(Drop)]
@@ -49,22 +28,23 @@ pub enum Work {
     Subtree(u64, u64, u64),
 }
 
-/// Carries out a command on a log. The device is handed back.
+/// Carries out a command on the log of a journal. A failure of its device is told by the journal's
+/// name.
 #[tactic(auto, unfolding(crate::specs::Works::work_says))]
-pub fn carry_out<H: TreeHash, D: Disk>(
+pub fn carry_out<'a, H: TreeHash, D: Disk>(
     alloc: Global,
-    log: Log<H, D>,
+    journal: &'a str,
+    log: &mut Log<H, D>,
     work: Work,
-) -> (D, Result<Answer, Fallen>)
-    requires possible { CanBeDone work }
-    requires ready { IsReady log }
-    ensures { HasWorked (work_says H.hash work) log result }
+) -> Result<Answer, Stop<'a>>
+    requires { IsReady log.old }
+    ensures { HasWorked journal.now (work_says H.hash work) log.old log.new result }
 {
     match work {
-        Work::Checkpoint => checkpoint(alloc, log),
-        Work::Entries(size) => entries(alloc, log, size),
-        Work::Issue(request) => issue_on(alloc, log, request),
-        Work::Consist(old, new) => ask_advance(alloc, log, old, new),
-        Work::Subtree(start, end, size) => ask_subtree(alloc, log, start, end, size),
+        Work::Checkpoint => Ok(checkpoint(alloc, log)?),
+        Work::Entries(size) => Ok(entries(alloc, log, size)?),
+        Work::Issue(request) => issue_on(alloc, journal, log, &request),
+        Work::Consist(old, new) => Ok(consist(alloc, log, old, new)?),
+        Work::Subtree(start, end, size) => Ok(subtree(alloc, log, start, end, size)?),
     }
 }

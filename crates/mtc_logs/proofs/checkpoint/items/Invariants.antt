@@ -1,7 +1,11 @@
-use Rattle.std.proofs.Common.{◌≡◌, take}
+use Rattle.std.proofs.Common.{◌≡◌}
+use Rattle.issuance_log.specs.Words.{state_of}
 use Rattle.mtc_logs.specs.LogOutcomes.{items_text}
 use Rattle.mtc_logs.proofs.checkpoint.items.Given as goal
 
 -- the items so far were written
-abbrev pub invariant-loop-i : goal.invariant-loop-i
-invariant-loop-i l = l.out ≡ items_text (take l.i l.entries) (take l.i l.keys)
+abbrev pub invariant-loop-index : goal.invariant-loop-index
+invariant-loop-index g l = record {
+  same : l.log ≡ l.initial.log;
+  text : l.out ≡ items_text (state_of l.log) l.index;
+}

@@ -3,9 +3,13 @@ use Rattle.mtc_logs.proofs.issue.issue.Goals as goal
 
 pub returns-in-Ok : goal.returns-in-Ok
 returns-in-Ok g c = record {
-  settled = search rules;
+  lent = search rules;
+  faults = search rules;
   tells = search rules;
+  others = search rules;
+  no_file = search rules;
   answer = search rules;
+  words = search rules;
   not_words = search rules;
   fault = search rules;
   made = search rules;
