@@ -232,22 +232,28 @@ def check_faults(folder, _kills):
         yield from unlike("the journal", folder.bytes(), before)
 
 
+def new_log_within(folder, limit):
+    """What `init-log` answers with so much memory, and how long its file is, if there is one."""
+    (folder.path / "j").unlink(missing_ok=True)
+    found = folder.run(NEW_LOG, preexec_fn=lambda: resource.setrlimit(resource.RLIMIT_AS, (limit, limit)))
+    return *found, len(folder.bytes()) if (folder.path / "j").exists() else None
+
+
 def check_memory(folder, _kills):
     """With less and less memory `init-log` makes its log, or answers status 8 and makes no file"""
-    folder.new_log()
-    met = {0: 0, 8: 0}
-    for limit in range(24 << 20, 1 << 20, -(64 << 10)):
-        (folder.path / "j").unlink(missing_ok=True)
-        bound = (limit, limit)
-        found = folder.run(NEW_LOG, preexec_fn=lambda bound=bound: resource.setrlimit(resource.RLIMIT_AS, bound))
-        files = len(folder.bytes()) if (folder.path / "j").exists() else None
-        if found[0] not in met:
-            yield from unlike(f"{limit} bytes, the program isn't started", files, None)
-            break
-        met[found[0]] += 1
-        wanted = (0, "log 32473.1\n", "", 36) if found[0] == 0 else (8, "", "mtc: init-log: Memory\n", None)
-        yield from unlike(f"{limit} bytes", (*found, files), wanted)
-    yield from unlike("runs of both kinds", [count > 0 for count in met.values()], [True, True])
+    page = resource.getpagesize()
+    few, enough = 256, 16384
+    while enough - few > 1:
+        middle = (few + enough) // 2
+        few, enough = (few, middle) if new_log_within(folder, middle * page)[0] == 0 else (middle, enough)
+    met = set()
+    for pages in range(enough + 8, enough - 56, -1):
+        found = new_log_within(folder, pages * page)
+        wanted = {0: (0, "log 32473.1\n", "", 36), 8: (8, "", "mtc: init-log: Memory\n", None)}.get(found[0])
+        # With less the system doesn't start the program.
+        yield from unlike(f"{pages} pages", found, wanted or (*found[:3], None))
+        met.add(found[0])
+    yield from unlike("statuses 0 and 8 came", {0, 8} <= met, True)
 
 
 def acknowledged(out):
