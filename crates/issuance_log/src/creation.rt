@@ -1,6 +1,7 @@
 //! The journal of a new log.
-ghost use Rattle.std.specs.Prelude.{◌≡◌, [], ◌∷◌, Ok, IfOk, IfErr};
+ghost use Rattle.std.specs.Prelude.{◌≡◌, ◌≢◌, [], ◌∷◌, Ok, IfSome, IfOk, IfErr};
 ghost use Rattle.byte_forms.specs.Types.{HashFunction};
+ghost use Rattle.disk_core.specs.Moments.{Looks};
 ghost use Rattle.journal_core.specs.Packed.{first_body};
 ghost use Rattle.journal_core.specs.Starts.{HasStarted, IsNotStarted};
 ghost use Rattle.issuance_log.specs.Folds.{log_of, new_log};
@@ -28,7 +29,7 @@ pub fn pack(alloc: Global, settings: &LogSettings) -> Result<FirstRecord, Memory
 /// record makes the log that has the null entry alone.
 ///
 /// Errors, in the order of the tests: `Memory`, `Failed`, `NotEmpty` where the disk holds bytes.
-/// The disk is handed back.
+/// The disk is handed back; one that holds bytes was only looked at.
 pub fn create<D: Disk>(
     alloc: Global,
     disk: D,
@@ -36,6 +37,8 @@ pub fn create<D: Disk>(
 ) -> Result<Journal<D>, Refused<D, StartError>>
     ensures ok { IfOk result (HasStarted (settings_record settings.now) disk) }
     ensures err { IfErr result (λ e. IsNotStarted D.Disk disk e.disk e.why) }
+    ensures spared { IfErr result (λ e. IfSome (D.told disk)
+        (λ b. b ≢ [] → Looks D.Disk disk e.disk)) }
     ensures valid { (h : HashFunction)
         → log_of h (settings_record settings.now ∷ []) ≡ Ok (new_log settings.now) }
 {

@@ -2,6 +2,7 @@
 ghost use Rattle.std.specs.Prelude.{◌≡◌, ◌≢◌, ◌≤◌, ◌+◌, [], ◌∷◌, length, take, is_some, option_map, IfSome, IfOk, IfErr, OnOk};
 ghost use Rattle.mtc_io.specs.Counts.{HasCause};
 ghost use Rattle.disk_core.specs.Disk.{overwritten, part, Only};
+ghost use Rattle.disk_core.specs.Moments.{Looks};
 ghost use Rattle.journal_core.specs.Format.{new_file_of};
 ghost use Rattle.journal_core.specs.Starts.{HasStarted, IsNotStarted};
 
@@ -60,11 +61,14 @@ impl FirstRecord {
     /// takes no memory.
     ///
     /// Errors, in the order of the tests: `Failed`, `NotEmpty` where the disk holds bytes. A first
-    /// write that fails may leave anything. The disk is handed back.
+    /// write that fails may leave anything on a disk that was empty; one with bytes was only looked
+    /// at. The disk is handed back.
     pub fn start<D: Disk>(self, mut disk: D) -> Result<Journal<D>, Refused<D, StartError>>
         ensures ok { IfOk result (HasStarted (first_body self) disk) }
         ensures err { IfErr result (λ e. IsNotStarted D.Disk disk e.disk e.why) }
         ensures never { IfErr result (λ e. e.why ≢ StartError.Memory) }
+        ensures spared { IfErr result (λ e. IfSome (D.told disk)
+            (λ b. b ≢ [] → Looks D.Disk disk e.disk)) }
     {
         let length = match look_len(&mut disk) {
             Ok(length) => length,
@@ -89,7 +93,8 @@ impl FirstRecord {
 /// a crash leaves that record.
 ///
 /// Errors, in the order of the tests: `Memory` for the buffer, `Failed`, `NotEmpty` where the disk
-/// holds bytes. A first write that fails may leave anything. The disk is handed back.
+/// holds bytes. A first write that fails may leave anything on a disk that was empty; one with
+/// bytes was only looked at. The disk is handed back.
 pub fn start<D: Disk>(
     alloc: Global,
     disk: D,
@@ -99,6 +104,8 @@ pub fn start<D: Disk>(
     requires few { length first.now ≤ 131072 }
     ensures ok { IfOk result (HasStarted first.now disk) }
     ensures err { IfErr result (λ e. IsNotStarted D.Disk disk e.disk e.why) }
+    ensures spared { IfErr result (λ e. IfSome (D.told disk)
+        (λ b. b ≢ [] → Looks D.Disk disk e.disk)) }
 {
     match FirstRecord::pack(alloc, first) {
         Ok(packed) => packed.start(disk),
