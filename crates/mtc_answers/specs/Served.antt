@@ -38,7 +38,8 @@ module _ {R S D : Type 0} (rooms : Rooms R S D) (disks : Disks D) (Bad : Type 0)
   -- A command that works on these journals and has to give that outcome left the room so, and ended
   -- so. Bad says that the words are no command.
   pub record HasDone (result : Result Answer Stop) : Type 0 where
-    -- All that was lent is given back, and each other file stays. None is made but a new journal.
+    -- All that was lent is given back, and each other file stays. None is made but a new journal,
+    -- and none at all where memory was refused.
     pub lent : rooms.lent new ≡ rooms.lent old
     pub faults : rooms.faults old ≤ rooms.faults new
     pub tells : rooms.tells old → rooms.tells new
@@ -46,6 +47,8 @@ module _ {R S D : Type 0} (rooms : Rooms R S D) (disks : Disks D) (Bad : Type 0)
         → Stays (rooms.file old) (rooms.file new) (rooms.device old) (rooms.device new) name
     pub no_file : rooms.tells old → OfEach (λ name did. IsOnOld did
         → rooms.file old name ≡ None → rooms.file new name ≡ None) journals
+    pub unmade : IfErr result (λ stop. stop ≡ Memory → rooms.tells old → OfEach (λ name did.
+        rooms.file old name ≡ None → rooms.file new name ≡ None) journals)
     -- It answers as the outcome says, or a cause kept it from that.
     pub answer : IfOk result (λ answer. rooms.tells old → answer ≡ wanted.answer)
     pub words : Bad → AnswersBadWords wanted result

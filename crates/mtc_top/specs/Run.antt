@@ -73,11 +73,13 @@ module _ {R S D O E : Type 0} (h : List ℕ → List ℕ) (rooms : Rooms R S D) 
     pub line : Reports (command_line (known_word words) (codes "OutputFailed"))
     pub made : Left HasMade
 
-  -- Memory was refused: nothing went out, and no journal has a new record.
+  -- Memory was refused: nothing went out, no journal has a new record, and no file is made.
   pub record NoMemory : Type 0 where
     pub text : Prints []
     pub line : Reports (memory_line (known_word words))
     pub made : Left HasKept
+    pub unmade : rooms.tells old → OfEach (λ journal did.
+        rooms.file old journal ≡ None → rooms.file new journal ≡ None) journals
 
   -- Status 1 says that the words are no command, and such words are answered by it.
   pub record ReadWords (status : ℕ) : Type 0 where

@@ -8,6 +8,7 @@ returns-in-Ok g c = record {
   tells = search rules;
   others = search rules;
   no_file = search rules;
+  unmade = search rules;
   answer = search rules;
   words = search rules;
   not_words = search rules;
