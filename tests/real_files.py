@@ -232,6 +232,27 @@ def check_faults(folder, _kills):
         yield from unlike("the journal", folder.bytes(), before)
 
 
+def check_replaced(folder, _kills):
+    """Where a copy takes the journal's place between its opening and its lock, neither file is written"""
+    if not can_trace(folder):
+        folder.notes.append("left out: strace isn't here, or may not trace")
+        return
+    folder.new_log()
+    shutil.copy(folder.path / "j", folder.path / "copy")
+    os.link(folder.path / "j", folder.path / "old")
+    trace = folder.path / "trace"
+    trace.write_bytes(b"")
+    folder.own(trace, folder.path / "copy")
+    waits = ["strace", "-qq", "-o", trace, "-e", "trace=openat,flock", "-e", "inject=flock:delay_enter=1000000"]
+    before, process = folder.bytes(), folder.start(["issue", "j", "r"], before=waits)
+    while '"j"' not in trace.read_text() and process.poll() is None:
+        time.sleep(0.01)
+    (folder.path / "copy").rename(folder.path / "j")
+    process.communicate()
+    found = process.returncode, folder.bytes("j"), folder.bytes("old")
+    yield from unlike("issue", found, (5, before, before))
+
+
 def new_log_within(folder, limit):
     """What `init-log` answers with so much memory, and how long its file is, if there is one."""
     (folder.path / "j").unlink(missing_ok=True)
@@ -248,11 +269,12 @@ def check_memory(folder, _kills):
         few, enough = (few, middle) if new_log_within(folder, middle * page)[0] == 0 else (middle, enough)
     met = set()
     for pages in range(enough + 8, enough - 56, -1):
-        found = new_log_within(folder, pages * page)
-        wanted = {0: (0, "log 32473.1\n", "", 36), 8: (8, "", "mtc: init-log: Memory\n", None)}.get(found[0])
-        # With less the system doesn't start the program.
-        yield from unlike(f"{pages} pages", found, wanted or (*found[:3], None))
-        met.add(found[0])
+        status, out, err, file = new_log_within(folder, pages * page)
+        # A line names the command once the words are read. With too few pages the system doesn't start the program.
+        line = err.replace("init-log: ", "")
+        wanted = {0: ("log 32473.1\n", "", 36), 8: ("", "mtc: Memory\n", None)}.get(status, (out, line, None))
+        yield from unlike(f"status {status} with {pages} pages", (out, line, file), wanted)
+        met.add(status)
     yield from unlike("statuses 0 and 8 came", {0, 8} <= met, True)
 
 
@@ -332,8 +354,8 @@ def check_kills(folder, kills):
     folder.notes.append(f"{kills} times, {len(told)} acknowledged, {unsaid} not acknowledged and there")
 
 
-CHECKS = [check_locks, check_refusals, check_modes, check_streams, check_order, check_faults, check_memory, check_at_once,
-          check_kills]
+CHECKS = [check_locks, check_refusals, check_modes, check_streams, check_order, check_faults, check_replaced, check_memory,
+          check_at_once, check_kills]
 
 
 def main(words):
