@@ -2,13 +2,12 @@
 //! and of changes to it.
 
 use cert_names::log_name;
-use mtc_proof::ProofError;
 use policy_core::{Accepted, By, Refusal, Revoked, Store, Subtrees, Trusted};
 use relying_party::judge;
 use std::alloc::Global;
 use std::test::Fail;
 use tls_wire::AnchorId;
-use tree_core::{EvalError, Sha, Span};
+use tree_core::{Sha, Span};
 
 // Serial number 1, issuer of log 32473.1, 2026-01-01 to 2026-01-08, no subject, an Ed25519 key of
 // zeros, one critical subjectAltName with `a.example`, and a proof of the interval 0 to 2 with the
@@ -60,17 +59,6 @@ fn store_of(
     })
 }
 
-// The certificate with other bytes at some places.
-fn changed(changes: &[(usize, u8)]) -> [u8; 231] {
-    let mut bytes = CERTIFICATE;
-    for (place, byte) in changes {
-        if let Some(old) = bytes.get_mut(*place) {
-            *old = *byte;
-        }
-    }
-    bytes
-}
-
 // The certificate with parameters of NULL in both algorithms.
 fn with_parameters(alloc: Global) -> Result<Vec<u8>, Fail> {
     let pieces: [&[u8]; 8] = [
@@ -119,45 +107,67 @@ fn a_certificate_is_accepted_from_its_first_to_its_last_moment(
     rt: HostRuntime,
 ) -> Result<(), Fail> {
     let store = store_of(rt.alloc(), "32473.1", &[subtree(TRUSTED)], &[])?;
-    let moments: [(i64, Result<Accepted, Refusal>); 4] = [
-        (FIRST - 1, Err(Refusal::NotYet)),
-        (FIRST, Ok(ACCEPTED)),
-        (LAST, Ok(ACCEPTED)),
-        (LAST + 1, Err(Refusal::Expired)),
-    ];
-    for (now, wanted) in moments {
-        assert!(rt; answer(&CERTIFICATE, &store, now) == wanted, "{now}");
-    }
+    assert!(rt; answer(&CERTIFICATE, &store, FIRST - 1) == Err(Refusal::NotYet));
+    assert!(rt; answer(&CERTIFICATE, &store, FIRST) == Ok(ACCEPTED));
+    assert!(rt; answer(&CERTIFICATE, &store, LAST) == Ok(ACCEPTED));
+    assert!(rt; answer(&CERTIFICATE, &store, LAST + 1) == Err(Refusal::Expired));
     Ok(())
+}
+
+// Other bytes at some places, `PLACE=BYTE`, and why the certificate is refused then. A critical
+// issuerAltName is `143=18`; `27=1 175=1` puts the attribute's identifier in the place of the
+// algorithm's.
+const CHANGES: &str = "\
+196=31 ProofGrammar(HashLength)
+196=64 ProofGrammar(Short(16))
+230=1 ProofGrammar(Short(50))
+194=0 ProofShape(BadSubtree)
+194=1 ProofShape(Outside)
+194=3 ProofShape(WrongLength)
+143=18 UnknownCritical
+27=1 175=1 Algorithm
+197=0 LandmarkDiffers
+101=1 LandmarkDiffers
+54=57 UnknownLog
+";
+
+// Puts a byte at its place, as `PLACE=BYTE` says, where the word says it.
+fn change(bytes: &mut [u8; 231], word: &str) -> Result<bool, Fail> {
+    match word.split_once('=') {
+        Some((place, byte)) => match bytes.get_mut(place.parse::<usize>()?) {
+            Some(old) => {
+                *old = byte.parse::<u8>()?;
+                Ok(true)
+            }
+            None => Err(Fail::from("no place")),
+        },
+        None => Ok(false),
+    }
+}
+
+// Whether the certificate with the changes of a line is refused as the line says.
+fn is_refused(alloc: Global, store: &Store, line: &str) -> Result<bool, Fail> {
+    let mut bytes = CERTIFICATE;
+    for word in line.split(' ') {
+        if !change(&mut bytes, word)? {
+            return match answer(&bytes, store, FIRST) {
+                Ok(_) => Ok(false),
+                Err(found) => Ok(format!(in alloc; "{found:?}")?.as_str() == word),
+            };
+        }
+    }
+    Ok(false)
 }
 
 #[test]
 fn each_change_has_its_refusal(rt: HostRuntime) -> Result<(), Fail> {
     let store = store_of(rt.alloc(), "32473.1", &[subtree(TRUSTED)], &[])?;
-    let changes: [(&[(usize, u8)], Refusal); 11] = [
-        (
-            &[(196, 0x1F)],
-            Refusal::ProofGrammar(ProofError::HashLength),
-        ),
-        (&[(196, 0x40)], Refusal::ProofGrammar(ProofError::Short(16))),
-        (&[(230, 0x01)], Refusal::ProofGrammar(ProofError::Short(50))),
-        (&[(194, 0x00)], Refusal::ProofShape(EvalError::BadSubtree)),
-        (&[(194, 0x01)], Refusal::ProofShape(EvalError::Outside)),
-        (&[(194, 0x03)], Refusal::ProofShape(EvalError::WrongLength)),
-        // A critical issuerAltName.
-        (&[(143, 0x12)], Refusal::UnknownCritical),
-        // The attribute's identifier in the place of the algorithm's.
-        (&[(27, 0x01), (175, 0x01)], Refusal::Algorithm),
-        (&[(197, 0x00)], Refusal::LandmarkDiffers),
-        (&[(101, 0x01)], Refusal::LandmarkDiffers),
-        (&[(54, 0x39)], Refusal::UnknownLog),
-    ];
-    for (bytes, refusal) in changes {
-        assert!(rt;
-            answer(&changed(bytes), &store, FIRST) == Err(refusal),
-            "{refusal:?}"
-        );
+    let mut count = 0u64;
+    for line in CHANGES.lines() {
+        assert!(rt; is_refused(rt.alloc(), &store, line)?, "{line}");
+        count = count.saturating_add(1);
     }
+    assert!(rt; count == 11);
     Ok(())
 }
 
@@ -169,24 +179,29 @@ fn an_algorithm_with_parameters_is_refused(rt: HostRuntime) -> Result<(), Fail> 
     Ok(())
 }
 
+// The judgement by a store with these lists.
+fn judged(
+    alloc: Global,
+    id: &str,
+    subtrees: &[Trusted],
+    revoked: &[Span],
+) -> Result<Result<Accepted, Refusal>, Fail> {
+    let store = store_of(alloc, id, subtrees, revoked)?;
+    Ok(answer(&CERTIFICATE, &store, FIRST))
+}
+
 #[test]
 fn the_store_decides(rt: HostRuntime) -> Result<(), Fail> {
     let mut other = TRUSTED;
     other[31] = 0;
     let good = [subtree(TRUSTED)];
-    let differs = [subtree(other)];
     let one = [Span { start: 1, end: 2 }];
     let two = [Span { start: 2, end: 3 }];
-    let cases: [(&str, &[Trusted], &[Span], Result<Accepted, Refusal>); 5] = [
-        ("32473.1", &good, &one, Err(Refusal::Revoked)),
-        ("32473.1", &good, &two, Ok(ACCEPTED)),
-        ("32473.1", &differs, &[], Err(Refusal::LandmarkDiffers)),
-        ("32473.1", &[], &[], Err(Refusal::TooFewCosigners(0))),
-        ("32473.9", &good, &[], Err(Refusal::UnknownLog)),
-    ];
-    for (id, subtrees, revoked, wanted) in cases {
-        let store = store_of(rt.alloc(), id, subtrees, revoked)?;
-        assert!(rt; answer(&CERTIFICATE, &store, FIRST) == wanted, "{wanted:?}");
-    }
+    let alloc = rt.alloc();
+    assert!(rt; judged(alloc, "32473.1", &good, &one)? == Err(Refusal::Revoked));
+    assert!(rt; judged(alloc, "32473.1", &good, &two)? == Ok(ACCEPTED));
+    assert!(rt; judged(alloc, "32473.1", &[subtree(other)], &[])? == Err(Refusal::LandmarkDiffers));
+    assert!(rt; judged(alloc, "32473.1", &[], &[])? == Err(Refusal::TooFewCosigners(0)));
+    assert!(rt; judged(alloc, "32473.9", &good, &[])? == Err(Refusal::UnknownLog));
     Ok(())
 }

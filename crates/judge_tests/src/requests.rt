@@ -1,101 +1,121 @@
 //! Request files: what is wrong with them, and two that are whole; and host names.
 
-use crate::texts::joined;
+use crate::texts::{headed, joined};
 use authority_core::{Field, Request, RequestError, is_host, read_request};
 use std::alloc::Global;
 use std::test::Fail;
 
 const DATES: &str = "not_before = \"2026-01-01T00:00:00Z\"\nnot_after = \"2026-01-08T00:00:00Z\"\n";
 
-const REVERSED: &str =
-    "not_before = \"2026-01-08T00:00:00Z\"\nnot_after = \"2026-01-01T00:00:00Z\"\n";
-
 const DNS: &str = "dns = [\"a.example\"]\n";
 
 const KEY: &str = "key = \"MCowBQYDK2VwAyEAAAAAAAAAAAAAAAAAAAAAAAAAAAAAAAAAAAAAAAAAAAA=\"\n";
-
-// The same key with one byte behind the element.
-const LONGER_KEY: &str = "key = \"MCowBQYDK2VwAyEAAAAAAAAAAAAAAAAAAAAAAAAAAAAAAAAAAAAAAAAAAAAA\"\n";
 
 // Reads these pieces, one behind the other.
 fn read(alloc: Global, pieces: &[&str]) -> Result<Result<Request, RequestError>, Fail> {
     Ok(read_request(alloc, joined(alloc, pieces)?.as_bytes()))
 }
 
-// Why these pieces are no request; none where they are one.
-fn refusal(alloc: Global, pieces: &[&str]) -> Result<Option<RequestError>, Fail> {
-    Ok(read(alloc, pieces)?.err())
+// Requests that are refused: behind `== ` why, and a remark; then the request.
+const REFUSED: &str = r#"== NotToml
+not_before
+== NotToml
+a = 😀
+== Missing(NotBefore)
+== BadValue(NotBefore)
+not_before = "2026-02-30T00:00:00Z"
+== BadValue(NotBefore): a date of the file's own kind is no text
+not_before = 2026-01-01T00:00:00Z
+== Missing(NotAfter)
+not_before = "2026-01-01T00:00:00Z"
+dns = ["a.example"]
+key = "MCowBQYDK2VwAyEAAAAAAAAAAAAAAAAAAAAAAAAAAAAAAAAAAAAAAAAAAAA="
+== Missing(Dns)
+not_before = "2026-01-01T00:00:00Z"
+not_after = "2026-01-08T00:00:00Z"
+key = "MCowBQYDK2VwAyEAAAAAAAAAAAAAAAAAAAAAAAAAAAAAAAAAAAAAAAAAAAA="
+== BadValue(Dns)
+not_before = "2026-01-01T00:00:00Z"
+not_after = "2026-01-08T00:00:00Z"
+dns = "a.example"
+key = "MCowBQYDK2VwAyEAAAAAAAAAAAAAAAAAAAAAAAAAAAAAAAAAAAAAAAAAAAA="
+== BadValue(Dns)
+not_before = "2026-01-01T00:00:00Z"
+not_after = "2026-01-08T00:00:00Z"
+dns = ["a.example", "-a.example"]
+key = "MCowBQYDK2VwAyEAAAAAAAAAAAAAAAAAAAAAAAAAAAAAAAAAAAAAAAAAAAA="
+== BadValue(Dns)
+not_before = "2026-01-01T00:00:00Z"
+not_after = "2026-01-08T00:00:00Z"
+dns = [1]
+key = "MCowBQYDK2VwAyEAAAAAAAAAAAAAAAAAAAAAAAAAAAAAAAAAAAAAAAAAAAA="
+== BadValue(CommonName)
+not_before = "2026-01-01T00:00:00Z"
+not_after = "2026-01-08T00:00:00Z"
+dns = ["a.example"]
+common_name = ""
+key = "MCowBQYDK2VwAyEAAAAAAAAAAAAAAAAAAAAAAAAAAAAAAAAAAAAAAAAAAAA="
+== BadValue(CommonName)
+not_before = "2026-01-01T00:00:00Z"
+not_after = "2026-01-08T00:00:00Z"
+dns = ["a.example"]
+common_name = []
+== Missing(PublicKey)
+not_before = "2026-01-01T00:00:00Z"
+not_after = "2026-01-08T00:00:00Z"
+dns = ["a.example"]
+== BadValue(PublicKey)
+not_before = "2026-01-01T00:00:00Z"
+not_after = "2026-01-08T00:00:00Z"
+dns = ["a.example"]
+key = "MCowBQYDK2VwAyEA"
+== BadValue(PublicKey): a byte behind the element
+not_before = "2026-01-01T00:00:00Z"
+not_after = "2026-01-08T00:00:00Z"
+dns = ["a.example"]
+key = "MCowBQYDK2VwAyEAAAAAAAAAAAAAAAAAAAAAAAAAAAAAAAAAAAAAAAAAAAAA"
+== NoNames
+not_before = "2026-01-01T00:00:00Z"
+not_after = "2026-01-08T00:00:00Z"
+dns = []
+key = "MCowBQYDK2VwAyEAAAAAAAAAAAAAAAAAAAAAAAAAAAAAAAAAAAAAAAAAAAA="
+== DatesReversed
+not_before = "2026-01-08T00:00:00Z"
+not_after = "2026-01-01T00:00:00Z"
+dns = ["a.example"]
+key = "MCowBQYDK2VwAyEAAAAAAAAAAAAAAAAAAAAAAAAAAAAAAAAAAAAAAAAAAAA="
+== DatesReversed
+not_before = "2026-01-08T00:00:00Z"
+not_after = "2026-01-01T00:00:00Z"
+dns = []
+key = "MCowBQYDK2VwAyEAAAAAAAAAAAAAAAAAAAAAAAAAAAAAAAAAAAAAAAAAAAA="
+== UnknownKey
+not_before = "2026-01-01T00:00:00Z"
+not_after = "2026-01-08T00:00:00Z"
+dns = ["a.example"]
+key = "MCowBQYDK2VwAyEAAAAAAAAAAAAAAAAAAAAAAAAAAAAAAAAAAAAAAAAAAAA="
+other = 1
+== UnknownKey
+other = 1
+"#;
+
+// Whether the request of this block is refused as its first line says.
+fn is_refused(alloc: Global, block: &str) -> Result<bool, Fail> {
+    let (why, text) = headed(block);
+    match read_request(alloc, text.as_bytes()) {
+        Ok(_) => Ok(false),
+        Err(found) => Ok(format!(in alloc; "{found:?}")?.as_str() == why),
+    }
 }
 
 #[test]
-fn fields_are_refused_in_their_order(rt: HostRuntime) -> Result<(), Fail> {
-    let cases: [(&[&str], RequestError); 15] = [
-        (&["not_before"], RequestError::NotToml),
-        (&["a = \u{1F600}"], RequestError::NotToml),
-        (&[""], RequestError::Missing(Field::NotBefore)),
-        (
-            &["not_before = \"2026-02-30T00:00:00Z\"\n"],
-            RequestError::BadValue(Field::NotBefore),
-        ),
-        // A date of the file's own kind is no text.
-        (
-            &["not_before = 2026-01-01T00:00:00Z\n"],
-            RequestError::BadValue(Field::NotBefore),
-        ),
-        (
-            &["not_before = \"2026-01-01T00:00:00Z\"\n", DNS, KEY],
-            RequestError::Missing(Field::NotAfter),
-        ),
-        (&[DATES, KEY], RequestError::Missing(Field::Dns)),
-        (
-            &[DATES, "dns = \"a.example\"\n", KEY],
-            RequestError::BadValue(Field::Dns),
-        ),
-        (
-            &[DATES, "dns = [\"a.example\", \"-a.example\"]\n", KEY],
-            RequestError::BadValue(Field::Dns),
-        ),
-        (
-            &[DATES, "dns = [1]\n", KEY],
-            RequestError::BadValue(Field::Dns),
-        ),
-        (
-            &[DATES, DNS, "common_name = \"\"\n", KEY],
-            RequestError::BadValue(Field::CommonName),
-        ),
-        (
-            &[DATES, DNS, "common_name = []\n"],
-            RequestError::BadValue(Field::CommonName),
-        ),
-        (&[DATES, DNS], RequestError::Missing(Field::PublicKey)),
-        (
-            &[DATES, DNS, "key = \"MCowBQYDK2VwAyEA\"\n"],
-            RequestError::BadValue(Field::PublicKey),
-        ),
-        // One byte behind the element.
-        (
-            &[DATES, DNS, LONGER_KEY],
-            RequestError::BadValue(Field::PublicKey),
-        ),
-    ];
-    for (pieces, why) in cases {
-        assert!(rt; refusal(rt.alloc(), pieces)? == Some(why), "{why:?}");
+fn the_first_fault_is_told(rt: HostRuntime) -> Result<(), Fail> {
+    let mut count = 0u64;
+    for block in REFUSED.split("== ").skip(1) {
+        assert!(rt; is_refused(rt.alloc(), block)?, "{block}");
+        count = count.saturating_add(1);
     }
-    Ok(())
-}
-
-#[test]
-fn a_request_is_looked_at_as_a_whole(rt: HostRuntime) -> Result<(), Fail> {
-    let cases: [(&[&str], RequestError); 5] = [
-        (&[DATES, "dns = []\n", KEY], RequestError::NoNames),
-        (&[REVERSED, DNS, KEY], RequestError::DatesReversed),
-        (&[REVERSED, "dns = []\n", KEY], RequestError::DatesReversed),
-        (&[DATES, DNS, KEY, "other = 1\n"], RequestError::UnknownKey),
-        (&["other = 1\n"], RequestError::UnknownKey),
-    ];
-    for (pieces, why) in cases {
-        assert!(rt; refusal(rt.alloc(), pieces)? == Some(why), "{why:?}");
-    }
+    assert!(rt; count == 20);
     Ok(())
 }
 
@@ -185,34 +205,28 @@ fn is_name(text: &[u8]) -> bool {
     is_host(text)
 }
 
+// Host names, and texts that are none, of which the first is empty.
+const HOSTS: &str = "a\na.example\nA-1.b--c.9\n*\n*.example";
+
+const NO_HOSTS: &str =
+    "\n.\na.\n.a\na..b\n-a.example\na-.example\na.-\na.b-\na.*\n*a.b\n**\na_b\na b\nä.example\na:b";
+
+// How many lines of a text are host names, or are none, as is wanted, up to the first other one.
+fn count_hosts(text: &str, wanted: bool) -> u64 {
+    let mut count = 0u64;
+    for name in text.lines() {
+        if is_name(name.as_bytes()) != wanted {
+            return count;
+        }
+        count = count.saturating_add(1);
+    }
+    count
+}
+
 #[test]
 fn host_names_are_labels_with_dots_between_them(rt: HostRuntime) -> Result<(), Fail> {
-    let cases: [(&str, bool); 21] = [
-        ("a", true),
-        ("a.example", true),
-        ("A-1.b--c.9", true),
-        ("*", true),
-        ("*.example", true),
-        ("", false),
-        (".", false),
-        ("a.", false),
-        (".a", false),
-        ("a..b", false),
-        ("-a.example", false),
-        ("a-.example", false),
-        ("a.-", false),
-        ("a.b-", false),
-        ("a.*", false),
-        ("*a.b", false),
-        ("**", false),
-        ("a_b", false),
-        ("a b", false),
-        ("ä.example", false),
-        ("a:b", false),
-    ];
-    for (name, wanted) in cases {
-        assert!(rt; is_name(name.as_bytes()) == wanted, "{name}");
-    }
+    assert!(rt; count_hosts(HOSTS, true) == 5);
+    assert!(rt; count_hosts(NO_HOSTS, false) == 16);
     Ok(())
 }
 

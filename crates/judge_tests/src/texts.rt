@@ -1,4 +1,4 @@
-//! Texts of pieces.
+//! Texts of pieces, and texts of cases.
 
 use std::alloc::Global;
 use std::test::Fail;
@@ -10,4 +10,12 @@ pub fn joined(alloc: Global, pieces: &[&str]) -> Result<String, Fail> {
         text.push_str(piece)?;
     }
     Ok(text)
+}
+
+/// What a block begins with, up to a colon or the end of its first line, and its other lines.
+pub fn headed(block: &str) -> (&str, &str) {
+    match block.split_once('\n') {
+        Some((head, text)) => (head.split_once(':').map_or(head, |parts| parts.0), text),
+        None => (block, ""),
+    }
 }

@@ -4,7 +4,6 @@ ghost use Rattle.std.specs.Prelude.{◌≡◌};
 use mtc_io::{Bytes, MemSink, Memory};
 use mtc_top::{MemRoom, Room, run};
 use std::alloc::Global;
-use std::test::Fail;
 use tree_core::Sha;
 
 /// A room of which nothing is out.
@@ -47,22 +46,4 @@ impl Desk {
     ) -> u8 {
         run::<Sha, _, _, _>(alloc, words, &mut self.room, out, err)
     }
-}
-
-/// Words as the program gets them.
-pub fn owned_words(alloc: Global, words: &[&str]) -> Result<Vec<String>, Fail> {
-    let mut owned = Vec::new(alloc);
-    for word in words {
-        owned.push(String::from_str(alloc, word)?)?;
-    }
-    Ok(owned)
-}
-
-/// Bytes from their parts in hexadecimal.
-pub fn bytes_of(alloc: Global, parts: &[&str]) -> Result<Vec<u8>, Fail> {
-    let mut bytes = Vec::new(alloc);
-    for part in parts {
-        bytes.extend_from_slice(&hex::decode(alloc, *part)?)?;
-    }
-    Ok(bytes)
 }

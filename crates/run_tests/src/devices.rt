@@ -1,122 +1,198 @@
 //! What the commands on the journal of a log answer where a call of its device fails.
-use crate::desk::owned_words;
-use crate::logs::{
-    BAD_RECORD, CHECKPOINT, EXISTS, GATE, INIT_FAILED, ISSUE, J, NEW, NOT_JOURNAL, REQUEST,
-};
-use crate::scripts::{Placed, Step, desk_with, passed};
+use crate::desk::Desk;
+use crate::scripts::{Outcome, desk_of, outcome_of, owned_words};
 use mtc_io::MemSink;
 use std::alloc::Global;
 use std::test::Fail;
 
-// The journal with its record's gate closed.
-const CLOSED: &[&str] = &[
-    "6d74632d6a6f75726e616c2f76310a00000000000e010481fd59010000000200000040",
-    GATE,
-];
+const SCRIPT: &str = r#"
+# A new journal, and that with its record's gate closed.
+name NEW 6d74632d6a6f75726e616c2f76310a00010000000e010481fd59010000000200000040 00
+name CLOSED 6d74632d6a6f75726e616c2f76310a00000000000e010481fd59010000000200000040 00
 
-const NOTHING_LEFT: Step = Step {
-    left: &[("j", Some(&[]))],
-    ..INIT_FAILED
-};
+# The calls of a device that is made: the length is asked for; the record is written and synced;
+# the gate is written and synced.
+case the length can't be told
+fresh 0
+$ init-log j 32473.1 2 64
+status 5
+! mtc: init-log: j: Failed
+left j
+$ checkpoint j
+status 2
+! mtc: checkpoint: j: NotJournal
+$ init-log j 32473.1 2 64
+status 7
+! mtc: init-log: j: Exists
 
-const CLOSED_LEFT: Step = Step {
-    left: &[("j", Some(CLOSED))],
-    ..INIT_FAILED
-};
+case the record can't be written
+fresh 1
+$ init-log j 32473.1 2 64
+status 5
+! mtc: init-log: j: Failed
+left j
+$ checkpoint j
+status 2
+! mtc: checkpoint: j: NotJournal
+$ init-log j 32473.1 2 64
+status 7
+! mtc: init-log: j: Exists
 
-const NEW_LEFT: Step = Step {
-    left: &[("j", Some(NEW))],
-    ..INIT_FAILED
-};
+case the record can't be synced
+fresh 2
+$ init-log j 32473.1 2 64
+status 5
+! mtc: init-log: j: Failed
+left j CLOSED
+$ checkpoint j
+status 2
+! mtc: checkpoint: j: BadRecord 0
+$ init-log j 32473.1 2 64
+status 7
+! mtc: init-log: j: Exists
 
-// The calls of a device that is made: the length is asked for; the record is written and synced;
-// the gate is written and synced.
-const FRESH_FAILS: [(&[u64], [Step; 3]); 5] = [
-    (&[0], [NOTHING_LEFT, NOT_JOURNAL, EXISTS]),
-    (&[1], [NOTHING_LEFT, NOT_JOURNAL, EXISTS]),
-    (&[2], [CLOSED_LEFT, BAD_RECORD, EXISTS]),
-    (&[3], [CLOSED_LEFT, BAD_RECORD, EXISTS]),
-    (&[4], [NEW_LEFT, CHECKPOINT, EXISTS]),
-];
+case the gate can't be written
+fresh 3
+$ init-log j 32473.1 2 64
+status 5
+! mtc: init-log: j: Failed
+left j CLOSED
+$ checkpoint j
+status 2
+! mtc: checkpoint: j: BadRecord 0
+$ init-log j 32473.1 2 64
+status 7
+! mtc: init-log: j: Exists
+
+case the gate can't be synced
+fresh 4
+$ init-log j 32473.1 2 64
+status 5
+! mtc: init-log: j: Failed
+left j NEW
+$ checkpoint j
+| size 1
+| root 709e80c88487a2411e1ee4dfb9f22a861492d20c4765150c0c794abd70f8147c
+$ init-log j 32473.1 2 64
+status 7
+! mtc: init-log: j: Exists
+
+# The calls of a checkpoint: a sync, the length, the header, and all that stands behind it. One that
+# has failed once fails no more. Those from the fifth on are of the second time.
+case call 0 fails
+file j NEW
+fails 0
+$ checkpoint j
+status 5
+! mtc: checkpoint: j: Failed
+$ checkpoint j
+| size 1
+| root 709e80c88487a2411e1ee4dfb9f22a861492d20c4765150c0c794abd70f8147c
+left j NEW
+
+case call 1 fails
+file j NEW
+fails 1
+$ checkpoint j
+status 5
+! mtc: checkpoint: j: Failed
+$ checkpoint j
+| size 1
+| root 709e80c88487a2411e1ee4dfb9f22a861492d20c4765150c0c794abd70f8147c
+left j NEW
+
+case call 2 fails
+file j NEW
+fails 2
+$ checkpoint j
+status 5
+! mtc: checkpoint: j: Failed
+$ checkpoint j
+| size 1
+| root 709e80c88487a2411e1ee4dfb9f22a861492d20c4765150c0c794abd70f8147c
+left j NEW
+
+case call 3 fails
+file j NEW
+fails 3
+$ checkpoint j
+status 5
+! mtc: checkpoint: j: Failed
+$ checkpoint j
+| size 1
+| root 709e80c88487a2411e1ee4dfb9f22a861492d20c4765150c0c794abd70f8147c
+left j NEW
+
+case call 4 fails
+file j NEW
+fails 4
+$ checkpoint j
+| size 1
+| root 709e80c88487a2411e1ee4dfb9f22a861492d20c4765150c0c794abd70f8147c
+$ checkpoint j
+status 5
+! mtc: checkpoint: j: Failed
+left j NEW
+
+case call 5 fails
+file j NEW
+fails 5
+$ checkpoint j
+| size 1
+| root 709e80c88487a2411e1ee4dfb9f22a861492d20c4765150c0c794abd70f8147c
+$ checkpoint j
+status 5
+! mtc: checkpoint: j: Failed
+left j NEW
+
+case call 6 fails
+file j NEW
+fails 6
+$ checkpoint j
+| size 1
+| root 709e80c88487a2411e1ee4dfb9f22a861492d20c4765150c0c794abd70f8147c
+$ checkpoint j
+status 5
+! mtc: checkpoint: j: Failed
+left j NEW
+
+case call 7 fails
+file j NEW
+fails 7
+$ checkpoint j
+| size 1
+| root 709e80c88487a2411e1ee4dfb9f22a861492d20c4765150c0c794abd70f8147c
+$ checkpoint j
+status 5
+! mtc: checkpoint: j: Failed
+left j NEW
+"#;
 
 #[test]
-fn a_device_fails_a_new_log(rt: HostRuntime) -> Result<(), Fail> {
-    for (fails, steps) in &FRESH_FAILS {
-        assert!(rt;
-            passed(rt.alloc(), &[], fails, steps)? == 3,
-            "call {fails:?}"
-        );
-    }
+fn devices_fail(rt: HostRuntime) -> Result<(), Fail> {
+    let outcome = outcome_of(rt.alloc(), SCRIPT)?;
+    assert!(rt; outcome == Outcome::Passed(31), "{outcome:?}");
     Ok(())
 }
 
-const CHECKPOINT_FAILED: Step = Step {
-    status: 5,
-    out: b"",
-    err: b"mtc: checkpoint: j: Failed\n",
-    ..CHECKPOINT
-};
-
-const CHECKPOINT_KEEPS: Step = Step {
-    left: &[("j", Some(NEW))],
-    ..CHECKPOINT
-};
-
-const FAILED_KEEPS: Step = Step {
-    left: &[("j", Some(NEW))],
-    ..CHECKPOINT_FAILED
-};
-
-// The calls of a checkpoint: a sync, the length, the header, the record's gate, length and body,
-// and the gate behind it. One that has failed once fails no more, and the next call is the first
-// one of the second time.
-const LOOK_FAILS: [(&[u64], [Step; 2]); 8] = [
-    (&[0], [CHECKPOINT_FAILED, CHECKPOINT_KEEPS]),
-    (&[1], [CHECKPOINT_FAILED, CHECKPOINT_KEEPS]),
-    (&[2], [CHECKPOINT_FAILED, CHECKPOINT_KEEPS]),
-    (&[3], [CHECKPOINT_FAILED, CHECKPOINT_KEEPS]),
-    (&[4], [CHECKPOINT_FAILED, CHECKPOINT_KEEPS]),
-    (&[5], [CHECKPOINT_FAILED, CHECKPOINT_KEEPS]),
-    (&[6], [CHECKPOINT_FAILED, CHECKPOINT_KEEPS]),
-    (&[7], [CHECKPOINT, FAILED_KEEPS]),
-];
-
-#[test]
-fn a_device_fails_a_checkpoint(rt: HostRuntime) -> Result<(), Fail> {
-    for (fails, steps) in &LOOK_FAILS {
-        let files = [Placed { fails, ..J }];
-        assert!(rt;
-            passed(rt.alloc(), &files, &[], steps)? == 2,
-            "call {fails:?}"
-        );
-    }
-    Ok(())
-}
-
-const CALLS: [&[u64]; 16] = [
-    &[0],
-    &[1],
-    &[2],
-    &[3],
-    &[4],
-    &[5],
-    &[6],
-    &[7],
-    &[8],
-    &[9],
-    &[10],
-    &[11],
-    &[12],
-    &[13],
-    &[14],
-    &[15],
-];
+// A request and a new journal, of which a call fails.
+const READY: &str = r#"
+file r
+| not_before = "2026-01-01T00:00:00Z"
+| not_after = "2026-01-08T00:00:00Z"
+| dns = ["a.example"]
+| key = "MCowBQYDK2VwAyEAAAAAAAAAAAAAAAAAAAAAAAAAAAAAAAAAAAAAAAAAAAA="
+file j 6d74632d6a6f75726e616c2f76310a00010000000e010481fd59010000000200000040 00
+"#;
 
 // Whichever call of the device fails, the journal has its old records, or these and the new one.
 // The status, where all is as it has to be.
-fn status_of_issue(alloc: Global, fails: &'static [u64]) -> Result<Option<u8>, Fail> {
-    let mut desk = desk_with(alloc, &[Placed { fails, ..J }, REQUEST])?;
-    let words = owned_words(alloc, ISSUE.words)?;
+fn status_of_issue(alloc: Global, call: u64) -> Result<Option<u8>, Fail> {
+    let script = format!(in alloc; "{READY}fails {call}")?;
+    let Some(mut desk) = desk_of(alloc, script.as_str())? else {
+        return Ok(None);
+    };
+    let words = owned_words(alloc, "issue j r")?;
     let mut out = MemSink::new(alloc, 100, Vec::new(alloc));
     let mut err = MemSink::new(alloc, 100, Vec::new(alloc));
     let status = desk.run(alloc, &words, &mut out, &mut err);
@@ -124,7 +200,7 @@ fn status_of_issue(alloc: Global, fails: &'static [u64]) -> Result<Option<u8>, F
     let said = if status == 5 {
         out.taken().is_empty() && err.taken() == b"mtc: issue: j: Failed\n".as_slice()
     } else {
-        out.taken() == ISSUE.out && err.taken().is_empty()
+        status == 0 && out.taken() == b"issued 1\n".as_slice() && err.taken().is_empty()
     };
     if said && (size == 36 || size == 221) {
         Ok(Some(status))
@@ -137,9 +213,9 @@ fn status_of_issue(alloc: Global, fails: &'static [u64]) -> Result<Option<u8>, F
 fn a_device_fails_an_issue(rt: HostRuntime) -> Result<(), Fail> {
     let mut some_fail = false;
     let mut some_pass = false;
-    for fails in CALLS {
-        match status_of_issue(rt.alloc(), fails)? {
-            None => assert!(rt; false, "call {fails:?}"),
+    for call in 0..16 {
+        match status_of_issue(rt.alloc(), call)? {
+            None => assert!(rt; false, "call {call}"),
             Some(5) => some_fail = true,
             Some(_) => some_pass = true,
         }

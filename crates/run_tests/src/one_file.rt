@@ -1,426 +1,287 @@
 //! Words over one file, with streams that fail: what comes of each.
-use crate::certificates::CERTIFICATE;
-use crate::desk::{Desk, bytes_of, owned_words};
+use crate::desk::Desk;
+use crate::scripts::{Outcome, outcome_of, owned_words};
 use mtc_io::{Bytes, MemSink};
 use std::alloc::Global;
 use std::test::Fail;
 
-// One run: the words, the file `f` in hexadecimal, of which the bytes behind `cut` go, the calls of
-// its source, of `out` and of `err` that fail, and how many bytes `out` takes a call; then the
-// status and what `out` and `err` took.
-#[derive(Clone, Copy)]
-struct Case {
-    words: &'static [&'static str],
-    file: &'static [&'static str],
-    cut: usize,
-    source_fails: &'static [u64],
-    out_takes: usize,
-    out_fails: &'static [u64],
-    err_fails: &'static [u64],
-    status: u8,
-    out: &'static [u8],
-    err: &'static [u8],
-}
+const SCRIPT: &str = r#"
+# The nodes of a list of eight entries, of which the first is empty and the second is the byte 0:
+# the hash of the first, of the third and the fourth, of the last four, and of all.
+name NODE_0_1 6e340b9cffb37a989ca544e6bb780a2c78901d3fb33738768511a30617afa01d
+name NODE_2_4 5f083f0a1a33ca076a95279832580db3e0ef4584bdff1f54c8a360f50de3031e
+name NODE_4_8 6b47aaf29ee3c2af9af889bc1fb9254dabd31177f16232dd6aab035ca39bf6e4
+name NODE_0_8 5dc9da79a70659a9ad559cb701ded9a2ab9d823aad2f4960cfe370eff4604328
+# Index 0, the interval 0 to 1, its hash, no path, and the empty entry.
+name FIRST 0000000000000000 0000000000000000 0000000000000001 NODE_0_1 0000
+# The bytes from 0 to 23, and those from 0 to 47.
+name HALF 000102030405060708090a0b0c0d0e0f1011121314151617
+name SECRET HALF 18191a1b1c1d1e1f202122232425262728292a2b2c2d2e2f
+# A certificate.
+name CERT
+  3081e430819ca003020102020101300c060a2b0601040182da4b2f00301931173015060a2b0601040182da4b2f
+  010c0733323437332e31301e170d3236303130313030303030305a170d3236303130383030303030305a300030
+  2a300506032b65700321000000000000000000000000000000000000000000000000000000000000000000a31b
+  301930170603551d110101ff040d300b8209612e6578616d706c65300c060a2b0601040182da4b2f0003350000
+  0000000000000000000000000000020020709e80c88487a2411e1ee4dfb9f22a861492d20c4765150c0c794abd
+  70f8147c0000
 
-const MEMBER: Case = Case {
-    words: &["member", "f"],
-    file: &FIRST,
-    cut: 1_000_000,
-    source_fails: &[],
-    out_takes: 100,
-    out_fails: &[],
-    err_fails: &[],
-    status: 0,
-    out: b"member 0\n",
-    err: b"",
-};
+case the only entry of a list
+file f FIRST
+$ member f
+| member 0
 
-const KEYGEN: Case = Case {
-    words: &["keygen", "5", "4", "f"],
-    file: &[SECRET_BEGINS, SECRET_ENDS],
-    out: b"AAAAAQAAAAUAAAADAAECAwQFBgcICQoLDA0OD2Ya6x2F5qmT4OVbu60lZPG0Xj4bqLm0yRfpk+u9rxni\n",
-    ..MEMBER
-};
+case the second of eight entries
+file f 0000000000000001 0000000000000000 0000000000000008 NODE_0_8 0060 NODE_0_1 NODE_2_4
+  NODE_4_8 00
+$ member f
+| member 1
 
-// A byte more than the certificate, which is cut.
-const SHOW: Case = Case {
-    words: &["show", "f"],
-    file: &[CERTIFICATE, "00"],
-    out: b"",
-    ..MEMBER
-};
+case the entry's length is cut
+file f 0000000000000000 0000000000000000 0000000000000001 NODE_0_1 00
+$ member f
+status 2
+! mtc: member: f: Short 56
 
-// The bytes from 0 to 47.
-const SECRET_BEGINS: &str = "000102030405060708090a0b0c0d0e0f1011121314151617";
+case an empty file
+file f
+$ member f
+status 2
+! mtc: member: f: Short 0
 
-const SECRET_ENDS: &str = "18191a1b1c1d1e1f202122232425262728292a2b2c2d2e2f";
+case a path of 33 bytes
+file f 0000000000000000 0000000000000000 0000000000000001 NODE_0_1 0021 NODE_0_1 00
+$ member f
+status 2
+! mtc: member: f: HashLength
 
-// The nodes of a list of eight entries, of which the first is empty and the second is the byte 0:
-// the hash of the first, of the third and the fourth, of the last four, and of all.
-const NODE_0_1: &str = "6e340b9cffb37a989ca544e6bb780a2c78901d3fb33738768511a30617afa01d";
+case a path that is too long
+file f 0000000000000000 0000000000000000 0000000000000001 NODE_0_1 0020 NODE_0_1
+$ member f
+status 3
+| refused WrongLength
 
-const NODE_2_4: &str = "5f083f0a1a33ca076a95279832580db3e0ef4584bdff1f54c8a360f50de3031e";
+case another entry
+file f 0000000000000000 0000000000000000 0000000000000001 NODE_0_1 0000 00
+$ member f
+status 3
+| refused HashDiffers
 
-const NODE_4_8: &str = "6b47aaf29ee3c2af9af889bc1fb9254dabd31177f16232dd6aab035ca39bf6e4";
+case an empty interval
+file f 0000000000000000 0000000000000001 0000000000000001 NODE_0_1 0000
+$ member f
+status 3
+| refused BadSubtree
 
-const NODE_0_8: &str = "5dc9da79a70659a9ad559cb701ded9a2ab9d823aad2f4960cfe370eff4604328";
+case an index outside of the interval
+file f 0000000000000001 0000000000000000 0000000000000001 NODE_0_1 0000
+$ member f
+status 3
+| refused Outside
 
-// Index 0, the interval 0 to 1, its hash, no path, and the empty entry.
-const FIRST: [&str; 5] = [
-    "0000000000000000",
-    "0000000000000000",
-    "0000000000000001",
-    NODE_0_1,
-    "0000",
-];
+case no word
+file f FIRST
+$
+status 1
+! mtc: NoCommand
 
-const CASES: [Case; 40] = [
-    MEMBER,
-    Case {
-        file: &[
-            "0000000000000001",
-            "0000000000000000",
-            "0000000000000008",
-            NODE_0_8,
-            "0060",
-            NODE_0_1,
-            NODE_2_4,
-            NODE_4_8,
-            "00",
-        ],
-        out: b"member 1\n",
-        ..MEMBER
-    },
-    Case {
-        file: &[
-            "0000000000000000",
-            "0000000000000000",
-            "0000000000000001",
-            NODE_0_1,
-            "00",
-        ],
-        status: 2,
-        out: b"",
-        err: b"mtc: member: f: Short 56\n",
-        ..MEMBER
-    },
-    Case {
-        file: &[],
-        status: 2,
-        out: b"",
-        err: b"mtc: member: f: Short 0\n",
-        ..MEMBER
-    },
-    Case {
-        file: &[
-            "0000000000000000",
-            "0000000000000000",
-            "0000000000000001",
-            NODE_0_1,
-            "0021",
-            NODE_0_1,
-            "00",
-        ],
-        status: 2,
-        out: b"",
-        err: b"mtc: member: f: HashLength\n",
-        ..MEMBER
-    },
-    Case {
-        file: &[
-            "0000000000000000",
-            "0000000000000000",
-            "0000000000000001",
-            NODE_0_1,
-            "0020",
-            NODE_0_1,
-        ],
-        status: 3,
-        out: b"refused WrongLength\n",
-        ..MEMBER
-    },
-    Case {
-        file: &[
-            "0000000000000000",
-            "0000000000000000",
-            "0000000000000001",
-            NODE_0_1,
-            "0000",
-            "00",
-        ],
-        status: 3,
-        out: b"refused HashDiffers\n",
-        ..MEMBER
-    },
-    Case {
-        file: &[
-            "0000000000000000",
-            "0000000000000001",
-            "0000000000000001",
-            NODE_0_1,
-            "0000",
-        ],
-        status: 3,
-        out: b"refused BadSubtree\n",
-        ..MEMBER
-    },
-    Case {
-        file: &[
-            "0000000000000001",
-            "0000000000000000",
-            "0000000000000001",
-            NODE_0_1,
-            "0000",
-        ],
-        status: 3,
-        out: b"refused Outside\n",
-        ..MEMBER
-    },
-    Case {
-        words: &[],
-        status: 1,
-        out: b"",
-        err: b"mtc: NoCommand\n",
-        ..MEMBER
-    },
-    Case {
-        words: &["member"],
-        status: 1,
-        out: b"",
-        err: b"mtc: member: WrongCount 0 1\n",
-        ..MEMBER
-    },
-    Case {
-        words: &["frob"],
-        status: 1,
-        out: b"",
-        err: b"mtc: UnknownCommand\n",
-        ..MEMBER
-    },
-    Case {
-        words: &["member", ""],
-        status: 1,
-        out: b"",
-        err: b"mtc: member: BadWord 1\n",
-        ..MEMBER
-    },
-    Case {
-        words: &["member", "-x"],
-        status: 1,
-        out: b"",
-        err: b"mtc: member: BadWord 1\n",
-        ..MEMBER
-    },
-    Case {
-        words: &["member", "g"],
-        status: 7,
-        out: b"",
-        err: b"mtc: member: g: Absent\n",
-        ..MEMBER
-    },
-    Case {
-        source_fails: &[0],
-        status: 5,
-        out: b"",
-        err: b"mtc: member: f: Failed\n",
-        ..MEMBER
-    },
-    // The end of input is a read of its own.
-    Case {
-        source_fails: &[1],
-        status: 5,
-        out: b"",
-        err: b"mtc: member: f: Failed\n",
-        ..MEMBER
-    },
-    Case {
-        out_takes: 3,
-        out_fails: &[1],
-        status: 6,
-        out: b"mem",
-        err: b"mtc: member: OutputFailed\n",
-        ..MEMBER
-    },
-    Case {
-        out_takes: 1,
-        ..MEMBER
-    },
-    // A fault of `err` changes no status.
-    Case {
-        words: &["frob"],
-        err_fails: &[0],
-        status: 1,
-        out: b"",
-        err: b"",
-        ..MEMBER
-    },
-    Case {
-        words: &["member", "g"],
-        err_fails: &[0],
-        status: 7,
-        out: b"",
-        err: b"",
-        ..MEMBER
-    },
-    Case {
-        source_fails: &[0],
-        err_fails: &[2],
-        status: 5,
-        out: b"",
-        err: b"mtc: member",
-        ..MEMBER
-    },
-    Case {
-        out_fails: &[0],
-        err_fails: &[0],
-        status: 6,
-        out: b"",
-        err: b"",
-        ..MEMBER
-    },
-    Case {
-        file: &[
-            "0000000000000000",
-            "0000000000000001",
-            "0000000000000001",
-            NODE_0_1,
-            "0000",
-        ],
-        err_fails: &[0],
-        status: 3,
-        out: b"refused BadSubtree\n",
-        ..MEMBER
-    },
-    KEYGEN,
-    Case {
-        words: &["keygen", "5", "1", "f"],
-        out: b"AAAAAQAAAAUAAAABAAECAwQFBgcICQoLDA0OD6hmQGdWCnf3wA0qC+1XtEHIN0Wu+EbC8mL4GUGzluZS\n",
-        ..KEYGEN
-    },
-    Case {
-        file: &[SECRET_BEGINS],
-        status: 2,
-        out: b"",
-        err: b"mtc: keygen: f: Short 0\n",
-        ..KEYGEN
-    },
-    Case {
-        file: &[SECRET_BEGINS, SECRET_ENDS, "00"],
-        status: 2,
-        out: b"",
-        err: b"mtc: keygen: f: Trailing\n",
-        ..KEYGEN
-    },
-    Case {
-        words: &["keygen", "05", "4", "f"],
-        status: 1,
-        out: b"",
-        err: b"mtc: keygen: BadNumber 1\n",
-        ..KEYGEN
-    },
-    Case {
-        words: &["keygen", "6", "4", "f"],
-        status: 1,
-        out: b"",
-        err: b"mtc: keygen: BadNumber 1\n",
-        ..KEYGEN
-    },
-    Case {
-        words: &["keygen", "5", "99999999999999999999", "f"],
-        status: 1,
-        out: b"",
-        err: b"mtc: keygen: BadNumber 2\n",
-        ..KEYGEN
-    },
-    Case {
-        words: &["keygen", "5", "3", "f"],
-        status: 1,
-        out: b"",
-        err: b"mtc: keygen: BadNumber 2\n",
-        ..KEYGEN
-    },
-    Case {
-        words: &["keygen", "6", "4", "-x"],
-        status: 1,
-        out: b"",
-        err: b"mtc: keygen: BadWord 3\n",
-        ..KEYGEN
-    },
-    Case {
-        words: &["keygen", "5", "4", "g"],
-        status: 7,
-        out: b"",
-        err: b"mtc: keygen: g: Absent\n",
-        ..KEYGEN
-    },
-    Case {
-        cut: 230,
-        status: 2,
-        err: b"mtc: show: f: Truncated 0\n",
-        ..SHOW
-    },
-    Case {
-        cut: 232,
-        status: 2,
-        err: b"mtc: show: f: Trailing 231\n",
-        ..SHOW
-    },
-    Case {
-        cut: 231,
-        out_takes: 1,
-        out_fails: &[7],
-        status: 6,
-        out: b"serial ",
-        err: b"mtc: show: OutputFailed\n",
-        ..SHOW
-    },
-    Case {
-        cut: 231,
-        words: &["show", "g"],
-        status: 7,
-        err: b"mtc: show: g: Absent\n",
-        ..SHOW
-    },
-    Case {
-        cut: 231,
-        source_fails: &[0],
-        status: 5,
-        err: b"mtc: show: f: Failed\n",
-        ..SHOW
-    },
-    Case {
-        cut: 231,
-        words: &["show", "a", "b"],
-        status: 1,
-        err: b"mtc: show: WrongCount 2 1\n",
-        ..SHOW
-    },
-];
+case a word too few
+file f FIRST
+$ member
+status 1
+! mtc: member: WrongCount 0 1
 
-fn desk_of(alloc: Global, case: &Case) -> Result<Desk, Fail> {
-    let mut file = bytes_of(alloc, case.file)?;
-    file.truncate(case.cut);
-    let mut desk = Desk::new(alloc);
-    let failing = Vec::from_slice(alloc, case.source_fails)?;
-    desk.place("f", Bytes::from_vec(file), failing)?;
-    Ok(desk)
-}
+case an unknown command
+file f FIRST
+$ frob
+status 1
+! mtc: UnknownCommand
 
-fn passes(alloc: Global, case: &Case) -> Result<bool, Fail> {
-    let words = owned_words(alloc, case.words)?;
-    let mut desk = desk_of(alloc, case)?;
-    let failing = Vec::from_slice(alloc, case.out_fails)?;
-    let mut out = MemSink::new(alloc, case.out_takes.max(1), failing);
-    let mut err = MemSink::new(alloc, 100, Vec::from_slice(alloc, case.err_fails)?);
-    let status = desk.run(alloc, &words, &mut out, &mut err);
-    Ok(status == case.status && out.taken() == case.out && err.taken() == case.err)
-}
+case an empty word
+file f FIRST
+$ member ''
+status 1
+! mtc: member: BadWord 1
+
+case a word with a hyphen
+file f FIRST
+$ member -x
+status 1
+! mtc: member: BadWord 1
+
+case a file that isn't there
+file f FIRST
+$ member g
+status 7
+! mtc: member: g: Absent
+
+case the first read fails
+file f FIRST
+fails 0
+$ member f
+status 5
+! mtc: member: f: Failed
+
+case the end of input is a read of its own
+file f FIRST
+fails 1
+$ member f
+status 5
+! mtc: member: f: Failed
+
+case the output fails in its second call
+file f FIRST
+takes 3
+out-fails 1
+$ member f
+status 6
+|= mem
+! mtc: member: OutputFailed
+
+case the output takes a byte a call
+file f FIRST
+takes 1
+$ member f
+| member 0
+
+case a fault of standard error changes no status
+file f FIRST
+err-fails 0
+$ frob
+status 1
+
+case the same of a file that isn't there
+file f FIRST
+err-fails 0
+$ member g
+status 7
+
+case the same in the middle of a line
+file f FIRST
+fails 0
+err-fails 2
+$ member f
+status 5
+!= mtc: member
+
+case both outputs fail
+file f FIRST
+out-fails 0
+err-fails 0
+$ member f
+status 6
+
+case the same of a refusal
+file f 0000000000000000 0000000000000001 0000000000000001 NODE_0_1 0000
+err-fails 0
+$ member f
+status 3
+| refused BadSubtree
+
+case a public key
+file f SECRET
+$ keygen 5 4 f
+| AAAAAQAAAAUAAAADAAECAwQFBgcICQoLDA0OD2Ya6x2F5qmT4OVbu60lZPG0Xj4bqLm0yRfpk+u9rxni
+
+case a public key of another width
+file f SECRET
+$ keygen 5 1 f
+| AAAAAQAAAAUAAAABAAECAwQFBgcICQoLDA0OD6hmQGdWCnf3wA0qC+1XtEHIN0Wu+EbC8mL4GUGzluZS
+
+case half a secret
+file f HALF
+$ keygen 5 4 f
+status 2
+! mtc: keygen: f: Short 0
+
+case a byte too many
+file f SECRET 00
+$ keygen 5 4 f
+status 2
+! mtc: keygen: f: Trailing
+
+case a number with a zero before it
+file f SECRET
+$ keygen 05 4 f
+status 1
+! mtc: keygen: BadNumber 1
+
+case a height that there isn't
+file f SECRET
+$ keygen 6 4 f
+status 1
+! mtc: keygen: BadNumber 1
+
+case a number that is too large
+file f SECRET
+$ keygen 5 99999999999999999999 f
+status 1
+! mtc: keygen: BadNumber 2
+
+case a width that there isn't
+file f SECRET
+$ keygen 5 3 f
+status 1
+! mtc: keygen: BadNumber 2
+
+case a word with a hyphen behind bad numbers
+file f SECRET
+$ keygen 6 4 -x
+status 1
+! mtc: keygen: BadWord 3
+
+case a secret that isn't there
+file f SECRET
+$ keygen 5 4 g
+status 7
+! mtc: keygen: g: Absent
+
+case a certificate that is cut
+file f CERT
+cut 230
+$ show f
+status 2
+! mtc: show: f: Truncated 0
+
+case a byte behind a certificate
+file f CERT 00
+$ show f
+status 2
+! mtc: show: f: Trailing 231
+
+case the output fails within a line
+file f CERT
+takes 1
+out-fails 7
+$ show f
+status 6
+  73657269616c20
+! mtc: show: OutputFailed
+
+case a certificate that isn't there
+file f CERT
+$ show g
+status 7
+! mtc: show: g: Absent
+
+case a certificate that can't be read
+file f CERT
+fails 0
+$ show f
+status 5
+! mtc: show: f: Failed
+
+case a word too many
+file f CERT
+$ show a b
+status 1
+! mtc: show: WrongCount 2 1
+"#;
 
 #[test]
 fn answers_words_and_a_file(rt: HostRuntime) -> Result<(), Fail> {
-    for (i, case) in CASES.iter().enumerate() {
-        assert!(rt; passes(rt.alloc(), case)?, "case {i}");
-    }
+    let outcome = outcome_of(rt.alloc(), SCRIPT)?;
+    assert!(rt; outcome == Outcome::Passed(40), "{outcome:?}");
     Ok(())
 }
 
@@ -428,7 +289,7 @@ fn answer_over_the_limit(alloc: Global) -> Result<bool, Fail> {
     let mut desk = Desk::new(alloc);
     let bytes = Bytes::from_vec(vec![in alloc; 0; 16_777_217]?);
     desk.place("f", bytes, Vec::new(alloc))?;
-    let words = owned_words(alloc, &["member", "f"])?;
+    let words = owned_words(alloc, "member f")?;
     let mut out = MemSink::new(alloc, 100, Vec::new(alloc));
     let mut err = MemSink::new(alloc, 100, Vec::new(alloc));
     let status = desk.run(alloc, &words, &mut out, &mut err);

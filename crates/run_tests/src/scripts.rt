@@ -1,130 +1,354 @@
-//! Scripts: files in a room, and runs of the program over it one after the other.
-use crate::desk::{Desk, bytes_of, owned_words};
+//! Scripts: files in a room, runs of the program over them, and what each run has to answer.
+//!
+//! A line of a script is one of these:
+//!
+//! ```text
+//! # TEXT          a remark
+//! case TEXT       a new room, without files
+//! name X BYTES    from here on X stands for these bytes
+//! file F BYTES    the room has this file
+//! cut N           of its bytes the first N alone
+//! byte N HEX      another byte at the place N of it
+//! fails N ..      the calls on it that fail
+//! fresh N ..      the calls that fail on each file that is made
+//! takes N         the output of the next run takes so many bytes a call
+//! out-fails N ..  the calls on it that fail
+//! err-fails N ..  the calls on the standard error of the next run that fail
+//! $ WORD ..       a run with these words, '' for an empty one; it has to do what follows
+//! status N        the status, if it isn't 0
+//! ! TEXT          a line of its standard error
+//! left F BYTES    what a file holds then
+//! gone F          there is no such file then
+//! ```
+//!
+//! BYTES are pairs of hexadecimal digits and names. They go on in lines that begin with a blank,
+//! and in lines `| TEXT`, each of which is a line of text. Those behind `$` are the output.
+//! `|= TEXT` and `!= TEXT` are text without the end of its line.
+use crate::desk::Desk;
 use mtc_io::{Bytes, MemSink};
 use std::alloc::Global;
+use std::mem::replace;
 use std::test::Fail;
 
-/// A file of the room: its bytes, as text or in hexadecimal, of which those behind `cut` go and
-/// then some are others, and the calls on it that fail.
-#[derive(Clone, Copy)]
-pub struct Placed {
-    pub name: &'static str,
-    pub text: &'static [&'static str],
-    pub hexadecimal: &'static [&'static str],
-    pub cut: usize,
-    pub changes: &'static [(usize, u8)],
-    pub fails: &'static [u64],
+/// How a script ended: so many runs did what it says, or it failed in the lines up to this one.
+#[derive(Clone, Copy, Debug, PartialEq, Eq)]
+pub enum Outcome {
+    Passed(u64),
+    FailedBefore(u64),
 }
 
-/// An empty file.
-pub const FILE: Placed = Placed {
-    name: "f",
-    text: &[],
-    hexadecimal: &[],
-    cut: 1_000_000,
-    changes: &[],
-    fails: &[],
-};
-
-/// A run: its words, the status, what `out` takes, as text and then in hexadecimal, what `err`
-/// takes, and what some files hold afterwards, in hexadecimal.
-#[derive(Clone, Copy)]
-pub struct Step {
-    pub words: &'static [&'static str],
-    pub status: u8,
-    pub out: &'static [u8],
-    pub out_hexadecimal: &'static [&'static str],
-    pub err: &'static [u8],
-    pub left: &'static [(&'static str, Option<&'static [&'static str]>)],
+// What the bytes of the next lines are for.
+#[derive(Drop)]
+enum Begun {
+    Nothing,
+    Name(String),
+    File(String),
+    Left(String),
+    Run,
 }
 
-/// A run without words that does its work and says nothing.
-pub const STEP: Step = Step {
-    words: &[],
-    status: 0,
-    out: b"",
-    out_hexadecimal: &[],
-    err: b"",
-    left: &[],
-};
-
-fn contents(alloc: Global, file: &Placed) -> Result<Bytes, Fail> {
-    let mut bytes = bytes_of(alloc, file.hexadecimal)?;
-    for piece in file.text {
-        bytes.extend_from_slice(piece.as_bytes())?;
-    }
-    bytes.truncate(file.cut);
-    for (place, byte) in file.changes {
-        if let Some(old) = bytes.get_mut(*place) {
-            *old = *byte;
-        }
-    }
-    Ok(Bytes::from_vec(bytes))
-}
-
-/// A room with these files.
-pub fn desk_with(alloc: Global, files: &[Placed]) -> Result<Desk, Fail> {
-    let mut desk = Desk::new(alloc);
-    for file in files {
-        let failing = Vec::from_slice(alloc, file.fails)?;
-        desk.place(file.name, contents(alloc, file)?, failing)?;
-    }
-    Ok(desk)
-}
-
-fn holds(alloc: Global, desk: &Desk, name: &str, parts: Option<&[&str]>) -> Result<bool, Fail> {
-    match parts {
-        None => Ok(desk.bytes(name).is_none()),
-        Some(parts) => {
-            let wanted = bytes_of(alloc, parts)?;
-            Ok(desk.bytes(name) == Some(wanted.as_slice()))
-        }
-    }
-}
-
-/// Whether a run ends with this status, and `out` and `err` take this.
-pub fn answers(
-    alloc: Global,
-    desk: &mut Desk,
-    words: &[&str],
+// What a run answers.
+#[derive(Drop)]
+struct Answer {
     status: u8,
-    out: &[u8],
-    err: &[u8],
-) -> Result<bool, Fail> {
-    let words = owned_words(alloc, words)?;
-    let mut to_out = MemSink::new(alloc, 100, Vec::new(alloc));
-    let mut to_err = MemSink::new(alloc, 100, Vec::new(alloc));
-    let ended = desk.run(alloc, &words, &mut to_out, &mut to_err);
-    Ok(ended == status && to_out.taken() == out && to_err.taken() == err)
+    out: Vec<u8>,
+    err: Vec<u8>,
 }
 
-fn passes(alloc: Global, desk: &mut Desk, step: &Step) -> Result<bool, Fail> {
-    let mut out = Vec::from_slice(alloc, step.out)?;
-    out.extend_from_slice(&bytes_of(alloc, step.out_hexadecimal)?)?;
-    if !answers(alloc, desk, step.words, step.status, &out, step.err)? {
-        return Ok(false);
+impl Answer {
+    fn new(alloc: Global) -> Answer {
+        Answer {
+            status: 0,
+            out: Vec::new(alloc),
+            err: Vec::new(alloc),
+        }
     }
-    for (name, parts) in step.left {
-        if !holds(alloc, desk, name, *parts)? {
+
+    fn is(&self, other: &Answer) -> bool {
+        self.status == other.status && self.out == other.out && self.err == other.err
+    }
+}
+
+#[derive(Drop)]
+struct Script {
+    alloc: Global,
+    names: Vec<(String, Vec<u8>)>,
+    desk: Desk,
+    begun: Begun,
+    bytes: Vec<u8>,
+    failing: Vec<u64>,
+    takes: usize,
+    out_fails: Vec<u64>,
+    err_fails: Vec<u64>,
+    wanted: Answer,
+    found: Answer,
+    runs: u64,
+}
+
+// The first word of a line, and what stands behind the blank after it.
+fn parted(line: &str) -> (&str, &str) {
+    match line.split_once(' ') {
+        Some(parts) => parts,
+        None => (line, ""),
+    }
+}
+
+/// The words of a text, as the program gets them; '' is an empty one.
+pub fn owned_words(alloc: Global, text: &str) -> Result<Vec<String>, Fail> {
+    let mut words = Vec::new(alloc);
+    for word in text.split_whitespace() {
+        let word = if word == "''" { "" } else { word };
+        words.push(String::from_str(alloc, word)?)?;
+    }
+    Ok(words)
+}
+
+fn numbers(alloc: Global, text: &str) -> Result<Vec<u64>, Fail> {
+    let mut numbers = Vec::new(alloc);
+    for word in text.split_whitespace() {
+        numbers.push(word.parse::<u64>()?)?;
+    }
+    Ok(numbers)
+}
+
+fn new_script(alloc: Global) -> Script {
+    Script {
+        alloc,
+        names: Vec::new(alloc),
+        desk: Desk::new(alloc),
+        begun: Begun::Nothing,
+        bytes: Vec::new(alloc),
+        failing: Vec::new(alloc),
+        takes: 100,
+        out_fails: Vec::new(alloc),
+        err_fails: Vec::new(alloc),
+        wanted: Answer::new(alloc),
+        found: Answer::new(alloc),
+        runs: 0,
+    }
+}
+
+impl Script {
+    // Appends what a name stands for, or what a word spells in hexadecimal.
+    fn append_word(&mut self, word: &str) -> Result<(), Fail> {
+        for (name, bytes) in &self.names {
+            if name.as_str() == word {
+                self.bytes.extend_from_slice(bytes.as_slice())?;
+                return Ok(());
+            }
+        }
+        let bytes = hex::decode(self.alloc, word)?;
+        self.bytes.extend_from_slice(bytes.as_slice())?;
+        Ok(())
+    }
+
+    fn append(&mut self, words: &str) -> Result<bool, Fail> {
+        for word in words.split_whitespace() {
+            self.append_word(word)?;
+        }
+        Ok(true)
+    }
+
+    fn append_text(&mut self, text: &str, end: &str) -> Result<bool, Fail> {
+        self.bytes.extend_from_slice(text.as_bytes())?;
+        self.bytes.extend_from_slice(end.as_bytes())?;
+        Ok(true)
+    }
+
+    fn want_error(&mut self, text: &str, end: &str) -> Result<bool, Fail> {
+        self.wanted.err.extend_from_slice(text.as_bytes())?;
+        self.wanted.err.extend_from_slice(end.as_bytes())?;
+        Ok(true)
+    }
+
+    // Another byte at a place: `N HEX`.
+    fn change(&mut self, words: &str) -> Result<bool, Fail> {
+        let (place, digits) = parted(words);
+        let new = hex::decode(self.alloc, digits)?;
+        match (self.bytes.get_mut(place.parse::<usize>()?), new.first()) {
+            (Some(old), Some(byte)) => {
+                *old = *byte;
+                Ok(new.len() == 1)
+            }
+            _ => Ok(false),
+        }
+    }
+
+    fn cut(&mut self, length: usize) -> Result<bool, Fail> {
+        let is_longer = length < self.bytes.len();
+        self.bytes.truncate(length);
+        Ok(is_longer)
+    }
+
+    // Ends what was begun: whether it is as the script says.
+    fn end(&mut self) -> Result<bool, Fail> {
+        let bytes = replace(&mut self.bytes, Vec::new(self.alloc));
+        let failing = replace(&mut self.failing, Vec::new(self.alloc));
+        match replace(&mut self.begun, Begun::Nothing) {
+            Begun::Nothing => Ok(bytes.is_empty()),
+            Begun::Name(name) => {
+                self.names.push((name, bytes))?;
+                Ok(true)
+            }
+            Begun::File(name) => {
+                let bytes = Bytes::from_vec(bytes);
+                self.desk.place(name.as_str(), bytes, failing)?;
+                Ok(true)
+            }
+            Begun::Left(name) => Ok(self.desk.bytes(name.as_str()) == Some(bytes.as_slice())),
+            Begun::Run => {
+                self.wanted.out = bytes;
+                self.runs = self.runs.saturating_add(1);
+                Ok(self.found.is(&self.wanted))
+            }
+        }
+    }
+
+    fn run(&mut self, words: &str) -> Result<bool, Fail> {
+        let words = owned_words(self.alloc, words)?;
+        let out_fails = replace(&mut self.out_fails, Vec::new(self.alloc));
+        let err_fails = replace(&mut self.err_fails, Vec::new(self.alloc));
+        let mut out = MemSink::new(self.alloc, self.takes.max(1), out_fails);
+        let mut err = MemSink::new(self.alloc, 100, err_fails);
+        self.wanted = Answer::new(self.alloc);
+        self.takes = 100;
+        self.found = Answer {
+            status: self
+                .desk
+                .run(self.alloc, words.as_slice(), &mut out, &mut err),
+            out: Vec::from_slice(self.alloc, out.taken())?,
+            err: Vec::from_slice(self.alloc, err.taken())?,
+        };
+        self.begun = Begun::Run;
+        Ok(true)
+    }
+
+    // Begins what goes on in the next lines.
+    fn begin(&mut self, what: &str, words: &str) -> Result<bool, Fail> {
+        let (name, bytes) = parted(words);
+        let name = String::from_str(self.alloc, name)?;
+        self.begun = match what {
+            "name" => Begun::Name(name),
+            "file" => Begun::File(name),
+            "left" => Begun::Left(name),
+            _ => return Ok(false),
+        };
+        self.append(bytes)
+    }
+
+    // A line that ends what was begun.
+    fn start(&mut self, what: &str, words: &str) -> Result<bool, Fail> {
+        if !self.end()? {
             return Ok(false);
         }
-    }
-    Ok(true)
-}
-
-/// How many of the runs over these files pass, up to the first that doesn't.
-pub fn passed(
-    alloc: Global,
-    files: &[Placed],
-    fresh_fails: &[u64],
-    steps: &[Step],
-) -> Result<usize, Fail> {
-    let mut desk = desk_with(alloc, files)?;
-    desk.fail_fresh(Vec::from_slice(alloc, fresh_fails)?);
-    for (i, step) in steps.iter().enumerate() {
-        if !passes(alloc, &mut desk, step)? {
-            return Ok(i);
+        match what {
+            "case" => {
+                self.desk = Desk::new(self.alloc);
+                Ok(true)
+            }
+            "fresh" => {
+                self.desk.fail_fresh(numbers(self.alloc, words)?);
+                Ok(true)
+            }
+            "$" => self.run(words),
+            "gone" => Ok(self.desk.bytes(words).is_none()),
+            _ => self.begin(what, words),
         }
     }
-    Ok(steps.len())
+
+    // A line that says how streams and files behave.
+    fn set(&mut self, what: &str, words: &str) -> Result<bool, Fail> {
+        match what {
+            "cut" => return self.cut(words.parse::<usize>()?),
+            "fails" => self.failing = numbers(self.alloc, words)?,
+            "takes" => self.takes = words.parse::<usize>()?,
+            "out-fails" => self.out_fails = numbers(self.alloc, words)?,
+            "err-fails" => self.err_fails = numbers(self.alloc, words)?,
+            "status" => self.wanted.status = words.parse::<u8>()?,
+            _ => return self.start(what, words),
+        }
+        Ok(true)
+    }
+
+    // Whether a line that says more of a run, or of a file, stands behind one.
+    fn is_in_place(&self, what: &str) -> bool {
+        match what {
+            "status" | "!" | "!=" => matches!(self.begun, Begun::Run),
+            "fails" => matches!(self.begun, Begun::File(_)),
+            _ => true,
+        }
+    }
+
+    fn line(&mut self, line: &str) -> Result<bool, Fail> {
+        let (what, words) = parted(line);
+        if !self.is_in_place(what) {
+            return Ok(false);
+        }
+        match what {
+            "#" => Ok(true),
+            "" => self.append(words),
+            "|" => self.append_text(words, "\n"),
+            "|=" => self.append_text(words, ""),
+            "!" => self.want_error(words, "\n"),
+            "!=" => self.want_error(words, ""),
+            "byte" => self.change(words),
+            _ => self.set(what, words),
+        }
+    }
+}
+
+// A script that was run; or how it failed.
+fn played(alloc: Global, text: &str) -> Result<Result<Script, Outcome>, Fail> {
+    let mut script = new_script(alloc);
+    let mut number = 0u64;
+    for line in text.lines() {
+        number = number.saturating_add(1);
+        if !script.line(line)? {
+            return Ok(Err(Outcome::FailedBefore(number)));
+        }
+    }
+    if script.end()? {
+        Ok(Ok(script))
+    } else {
+        Ok(Err(Outcome::FailedBefore(number)))
+    }
+}
+
+/// How a script ends.
+pub fn outcome_of(alloc: Global, text: &str) -> Result<Outcome, Fail> {
+    match played(alloc, text)? {
+        Ok(script) => Ok(Outcome::Passed(script.runs)),
+        Err(outcome) => Ok(outcome),
+    }
+}
+
+/// The room that a script leaves, where it passes.
+pub fn desk_of(alloc: Global, text: &str) -> Result<Option<Desk>, Fail> {
+    Ok(played(alloc, text)?.ok().map(|script| script.desk))
+}
+
+// Scripts that fail in their last line: another status, no line of an error, an output that isn't
+// written, bytes that a file doesn't have, a file that is there, a cut behind the end, no such
+// line, and a status of no run.
+const WRONG: [&str; 8] = [
+    "$ frob\n! mtc: UnknownCommand",
+    "$ frob\nstatus 1",
+    "$ frob\nstatus 1\n! mtc: UnknownCommand\n| frob",
+    "file f 00\nleft f 01",
+    "file f 00\ngone f",
+    "file f 00\ncut 1",
+    "$ frob\nstatus 1\n! mtc: UnknownCommand\nfrob",
+    "file f 00\nstatus 1",
+];
+
+#[test]
+fn wrong_scripts_fail(rt: HostRuntime) -> Result<(), Fail> {
+    for script in WRONG {
+        let last = script.lines().count() as u64;
+        assert!(rt;
+            outcome_of(rt.alloc(), script)? == Outcome::FailedBefore(last),
+            "{script}"
+        );
+    }
+    Ok(())
 }
