@@ -179,29 +179,62 @@ fn an_algorithm_with_parameters_is_refused(rt: HostRuntime) -> Result<(), Fail> 
     Ok(())
 }
 
-// The judgement by a store with these lists.
-fn judged(
-    alloc: Global,
-    id: &str,
-    subtrees: &[Trusted],
-    revoked: &[Span],
-) -> Result<Result<Accepted, Refusal>, Fail> {
-    let store = store_of(alloc, id, subtrees, revoked)?;
-    Ok(answer(&CERTIFICATE, &store, FIRST))
+// A log, the last byte of the hash that is trusted for its interval 0 to 2, and the serial number
+// that is revoked, a hyphen for none of them; and the judgement by that store.
+const STORES: &str = "\
+32473.1 246 1 Revoked
+32473.1 246 2 accepted
+32473.1 0 - LandmarkDiffers
+32473.1 - - TooFewCosigners(0)
+32473.9 246 - UnknownLog
+";
+
+// The subtree whose hash ends with this byte, if the word has one.
+fn trusted_in(alloc: Global, word: &str) -> Result<Vec<Trusted>, Fail> {
+    let mut list = Vec::new(alloc);
+    if word != "-" {
+        let mut hash = TRUSTED;
+        hash[31] = word.parse::<u8>()?;
+        list.push(subtree(hash))?;
+    }
+    Ok(list)
+}
+
+// The range of this one serial number, if the word has one.
+fn revoked_in(alloc: Global, word: &str) -> Result<Vec<Span>, Fail> {
+    let mut list = Vec::new(alloc);
+    if word != "-" {
+        let start = word.parse::<u64>()?;
+        let end = start.saturating_add(1);
+        list.push(Span { start, end })?;
+    }
+    Ok(list)
+}
+
+fn store_in(alloc: Global, line: &str) -> Result<Store, Fail> {
+    let mut words = line.split(' ');
+    let id = words.next().unwrap_or("");
+    let subtrees = trusted_in(alloc, words.next().unwrap_or(""))?;
+    let revoked = revoked_in(alloc, words.next().unwrap_or(""))?;
+    store_of(alloc, id, subtrees.as_slice(), revoked.as_slice())
+}
+
+// Whether the store of this line judges as the line says.
+fn is_judged(alloc: Global, line: &str) -> Result<bool, Fail> {
+    let wanted = line.split(' ').nth(3).unwrap_or("");
+    match answer(&CERTIFICATE, &store_in(alloc, line)?, FIRST) {
+        Ok(accepted) => Ok(accepted == ACCEPTED && wanted == "accepted"),
+        Err(found) => Ok(format!(in alloc; "{found:?}")?.as_str() == wanted),
+    }
 }
 
 #[test]
 fn the_store_decides(rt: HostRuntime) -> Result<(), Fail> {
-    let mut other = TRUSTED;
-    other[31] = 0;
-    let good = [subtree(TRUSTED)];
-    let one = [Span { start: 1, end: 2 }];
-    let two = [Span { start: 2, end: 3 }];
-    let alloc = rt.alloc();
-    assert!(rt; judged(alloc, "32473.1", &good, &one)? == Err(Refusal::Revoked));
-    assert!(rt; judged(alloc, "32473.1", &good, &two)? == Ok(ACCEPTED));
-    assert!(rt; judged(alloc, "32473.1", &[subtree(other)], &[])? == Err(Refusal::LandmarkDiffers));
-    assert!(rt; judged(alloc, "32473.1", &[], &[])? == Err(Refusal::TooFewCosigners(0)));
-    assert!(rt; judged(alloc, "32473.9", &good, &[])? == Err(Refusal::UnknownLog));
+    let mut count = 0u64;
+    for line in STORES.lines() {
+        assert!(rt; is_judged(rt.alloc(), line)?, "{line}");
+        count = count.saturating_add(1);
+    }
+    assert!(rt; count == 5);
     Ok(())
 }
