@@ -53,8 +53,8 @@ impl<'a, R: Files<File = File>> FileRoom<'a, R> {
     // Lends a journal that this process holds, or counts the fault.
     fn lend(&mut self, held: io::Result<File>) -> Result<FileDisk, RoomError>
         requires { self.old.lent < 2 ^ 32 }
-        ensures lending { Lending self.old.lent self.new.lent self.old.faults self.new.faults result
-            }
+        ensures lending { Lending self.old.lent self.new.lent
+            self.old.faults self.new.faults result }
         ensures failed { IfErr result (λ why. why ≡ RoomError.Failed) }
         ensures time { IfOk result (λ disk. file_moment disk ≡ 0) }
         ensures begins { IfOk result (λ disk. file_faults disk ≡ 0) }
