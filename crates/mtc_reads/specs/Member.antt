@@ -1,4 +1,4 @@
--- The command `member`: what its file holds, and what it is member_judgement.
+-- The command `member`: what its file holds, and what is judged of it.
 use Rattle.std.specs.Prelude.{ℕ, List, Result, Ok, Err, bytes_eq, if◌then◌else◌}
 use Rattle.std.specs.Int.{w64}
 use Rattle.byte_forms.specs.Places.{at}
