@@ -109,10 +109,8 @@ impl<'a, R: Files<File = File>> Room for FileRoom<'a, R> {
     fn fresh(&mut self, name: &str) -> Result<FileDisk, RoomError> {
         match make(self.files, name) {
             Ok(file) => {
+                // A file that isn't held stays: its name may lead to another command's by now.
                 let held = hold(self.files, file, name);
-                if held.is_err() {
-                    let _ = fs::remove_file(self.files, name);
-                }
                 self.lend(held)
             }
             Err(why) if why.kind() == ErrorKind::AlreadyExists => Err(RoomError::Exists),

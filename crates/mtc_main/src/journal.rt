@@ -1,4 +1,4 @@
-//! The file of a journal: how it is opened, made, locked and settled.
+//! The file of a journal: how it is opened, made, locked and synced.
 use std::fs::{self, File};
 use std::io::{self, ErrorKind};
 use std::os::fd::AsRawFd;
@@ -8,6 +8,8 @@ use std::rt::Files;
 
 // The mode of a new journal: it is read and written by its owner alone.
 const OWNER_ALONE: u32 = 0o600;
+// The descriptors of the standard streams are those up to this one, that of standard error.
+const LAST_STREAM: i32 = 2;
 
 /// Opens a file that exists, to read and to write.
 pub fn open_to_write<R: Files>(files: &R, name: &str) -> io::Result<R::File> {
@@ -25,16 +27,16 @@ pub fn make<R: Files>(files: &R, name: &str) -> io::Result<R::File> {
         .open(files, name)
 }
 
-/// Locks an open file for this process alone, without waiting, and settles it: its bytes and its
-/// name are on the disk, and what is read of it is what the disk has. The name has to lead to the
-/// file that was locked. The lock is held until the file is closed.
+/// Locks an open file for this process alone, without waiting, and syncs it and the folder of its
+/// name. The name has to lead to the file that was locked. The lock is held until the file is
+/// closed.
 pub fn hold<R: Files<File = File>>(files: &R, file: File, name: &str) -> io::Result<File> {
     let file = move_off_streams(file)?;
     file.try_lock()?;
     if !leads_to(files, name, &file)? {
         return Err(io::Error::from(ErrorKind::NotFound));
     }
-    settle(&file)?;
+    file.sync_all()?;
     sync_folder(files, name)?;
     Ok(file)
 }
@@ -42,7 +44,7 @@ pub fn hold<R: Files<File = File>>(files: &R, file: File, name: &str) -> io::Res
 // A standard stream that was closed at the start leaves its descriptor to the file that is opened
 // next. What is meant for the stream is not to land in that file.
 fn move_off_streams(file: File) -> io::Result<File> {
-    if file.as_raw_fd() <= libc::STDERR_FILENO {
+    if file.as_raw_fd() <= LAST_STREAM {
         file.try_clone()
     } else {
         Ok(file)
@@ -53,16 +55,6 @@ fn move_off_streams(file: File) -> io::Result<File> {
 fn leads_to<R: Files>(files: &R, name: &str, file: &File) -> io::Result<bool> {
     let (named, open) = (fs::metadata(files, name)?, file.metadata()?);
     Ok(named.dev() == open.dev() && named.ino() == open.ino())
-}
-
-// Syncs the file, and drops the pages that the kernel keeps of it: a failed sync of an earlier
-// process may have left other bytes there than the disk has.
-fn settle(file: &File) -> io::Result<()> {
-    file.sync_all()?;
-    match libc::posix_fadvise(file.as_raw_fd(), 0, 0, libc::POSIX_FADV_DONTNEED) {
-        0 => Ok(()),
-        error => Err(io::Error::from_raw_os_error(error)),
-    }
 }
 
 // Syncs the folder in which the name stands.
