@@ -3,7 +3,8 @@
 of the system's calls, commands at once, and commands that are killed.
 
 Prints a line for each check, and below it what is wrong. As root it runs the program as nobody, so that modes count.
-Usage: tests/real_files.py [KILLS [CHECK ..]]      `issue` is killed so many times, 100 if nothing is said
+Usage: tests/real_files.py [KILLS [CHECK ..]]      `issue` is killed so many times, 100 if nothing is said; with
+       less than 30 it may be that none is acknowledged, and that is wrong too
 """
 
 import fcntl
@@ -12,6 +13,7 @@ import random
 import re
 import resource
 import shutil
+import signal
 import subprocess
 import sys
 import tempfile
@@ -54,10 +56,7 @@ class Folder:
         return subprocess.Popen(line, cwd=self.path, **{**streams, **self.owner, **options})
 
     def run(self, words, **options):
-        """The status, standard output and standard error."""
-        process = self.start(words, **options)
-        out, err = process.communicate()
-        return process.returncode, (out or b"").decode("latin-1"), (err or b"").decode("latin-1")
+        return ended(self.start(words, **options))
 
     def new_log(self, file="j"):
         (self.path / file).unlink(missing_ok=True)
@@ -79,10 +78,17 @@ class Folder:
         return fields[0::2]
 
     def bytes(self, file="j"):
-        return (self.path / file).read_bytes()
+        """What the file holds, or None where there is none."""
+        return (self.path / file).read_bytes() if (self.path / file).exists() else None
 
     def names(self):
         return sorted(path.name for path in self.path.iterdir())
+
+
+def ended(process):
+    """The status, standard output and standard error."""
+    out, err = process.communicate()
+    return process.returncode, (out or b"").decode("latin-1"), (err or b"").decode("latin-1")
 
 
 def unlike(what, found, wanted):
@@ -115,16 +121,19 @@ def check_refusals(folder, _kills):
     folder.new_log()
     (folder.path / "folder").mkdir()
     (folder.path / "link").symlink_to("nowhere")
+    (folder.path / "loop").symlink_to("loop")
     shutil.copy(folder.path / "j", folder.path / "copy")
     (folder.path / "copy").chmod(0o400)
     folder.own(folder.path / "copy", folder.path / "folder")
     before, names = folder.bytes("copy"), folder.names()
     for words, status, name in (
             ("member none", 7, "Absent"), ("member r/x", 7, "Absent"), ("member folder", 5, "Failed"),
+            ("member loop", 5, "Failed"), ("issue j loop", 5, "Failed"), ("checkpoint loop", 5, "Failed"),
             ("checkpoint none", 7, "Absent"), ("checkpoint r/x", 7, "Absent"), ("checkpoint none/x", 7, "Absent"),
             ("checkpoint folder", 5, "Failed"), ("checkpoint link", 7, "Absent"), ("checkpoint copy", 5, "Failed"),
             ("init-log none/x 32473.1 2 9", 5, "Failed"), ("init-log r/x 32473.1 2 9", 5, "Failed"),
             ("init-log folder 32473.1 2 9", 7, "Exists"), ("init-log link 32473.1 2 9", 7, "Exists"),
+            ("init-log loop 32473.1 2 9", 7, "Exists"),
             ("init-log j 32473.1 2 9", 7, "Exists"), ("issue j folder", 5, "Failed")):
         command, *rest = words.split()
         file = rest[1] if command == "issue" else rest[0]
@@ -135,11 +144,22 @@ def check_refusals(folder, _kills):
 
 
 def check_modes(folder, _kills):
-    """A new journal is its owner's alone"""
+    """A new journal is its owner's alone, and one in a folder that may be entered and not read is not opened"""
     folder.new_log()
     (folder.path / "j").unlink()
     folder.run(NEW_LOG, umask=0)
     yield from unlike("the mode", oct((folder.path / "j").stat().st_mode & 0o7777), "0o600")
+    before, inner = folder.bytes(), folder.path / "d"
+    inner.mkdir(mode=0o700)
+    (folder.path / "j").rename(inner / "j")
+    folder.own(inner)
+    inner.chmod(0o300)
+    for words in ("checkpoint d/j", "entries d/j 1", "issue d/j r", "init-log d/new 32473.1 2 9"):
+        command, file, *more = words.split()
+        yield from unlike(command, folder.run([command, file, *more]), failed(command, file))
+    inner.chmod(0o700)
+    yield from unlike("the journal and the new file", (folder.bytes("d/j"), folder.bytes("d/new")), (before, b""))
+    yield from unlike("issue", folder.run(["issue", "d/j", "r"]), (0, "issued 1\n", ""))
 
 
 def closed(*descriptors):
@@ -178,7 +198,7 @@ def traced(folder, words, *more):
     trace = folder.path / "trace"
     trace.write_bytes(b"")
     folder.own(trace)
-    calls = "trace=flock,fsync,fdatasync,fadvise64,pwrite64"
+    calls = "trace=flock,fsync,fdatasync,pwrite64"
     status, _, _ = folder.run(words, before=["strace", "-y", "-qq", "-o", trace, "-e", calls, *more])
     lines = re.findall(r"^(\w+)\((\d+)<([^>]*)>", trace.read_text(), re.M)
     return status, [(call, Path(file).name, int(number)) for call, number, file in lines]
@@ -189,12 +209,12 @@ def can_trace(folder):
     return shutil.which("strace") and subprocess.run(probe, **folder.owner).returncode == 0
 
 
-OPENING = ["flock j", "fsync j", "fadvise64 j", "fsync d"]
+OPENING = ["flock j", "fsync j", "fsync d"]
 RECORD = ["pwrite64 j", "fsync j", "pwrite64 j", "fsync j"]
 
 
 def check_order(folder, _kills):
-    """A journal is locked, synced, dropped from the kernel's pages, and its folder synced, before it is read or written"""
+    """A journal is locked, it and its folder are synced, and only then it is read or written"""
     if not can_trace(folder):
         folder.notes.append("left out: strace isn't here, or may not trace")
         return
@@ -214,17 +234,17 @@ def check_order(folder, _kills):
 
 
 def check_faults(folder, _kills):
-    """A call of the system that fails while a journal is opened or made is status 5, and leaves the folder as it was"""
+    """A call of the system that fails at opening is status 5: an old journal keeps its bytes, a new file has none"""
     if not can_trace(folder):
         folder.notes.append("left out: strace isn't here, or may not trace")
         return
-    faults = ["flock:error=EAGAIN", "flock:error=ENOLCK", "fsync:error=EIO:when=1", "fadvise64:error=EIO",
-              "fsync:error=EIO:when=2"]
-    (folder.path / "j").unlink(missing_ok=True)
-    names = sorted({*folder.names(), "trace"})
+    faults = ["flock:error=EAGAIN", "flock:error=ENOLCK", "fsync:error=EIO:when=1", "fsync:error=EIO:when=2"]
+    names = sorted({*folder.names(), "trace", "j"})
     for fault in faults:
+        (folder.path / "j").unlink(missing_ok=True)
         yield from unlike(f"init-log {fault}", traced(folder, NEW_LOG, "-e", f"inject={fault}")[0], 5)
         yield from unlike("the folder", folder.names(), names)
+        yield from unlike("the new file", folder.bytes(), b"")
     folder.new_log()
     before = folder.bytes()
     for fault in [*faults, "fsync:error=EIO:when=3"]:
@@ -232,50 +252,83 @@ def check_faults(folder, _kills):
         yield from unlike("the journal", folder.bytes(), before)
 
 
+def opened_before_its_lock(folder, words):
+    """A command that has opened the journal `j`, and waits a second before it locks it."""
+    trace = folder.path / "trace"
+    trace.write_bytes(b"")
+    folder.own(trace)
+    waits = ["strace", "-qq", "-o", trace, "-e", "trace=openat,flock", "-e", "inject=flock:delay_enter=1000000"]
+    process = folder.start(words, before=waits)
+    while '"j"' not in trace.read_text() and process.poll() is None:
+        time.sleep(0.01)
+    return process
+
+
 def check_replaced(folder, _kills):
-    """Where a copy takes the journal's place between its opening and its lock, neither file is written"""
+    """Where another file takes the journal's place between its opening and its lock, both stay, and neither is written"""
     if not can_trace(folder):
         folder.notes.append("left out: strace isn't here, or may not trace")
         return
     folder.new_log()
     shutil.copy(folder.path / "j", folder.path / "copy")
-    os.link(folder.path / "j", folder.path / "old")
-    trace = folder.path / "trace"
-    trace.write_bytes(b"")
-    folder.own(trace, folder.path / "copy")
-    waits = ["strace", "-qq", "-o", trace, "-e", "trace=openat,flock", "-e", "inject=flock:delay_enter=1000000"]
-    before, process = folder.bytes(), folder.start(["issue", "j", "r"], before=waits)
-    while '"j"' not in trace.read_text() and process.poll() is None:
-        time.sleep(0.01)
+    folder.own(folder.path / "copy")
+    before, process = folder.bytes(), opened_before_its_lock(folder, ["issue", "j", "r"])
+    (folder.path / "j").rename(folder.path / "old")
     (folder.path / "copy").rename(folder.path / "j")
-    process.communicate()
-    found = process.returncode, folder.bytes("j"), folder.bytes("old")
-    yield from unlike("issue", found, (5, before, before))
+    yield from unlike("issue", ended(process), failed("issue", "j"))
+    yield from unlike("the copy and the journal", (folder.bytes("j"), folder.bytes("old")), (before, before))
+    (folder.path / "j").unlink()
+    process = opened_before_its_lock(folder, NEW_LOG)
+    (folder.path / "j").rename(folder.path / "empty")
+    yield from unlike("the other init-log", folder.run(NEW_LOG), (0, "log 32473.1\n", ""))
+    made = folder.bytes()
+    yield from unlike("init-log", ended(process), failed("init-log", "j"))
+    yield from unlike("both files", (folder.bytes("j"), folder.bytes("empty")), (made, b""))
+    yield from unlike("the size", folder.size(), 1)
 
 
 def new_log_within(folder, limit):
     """What `init-log` answers with so much memory, and how long its file is, if there is one."""
     (folder.path / "j").unlink(missing_ok=True)
     found = folder.run(NEW_LOG, preexec_fn=lambda: resource.setrlimit(resource.RLIMIT_AS, (limit, limit)))
-    return *found, len(folder.bytes()) if (folder.path / "j").exists() else None
+    file = folder.bytes()
+    return *found, None if file is None else len(file)
+
+
+def least(most, is_enough):
+    """The least number up to this one that is enough."""
+    few = 0
+    while most - few > 1:
+        middle = (few + most) // 2
+        few, most = (few, middle) if is_enough(middle) else (middle, most)
+    return most
 
 
 def check_memory(folder, _kills):
-    """With less and less memory `init-log` makes its log, or answers status 8 and makes no file"""
-    page = resource.getpagesize()
-    few, enough = 256, 16384
-    while enough - few > 1:
-        middle = (few + enough) // 2
-        few, enough = (few, middle) if new_log_within(folder, middle * page)[0] == 0 else (middle, enough)
+    """With less and less memory `init-log` makes its log, or answers status 8 and makes no file, or isn't loaded at all"""
+    def within(pages):
+        return new_log_within(folder, pages * resource.getpagesize())
+
+    enough = least(1 << 16, lambda pages: within(pages)[0] == 0)
+    loaded = least(enough, lambda pages: within(pages)[0] in (0, 8))
+    # Each limit about those at which the program is loaded, and some below.
+    step, margin = 1 + (enough - loaded) // 200, 8
+    limits = [*range(enough + margin, loaded - margin, -step), *range(loaded - margin, 0, -(1 + loaded // 50))]
     met = set()
-    for pages in range(enough + 8, enough - 56, -1):
-        status, out, err, file = new_log_within(folder, pages * page)
-        # A line names the command once the words are read. With too few pages the system doesn't start the program.
+    for pages in limits:
+        status, out, err, file = within(pages)
+        # A line names the command once the words are read.
         line = err.replace("init-log: ", "")
-        wanted = {0: ("log 32473.1\n", "", 36), 8: ("", "mtc: Memory\n", None)}.get(status, (out, line, None))
-        yield from unlike(f"status {status} with {pages} pages", (out, line, file), wanted)
+        endings = {0: ("log 32473.1\n", "", 36), 8: ("", "mtc: Memory\n", None)}
+        if status == 127 and err and not err.startswith("mtc: "):
+            endings[127] = "", line, None
+        elif 127 in met:
+            # Where the loader fails with more memory, the system may fail with less before the loader.
+            endings.update({-signal.SIGSEGV: ("", "", None), -signal.SIGKILL: ("", "", None)})
+        yield from unlike(f"status {status} with {pages} pages", (out, line, file), endings.get(status, "a known ending"))
         met.add(status)
     yield from unlike("statuses 0 and 8 came", {0, 8} <= met, True)
+    folder.notes.append(f"{len(limits)} limits, from {enough + margin} pages down; loaded with {loaded}, enough are {enough}")
 
 
 def acknowledged(out):
@@ -308,7 +361,7 @@ def check_at_once(folder, _kills):
             else:
                 yield from unlike(name, (process.returncode, out, err), failed("issue", "j"))
     size = folder.size()
-    yield from unlike("the size and the indexes", [index for index, _ in told], [*range(1, size)])
+    yield from unlike("the size and the indexes", sorted(index for index, _ in told), [*range(1, size)])
     yield from misplaced(folder.entries(size), told)
     yield from unlike("a round without an entry", len(told) >= ROUNDS, True)
     folder.notes.append(f"{tries} times, {len(told)} acknowledged")
@@ -346,11 +399,12 @@ def check_kills(folder, kills):
             yield from unlike(f"the size behind issue {number}", size, before)
         if not isinstance(size, int):
             return
-        # So that some three of ten entries are there, however long an `issue` takes by now.
-        span = min(span * (1.1 if size == before else 0.8), 10)
+        # So that some three of ten are acknowledged, however long an `issue` takes by now.
+        span = min(span * (1.1 if index is None else 0.8), 10)
         before = size
     yield from misplaced(folder.entries(before), told)
     yield from unlike("entries", before, 10 + len(told) + unsaid)
+    yield from unlike("one was acknowledged", len(told) > 0, True)
     folder.notes.append(f"{kills} times, {len(told)} acknowledged, {unsaid} not acknowledged and there")
 
 
