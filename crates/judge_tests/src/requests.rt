@@ -18,9 +18,9 @@ fn read(alloc: Global, pieces: &[&str]) -> Result<Result<Request, RequestError>,
 
 // Requests that are refused: behind `== ` why, and a remark; then the request.
 const REFUSED: &str = r#"== NotToml
-not_before
+|= not_before
 == NotToml
-a = 😀
+|= a = 😀
 == Missing(NotBefore)
 == BadValue(NotBefore)
 not_before = "2026-02-30T00:00:00Z"

@@ -24,11 +24,11 @@ fn read(alloc: Global, pieces: &[&str]) -> Result<Result<Store, StoreError>, Fai
 // Store files that are refused: behind `== ` why, and a remark; then the file.
 const REFUSED: &str = r#"== Missing(LogId)
 == NotToml
-[log
+|= [log
 == BadValue(Table)
-log = 1
+|= log = 1
 == UnknownKey
-x = 1
+|= x = 1
 == BadValue(LogId)
 [log]
 id = "32473.01"

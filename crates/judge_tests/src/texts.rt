@@ -12,10 +12,22 @@ pub fn joined(alloc: Global, pieces: &[&str]) -> Result<String, Fail> {
     Ok(text)
 }
 
-/// What a block begins with, up to a colon or the end of its first line, and its other lines.
+/// What a block begins with, up to a colon or the end of its first line, and its other lines;
+/// `|= TEXT` is text without the end of its line.
 pub fn headed(block: &str) -> (&str, &str) {
     match block.split_once('\n') {
-        Some((head, text)) => (head.split_once(':').map_or(head, |parts| parts.0), text),
+        Some((head, text)) => (
+            head.split_once(':').map_or(head, |parts| parts.0),
+            unmarked(text),
+        ),
         None => (block, ""),
+    }
+}
+
+// The text; what stands behind the mark `|= `, without the end of the line, where it has the mark.
+fn unmarked(text: &str) -> &str {
+    match text.strip_prefix("|= ") {
+        Some(line) => line.strip_suffix('\n').unwrap_or(line),
+        None => text,
     }
 }
