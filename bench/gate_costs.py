@@ -144,9 +144,10 @@ def sentence(costs, seconds):
     """What README says of the times of its two commands."""
     first, chain = program_seconds(costs)
     return (
-        "The first shows each crate as it is proved, as many side by side as there are processors. "
+        "The first shows each crate as it is proved, as many side by side as there are processors and memory. "
         f"That is done once, and the proofs add up to {first / 60:.0f} processor minutes. "
-        f"By the clock it takes no less than {chain / 60:.0f} minutes, those of the longest chain of crates. "
+        f"By the clock it takes no less than {chain / 60:.0f} minutes, those of the longest chain of crates, "
+        "where no check on that machine has kept anything. "
         f"The second took {whole_minutes():.0f} processor minutes, and {by_clock(seconds)} ([GATE](docs/GATE.md))."
     )
 

@@ -85,6 +85,15 @@ touch "$folder/crates/der_core/src/lib.rt"
 run_mtc
 is_built || complain "the program isn't built once its crates are mended"
 
+touch "$folder/crates/mtc_words/specs"
+: >"$folder/asked"
+(cd "$folder" && PATH="$folder/bin:$PATH" ./mtc a b >also_printed 2>also_said; echo $? >also_status) &
+(cd "$folder" && PATH="$folder/bin:$PATH" ./mtc a b >printed 2>said)
+status=$?
+wait
+is_built && [ "$(cat "$folder/also_status")" -eq 3 ] && [ -z "$(sort "$folder/asked" | uniq -d)" ] ||
+    complain "two first runs at once prove a crate twice, or one of them fails"
+
 if ! PATH=/usr/bin:/bin command -v rt >/dev/null; then
     touch "$folder/crates/mtc_top/specs"
     (cd "$folder" && PATH=/usr/bin:/bin ./mtc a b >printed 2>said)
