@@ -57,7 +57,8 @@ module _ {R S D O E : Type 0} (h : List ℕ → List ℕ) (rooms : Rooms R S D) 
     pub line : Reports (err_of answer)
     pub made : Left HasMade
 
-  -- The room failed: nothing went out, and a journal may have its record or not.
+  -- The room failed: nothing went out. A journal that was there has its record or not; of a new
+  -- one nothing is said.
   pub record RoomFailed : Type 0 where
     pub cause : Rose (rooms.faults old) (rooms.faults new)
     pub text : Prints []

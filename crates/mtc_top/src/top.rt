@@ -105,8 +105,8 @@ fn answer<'a, H: TreeHash, R: Room>(
 /// grammar; 4 the log doesn't allow what is asked; 5 the room failed; 6 `out` failed; 7 a named
 /// file isn't there, or that of a new journal is there already; 8 memory was refused; 9 an input is
 /// over its limit, or the log or its journal takes no more. Tests come in the order of the
-/// program's steps: the words, then each file in the order of the words, then its grammar, then the
-/// command's own. A fault of `err` changes no status.
+/// program's steps: the words, the input files, their grammars (a certificate's with its
+/// judgement), the journal, and the command's own. A fault of `err` changes no status.
 ///
 /// What follows of each run, and how it ends as steps of a node, is [`crate::runs_are_steps`].
 pub fn run<H: TreeHash, R: Room, O: Sink, E: Sink>(
