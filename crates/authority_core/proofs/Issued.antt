@@ -1,5 +1,6 @@
 -- What is issued is an entry of the log, to which the key of the request belongs.
-use Rattle.std.proofs.Common.{◌≡◌, ℕ, ◌<◌, ◌≤◌, true, false, List, [], ◌∷◌, length, Option, Some, None, IfSome, Ok, refl, sym, ap, ◌∙◌, append-nil, arith, lit<, inr}
+use Rattle.std.proofs.Common.{◌≡◌, ℕ, ◌<◌, ◌≤◌, true, false, List, [], ◌∷◌, length, Option, Some}
+use Rattle.std.proofs.Common.{None, IfSome, Ok, refl, sym, ap, ◌∙◌, append-nil, arith, lit<, inr}
 use Rattle.std.specs.Prelude.{is_none, map}
 use Rattle.std.specs.List.{flat_map, list_any, AllByRecursion}
 use Rattle.std.proofs.lemmas.List.{length-append}
@@ -17,8 +18,11 @@ use Rattle.cert_names.specs.Names.{attribute_contents, set_contents, name_conten
 use Rattle.cert_names.proofs.Sizes.{attribute-size}
 use Rattle.cert_fields.specs.Identifiers.{subject_alt_name}
 use Rattle.cert_fields.specs.AltNames.{dns_name, names_in}
-use Rattle.cert_fields.specs.Extensions.{ExtensionFields, extensions_in, alt_name_octets, dns_names_in, has_unknown_critical, is_unknown_critical}
-use Rattle.cert_fields.specs.Grammar.{IsAttribute, IsSet, IsName, IsGeneralName, IsGeneralNames, IsExtension, extension, extension_contents, AreExtensions, IsExtensionsField}
+use Rattle.cert_fields.specs.Extensions.{ExtensionFields, extensions_in, alt_name_octets}
+use Rattle.cert_fields.specs.Extensions.{dns_names_in, has_unknown_critical, is_unknown_critical}
+use Rattle.cert_fields.specs.Grammar.{IsAttribute, IsSet, IsName, IsGeneralName, IsGeneralNames}
+use Rattle.cert_fields.specs.Grammar.{IsExtension, extension, extension_contents, AreExtensions}
+use Rattle.cert_fields.specs.Grammar.{IsExtensionsField}
 use Rattle.cert_fields.specs.Found.{name_text, FitsName, dns_only}
 use Rattle.cert_fields.proofs.Found.{extensions_found, names_found}
 use Rattle.log_entry.specs.Entries.{IsTbs}
@@ -28,7 +32,8 @@ use Rattle.log_entry.proofs.EntryForm.{entries_again}
 use Rattle.log_entry.proofs.Matches.{written_matches}
 use Rattle.authority_core.specs.Hosts.{IsHostName}
 use Rattle.authority_core.specs.Requests.{IsCommonName, CanBeIssued, RequestParts}
-use Rattle.authority_core.specs.Issuing.{common_name_id, subject_of, dns_names, alt_name_of, extensions_of, tbs_for, entry_for}
+use Rattle.authority_core.specs.Issuing.{common_name_id, subject_of, dns_names, alt_name_of}
+use Rattle.authority_core.specs.Issuing.{extensions_of, tbs_for, entry_for}
 use Rattle.authority_core.proofs.Labels.{host-short, host-ascii}
 use Rattle.authority_core.proofs.Sizes.{one_extension, names-short, contents-short, extension-short}
 
@@ -56,11 +61,16 @@ alt_name_oid = record {
 
 -- The arc 44363.
 long_arc : IsSubidentifier (130 ∷ 218 ∷ 75 ∷ [])
-long_arc = record { ends = (omega arith, (omega arith, lit< tt)); fewest = λ same. absurd (omega (arith, same)) }
+long_arc = record {
+  ends = (omega arith, (omega arith, lit< tt));
+  fewest =
+      λ same. absurd (omega (arith, same));
+}
 
 log_oid : IsOid log_id
 log_oid = record {
-  arcs = (43 ∷ []) ∷ (6 ∷ []) ∷ (1 ∷ []) ∷ (4 ∷ []) ∷ (1 ∷ []) ∷ (130 ∷ 218 ∷ 75 ∷ []) ∷ (47 ∷ []) ∷ (1 ∷ []) ∷ [];
+  arcs = (43 ∷ []) ∷ (6 ∷ []) ∷ (1 ∷ []) ∷ (4 ∷ []) ∷ (1 ∷ []) ∷ (130 ∷ 218 ∷ 75 ∷ []) ∷ (47 ∷ [])
+      ∷ (1 ∷ []) ∷ [];
   are_arcs = (
     short_arc 43 (lit< tt),
     (
@@ -91,7 +101,8 @@ text_element text few = record {
   spelled = refl;
 }
 
-module _ (identifier text : List ℕ) (oid : IsOid identifier) (small : length identifier ≤ 10) (few : length text ≤ 5355) where
+module _ (identifier text : List ℕ) (oid : IsOid identifier) (small : length identifier
+    ≤ 10) (few : length text ≤ 5355) where
   fields-few : length (attribute_contents identifier text) ≤ 5375
   fields-few = omega (arith, small, few, attribute-size identifier text)
 
@@ -102,7 +113,11 @@ module _ (identifier text : List ℕ) (oid : IsOid identifier) (small : length i
   set-few = omega (arith, attribute-few, element-short 49 (set_contents identifier text))
 
   attribute_is : IsAttribute (set_contents identifier text)
-  attribute_is = ((identifier, element 12 text), (((oid, omega (arith, small)), text_element text few), omega (arith, fields-few)), refl)
+  attribute_is = (
+    (identifier, element 12 text),
+    (((oid, omega (arith, small)), text_element text few), omega (arith, fields-few)),
+    refl,
+  )
 
   first_of_set : IsRisen [] (set_contents identifier text)
   unfolding element
@@ -118,11 +133,16 @@ module _ (identifier text : List ℕ) (oid : IsOid identifier) (small : length i
 
   set_is : IsSet (name_contents identifier text)
   set_is =
-      let alone : flat_map itself (set_contents identifier text ∷ []) ≡ set_contents identifier text = append-nil (set_contents identifier text) in (
+      let alone : flat_map itself (set_contents identifier text ∷ [])
+      ≡ set_contents identifier text = append-nil (set_contents identifier text) in (
         set_contents identifier text ∷ [],
         (
           record {
-            some = omega (arith, ap length alone, element-longer 48 (attribute_contents identifier text));
+            some = omega (
+              arith,
+              ap length alone,
+              element-longer 48 (attribute_contents identifier text),
+            );
             each = (attribute_is, tt);
             rise = (first_of_set, tt);
           },
@@ -133,17 +153,23 @@ module _ (identifier text : List ℕ) (oid : IsOid identifier) (small : length i
 
   name_is : IsName (name_of identifier text)
   name_is =
-      let alone : flat_map itself (name_contents identifier text ∷ []) ≡ name_contents identifier text = append-nil (name_contents identifier text) in
-      (name_contents identifier text ∷ [], ((set_is, tt), omega (arith, ap length alone, set-few)), ap (element 48) (sym alone))
+      let alone : flat_map itself (name_contents identifier text ∷ [])
+      ≡ name_contents identifier text = append-nil (name_contents identifier text) in (
+        name_contents identifier text ∷ [],
+        ((set_is, tt), omega (arith, ap length alone, set-few)),
+        ap (element 48) (sym alone),
+      )
 
 issuer_is : (id : List ℕ) → IsAnchorId id → IsName (name_with (text_of id))
 unfolding name_with
 issuer_is id f = name_is log_id (text_of id) log_oid (omega arith) (text-short id f)
 
-subject_is : (common_name : Option (List ℕ)) → IfSome common_name IsCommonName → IsName (subject_of common_name)
+subject_is : (common_name : Option (List ℕ)) → IfSome common_name IsCommonName
+    → IsName (subject_of common_name)
 unfolding subject_of
 subject_is None f = ([], (tt, lit< tt), refl)
-subject_is (Some text) f = name_is common_name_id text common_name_oid (omega arith) (omega (arith, f.1))
+subject_is (Some text) f = name_is common_name_id text common_name_oid (omega arith)
+    (omega (arith, f.1))
 
 -- ---- the extensions
 
@@ -156,19 +182,28 @@ host_is name f = record {
   spelled = refl;
 }
 
-hosts_are : (names : List (List ℕ)) → AllByRecursion IsHostName names → AllByRecursion IsGeneralName (map (element dns_name) names)
+hosts_are : (names : List (List ℕ)) → AllByRecursion IsHostName names
+    → AllByRecursion IsGeneralName (map (element dns_name) names)
 hosts_are [] f = tt
 hosts_are (name ∷ names) f = (host_is name f.0, hosts_are names f.1)
 
 names-some : (names : List (List ℕ)) → 1 ≤ length names → 0 < length (dns_names names)
 names-some [] some = absurd (omega (arith, some))
-names-some (name ∷ names) some = omega (arith, element-longer 130 name, length-append (element 130 name) (dns_names names))
+names-some (name ∷ names) some = omega (
+  arith,
+  element-longer 130 name,
+  length-append (element 130 name) (dns_names names),
+)
 
 octets_are : (r : RequestParts) → CanBeIssued r → IsGeneralNames (element 48 (dns_names r.names))
 octets_are r f =
-    let same : flat_map itself (map (element dns_name) r.names) ≡ dns_names r.names = flat_map-map itself (element dns_name) r.names in (
+    let same : flat_map itself (map (element dns_name) r.names) ≡ dns_names r.names =
+    flat_map-map itself (element dns_name) r.names in (
       map (element dns_name) r.names,
-      ((hosts_are r.names f.names, omega (arith, ap length same, names-some r.names f.some)), omega (arith, ap length same, names-short r.names f.names f.few)),
+      (
+        (hosts_are r.names f.names, omega (arith, ap length same, names-some r.names f.some)),
+        omega (arith, ap length same, names-short r.names f.names f.few),
+      ),
       ap (element 48) (sym same),
     )
 
@@ -182,25 +217,46 @@ alt_name_is r f = record {
 
 extensions_are : (r : RequestParts) → CanBeIssued r → AreExtensions (alt_name_of r ∷ [])
 extensions_are r f = record {
-  some = omega (arith, ap length (one_extension (alt_name_of r)), element-longer 48 (extension_contents (alt_name_of r)));
+  some = omega (
+    arith,
+    ap length (one_extension (alt_name_of r)),
+    element-longer 48 (extension_contents (alt_name_of r)),
+  );
   each = (alt_name_is r f, tt);
 }
 
-list-few : (r : RequestParts) → CanBeIssued r → length (flat_map extension (alt_name_of r ∷ [])) ≤ 26010
+list-few : (r : RequestParts) → CanBeIssued r
+    → length (flat_map extension (alt_name_of r ∷ [])) ≤ 26010
 list-few r f = omega (arith, ap length (one_extension (alt_name_of r)), extension-short r f)
 
-sequence-few : (r : RequestParts) → CanBeIssued r → length (element 48 (flat_map extension (alt_name_of r ∷ []))) ≤ 26020
-sequence-few r f = omega (arith, list-few r f, element-short 48 (flat_map extension (alt_name_of r ∷ [])))
+sequence-few : (r : RequestParts) → CanBeIssued r
+    → length (element 48 (flat_map extension (alt_name_of r ∷ []))) ≤ 26020
+sequence-few r f = omega (
+  arith,
+  list-few r f,
+  element-short 48 (flat_map extension (alt_name_of r ∷ [])),
+)
 
 field_is : (r : RequestParts) → CanBeIssued r → IsExtensionsField (extensions_of r)
 unfolding extensions_of
 field_is r f =
-    let list : List ℕ = flat_map extension (alt_name_of r ∷ []) in
-    (element 48 list, ((alt_name_of r ∷ [], (extensions_are r f, omega (arith, list-few r f)), refl), omega (arith, sequence-few r f)), refl)
+    let list : List ℕ = flat_map extension (alt_name_of r ∷ []) in (
+      element 48 list,
+      (
+        (
+          alt_name_of r ∷ [],
+          (extensions_are r f, omega (arith, list-few r f)),
+          refl,
+        ),
+        omega (arith, sequence-few r f),
+      ),
+      refl,
+    )
 
 -- ---- the entry
 
-module _ (h : List ℕ → List ℕ) (id : List ℕ) (r : RequestParts) (sized : (bytes : List ℕ) → length (h bytes) ≡ 32) (anchor : IsAnchorId id) (f : CanBeIssued r) where
+module _ (h : List ℕ → List ℕ) (id : List ℕ) (r : RequestParts) (sized : (bytes : List ℕ)
+    → length (h bytes) ≡ 32) (anchor : IsAnchorId id) (f : CanBeIssued r) where
   fields_are : IsTbs (tbs_for h id r)
   fields_are = record {
     issuer = issuer_is id anchor;
@@ -220,7 +276,8 @@ module _ (h : List ℕ → List ℕ) (id : List ℕ) (r : RequestParts) (sized :
 
 -- ---- what is found in the extensions
 
-alone_found : (r : RequestParts) → CanBeIssued r → extensions_in (extensions_of r) ≡ alt_name_of r ∷ []
+alone_found : (r : RequestParts) → CanBeIssued r
+    → extensions_in (extensions_of r) ≡ alt_name_of r ∷ []
 unfolding extensions_of
 alone_found r f =
     extensions_found (alt_name_of r ∷ []) (extensions_are r f)
@@ -232,9 +289,17 @@ as_name name = (dns_name, name)
 name_texts : (names : List (List ℕ)) → flat_map name_text (map as_name names) ≡ dns_names names
 name_texts names = flat_map-map name_text as_name names
 
-names_fit : (names : List (List ℕ)) → AllByRecursion IsHostName names → AllByRecursion FitsName (map as_name names)
+names_fit : (names : List (List ℕ)) → AllByRecursion IsHostName names
+    → AllByRecursion FitsName (map as_name names)
 names_fit [] f = tt
-names_fit (name ∷ names) f = (record { is_tag = tag_of 130 (lit< tt) refl; short = omega (arith, host-short name f.0) }, names_fit names f.1)
+names_fit (name ∷ names) f = (
+  record {
+    is_tag = tag_of 130 (lit< tt) refl;
+    short =
+        omega (arith, host-short name f.0);
+  },
+  names_fit names f.1,
+)
 
 only_names : (names : List (List ℕ)) → dns_only (map as_name names) ≡ names
 only_names [] = refl
@@ -245,12 +310,22 @@ names_asked r f =
     let texts = name_texts r.names in
     ap (λ (xs : List ExtensionFields). names_in (alt_name_octets xs)) (alone_found r f)
     ∙ ap (λ (t : List ℕ). names_in (element 48 t)) (sym texts)
-    ∙ names_found (map as_name r.names) (names_fit r.names f.names) (omega (arith, ap length texts, names-short r.names f.names f.few))
+    ∙ names_found (map as_name r.names) (names_fit r.names f.names) (omega (
+      arith,
+      ap length texts,
+      names-short r.names f.names f.few,
+    ))
     ∙ only_names r.names
 
 pub all_known : (r : RequestParts) → CanBeIssued r → has_unknown_critical (extensions_of r) ≡ false
 all_known r f = ap (list_any is_unknown_critical) (alone_found r f) ∙ alone_known r.common_name
   where
-    alone_known : (o : Option (List ℕ)) → list_any is_unknown_critical (record { identifier = subject_alt_name; critical = is_none o; octets = element 48 (dns_names r.names) } ∷ []) ≡ false
+    alone_known : (o : Option (List ℕ))
+        → list_any is_unknown_critical (record {
+          identifier = subject_alt_name;
+          critical =
+              is_none o;
+          octets = element 48 (dns_names r.names);
+        } ∷ []) ≡ false
     alone_known None = refl
     alone_known (Some name) = refl

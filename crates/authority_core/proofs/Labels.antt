@@ -1,21 +1,27 @@
 -- The labels of a text, one after another; and what they say of its bytes.
-use Rattle.std.proofs.Common.{◌≡◌, ℕ, zero, suc, ◌+◌, ◌<◌, ◌≤◌, nat_lt, nat_le, Bool, true, false, ◌||◌, ◌&&◌, cond, List, [], ◌∷◌, length, get_or, take, drop, Option, Some, None, is_some, codes, refl, ap, sym, ◌∙◌, subst, arith}
+use Rattle.std.proofs.Common.{◌≡◌, ℕ, zero, suc, ◌+◌, ◌<◌, ◌≤◌, nat_lt, nat_le, Bool, true, false}
+use Rattle.std.proofs.Common.{◌||◌, ◌&&◌, cond, List, [], ◌∷◌, length, get_or, take, drop, Option}
+use Rattle.std.proofs.Common.{Some, None, is_some, codes, refl, ap, sym, ◌∙◌, subst, arith}
 use Rattle.std.proofs.lemmas.Bool.{and_from, and_parts, false≢true}
 use Rattle.std.proofs.lemmas.Bool.Decides.{nat_tests}
 use Rattle.std.proofs.lemmas.Slice.Eq.{bytes_eq-Decides}
-use Rattle.std.proofs.lemmas.List.Splits.{join_with_byte-slice_split, length-slice_split, slice_split_at, slice_split_first, slice_split_none}
+use Rattle.std.proofs.lemmas.List.Splits.{join_with_byte-slice_split, length-slice_split}
+use Rattle.std.proofs.lemmas.List.Splits.{slice_split_at, slice_split_first, slice_split_none}
 use Rattle.std.proofs.lemmas.List.Sums.{AllPass-from_list_all, fails_before_first}
-use Rattle.std.specs.List.{All, join_with_byte, list_all, onto_first, position, position_or_len, slice_split}
+use Rattle.std.specs.List.{All, join_with_byte, list_all, onto_first, position, position_or_len}
+use Rattle.std.specs.List.{slice_split}
 use Rattle.std.specs.Option.{unwrap_or}
 use Rattle.std.specs.Str.{bytes_eq}
 use Rattle.byte_forms.specs.Types.{Text}
 use Rattle.cert_fields.specs.AltNames.{is_ascii}
-use Rattle.authority_core.specs.Hosts.{is_dot, is_label, is_label_at, is_label_byte, are_labels, labels_of, is_host_name, AreJoined, IsHostName}
+use Rattle.authority_core.specs.Hosts.{is_dot, is_label, is_label_at, is_label_byte, are_labels}
+use Rattle.authority_core.specs.Hosts.{labels_of, is_host_name, AreJoined, IsHostName}
 
 -- ---- The first dot
 
 first_at : (xs : Text) (i : ℕ) (b : Bool) → nat_lt (position_or_len is_dot xs) (length xs) ≡ b
-    → cond b (Some (position_or_len is_dot xs)) None ≡ Some i → (position_or_len is_dot xs ≡ i) × (position_or_len is_dot xs < length xs)
+    → cond b (Some (position_or_len is_dot xs)) None ≡ Some i → (position_or_len is_dot xs ≡ i)
+    × (position_or_len is_dot xs < length xs)
 first_at xs i true e h = (ap (λ (o : Option ℕ). unwrap_or o 0) h, grind (arith, nat_tests, e))
 first_at xs i false e h = absurd (false≢true (ap is_some h))
 
@@ -25,18 +31,21 @@ nowhere xs true e h = absurd (false≢true (sym (ap is_some h)))
 nowhere xs false e h = grind (arith, nat_tests, e)
 
 -- A label ends at the first dot, and the others stand behind it.
-pub labels_of-dot : (xs : Text) (i : ℕ) → position is_dot xs ≡ Some i → labels_of xs ≡ take i xs ∷ labels_of (drop (i + 1) xs)
+pub labels_of-dot : (xs : Text) (i : ℕ) → position is_dot xs ≡ Some i
+    → labels_of xs ≡ take i xs ∷ labels_of (drop (i + 1) xs)
 unfolding labels_of
 labels_of-dot xs i h =
     let (same, lt) = first_at xs i (nat_lt (position_or_len is_dot xs) (length xs)) refl h in
-    let P : ℕ → Type 0 = λ n. slice_split is_dot xs ≡ take n xs ∷ slice_split is_dot (drop (n + 1) xs) in
+    let P : ℕ → Type 0 = λ n. slice_split is_dot xs
+    ≡ take n xs ∷ slice_split is_dot (drop (n + 1) xs) in
     subst P same (slice_split_first is_dot xs 0 lt)
 
 -- Without a dot the text is the last label.
 pub labels_of-last : (xs : Text) → position is_dot xs ≡ None → labels_of xs ≡ xs ∷ []
 unfolding labels_of
 labels_of-last xs h =
-    let far : length xs ≤ position_or_len is_dot xs = nowhere xs (nat_lt (position_or_len is_dot xs) (length xs)) refl h in
+    let far : length xs ≤ position_or_len is_dot xs =
+    nowhere xs (nat_lt (position_or_len is_dot xs) (length xs)) refl h in
     slice_split_none is_dot xs (λ k d lt. fails_before_first is_dot xs k d (omega (arith, far, lt)))
 
 -- ---- ASCII
@@ -54,7 +63,8 @@ label_ascii : (l : Text) → is_label l ≡ true → is_ascii l ≡ true
 unfolding is_label
 label_ascii l h = bytes_ascii l (and_parts _ (list_all is_label_byte l) h).1
 
-label_or_star : (b : Bool) (l : Text) → is_label l ≡ b → (b || bytes_eq l (codes "*")) ≡ true → is_ascii l ≡ true
+label_or_star : (b : Bool) (l : Text) → is_label l ≡ b → (b || bytes_eq l (codes "*")) ≡ true
+    → is_ascii l ≡ true
 label_or_star true l e h = label_ascii l e
 label_or_star false l e h = rw ((bytes_eq-Decides l (codes "*")).0 h)
 
@@ -62,22 +72,27 @@ label_at_ascii : (first : Bool) (l : Text) → is_label_at first l ≡ true → 
 label_at_ascii true l h = label_or_star (is_label l) l refl h
 label_at_ascii false l h = label_ascii l h
 
-labels_ascii : (first : Bool) (ls : List Text) → are_labels first ls ≡ true → list_all is_ascii ls ≡ true
+labels_ascii : (first : Bool) (ls : List Text) → are_labels first ls ≡ true
+    → list_all is_ascii ls ≡ true
 labels_ascii first [] h = refl
 labels_ascii first (l ∷ ls) h =
     let (here, more) = and_parts (is_label_at first l) (are_labels false ls) h in
     rw (label_at_ascii first l here, labels_ascii false ls more)
 
-onto_first_ascii : (b : ℕ) (ls : List Text) → list_all is_ascii (onto_first b ls) ≡ true → (nat_lt b 128 ≡ true) × (list_all is_ascii ls ≡ true)
-onto_first_ascii b [] h = ((and_parts (nat_lt b 128) true (and_parts (nat_lt b 128 && true) true h).0).0, refl)
+onto_first_ascii : (b : ℕ) (ls : List Text) → list_all is_ascii (onto_first b ls) ≡ true
+    → (nat_lt b 128 ≡ true) × (list_all is_ascii ls ≡ true)
+onto_first_ascii b [] h =
+    ((and_parts (nat_lt b 128) true (and_parts (nat_lt b 128 && true) true h).0).0, refl)
 onto_first_ascii b (l ∷ ls) h =
     let (here, more) = and_parts (nat_lt b 128 && is_ascii l) (list_all is_ascii ls) h in
     let (low, rest) = and_parts (nat_lt b 128) (is_ascii l) here in
     (low, rw (rest, more))
 
 part_ascii : (b : ℕ) (text : Text) (dot : Bool) → is_dot b ≡ dot
-    → list_all is_ascii (cond dot ([] ∷ slice_split is_dot text) (onto_first b (slice_split is_dot text))) ≡ true
-    → (list_all is_ascii (slice_split is_dot text) ≡ true → is_ascii text ≡ true) → is_ascii (b ∷ text) ≡ true
+    → list_all is_ascii (cond dot ([] ∷ slice_split is_dot text)
+    (onto_first b (slice_split is_dot text))) ≡ true
+    → (list_all is_ascii (slice_split is_dot text) ≡ true → is_ascii text ≡ true)
+    → is_ascii (b ∷ text) ≡ true
 part_ascii b text true e h more =
     let low : nat_lt b 128 ≡ true = grind (arith, nat_tests, e) in
     rw (low, more h)
@@ -85,7 +100,8 @@ part_ascii b text false e h more =
     let (low, rest) = onto_first_ascii b (slice_split is_dot text) h in
     rw (low, more rest)
 
-parts_ascii : (text : Text) → list_all is_ascii (slice_split is_dot text) ≡ true → is_ascii text ≡ true
+parts_ascii : (text : Text) → list_all is_ascii (slice_split is_dot text) ≡ true
+    → is_ascii text ≡ true
 parts_ascii [] h = refl
 parts_ascii (b ∷ text) h = part_ascii b text (is_dot b) refl h (parts_ascii text)
 
@@ -93,14 +109,16 @@ parts_ascii (b ∷ text) h = part_ascii b text (is_dot b) refl h (parts_ascii te
 pub host-short : (text : Text) → IsHostName text → length text ≤ 253
 unfolding is_host_name
 host-short text host =
-    let (sizes, labels) = and_parts (nat_le 1 (length text) && nat_le (length text) 253) (are_labels true (labels_of text)) host.labels in
+    let (sizes, labels) = and_parts (nat_le 1 (length text) && nat_le (length text) 253)
+    (are_labels true (labels_of text)) host.labels in
     let (some, short) = and_parts (nat_le 1 (length text)) (nat_le (length text) 253) sizes in
     grind (arith, nat_tests, short)
 
 pub host-ascii : (text : Text) → IsHostName text → is_ascii text ≡ true
 unfolding is_host_name labels_of
 host-ascii text host =
-    let (sizes, labels) = and_parts (nat_le 1 (length text) && nat_le (length text) 253) (are_labels true (slice_split is_dot text)) host.labels in
+    let (sizes, labels) = and_parts (nat_le 1 (length text) && nat_le (length text) 253)
+    (are_labels true (slice_split is_dot text)) host.labels in
     parts_ascii text (labels_ascii true (slice_split is_dot text) labels)
 
 -- ---- labels with dots between them
@@ -118,18 +136,21 @@ star_no_dot : All (λ b. is_dot b ≡ false) (codes "*")
 star_no_dot zero d lt = refl
 star_no_dot (suc k) d lt = absurd (omega arith)
 
-label_or_star_no_dot : (b : Bool) (l : Text) → is_label l ≡ b → (b || bytes_eq l (codes "*")) ≡ true → All (λ c. is_dot c ≡ false) l
+label_or_star_no_dot : (b : Bool) (l : Text) → is_label l ≡ b → (b || bytes_eq l (codes "*")) ≡ true
+    → All (λ c. is_dot c ≡ false) l
 label_or_star_no_dot true l e h = label_no_dot l e
 label_or_star_no_dot false l e h =
     let P : Text → Type 0 = λ text. All (λ c. is_dot c ≡ false) text in
     subst P (sym ((bytes_eq-Decides l (codes "*")).0 h)) star_no_dot
 
-label_at_no_dot : (first : Bool) (l : Text) → is_label_at first l ≡ true → All (λ b. is_dot b ≡ false) l
+label_at_no_dot : (first : Bool) (l : Text) → is_label_at first l ≡ true
+    → All (λ b. is_dot b ≡ false) l
 label_at_no_dot true l h = label_or_star_no_dot (is_label l) l refl h
 label_at_no_dot false l h = label_no_dot l h
 
 -- Labels that were joined are found again.
-split_joined : (first : Bool) (l : Text) (ls : List Text) → are_labels first (l ∷ ls) ≡ true → slice_split is_dot (join_with_byte 46 (l ∷ ls)) ≡ l ∷ ls
+split_joined : (first : Bool) (l : Text) (ls : List Text) → are_labels first (l ∷ ls) ≡ true
+    → slice_split is_dot (join_with_byte 46 (l ∷ ls)) ≡ l ∷ ls
 split_joined first l [] h =
     slice_split_none is_dot l (label_at_no_dot first l (and_parts (is_label_at first l) true h).0)
 split_joined first l (m ∷ ls) h =
@@ -137,14 +158,16 @@ split_joined first l (m ∷ ls) h =
     slice_split_at is_dot l 46 (join_with_byte 46 (m ∷ ls)) (label_at_no_dot first l here) refl
     ∙ ap (λ (parts : List Text). l ∷ parts) (split_joined false m ls more)
 
-split_again : (ls : List Text) → 1 ≤ length ls → are_labels true ls ≡ true → slice_split is_dot (join_with_byte 46 ls) ≡ ls
+split_again : (ls : List Text) → 1 ≤ length ls → are_labels true ls ≡ true
+    → slice_split is_dot (join_with_byte 46 ls) ≡ ls
 split_again [] one h = absurd (omega arith)
 split_again (l ∷ ls) one h = split_joined true l ls h
 
 pub cut : (text : Text) → is_host_name text ≡ true → AreJoined text
 unfolding is_host_name labels_of
 cut text h =
-    let (sizes, labels) = and_parts (nat_le 1 (length text) && nat_le (length text) 253) (are_labels true (slice_split is_dot text)) h in
+    let (sizes, labels) = and_parts (nat_le 1 (length text) && nat_le (length text) 253)
+    (are_labels true (slice_split is_dot text)) h in
     let (some, short) = and_parts (nat_le 1 (length text)) (nat_le (length text) 253) sizes in
     record {
       labels = slice_split is_dot text;
@@ -160,7 +183,9 @@ unfolding is_host_name labels_of
 joined text j =
     let some : nat_le 1 (length text) ≡ true = grind (arith, nat_tests, j.some) in
     let short : nat_le (length text) 253 ≡ true = grind (arith, nat_tests, j.short) in
-    let parts : slice_split is_dot text ≡ j.labels = ap (slice_split is_dot) j.joined ∙ split_again j.labels j.one j.each in
-    and_from (nat_le 1 (length text) && nat_le (length text) 253) (are_labels true (slice_split is_dot text))
+    let parts : slice_split is_dot text ≡ j.labels = ap (slice_split is_dot) j.joined
+    ∙ split_again j.labels j.one j.each in
+    and_from (nat_le 1 (length text) && nat_le (length text) 253)
+    (are_labels true (slice_split is_dot text))
     (and_from (nat_le 1 (length text)) (nat_le (length text) 253) some short)
     (ap (are_labels true) parts ∙ j.each)

@@ -1,5 +1,6 @@
 -- How long the parts of an entry that is issued are at most.
-use Rattle.std.proofs.Common.{◌≡◌, ℕ, ◌*◌, ◌≤◌, Bool, true, false, List, [], ◌∷◌, ◌++◌, length, arith, append-nil}
+use Rattle.std.proofs.Common.{◌≡◌, ℕ, ◌*◌, ◌≤◌, Bool, true, false, List, [], ◌∷◌, ◌++◌, length}
+use Rattle.std.proofs.Common.{arith, append-nil}
 use Rattle.std.specs.List.{flat_map, AllByRecursion}
 use Rattle.std.proofs.lemmas.List.{length-append}
 use Rattle.der_core.specs.Elements.{element}
@@ -15,22 +16,36 @@ use Rattle.authority_core.proofs.Labels.{host-short}
 pub one_extension : (x : ExtensionFields) → flat_map extension (x ∷ []) ≡ extension x
 one_extension x = append-nil (extension x)
 
-pub names-size : (names : List (List ℕ)) → AllByRecursion IsHostName names → length (dns_names names) ≤ 258 * length names
+pub names-size : (names : List (List ℕ)) → AllByRecursion IsHostName names
+    → length (dns_names names) ≤ 258 * length names
 names-size [] hosts = omega arith
 names-size (name ∷ names) hosts =
-    omega (arith, names-size names hosts.1, host-short name hosts.0, element-short 130 name, length-append (element 130 name) (dns_names names))
+    omega (
+      arith,
+      names-size names hosts.1,
+      host-short name hosts.0,
+      element-short 130 name,
+      length-append (element 130 name) (dns_names names),
+    )
 
-pub names-short : (names : List (List ℕ)) → AllByRecursion IsHostName names → length names ≤ 100 → length (dns_names names) ≤ 25800
+pub names-short : (names : List (List ℕ)) → AllByRecursion IsHostName names → length names ≤ 100
+    → length (dns_names names) ≤ 25800
 names-short names hosts few = omega (arith, names-size names hosts, few)
 
-pub octets-short : (names : List (List ℕ)) → AllByRecursion IsHostName names → length names ≤ 100 → length (element 48 (dns_names names)) ≤ 25805
-octets-short names hosts few = omega (arith, names-short names hosts few, element-short 48 (dns_names names))
+pub octets-short : (names : List (List ℕ)) → AllByRecursion IsHostName names → length names ≤ 100
+    → length (element 48 (dns_names names)) ≤ 25805
+octets-short names hosts few = omega (
+  arith,
+  names-short names hosts few,
+  element-short 48 (dns_names names),
+)
 
 mark-short : (critical : Bool) → length (mark critical) ≤ 3
 mark-short true = omega arith
 mark-short false = omega arith
 
-pub contents-short : (r : RequestParts) → CanBeIssued r → length (extension_contents (alt_name_of r)) ≤ 26000
+pub contents-short : (r : RequestParts) → CanBeIssued r
+    → length (extension_contents (alt_name_of r)) ≤ 26000
 contents-short r f =
     let x : ExtensionFields = alt_name_of r in
     let octets = octets-short r.names f.names f.few in
@@ -44,8 +59,18 @@ contents-short r f =
       element-short 4 x.octets,
     )
 
-pub extension-short : (r : RequestParts) → CanBeIssued r → length (extension (alt_name_of r)) ≤ 26010
-extension-short r f = omega (arith, contents-short r f, element-short 48 (extension_contents (alt_name_of r)))
+pub extension-short : (r : RequestParts) → CanBeIssued r
+    → length (extension (alt_name_of r)) ≤ 26010
+extension-short r f = omega (
+  arith,
+  contents-short r f,
+  element-short 48 (extension_contents (alt_name_of r)),
+)
 
-pub sequence-short : (r : RequestParts) → CanBeIssued r → length (element 48 (extension (alt_name_of r))) ≤ 26020
-sequence-short r f = omega (arith, extension-short r f, element-short 48 (extension (alt_name_of r)))
+pub sequence-short : (r : RequestParts) → CanBeIssued r
+    → length (element 48 (extension (alt_name_of r))) ≤ 26020
+sequence-short r f = omega (
+  arith,
+  extension-short r f,
+  element-short 48 (extension (alt_name_of r)),
+)

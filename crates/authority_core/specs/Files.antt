@@ -1,6 +1,7 @@
 -- The request file: what a text says, or why it is none. The faults stand in the order in which
 -- they are looked for.
-use Rattle.std.specs.Prelude.{ℕ, ◌+◌, ◌&&◌, ◌==◌, nat_le, int_lt, Bool, ℤ, List, [], ◌∷◌, length, codes, Option, Some, None, option_map, Result, Ok, Err, if◌then◌else◌}
+use Rattle.std.specs.Prelude.{ℕ, ◌+◌, ◌&&◌, ◌==◌, nat_le, int_lt, Bool, ℤ, List, [], ◌∷◌, length}
+use Rattle.std.specs.Prelude.{codes, Option, Some, None, option_map, Result, Ok, Err, if◌then◌else◌}
 use Rattle.std.specs.Option.{option_and_then}
 use Rattle.byte_forms.specs.Types.{Text}
 use Rattle.byte_forms.specs.Readings.{◌>>=◌}
@@ -13,9 +14,14 @@ use Rattle.toml_fields.specs.Codes.{bytes_data}
 use Rattle.authority_core.specs.Hosts.{is_host_name}
 use Rattle.authority_core.specs.Requests.{RequestParts}
 use Rattle.authority_core.specs.declared.requests.error.Field.{Field}
-use Rattle.authority_core.specs.declared.requests.error.Field.TheVariants.{NotBefore, NotAfter, Dns, CommonName, PublicKey}
+use Rattle.authority_core.specs.declared.requests.error.Field.TheVariants.{NotBefore, NotAfter, Dns}
+use Rattle.authority_core.specs.declared.requests.error.Field.TheVariants.{CommonName, PublicKey}
 use Rattle.authority_core.specs.declared.requests.error.RequestError.{RequestError}
-use Rattle.authority_core.specs.declared.requests.error.RequestError.TheVariants.{NotToml, UnknownKey, Missing, BadValue, DatesReversed, NoNames}
+use Rattle.authority_core.specs.declared.requests.error.RequestError.TheVariants.{NotToml}
+use Rattle.authority_core.specs.declared.requests.error.RequestError.TheVariants.{UnknownKey}
+use Rattle.authority_core.specs.declared.requests.error.RequestError.TheVariants.{Missing, BadValue}
+use Rattle.authority_core.specs.declared.requests.error.RequestError.TheVariants.{DatesReversed}
+use Rattle.authority_core.specs.declared.requests.error.RequestError.TheVariants.{NoNames}
 
 -- The keys of a request.
 abbrev pub request_keys : List Text

@@ -1,17 +1,25 @@
 -- A reading made by a combinator is a form where the readings that it is made of are.
-use Rattle.std.proofs.Common.{◌≡◌, ◌≢◌, ℕ, ◌+◌, ◌<◌, Bool, true, false, List, [], ◌∷◌, ◌++◌, length, Result, Ok, Err, Option, Some, None, IfSome, refl, sym, ap, subst, ◌∙◌, append_assoc, arith, inl, inr, ◌⊎◌, eq-eqb, ne_eqb}
+use Rattle.std.proofs.Common.{◌≡◌, ◌≢◌, ℕ, ◌+◌, ◌<◌, Bool, true, false, List, [], ◌∷◌, ◌++◌, length}
+use Rattle.std.proofs.Common.{Result, Ok, Err, Option, Some, None, IfSome, refl, sym, ap, subst}
+use Rattle.std.proofs.Common.{◌∙◌, append_assoc, arith, inl, inr, ◌⊎◌, eq-eqb, ne_eqb}
 use Rattle.std.specs.Prelude.{if◌then◌else◌, ◌==◌}
 use Rattle.std.proofs.lemmas.List.{length-append}
 use Rattle.byte_forms.specs.Places.{At, IsBytes, begins_with}
-use Rattle.byte_forms.specs.Readings.{◌>>=◌, both_at, lifted_at, mapped_at, tested_at, headed_at, optional_at, or_nothing_at, last_at, some_at, refused_at, blamed_at}
-use Rattle.byte_forms.specs.Forms.{Stands, IsForm, Anything, Nothing, OtherThan, itself, both, FitsBoth, optional}
-use Rattle.byte_forms.proofs.Steps.{bind_ok, blamed_ok, lifted_ok, chosen, guard_ok, pass_ok, ok_is, Stands-then, Stands-none}
+use Rattle.byte_forms.specs.Readings.{◌>>=◌, both_at, lifted_at, mapped_at, tested_at, headed_at}
+use Rattle.byte_forms.specs.Readings.{optional_at, or_nothing_at, last_at, some_at, refused_at}
+use Rattle.byte_forms.specs.Readings.{blamed_at}
+use Rattle.byte_forms.specs.Forms.{Stands, IsForm, Anything, Nothing, OtherThan, itself, both}
+use Rattle.byte_forms.specs.Forms.{FitsBoth, optional}
+use Rattle.byte_forms.proofs.Steps.{bind_ok, blamed_ok, lifted_ok, chosen, guard_ok, pass_ok, ok_is}
+use Rattle.byte_forms.proofs.Steps.{Stands-then, Stands-none}
 
 -- ---- the same form, said otherwise
 
 -- What fits and what follows, said otherwise.
-pub said_form : {X E : Type 0} (spell : X → List ℕ) (Fits Fits' : X → Type 0) (Follows Follows' : List ℕ → Type 0) (read : At → Result (X × At) E)
-    → ((x : X) → Fits x → Fits' x) → ((x : X) → Fits' x → Fits x) → ((rest : List ℕ) → Follows' rest → Follows rest)
+pub said_form : {X E : Type 0} (spell : X → List ℕ) (Fits Fits' : X
+    → Type 0) (Follows Follows' : List ℕ → Type 0) (read : At → Result (X × At) E)
+    → ((x : X) → Fits x → Fits' x) → ((x : X) → Fits' x → Fits x) → ((rest : List ℕ) → Follows' rest
+    → Follows rest)
     → IsForm spell Fits Follows read → IsForm spell Fits' Follows' read
 said_form spell Fits Fits' Follows Follows' read to from follows form = record {
   takes = λ a x b h e. let t = form.takes a x b h e in (t.0, to x t.1);
@@ -19,50 +27,66 @@ said_form spell Fits Fits' Follows Follows' read to from follows form = record {
 }
 
 -- Another spelling of the same bytes.
-pub spelled_form : {X E : Type 0} (spell spell' : X → List ℕ) (Fits : X → Type 0) (Follows : List ℕ → Type 0) (read : At → Result (X × At) E)
-    → ((x : X) → Fits x → spell x ≡ spell' x) → IsForm spell Fits Follows read → IsForm spell' Fits Follows read
+pub spelled_form : {X E : Type 0} (spell spell' : X → List ℕ) (Fits : X → Type 0) (Follows : List ℕ
+    → Type 0) (read : At → Result (X × At) E)
+    → ((x : X) → Fits x → spell x ≡ spell' x) → IsForm spell Fits Follows read
+    → IsForm spell' Fits Follows read
 spelled_form spell spell' Fits Follows read same form = record {
   takes = λ a x b h e. let t = form.takes a x b h e in (rw (← same x t.1) t.0, t.1);
   again = λ x p rest f q. rw (← same x f) (form.again x p rest f q);
 }
 
 -- A form that may be followed by nothing, at the end of what is left.
-pub ended_form : {X E : Type 0} (spell : X → List ℕ) (Fits : X → Type 0) (Follows : List ℕ → Type 0) (read : At → Result (X × At) E)
+pub ended_form : {X E : Type 0} (spell : X → List ℕ) (Fits : X → Type 0) (Follows : List ℕ
+    → Type 0) (read : At → Result (X × At) E)
     → Follows [] → IsForm spell Fits Follows read → IsForm spell Fits Nothing read
 ended_form spell Fits Follows read nil form =
     said_form spell Fits Fits Follows Nothing read (λ x f. f) (λ x f. f) (λ rest q. rw q nil) form
 
 -- ---- combinators
 
-both_takes : {X Y E : Type 0} (spell : X → List ℕ) (Fits : X → Type 0) (Follows : List ℕ → Type 0) (read : At → Result (X × At) E)
-    (spell' : Y → List ℕ) (Fits' : Y → Type 0) (Follows' : List ℕ → Type 0) (read' : At → Result (Y × At) E)
+both_takes : {X Y E : Type 0} (spell : X → List ℕ) (Fits : X → Type 0) (Follows : List ℕ
+    → Type 0) (read : At → Result (X × At) E)
+    (spell' : Y → List ℕ) (Fits' : Y → Type 0) (Follows' : List ℕ → Type 0) (read' : At
+    → Result (Y × At) E)
     → IsForm spell Fits Follows read → IsForm spell' Fits' Follows' read'
-    → (a : At) (x : X × Y) (b : At) → IsBytes a.rest → both_at read read' a ≡ Ok (x, b) → Stands a (both spell spell' x) b × FitsBoth Fits Fits' x
+    → (a : At) (x : X × Y) (b : At) → IsBytes a.rest → both_at read read' a ≡ Ok (x, b)
+    → Stands a (both spell spell' x) b × FitsBoth Fits Fits' x
 both_takes {X} {Y} {E} spell Fits Follows read spell' Fits' Follows' read' first second a x b h e =
-    let s = bind_ok (read a) (λ (v : X × At). read' v.1 >>= λ (w : Y × At). Ok ((v.0, w.0), w.1)) (x, b) e in
+    let s = bind_ok (read a) (λ (v : X × At). read' v.1 >>= λ (w : Y × At). Ok ((v.0, w.0), w.1))
+    (x, b) e in
     let t = bind_ok (read' s.0.1) (λ (w : Y × At). Ok ((s.0.0, w.0), w.1)) (x, b) s.2 in
     let f = first.takes a s.0.0 s.0.1 h s.1 in
     let g = second.takes s.0.1 t.0.0 t.0.1 f.0.bytes t.1 in
-    let P : (X × Y) × At → Type 0 = λ v. Stands a (both spell spell' v.0) v.1 × FitsBoth Fits Fits' v.0 in
+    let P : (X × Y) × At → Type 0 = λ v. Stands a (both spell spell' v.0) v.1
+    × FitsBoth Fits Fits' v.0 in
     subst P (ok_is E ((s.0.0, t.0.0), t.0.1) (x, b) t.2)
     (Stands-then a (spell s.0.0) s.0.1 (spell' t.0.0) t.0.1 f.0 g.0, (f.1, g.1))
 
-both_again : {X Y E : Type 0} (spell : X → List ℕ) (Fits : X → Type 0) (Follows : List ℕ → Type 0) (read : At → Result (X × At) E)
-    (spell' : Y → List ℕ) (Fits' : Y → Type 0) (Follows' : List ℕ → Type 0) (read' : At → Result (Y × At) E)
+both_again : {X Y E : Type 0} (spell : X → List ℕ) (Fits : X → Type 0) (Follows : List ℕ
+    → Type 0) (read : At → Result (X × At) E)
+    (spell' : Y → List ℕ) (Fits' : Y → Type 0) (Follows' : List ℕ → Type 0) (read' : At
+    → Result (Y × At) E)
     → ((y : Y) (rest : List ℕ) → Fits' y → Follows' rest → Follows (spell' y ++ rest))
     → IsForm spell Fits Follows read → IsForm spell' Fits' Follows' read'
     → (x : X × Y) (place : ℕ) (rest : List ℕ) → FitsBoth Fits Fits' x → Follows' rest
-    → both_at read read' (record { place = place; rest = both spell spell' x ++ rest }) ≡ Ok (x, record { place = place + length (both spell spell' x); rest = rest })
-both_again {X} {Y} spell Fits Follows read spell' Fits' Follows' read' follows first second x p rest f q =
-    let grouped : both spell spell' x ++ rest ≡ spell x.0 ++ (spell' x.1 ++ rest) = append_assoc (spell x.0) (spell' x.1) rest in
+    → both_at read read' (record { place = place; rest = both spell spell' x ++ rest })
+    ≡ Ok (x, record { place = place + length (both spell spell' x); rest = rest })
+both_again {X} {Y} spell Fits Follows read spell' Fits' Follows' read' follows first second x
+    p rest f q =
+    let grouped : both spell spell' x ++ rest ≡ spell x.0 ++ (spell' x.1 ++ rest) =
+    append_assoc (spell x.0) (spell' x.1) rest in
     let one = first.again x.0 p (spell' x.1 ++ rest) f.0 (follows x.1 rest f.1 q) in
     let two = second.again x.1 (p + length (spell x.0)) rest f.1 q in
-    let far : p + length (spell x.0) + length (spell' x.1) ≡ p + length (both spell spell' x) = omega (arith, length-append (spell x.0) (spell' x.1)) in
+    let far : p + length (spell x.0) + length (spell' x.1) ≡ p + length (both spell spell' x) =
+    omega (arith, length-append (spell x.0) (spell' x.1)) in
     ap (λ (t : List ℕ). both_at read read' (record { place = p; rest = t })) grouped
     ∙ rw (one, two, far) refl
 
-pub both_form : {X Y E : Type 0} (spell : X → List ℕ) (Fits : X → Type 0) (Follows : List ℕ → Type 0) (read : At → Result (X × At) E)
-    (spell' : Y → List ℕ) (Fits' : Y → Type 0) (Follows' : List ℕ → Type 0) (read' : At → Result (Y × At) E)
+pub both_form : {X Y E : Type 0} (spell : X → List ℕ) (Fits : X → Type 0) (Follows : List ℕ
+    → Type 0) (read : At → Result (X × At) E)
+    (spell' : Y → List ℕ) (Fits' : Y → Type 0) (Follows' : List ℕ → Type 0) (read' : At
+    → Result (Y × At) E)
     → IsForm spell Fits Follows read → IsForm spell' Fits' Follows' read'
     → ((y : Y) (rest : List ℕ) → Fits' y → Follows' rest → Follows (spell' y ++ rest))
     → IsForm (both spell spell') (FitsBoth Fits Fits') Follows' (both_at read read')
@@ -72,10 +96,12 @@ both_form spell Fits Follows read spell' Fits' Follows' read' first second follo
 }
 
 -- A value seen by f, which g undoes.
-pub mapped_form : {X Y E : Type 0} (spell : X → List ℕ) (Fits : X → Type 0) (Follows : List ℕ → Type 0) (read : At → Result (X × At) E)
+pub mapped_form : {X Y E : Type 0} (spell : X → List ℕ) (Fits : X → Type 0) (Follows : List ℕ
+    → Type 0) (read : At → Result (X × At) E)
     (f : X → Y) (g : Y → X)
     → ((x : X) → Fits x → g (f x) ≡ x) → ((y : Y) → Fits (g y) → f (g y) ≡ y)
-    → IsForm spell Fits Follows read → IsForm (λ y. spell (g y)) (λ y. Fits (g y)) Follows (mapped_at f read)
+    → IsForm spell Fits Follows read → IsForm (λ y. spell (g y)) (λ y. Fits (g y)) Follows
+    (mapped_at f read)
 mapped_form {X} {Y} {E} spell Fits Follows read f g back there form = record {
   takes = λ a y b h e.
       let s = bind_ok (read a) (λ (v : X × At). Ok (f v.0, v.1)) (y, b) e in
@@ -86,9 +112,11 @@ mapped_form {X} {Y} {E} spell Fits Follows read f g back there form = record {
 }
 
 -- A value that passes a test.
-pub tested_form : {X E : Type 0} (spell : X → List ℕ) (Fits : X → Type 0) (Follows : List ℕ → Type 0) (read : At → Result (X × At) E)
+pub tested_form : {X E : Type 0} (spell : X → List ℕ) (Fits : X → Type 0) (Follows : List ℕ
+    → Type 0) (read : At → Result (X × At) E)
     (test : X → Bool) (fault : E)
-    → IsForm spell Fits Follows read → IsForm spell (λ x. Fits x × (test x ≡ true)) Follows (tested_at test fault read)
+    → IsForm spell Fits Follows read → IsForm spell (λ x. Fits x
+    × (test x ≡ true)) Follows (tested_at test fault read)
 tested_form {X} {E} spell Fits Follows read test fault form = record {
   takes = λ a x b h e.
       let s = bind_ok (read a) (λ (v : X × At). if test v.0 then Ok v else Err fault) (x, b) e in
@@ -100,12 +128,16 @@ tested_form {X} {E} spell Fits Follows read test fault form = record {
 }
 
 -- A value whose spelling begins with a byte.
-pub headed_form : {X E : Type 0} (spell : X → List ℕ) (Fits : X → Type 0) (Follows : List ℕ → Type 0) (read : At → Result (X × At) E)
+pub headed_form : {X E : Type 0} (spell : X → List ℕ) (Fits : X → Type 0) (Follows : List ℕ
+    → Type 0) (read : At → Result (X × At) E)
     (byte : ℕ) (fault : E)
     → ((x : X) (rest : List ℕ) → Fits x → begins_with byte (spell x ++ rest) ≡ true)
     → IsForm spell Fits Follows read → IsForm spell Fits Follows (headed_at byte fault read)
 headed_form spell Fits Follows read byte fault begins form = record {
-  takes = λ a x b h e. form.takes a x b h (pass_ok (begins_with byte a.rest) (read a) fault (x, b) e).1;
+  takes = λ a x b h e. form.takes a x b h (pass_ok (begins_with byte a.rest) (read a) fault (
+    x,
+    b,
+  ) e).1;
   again = λ x p rest f q. rw (begins x rest f) (form.again x p rest f q);
 }
 
@@ -114,9 +146,11 @@ begins_with-other : (byte : ℕ) (rest : List ℕ) → OtherThan byte rest → b
 begins_with-other byte [] h = refl
 begins_with-other byte (first ∷ rest) h = ne_eqb first byte h
 
-optional_takes : {X E : Type 0} (spell : X → List ℕ) (Fits : X → Type 0) (Follows : List ℕ → Type 0) (read : At → Result (X × At) E) (byte : ℕ)
+optional_takes : {X E : Type 0} (spell : X → List ℕ) (Fits : X → Type 0) (Follows : List ℕ
+    → Type 0) (read : At → Result (X × At) E) (byte : ℕ)
     → IsForm spell Fits Follows read
-    → (a : At) (x : Option X) (b : At) → IsBytes a.rest → optional_at byte read a ≡ Ok (x, b) → Stands a (optional spell x) b × IfSome x Fits
+    → (a : At) (x : Option X) (b : At) → IsBytes a.rest → optional_at byte read a ≡ Ok (x, b)
+    → Stands a (optional spell x) b × IfSome x Fits
 optional_takes {X} {E} spell Fits Follows read byte form a x b h e =
     let P : Option X × At → Type 0 = λ v. Stands a (optional spell v.0) v.1 × IfSome v.0 Fits in
     let here : Result (Option X × At) E = read a >>= λ (v : X × At). Ok (Some v.0, v.1) in
@@ -127,30 +161,44 @@ optional_takes {X} {E} spell Fits Follows read byte form a x b h e =
       | inr c ↦ subst P (ok_is E (None, a) (x, b) c.1) (Stands-none a h, tt)
     ]
 
-optional_again : {X E : Type 0} (spell : X → List ℕ) (Fits : X → Type 0) (Follows : List ℕ → Type 0) (read : At → Result (X × At) E) (byte : ℕ)
+optional_again : {X E : Type 0} (spell : X → List ℕ) (Fits : X → Type 0) (Follows : List ℕ
+    → Type 0) (read : At → Result (X × At) E) (byte : ℕ)
     → ((x : X) (rest : List ℕ) → Fits x → begins_with byte (spell x ++ rest) ≡ true)
     → IsForm spell Fits Follows read
-    → (x : Option X) (place : ℕ) (rest : List ℕ) → IfSome x Fits → Follows rest × OtherThan byte rest
-    → optional_at byte read (record { place = place; rest = optional spell x ++ rest }) ≡ Ok (x, record { place = place + length (optional spell x); rest = rest })
+    → (x : Option X) (place : ℕ) (rest : List ℕ) → IfSome x Fits → Follows rest
+    × OtherThan byte rest
+    → optional_at byte read (record { place = place; rest = optional spell x ++ rest })
+    ≡ Ok (x, record { place = place + length (optional spell x); rest = rest })
 optional_again spell Fits Follows read byte begins form None p rest f q =
     let same : p ≡ p + 0 = omega arith in
-    rw (begins_with-other byte rest q.1) (ap (λ (n : ℕ). Ok (None, record { place = n; rest = rest })) same)
+    rw (begins_with-other byte rest q.1) (ap (λ (n : ℕ). Ok (
+      None,
+      record {
+        place = n;
+        rest =
+            rest;
+      },
+    )) same)
 optional_again spell Fits Follows read byte begins form (Some x) p rest f q =
     rw (begins x rest f, form.again x p rest f q.0) refl
 
 -- A value where a byte stands, and none elsewhere.
-pub optional_form : {X E : Type 0} (spell : X → List ℕ) (Fits : X → Type 0) (Follows : List ℕ → Type 0) (read : At → Result (X × At) E) (byte : ℕ)
+pub optional_form : {X E : Type 0} (spell : X → List ℕ) (Fits : X → Type 0) (Follows : List ℕ
+    → Type 0) (read : At → Result (X × At) E) (byte : ℕ)
     → ((x : X) (rest : List ℕ) → Fits x → begins_with byte (spell x ++ rest) ≡ true)
-    → IsForm spell Fits Follows read → IsForm (optional spell) (λ x. IfSome x Fits) (λ rest. Follows rest × OtherThan byte rest) (optional_at byte read)
+    → IsForm spell Fits Follows read → IsForm (optional spell) (λ x. IfSome x Fits)
+    (λ rest. Follows rest × OtherThan byte rest) (optional_at byte read)
 optional_form spell Fits Follows read byte begins form = record {
   takes = optional_takes spell Fits Follows read byte form;
   again = optional_again spell Fits Follows read byte begins form;
 }
 
 -- The same for a value that is read as its bytes.
-pub or_nothing_form : {E : Type 0} (Fits : List ℕ → Type 0) (Follows : List ℕ → Type 0) (read : At → Result (List ℕ × At) E) (byte : ℕ)
+pub or_nothing_form : {E : Type 0} (Fits : List ℕ → Type 0) (Follows : List ℕ → Type 0) (read : At
+    → Result (List ℕ × At) E) (byte : ℕ)
     → ((bytes rest : List ℕ) → Fits bytes → begins_with byte (bytes ++ rest) ≡ true)
-    → IsForm itself Fits Follows read → IsForm itself (λ bytes. (bytes ≡ []) ⊎ Fits bytes) (λ rest. Follows rest × OtherThan byte rest) (or_nothing_at byte read)
+    → IsForm itself Fits Follows read → IsForm itself (λ bytes. (bytes ≡ []) ⊎ Fits bytes)
+    (λ rest. Follows rest × OtherThan byte rest) (or_nothing_at byte read)
 or_nothing_form {E} Fits Follows read byte begins form = record {
   takes = λ a x b h e.
       let P : List ℕ × At → Type 0 = λ v. Stands a v.0 v.1 × ((v.0 ≡ []) ⊎ Fits v.0) in
@@ -159,19 +207,26 @@ or_nothing_form {E} Fits Follows read byte begins form = record {
         | inr c ↦ subst P (ok_is E ([], a) (x, b) c.1) (Stands-none a h, inl refl)
       ];
   again = λ x p rest f q.
-      let Goal : List ℕ → Type 0 = λ t. or_nothing_at byte read (record { place = p; rest = t ++ rest }) ≡ Ok (t, record { place = p + length t; rest = rest }) in
+      let Goal : List ℕ → Type 0 = λ t. or_nothing_at byte read (record {
+        place = p;
+        rest =
+            t ++ rest;
+      }) ≡ Ok (t, record { place = p + length t; rest = rest }) in
       elim f [
         | inl nil ↦
             let same : p ≡ p + 0 = omega arith in
-            subst Goal (sym nil) (rw (begins_with-other byte rest q.1) (ap (λ (n : ℕ). Ok ([], record { place = n; rest = rest })) same))
+            subst Goal (sym nil) (rw (begins_with-other byte rest q.1)
+            (ap (λ (n : ℕ). Ok ([], record { place = n; rest = rest })) same))
         | inr fits ↦ rw (begins x rest fits) (form.again x p rest fits q.0)
       ];
 }
 
 -- A value as its bytes, or no bytes, at the end.
-pub last_form : {E : Type 0} (Fits : List ℕ → Type 0) (Follows : List ℕ → Type 0) (read : At → Result (List ℕ × At) E)
+pub last_form : {E : Type 0} (Fits : List ℕ → Type 0) (Follows : List ℕ → Type 0) (read : At
+    → Result (List ℕ × At) E)
     → ((bytes : List ℕ) → Fits bytes → 0 < length bytes) → Follows []
-    → IsForm itself Fits Follows read → IsForm itself (λ bytes. (bytes ≡ []) ⊎ Fits bytes) Nothing (last_at read)
+    → IsForm itself Fits Follows read → IsForm itself (λ bytes. (bytes ≡ []) ⊎ Fits bytes) Nothing
+    (last_at read)
 last_form {E} Fits Follows read some nil form = record {
   takes = λ a x b h e.
       let P : List ℕ × At → Type 0 = λ v. Stands a v.0 v.1 × ((v.0 ≡ []) ⊎ Fits v.0) in
@@ -180,7 +235,15 @@ last_form {E} Fits Follows read some nil form = record {
         | inr c ↦ let t = form.takes a x b h c.1 in (t.0, inr t.1)
       ];
   again = λ x p rest f q.
-      let Goal : List ℕ → List ℕ → Type 0 = λ t u. last_at read (record { place = p; rest = t ++ u }) ≡ Ok (t, record { place = p + length t; rest = u }) in
+      let Goal : List ℕ → List ℕ → Type 0 =
+      λ t u. last_at read (record { place = p; rest = t ++ u }) ≡ Ok (
+        t,
+        record {
+          place =
+              p + length t;
+          rest = u;
+        },
+      ) in
       subst (Goal x) (sym q) (elim f [
         | inl empty ↦
             let same : p ≡ p + 0 = omega arith in
@@ -193,15 +256,18 @@ last_form {E} Fits Follows read some nil form = record {
 }
 
 -- A value that takes all that is left, where something is left.
-pub some_form : {X E : Type 0} (spell : X → List ℕ) (Fits : X → Type 0) (read : At → Result (X × At) E) (fault : E)
+pub some_form : {X E : Type 0} (spell : X → List ℕ) (Fits : X → Type 0) (read : At
+    → Result (X × At) E) (fault : E)
     → ((a : At) (x : X) (b : At) → IsBytes a.rest → read a ≡ Ok (x, b) → b.rest ≡ [])
-    → IsForm spell Fits Nothing read → IsForm spell (λ x. Fits x × (0 < length (spell x))) Nothing (some_at fault read)
+    → IsForm spell Fits Nothing read → IsForm spell (λ x. Fits x
+    × (0 < length (spell x))) Nothing (some_at fault read)
 some_form spell Fits read fault drains form = record {
   takes = λ a x b h e.
       let g = guard_ok (length a.rest == 0) fault (read a) (x, b) e in
       let t = form.takes a x b h g.1 in
       let some : length a.rest ≢ 0 = λ none. true_is_not_false (length a.rest) none g.0 in
-      let all : length a.rest ≡ length (spell x) + length b.rest = ap length t.0.parts ∙ length-append (spell x) b.rest in
+      let all : length a.rest ≡ length (spell x) + length b.rest = ap length t.0.parts
+      ∙ length-append (spell x) b.rest in
       let nothing : length b.rest ≡ 0 = ap length (drains a x b h g.1) in
       (t.0, (t.1, omega arith));
   again = λ x p rest f q.
@@ -213,7 +279,8 @@ some_form spell Fits read fault drains form = record {
     true_is_not_false n zero_is other = cc (eq-eqb n 0 zero_is)
 
 -- A value before which a fault is looked for, in what is left.
-pub refused_form : {X E : Type 0} (spell : X → List ℕ) (Fits : X → Type 0) (Follows : List ℕ → Type 0) (read : At → Result (X × At) E)
+pub refused_form : {X E : Type 0} (spell : X → List ℕ) (Fits : X → Type 0) (Follows : List ℕ
+    → Type 0) (read : At → Result (X × At) E)
     (test : List ℕ → Bool) (fault : E)
     → ((x : X) (rest : List ℕ) → Fits x → Follows rest → test (spell x ++ rest) ≡ false)
     → IsForm spell Fits Follows read → IsForm spell Fits Follows (refused_at test fault read)
@@ -223,7 +290,8 @@ refused_form spell Fits Follows read test fault clear form = record {
 }
 
 -- A value, all of whose faults are one.
-pub blamed_form : {X E F : Type 0} (spell : X → List ℕ) (Fits : X → Type 0) (Follows : List ℕ → Type 0) (read : At → Result (X × At) E) (fault : F)
+pub blamed_form : {X E F : Type 0} (spell : X → List ℕ) (Fits : X → Type 0) (Follows : List ℕ
+    → Type 0) (read : At → Result (X × At) E) (fault : F)
     → IsForm spell Fits Follows read → IsForm spell Fits Follows (blamed_at fault read)
 blamed_form spell Fits Follows read fault form = record {
   takes = λ a x b h e. form.takes a x b h (blamed_ok fault (read a) (x, b) e);
@@ -231,7 +299,8 @@ blamed_form spell Fits Follows read fault form = record {
 }
 
 -- A value, whose fault is seen as another kind of fault.
-pub lifted_form : {X E F : Type 0} (spell : X → List ℕ) (Fits : X → Type 0) (Follows : List ℕ → Type 0) (read : At → Result (X × At) E) (fault : E → F)
+pub lifted_form : {X E F : Type 0} (spell : X → List ℕ) (Fits : X → Type 0) (Follows : List ℕ
+    → Type 0) (read : At → Result (X × At) E) (fault : E → F)
     → IsForm spell Fits Follows read → IsForm spell Fits Follows (lifted_at fault read)
 lifted_form spell Fits Follows read fault form = record {
   takes = λ a x b h e. form.takes a x b h (lifted_ok fault (read a) (x, b) e);
@@ -241,24 +310,50 @@ lifted_form spell Fits Follows read fault form = record {
 -- ---- what a form says of its spellings
 
 -- Where a form has its own end, no spelling begins another one.
-pub one_form : {X E : Type 0} (spell : X → List ℕ) (Fits : X → Type 0) (read : At → Result (X × At) E)
+pub one_form : {X E : Type 0} (spell : X → List ℕ) (Fits : X → Type 0) (read : At
+    → Result (X × At) E)
     → IsForm spell Fits Anything read
     → (x y : X) (s t : List ℕ) → Fits x → Fits y → spell x ++ s ≡ spell y ++ t → (x ≡ y) × (s ≡ t)
 one_form {X} {E} spell Fits read form x y s t fx fy same =
     let one = form.again x 0 s fx tt in
     let two = form.again y 0 t fy tt in
     let moved = ap (λ (u : List ℕ). read (record { place = 0; rest = u })) same in
-    let e : Ok (x, record { place = 0 + length (spell x); rest = s }) ≡ Ok (y, record { place = 0 + length (spell y); rest = t }) = sym one ∙ (moved ∙ two) in
-    let pair = ok_is E (x, record { place = 0 + length (spell x); rest = s }) (y, record { place = 0 + length (spell y); rest = t }) e in
+    let e : Ok (x, record { place = 0 + length (spell x); rest = s }) ≡ Ok (
+      y,
+      record {
+        place =
+            0 + length (spell y);
+        rest = t;
+      },
+    ) = sym one ∙ (moved ∙ two) in
+    let pair = ok_is E (x, record { place = 0 + length (spell x); rest = s }) (
+      y,
+      record {
+        place =
+            0 + length (spell y);
+        rest = t;
+      },
+    ) e in
     (ap (λ (v : X × At). v.0) pair, ap (λ (v : X × At). v.1.rest) pair)
 
 -- One value has one spelling: where nothing follows, equal spellings are of equal values.
-pub one_value : {X E : Type 0} (spell : X → List ℕ) (Fits : X → Type 0) (Follows : List ℕ → Type 0) (read : At → Result (X × At) E)
+pub one_value : {X E : Type 0} (spell : X → List ℕ) (Fits : X → Type 0) (Follows : List ℕ
+    → Type 0) (read : At → Result (X × At) E)
     → Follows [] → IsForm spell Fits Follows read
     → (x y : X) → Fits x → Fits y → spell x ≡ spell y → x ≡ y
 one_value {X} {E} spell Fits Follows read nil form x y fx fy same =
     let one = form.again x 0 [] fx nil in
     let two = form.again y 0 [] fy nil in
     let moved = ap (λ (u : List ℕ). read (record { place = 0; rest = u ++ [] })) same in
-    let e : Ok (x, record { place = 0 + length (spell x); rest = [] }) ≡ Ok (y, record { place = 0 + length (spell y); rest = [] }) = sym one ∙ (moved ∙ two) in
-    ap (λ (v : X × At). v.0) (ok_is E (x, record { place = 0 + length (spell x); rest = [] }) (y, record { place = 0 + length (spell y); rest = [] }) e)
+    let e : Ok (x, record { place = 0 + length (spell x); rest = [] }) ≡ Ok (
+      y,
+      record {
+        place =
+            0 + length (spell y);
+        rest = [];
+      },
+    ) = sym one ∙ (moved ∙ two) in
+    ap (λ (v : X × At). v.0) (ok_is E (x, record { place = 0 + length (spell x); rest = [] }) (
+      y,
+      record { place = 0 + length (spell y); rest = [] },
+    ) e)

@@ -1,5 +1,7 @@
 -- Lists of values up to the end as forms.
-use Rattle.std.proofs.Common.{◌≡◌, ◌≢◌, ℕ, zero, suc, ◌+◌, ◌<◌, ◌≤◌, List, [], ◌∷◌, ◌++◌, length, Result, Ok, refl, sym, ap, subst, ◌∙◌, append-nil, arith, inl, inr, ne_eqb, eqb-true}
+use Rattle.std.proofs.Common.{◌≡◌, ◌≢◌, ℕ, zero, suc, ◌+◌, ◌<◌, ◌≤◌, List, [], ◌∷◌, ◌++◌, length}
+use Rattle.std.proofs.Common.{Result, Ok, refl, sym, ap, subst, ◌∙◌, append-nil, arith, inl, inr}
+use Rattle.std.proofs.Common.{ne_eqb, eqb-true}
 use Rattle.std.specs.Prelude.{◌==◌}
 use Rattle.std.specs.List.{flat_map, AllByRecursion}
 use Rattle.std.proofs.lemmas.List.{length-append, nil_from_length}
@@ -9,56 +11,83 @@ use Rattle.byte_forms.specs.Lists.{many_at, up_to_end, each_at}
 use Rattle.byte_forms.specs.Forms.{Stands, IsForm, Anything, Nothing, FitsEach}
 use Rattle.byte_forms.proofs.Steps.{bind_ok, chosen, ok_is, Stands-then, Stands-none}
 
-many_takes : {X E : Type 0} (spell : X → List ℕ) (Fits : X → Type 0) (Follows : List ℕ → Type 0) (read : At → Result (X × At) E)
+many_takes : {X E : Type 0} (spell : X → List ℕ) (Fits : X → Type 0) (Follows : List ℕ
+    → Type 0) (read : At → Result (X × At) E)
     → IsForm spell Fits Follows read
     → (n : ℕ) (a : At) (xs : List X) (b : At) → IsBytes a.rest → many_at read n a ≡ Ok (xs, b)
     → Stands a (flat_map spell xs) b × AllByRecursion Fits xs
 unfolding many_at
 many_takes {X} {E} spell Fits Follows read form zero a xs b h e =
-    let P : List X × At → Type 0 = λ v. Stands a (flat_map spell v.0) v.1 × AllByRecursion Fits v.0 in
+    let P : List X × At → Type 0 = λ v. Stands a (flat_map spell v.0) v.1
+    × AllByRecursion Fits v.0 in
     subst P (ok_is E ([], a) (xs, b) e) (Stands-none a h, tt)
 many_takes {X} {E} spell Fits Follows read form (suc n) a xs b h e =
-    let P : List X × At → Type 0 = λ v. Stands a (flat_map spell v.0) v.1 × AllByRecursion Fits v.0 in
-    let more : Result (List X × At) E = read a >>= λ (x : X × At). many_at read n x.1 >>= λ (ys : List X × At). Ok (x.0 ∷ ys.0, ys.1) in
+    let P : List X × At → Type 0 = λ v. Stands a (flat_map spell v.0) v.1
+    × AllByRecursion Fits v.0 in
+    let more : Result (List X × At) E =
+    read a >>= λ (x : X × At). many_at read n x.1 >>= λ (ys : List X
+    × At). Ok (x.0 ∷ ys.0, ys.1) in
     elim (chosen (length a.rest == 0) (Ok ([], a)) more (Ok (xs, b)) e) [
       | inl c ↦ subst P (ok_is E ([], a) (xs, b) c.1) (Stands-none a h, tt)
       | inr c ↦
-          let s = bind_ok (read a) (λ (x : X × At). many_at read n x.1 >>= λ (ys : List X × At). Ok (x.0 ∷ ys.0, ys.1)) (xs, b) c.1 in
-          let t = bind_ok (many_at read n s.0.1) (λ (ys : List X × At). Ok (s.0.0 ∷ ys.0, ys.1)) (xs, b) s.2 in
+          let s = bind_ok (read a) (λ (x : X × At). many_at read n x.1 >>= λ (ys : List X
+          × At). Ok (x.0 ∷ ys.0, ys.1)) (xs, b) c.1 in
+          let t = bind_ok (many_at read n s.0.1) (λ (ys : List X × At). Ok (s.0.0 ∷ ys.0, ys.1))
+          (xs, b) s.2 in
           let one = form.takes a s.0.0 s.0.1 h s.1 in
-          let others = many_takes spell Fits Follows read form n s.0.1 t.0.0 t.0.1 one.0.bytes t.1 in
-          subst P (ok_is E (s.0.0 ∷ t.0.0, t.0.1) (xs, b) t.2)
-          (Stands-then a (spell s.0.0) s.0.1 (flat_map spell t.0.0) t.0.1 one.0 others.0, (one.1, others.1))
+          let others = many_takes spell Fits Follows read form n s.0.1 t.0.0 t.0.1
+          one.0.bytes t.1 in
+          subst P (ok_is E (s.0.0 ∷ t.0.0, t.0.1) (xs, b) t.2) (
+            Stands-then a (spell s.0.0) s.0.1 (flat_map spell t.0.0) t.0.1 one.0 others.0,
+            (one.1, others.1),
+          )
     ]
 
 -- All of what is left is taken.
-many_drains : {X E : Type 0} (spell : X → List ℕ) (Fits : X → Type 0) (Follows : List ℕ → Type 0) (read : At → Result (X × At) E)
+many_drains : {X E : Type 0} (spell : X → List ℕ) (Fits : X → Type 0) (Follows : List ℕ
+    → Type 0) (read : At → Result (X × At) E)
     → ((x : X) → Fits x → 0 < length (spell x)) → IsForm spell Fits Follows read
-    → (n : ℕ) (a : At) (xs : List X) (b : At) → IsBytes a.rest → length a.rest ≤ n → many_at read n a ≡ Ok (xs, b) → b.rest ≡ []
+    → (n : ℕ) (a : At) (xs : List X) (b : At) → IsBytes a.rest → length a.rest ≤ n
+    → many_at read n a ≡ Ok (xs, b) → b.rest ≡ []
 unfolding many_at
 many_drains {X} {E} spell Fits Follows read some form zero a xs b h le e =
     let same = ok_is E ([], a) (xs, b) e in
     ap (λ (v : List X × At). v.1.rest) (sym same) ∙ nil_from_length a.rest (omega arith)
 many_drains {X} {E} spell Fits Follows read some form (suc n) a xs b h le e =
-    let more : Result (List X × At) E = read a >>= λ (x : X × At). many_at read n x.1 >>= λ (ys : List X × At). Ok (x.0 ∷ ys.0, ys.1) in
+    let more : Result (List X × At) E =
+    read a >>= λ (x : X × At). many_at read n x.1 >>= λ (ys : List X
+    × At). Ok (x.0 ∷ ys.0, ys.1) in
     elim (chosen (length a.rest == 0) (Ok ([], a)) more (Ok (xs, b)) e) [
       | inl c ↦
           let same = ok_is E ([], a) (xs, b) c.1 in
-          ap (λ (v : List X × At). v.1.rest) (sym same) ∙ nil_from_length a.rest (eqb-true (length a.rest) 0 c.0)
+          ap (λ (v : List X × At). v.1.rest) (sym same)
+          ∙ nil_from_length a.rest (eqb-true (length a.rest) 0 c.0)
       | inr c ↦
-          let s = bind_ok (read a) (λ (x : X × At). many_at read n x.1 >>= λ (ys : List X × At). Ok (x.0 ∷ ys.0, ys.1)) (xs, b) c.1 in
-          let t = bind_ok (many_at read n s.0.1) (λ (ys : List X × At). Ok (s.0.0 ∷ ys.0, ys.1)) (xs, b) s.2 in
+          let s = bind_ok (read a) (λ (x : X × At). many_at read n x.1 >>= λ (ys : List X
+          × At). Ok (x.0 ∷ ys.0, ys.1)) (xs, b) c.1 in
+          let t = bind_ok (many_at read n s.0.1) (λ (ys : List X × At). Ok (s.0.0 ∷ ys.0, ys.1))
+          (xs, b) s.2 in
           let one = form.takes a s.0.0 s.0.1 h s.1 in
-          let all : length a.rest ≡ length (spell s.0.0) + length s.0.1.rest = ap length one.0.parts ∙ length-append (spell s.0.0) s.0.1.rest in
+          let all : length a.rest ≡ length (spell s.0.0) + length s.0.1.rest = ap length one.0.parts
+          ∙ length-append (spell s.0.0) s.0.1.rest in
           let less : length s.0.1.rest ≤ n = omega (arith, some s.0.0 one.1) in
-          let others = many_drains spell Fits Follows read some form n s.0.1 t.0.0 t.0.1 one.0.bytes less t.1 in
-          ap (λ (v : List X × At). v.1.rest) (sym (ok_is E (s.0.0 ∷ t.0.0, t.0.1) (xs, b) t.2)) ∙ others
+          let others = many_drains spell Fits Follows read some form n s.0.1 t.0.0 t.0.1 one.0.bytes
+          less t.1 in
+          ap (λ (v : List X × At). v.1.rest) (sym (ok_is E (s.0.0 ∷ t.0.0, t.0.1) (xs, b) t.2))
+          ∙ others
     ]
 
 many_again : {X E : Type 0} (spell : X → List ℕ) (Fits : X → Type 0) (read : At → Result (X × At) E)
     → ((x : X) → Fits x → 0 < length (spell x)) → IsForm spell Fits Anything read
     → (n : ℕ) (xs : List X) (place : ℕ) → AllByRecursion Fits xs → length (flat_map spell xs) ≤ n
-    → many_at read n (record { place = place; rest = flat_map spell xs }) ≡ Ok (xs, record { place = place + length (flat_map spell xs); rest = [] })
+    → many_at read n (record { place = place; rest = flat_map spell xs }) ≡ Ok (
+      xs,
+      record {
+        place =
+            place + length (flat_map spell xs);
+        rest = [];
+      },
+    )
 unfolding many_at
 many_again spell Fits read some form zero [] p f le =
     let same : p ≡ p + 0 = omega arith in
@@ -72,54 +101,78 @@ many_again spell Fits read some form (suc n) (x ∷ xs) p f le =
     let count = length-append (spell x) (flat_map spell xs) in
     let long : length (spell x ++ flat_map spell xs) ≢ 0 = omega (arith, some x f.0) in
     let one = form.again x p (flat_map spell xs) f.0 tt in
-    let others = many_again spell Fits read some form n xs (p + length (spell x)) f.1 (omega (arith, some x f.0)) in
-    let far : p + length (spell x) + length (flat_map spell xs) ≡ p + length (spell x ++ flat_map spell xs) = omega arith in
+    let others = many_again spell Fits read some form n xs (p + length (spell x)) f.1 (omega (
+      arith,
+      some x f.0,
+    )) in
+    let far : p + length (spell x) + length (flat_map spell xs)
+    ≡ p + length (spell x ++ flat_map spell xs) = omega arith in
     rw (ne_eqb (length (spell x ++ flat_map spell xs)) 0 long, one, others, far) refl
 
 -- Values up to the end, each spelled by at least one byte and with an end of its own.
-pub many_form : {X E : Type 0} (spell : X → List ℕ) (Fits : X → Type 0) (read : At → Result (X × At) E)
+pub many_form : {X E : Type 0} (spell : X → List ℕ) (Fits : X → Type 0) (read : At
+    → Result (X × At) E)
     → ((x : X) → Fits x → 0 < length (spell x)) → IsForm spell Fits Anything read
     → IsForm (flat_map spell) (AllByRecursion Fits) Nothing (up_to_end read)
 many_form spell Fits read some form = record {
   takes = λ a xs b h e. many_takes spell Fits Anything read form (length a.rest) a xs b h e;
   again = λ xs p rest f q.
-      let same : flat_map spell xs ++ rest ≡ flat_map spell xs = ap (λ (t : List ℕ). flat_map spell xs ++ t) q ∙ append-nil (flat_map spell xs) in
-      rw (q, append-nil) (many_again spell Fits read some form (length (flat_map spell xs)) xs p f (omega arith));
+      let same : flat_map spell xs ++ rest ≡ flat_map spell xs =
+      ap (λ (t : List ℕ). flat_map spell xs ++ t) q ∙ append-nil (flat_map spell xs) in
+      rw (q, append-nil) (many_again spell Fits read some form (length (flat_map spell xs)) xs p f
+      (omega arith));
 }
 
 -- Such a list takes all that is left.
-pub up_to_end_drains : {X E : Type 0} (spell : X → List ℕ) (Fits : X → Type 0) (Follows : List ℕ → Type 0) (read : At → Result (X × At) E)
+pub up_to_end_drains : {X E : Type 0} (spell : X → List ℕ) (Fits : X → Type 0) (Follows : List ℕ
+    → Type 0) (read : At → Result (X × At) E)
     → ((x : X) → Fits x → 0 < length (spell x)) → IsForm spell Fits Follows read
     → (a : At) (xs : List X) (b : At) → IsBytes a.rest → up_to_end read a ≡ Ok (xs, b) → b.rest ≡ []
 up_to_end_drains spell Fits Follows read some form a xs b h e =
     many_drains spell Fits Follows read some form (length a.rest) a xs b h (omega arith) e
 
-each_takes : {X K E : Type 0} (key : X → K) (spell : X → List ℕ) (Fits : List K → X → Type 0) (Follows : List ℕ → Type 0) (read : List K → At → Result (X × At) E)
+each_takes : {X K E : Type 0} (key : X → K) (spell : X → List ℕ) (Fits : List K → X
+    → Type 0) (Follows : List ℕ → Type 0) (read : List K → At → Result (X × At) E)
     → ((seen : List K) → IsForm spell (Fits seen) Follows (read seen))
-    → (n : ℕ) (seen : List K) (a : At) (xs : List X) (b : At) → IsBytes a.rest → each_at key read n seen a ≡ Ok (xs, b)
+    → (n : ℕ) (seen : List K) (a : At) (xs : List X) (b : At) → IsBytes a.rest
+    → each_at key read n seen a ≡ Ok (xs, b)
     → Stands a (flat_map spell xs) b × FitsEach key Fits seen xs
 unfolding each_at
 each_takes {X} {K} {E} key spell Fits Follows read form zero seen a xs b h e =
-    let P : List X × At → Type 0 = λ v. Stands a (flat_map spell v.0) v.1 × FitsEach key Fits seen v.0 in
+    let P : List X × At → Type 0 = λ v. Stands a (flat_map spell v.0) v.1
+    × FitsEach key Fits seen v.0 in
     subst P (ok_is E ([], a) (xs, b) e) (Stands-none a h, tt)
 each_takes {X} {K} {E} key spell Fits Follows read form (suc n) seen a xs b h e =
-    let P : List X × At → Type 0 = λ v. Stands a (flat_map spell v.0) v.1 × FitsEach key Fits seen v.0 in
-    let more : Result (List X × At) E = read seen a >>= λ (x : X × At). each_at key read n (seen ++ key x.0 ∷ []) x.1 >>= λ (ys : List X × At). Ok (x.0 ∷ ys.0, ys.1) in
+    let P : List X × At → Type 0 = λ v. Stands a (flat_map spell v.0) v.1
+    × FitsEach key Fits seen v.0 in
+    let more : Result (List X × At) E =
+    read seen a >>= λ (x : X × At). each_at key read n (seen
+    ++ key x.0 ∷ []) x.1 >>= λ (ys : List X × At). Ok (x.0 ∷ ys.0, ys.1) in
     elim (chosen (length a.rest == 0) (Ok ([], a)) more (Ok (xs, b)) e) [
       | inl c ↦ subst P (ok_is E ([], a) (xs, b) c.1) (Stands-none a h, tt)
       | inr c ↦
-          let s = bind_ok (read seen a) (λ (x : X × At). each_at key read n (seen ++ key x.0 ∷ []) x.1 >>= λ (ys : List X × At). Ok (x.0 ∷ ys.0, ys.1)) (xs, b) c.1 in
-          let t = bind_ok (each_at key read n (seen ++ key s.0.0 ∷ []) s.0.1) (λ (ys : List X × At). Ok (s.0.0 ∷ ys.0, ys.1)) (xs, b) s.2 in
+          let s = bind_ok (read seen a) (λ (x : X
+          × At). each_at key read n (seen ++ key x.0 ∷ []) x.1 >>= λ (ys : List X
+          × At). Ok (x.0 ∷ ys.0, ys.1)) (xs, b) c.1 in
+          let t = bind_ok (each_at key read n (seen ++ key s.0.0 ∷ []) s.0.1) (λ (ys : List X
+          × At). Ok (s.0.0 ∷ ys.0, ys.1)) (xs, b) s.2 in
           let one = (form seen).takes a s.0.0 s.0.1 h s.1 in
-          let others = each_takes key spell Fits Follows read form n (seen ++ key s.0.0 ∷ []) s.0.1 t.0.0 t.0.1 one.0.bytes t.1 in
-          subst P (ok_is E (s.0.0 ∷ t.0.0, t.0.1) (xs, b) t.2)
-          (Stands-then a (spell s.0.0) s.0.1 (flat_map spell t.0.0) t.0.1 one.0 others.0, (one.1, others.1))
+          let others = each_takes key spell Fits Follows read form n (seen
+          ++ key s.0.0 ∷ []) s.0.1 t.0.0 t.0.1 one.0.bytes t.1 in
+          subst P (ok_is E (s.0.0 ∷ t.0.0, t.0.1) (xs, b) t.2) (
+            Stands-then a (spell s.0.0) s.0.1 (flat_map spell t.0.0) t.0.1 one.0 others.0,
+            (one.1, others.1),
+          )
     ]
 
-each_again : {X K E : Type 0} (key : X → K) (spell : X → List ℕ) (Fits : List K → X → Type 0) (read : List K → At → Result (X × At) E)
-    → ((seen : List K) (x : X) → Fits seen x → 0 < length (spell x)) → ((seen : List K) → IsForm spell (Fits seen) Anything (read seen))
-    → (n : ℕ) (seen : List K) (xs : List X) (place : ℕ) → FitsEach key Fits seen xs → length (flat_map spell xs) ≤ n
-    → each_at key read n seen (record { place = place; rest = flat_map spell xs }) ≡ Ok (xs, record { place = place + length (flat_map spell xs); rest = [] })
+each_again : {X K E : Type 0} (key : X → K) (spell : X → List ℕ) (Fits : List K → X
+    → Type 0) (read : List K → At → Result (X × At) E)
+    → ((seen : List K) (x : X) → Fits seen x → 0 < length (spell x))
+    → ((seen : List K) → IsForm spell (Fits seen) Anything (read seen))
+    → (n : ℕ) (seen : List K) (xs : List X) (place : ℕ) → FitsEach key Fits seen xs
+    → length (flat_map spell xs) ≤ n
+    → each_at key read n seen (record { place = place; rest = flat_map spell xs })
+    ≡ Ok (xs, record { place = place + length (flat_map spell xs); rest = [] })
 unfolding each_at
 each_again key spell Fits read some form zero seen [] p f le =
     let same : p ≡ p + 0 = omega arith in
@@ -133,16 +186,23 @@ each_again key spell Fits read some form (suc n) seen (x ∷ xs) p f le =
     let count = length-append (spell x) (flat_map spell xs) in
     let long : length (spell x ++ flat_map spell xs) ≢ 0 = omega (arith, some seen x f.0) in
     let one = (form seen).again x p (flat_map spell xs) f.0 tt in
-    let others = each_again key spell Fits read some form n (seen ++ key x ∷ []) xs (p + length (spell x)) f.1 (omega (arith, some seen x f.0)) in
-    let far : p + length (spell x) + length (flat_map spell xs) ≡ p + length (spell x ++ flat_map spell xs) = omega arith in
+    let others = each_again key spell Fits read some form n (seen ++ key x ∷ []) xs
+    (p + length (spell x)) f.1 (omega (arith, some seen x f.0)) in
+    let far : p + length (spell x) + length (flat_map spell xs)
+    ≡ p + length (spell x ++ flat_map spell xs) = omega arith in
     rw (ne_eqb (length (spell x ++ flat_map spell xs)) 0 long, one, others, far) refl
 
 -- Values up to the end, each read with the keys of those before it in view.
-pub each_form : {X K E : Type 0} (key : X → K) (spell : X → List ℕ) (Fits : List K → X → Type 0) (read : List K → At → Result (X × At) E) (seen : List K)
-    → ((seen : List K) (x : X) → Fits seen x → 0 < length (spell x)) → ((seen : List K) → IsForm spell (Fits seen) Anything (read seen))
-    → IsForm (flat_map spell) (FitsEach key Fits seen) Nothing (λ a. each_at key read (length a.rest) seen a)
+pub each_form : {X K E : Type 0} (key : X → K) (spell : X → List ℕ) (Fits : List K → X
+    → Type 0) (read : List K → At → Result (X × At) E) (seen : List K)
+    → ((seen : List K) (x : X) → Fits seen x → 0 < length (spell x))
+    → ((seen : List K) → IsForm spell (Fits seen) Anything (read seen))
+    → IsForm (flat_map spell) (FitsEach key Fits seen) Nothing
+    (λ a. each_at key read (length a.rest) seen a)
 each_form key spell Fits read seen some form = record {
-  takes = λ a xs b h e. each_takes key spell Fits Anything read form (length a.rest) seen a xs b h e;
+  takes = λ a xs b h e. each_takes key spell Fits Anything read form (length a.rest) seen
+      a xs b h e;
   again = λ xs p rest f q.
-      rw (q, append-nil) (each_again key spell Fits read some form (length (flat_map spell xs)) seen xs p f (omega arith));
+      rw (q, append-nil) (each_again key spell Fits read some form (length (flat_map spell xs)) seen
+      xs p f (omega arith));
 }

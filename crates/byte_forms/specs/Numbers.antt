@@ -1,5 +1,6 @@
 -- Numbers as digits in a base, the highest digit first: bytes are the digits in base 256.
-use Rattle.std.specs.Prelude.{ℕ, zero, suc, ◌+◌, ◌*◌, ◌/◌, ◌%◌, ◌^◌, ◌<◌, List, [], ◌∷◌, length, slice_index}
+use Rattle.std.specs.Prelude.{ℕ, zero, suc, ◌+◌, ◌*◌, ◌/◌, ◌%◌, ◌^◌, ◌<◌, List, [], ◌∷◌, length}
+use Rattle.std.specs.Prelude.{slice_index}
 
 -- The number that digits stand for.
 abbrev pub value : ℕ → List ℕ → ℕ

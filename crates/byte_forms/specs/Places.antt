@@ -1,5 +1,6 @@
 -- Places in an input: how far a reader has come, and what is left.
-use Rattle.std.specs.Prelude.{ℕ, ◌+◌, ◌<◌, Bool, false, ◌==◌, [], ◌∷◌, length, drop, slice_index, not}
+use Rattle.std.specs.Prelude.{ℕ, ◌+◌, ◌<◌, Bool, false, ◌==◌, [], ◌∷◌, length, drop, slice_index}
+use Rattle.std.specs.Prelude.{not}
 use Rattle.byte_forms.specs.Types.{Text}
 
 -- An offset in an input, and the bytes from there on.

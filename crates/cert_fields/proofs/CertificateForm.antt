@@ -1,31 +1,42 @@
 -- A whole certificate: what is read is spelled so, and what is spelled so is read again.
-use Rattle.std.proofs.Common.{◌≡◌, ℕ, ◌^◌, ◌<◌, true, false, [], ◌∷◌, ◌++◌, length, Result, Ok, Err, IfOk, refl, sym, ap, subst, ◌∙◌, arith, inl, inr, lit<, eqb-true, lt-ltb, ltb-true}
+use Rattle.std.proofs.Common.{◌≡◌, ℕ, ◌^◌, ◌<◌, true, false, [], ◌∷◌, ◌++◌, length, Result, Ok, Err}
+use Rattle.std.proofs.Common.{IfOk, refl, sym, ap, subst, ◌∙◌, arith, inl, inr, lit<, eqb-true}
+use Rattle.std.proofs.Common.{lt-ltb, ltb-true}
 use Rattle.std.specs.Prelude.{◌==◌, nat_lt}
 use Rattle.std.proofs.lemmas.List.{length-append}
 use Rattle.std.proofs.lemmas.Slice.Eq.{bytes_eq-Decides}
 use Rattle.byte_forms.specs.Types.{Text}
 use Rattle.byte_forms.specs.Places.{IsBytes}
-use Rattle.byte_forms.specs.Readings.{both_at, mapped_at, tested_at, headed_at, refused_at, Gives, Reading}
-use Rattle.byte_forms.specs.Forms.{IsForm, Anything, Nothing, OtherThan, IsSpelling, itself, both, FitsBoth}
-use Rattle.byte_forms.proofs.Forms.{said_form, spelled_form, ended_form, both_form, mapped_form, tested_form, headed_form, refused_form, one_form}
+use Rattle.byte_forms.specs.Readings.{both_at, mapped_at, tested_at, headed_at, refused_at, Gives}
+use Rattle.byte_forms.specs.Readings.{Reading}
+use Rattle.byte_forms.specs.Forms.{IsForm, Anything, Nothing, OtherThan, IsSpelling, itself, both}
+use Rattle.byte_forms.specs.Forms.{FitsBoth}
+use Rattle.byte_forms.proofs.Forms.{said_form, spelled_form, ended_form, both_form, mapped_form}
+use Rattle.byte_forms.proofs.Forms.{tested_form, headed_form, refused_form, one_form}
 use Rattle.der_core.specs.Elements.{element}
 use Rattle.der_core.specs.Integers.{integer}
 use Rattle.der_core.specs.Fields.{inside_at, element_with_at, unsigned_at}
 use Rattle.der_core.specs.declared.fault.CertError.{CertError}
-use Rattle.der_core.specs.declared.fault.CertError.TheVariants.{BadVersion, BadSerial, AlgorithmsDiffer, UniqueId}
+use Rattle.der_core.specs.declared.fault.CertError.TheVariants.{BadVersion, BadSerial}
+use Rattle.der_core.specs.declared.fault.CertError.TheVariants.{AlgorithmsDiffer, UniqueId}
 use Rattle.der_core.proofs.Elements.{element-longer, begins_with-element}
-use Rattle.der_core.proofs.Fields.{tag_of, all_takes, all_again, inside_form, element_with_form, unsigned_form}
+use Rattle.der_core.proofs.Fields.{tag_of, all_takes, all_again, inside_form, element_with_form}
+use Rattle.der_core.proofs.Fields.{unsigned_form}
 use Rattle.cert_time.specs.Calendar.{Period}
 use Rattle.cert_fields.specs.Keys.{algorithm_at, spki_at, signature_at}
 use Rattle.cert_fields.specs.Names.{name_at}
 use Rattle.cert_fields.specs.Times.{validity_at}
 use Rattle.cert_fields.specs.Extensions.{extensions_at}
-use Rattle.cert_fields.specs.Certificate.{Parts, Body, nothing, version_at, serial_at, is_unique_id, behind_serial_at, tbs_at, same_algorithm, signed_at, to_parts, certificate_at, parts_of}
+use Rattle.cert_fields.specs.Certificate.{Parts, Body, nothing, version_at, serial_at, is_unique_id}
+use Rattle.cert_fields.specs.Certificate.{behind_serial_at, tbs_at, same_algorithm, signed_at}
+use Rattle.cert_fields.specs.Certificate.{to_parts, certificate_at, parts_of}
 use Rattle.cert_fields.specs.Spelling.{version, tbs_fields, certificate}
-use Rattle.cert_fields.specs.Grammar.{IsAlgorithm, IsPublicKey, IsName, IsValidity, IsSignatureValue, IsCertificate}
+use Rattle.cert_fields.specs.Grammar.{IsAlgorithm, IsPublicKey, IsName, IsValidity}
+use Rattle.cert_fields.specs.Grammar.{IsSignatureValue, IsCertificate}
 use Rattle.cert_fields.specs.Views.{parts}
 use Rattle.cert_fields.specs.declared.cert.Cert.{Cert}
-use Rattle.cert_fields.proofs.FieldForms.{algorithm_form, spki_form, name_form, validity_form, signature_form}
+use Rattle.cert_fields.proofs.FieldForms.{algorithm_form, spki_form, name_form, validity_form}
+use Rattle.cert_fields.proofs.FieldForms.{signature_form}
 use Rattle.cert_fields.proofs.ExtensionForms.{IsExtensions, extensions_form}
 
 -- ---- version and serial number
@@ -58,26 +69,32 @@ version_form =
     let spell : ℕ → Text = λ n. element 0xA0 (number n) in
     let two : Unit {0} → ℕ = λ x. 2 in
     spelled_form (λ x. spell (two x)) version_text NoValue Anything version_at (λ x f. version_is)
-    (said_form (λ x. spell (two x)) (λ x. Fits (two x)) NoValue Anything Anything version_at (λ x f. tt) (λ x f. ((lit< tt, refl), version-short)) (λ rest q. q)
-    (mapped_form spell Fits Anything (headed_at 0xA0 BadVersion (inside_at 0xA0 read)) nothing two (λ n f. sym (eqb-true n 2 f.0.1)) (λ y f. refl)
-    (headed_form spell Fits Anything (inside_at 0xA0 read) 160 BadVersion (λ n rest f. begins_with-element 0xA0 (number n) rest)
+    (said_form (λ x. spell (two x)) (λ x. Fits (two x)) NoValue Anything Anything version_at
+    (λ x f. tt) (λ x f. ((lit< tt, refl), version-short)) (λ rest q. q)
+    (mapped_form spell Fits Anything (headed_at 0xA0 BadVersion (inside_at 0xA0 read)) nothing two
+    (λ n f. sym (eqb-true n 2 f.0.1)) (λ y f. refl)
+    (headed_form spell Fits Anything (inside_at 0xA0 read) 160 BadVersion
+    (λ n rest f. begins_with-element 0xA0 (number n) rest)
     (inside_form 0xA0 number IsVersion read (tag_of 0xA0 (lit< tt) refl)
     (ended_form number IsVersion Anything read tt
-    (tested_form number (λ n. n < 2 ^ 64) Anything (unsigned_at BadVersion) (λ n. n == 2) BadVersion (unsigned_form BadVersion)))))))
+    (tested_form number (λ n. n < 2 ^ 64) Anything (unsigned_at BadVersion) (λ n. n == 2) BadVersion
+    (unsigned_form BadVersion)))))))
 
 abbrev pub IsSerial : ℕ → Type 0
 IsSerial n = (n < 2 ^ 64) × (nat_lt 0 n ≡ true)
 
 serial_form : IsForm number IsSerial Anything serial_at
 unfolding serial_at
-serial_form = tested_form number (λ n. n < 2 ^ 64) Anything (unsigned_at BadSerial) (λ n. nat_lt 0 n) BadSerial (unsigned_form BadSerial)
+serial_form = tested_form number (λ n. n < 2 ^ 64) Anything (unsigned_at BadSerial)
+    (λ n. nat_lt 0 n) BadSerial (unsigned_form BadSerial)
 
 -- ---- the fields behind the serial number
 
 abbrev moments_text : Text × Period → Text
 moments_text v = v.0
 
-no_unique_id : (bytes rest : Text) → IsExtensions bytes → rest ≡ [] → is_unique_id (bytes ++ rest) ≡ false
+no_unique_id : (bytes rest : Text) → IsExtensions bytes → rest ≡ []
+    → is_unique_id (bytes ++ rest) ≡ false
 unfolding element
 no_unique_id bytes rest (inl none) end =
     let P : Text → Type 0 = λ t. is_unique_id t ≡ false in
@@ -89,29 +106,38 @@ no_unique_id bytes rest (inr field) end =
 last_field : IsForm itself IsExtensions Nothing (refused_at is_unique_id UniqueId extensions_at)
 last_field =
     refused_form itself IsExtensions Nothing extensions_at is_unique_id UniqueId no_unique_id
-    (ended_form itself IsExtensions (λ rest. Anything rest × OtherThan 0xA3 rest) extensions_at (tt, tt) extensions_form)
+    (ended_form itself IsExtensions (λ rest. Anything rest × OtherThan 0xA3 rest) extensions_at (
+      tt,
+      tt,
+    ) extensions_form)
 
 abbrev pub body_text : Body → Text
 body_text = both itself (both itself (both moments_text (both itself (both itself itself))))
 
 abbrev pub IsBody : Body → Type 0
-IsBody = FitsBoth IsAlgorithm (FitsBoth IsName (FitsBoth IsValidity (FitsBoth IsName (FitsBoth IsPublicKey IsExtensions))))
+IsBody = FitsBoth IsAlgorithm (FitsBoth IsName
+    (FitsBoth IsValidity (FitsBoth IsName (FitsBoth IsPublicKey IsExtensions))))
 
 body_form : IsForm body_text IsBody Nothing behind_serial_at
 unfolding behind_serial_at
 body_form =
     let last : Reading Text CertError = refused_at is_unique_id UniqueId extensions_at in
     both_form itself IsAlgorithm Anything algorithm_at
-    (both itself (both moments_text (both itself (both itself itself)))) (FitsBoth IsName (FitsBoth IsValidity (FitsBoth IsName (FitsBoth IsPublicKey IsExtensions)))) Nothing
+    (both itself (both moments_text (both itself (both itself itself))))
+    (FitsBoth IsName (FitsBoth IsValidity
+    (FitsBoth IsName (FitsBoth IsPublicKey IsExtensions)))) Nothing
     (both_at name_at (both_at validity_at (both_at name_at (both_at spki_at last)))) algorithm_form
     (both_form itself IsName Anything name_at
-    (both moments_text (both itself (both itself itself))) (FitsBoth IsValidity (FitsBoth IsName (FitsBoth IsPublicKey IsExtensions))) Nothing
+    (both moments_text (both itself (both itself itself)))
+    (FitsBoth IsValidity (FitsBoth IsName (FitsBoth IsPublicKey IsExtensions))) Nothing
     (both_at validity_at (both_at name_at (both_at spki_at last))) name_form
     (both_form moments_text IsValidity Anything validity_at
     (both itself (both itself itself)) (FitsBoth IsName (FitsBoth IsPublicKey IsExtensions)) Nothing
     (both_at name_at (both_at spki_at last)) validity_form
-    (both_form itself IsName Anything name_at (both itself itself) (FitsBoth IsPublicKey IsExtensions) Nothing (both_at spki_at last) name_form
-    (both_form itself IsPublicKey Anything spki_at itself IsExtensions Nothing last spki_form last_field (λ y rest f q. tt))
+    (both_form itself IsName Anything name_at (both itself itself)
+    (FitsBoth IsPublicKey IsExtensions) Nothing (both_at spki_at last) name_form
+    (both_form itself IsPublicKey Anything spki_at itself IsExtensions Nothing last spki_form
+    last_field (λ y rest f q. tt))
     (λ y rest f q. tt))
     (λ y rest f q. tt))
     (λ y rest f q. tt))
@@ -137,9 +163,12 @@ IsTbs x = IsSigned x × (length (signed_text x) < 2 ^ 24)
 tbs_form : IsForm tbs_text IsTbs Anything tbs_at
 unfolding tbs_at
 tbs_form =
-    inside_form 0x30 signed_text IsSigned (both_at version_at (both_at serial_at behind_serial_at)) (tag_of 0x30 (lit< tt) refl)
-    (both_form version_text NoValue Anything version_at (both number body_text) (FitsBoth IsSerial IsBody) Nothing (both_at serial_at behind_serial_at) version_form
-    (both_form number IsSerial Anything serial_at body_text IsBody Nothing behind_serial_at serial_form body_form (λ y rest f q. tt))
+    inside_form 0x30 signed_text IsSigned (both_at version_at (both_at serial_at behind_serial_at))
+    (tag_of 0x30 (lit< tt) refl)
+    (both_form version_text NoValue Anything version_at (both number body_text)
+    (FitsBoth IsSerial IsBody) Nothing (both_at serial_at behind_serial_at) version_form
+    (both_form number IsSerial Anything serial_at body_text IsBody Nothing behind_serial_at
+    serial_form body_form (λ y rest f q. tt))
     (λ y rest f q. tt))
 
 abbrev IsSequence : Text → Type 0
@@ -151,8 +180,10 @@ IsPair x = FitsBoth IsTbs IsSequence x × (same_algorithm x ≡ true)
 signed_form : IsForm (both tbs_text itself) IsPair Anything signed_at
 unfolding signed_at
 signed_form =
-    tested_form (both tbs_text itself) (FitsBoth IsTbs IsSequence) Anything (both_at tbs_at (element_with_at 0x30)) same_algorithm AlgorithmsDiffer
-    (both_form tbs_text IsTbs Anything tbs_at itself IsSequence Anything (element_with_at 0x30) tbs_form (element_with_form 0x30 (tag_of 0x30 (lit< tt) refl)) (λ y rest f q. tt))
+    tested_form (both tbs_text itself) (FitsBoth IsTbs IsSequence) Anything
+    (both_at tbs_at (element_with_at 0x30)) same_algorithm AlgorithmsDiffer
+    (both_form tbs_text IsTbs Anything tbs_at itself IsSequence Anything (element_with_at 0x30)
+    tbs_form (element_with_form 0x30 (tag_of 0x30 (lit< tt) refl)) (λ y rest f q. tt))
 
 abbrev signature_text : Text → Text
 signature_text proof = element 0x03 (0 ∷ proof)
@@ -167,8 +198,25 @@ abbrev IsWhole : Whole → Type 0
 IsWhole = FitsBoth IsPair IsSignatureValue
 
 abbrev from_parts : Parts → Whole
-from_parts p =
-    (((tt, (p.serial, (p.algorithm, (p.issuer, ((p.validity_der, p.validity), (p.subject, (p.spki, p.extensions))))))), p.algorithm), p.proof)
+from_parts p = (
+  (
+    (
+      tt,
+      (
+        p.serial,
+        (
+          p.algorithm,
+          (
+            p.issuer,
+            ((p.validity_der, p.validity), (p.subject, (p.spki, p.extensions))),
+          ),
+        ),
+      ),
+    ),
+    p.algorithm,
+  ),
+  p.proof,
+)
 
 -- Both algorithms are the same, so the parts say it once.
 same_ways : (x : Whole) → IsWhole x → from_parts (to_parts x) ≡ x
@@ -180,7 +228,8 @@ same_ways x f =
 algorithm_sequence : (bytes : Text) → IsAlgorithm bytes → IsSequence bytes
 algorithm_sequence bytes f = (both (element 0x06) itself f.0, f.1.1, f.2)
 
-parts_to : (p : Parts) → IsWhole (from_parts p) × (length (whole_text (from_parts p)) < 2 ^ 24) → IsCertificate p
+parts_to : (p : Parts) → IsWhole (from_parts p) × (length (whole_text (from_parts p)) < 2 ^ 24)
+    → IsCertificate p
 parts_to p f =
     let tbs : IsTbs (from_parts p).0.0 = f.0.0.0.0 in
     let serial : IsSerial p.serial = tbs.0.1.0 in
@@ -197,15 +246,29 @@ parts_to p f =
       short = f.1;
     }
 
-parts_from : (p : Parts) → IsCertificate p → IsWhole (from_parts p) × (length (whole_text (from_parts p)) < 2 ^ 24)
+parts_from : (p : Parts) → IsCertificate p → IsWhole (from_parts p)
+    × (length (whole_text (from_parts p)) < 2 ^ 24)
 parts_from p f =
-    let all = length-append (element 0x30 (tbs_fields p) ++ p.algorithm) (element 0x03 (0 ∷ p.proof)) in
+    let all = length-append (element 0x30 (tbs_fields p) ++ p.algorithm)
+    (element 0x03 (0 ∷ p.proof)) in
     let front = length-append (element 0x30 (tbs_fields p)) p.algorithm in
-    let signed : length (tbs_fields p) < 2 ^ 24 = omega (arith, f.short, all, front, element-longer 0x30 (tbs_fields p)) in
-    let proof : length (0 ∷ p.proof) < 2 ^ 24 = omega (arith, f.short, all, element-longer 0x03 (0 ∷ p.proof)) in
-    let body : IsBody (from_parts p).0.0.1.1 = (f.algorithm, (f.issuer, (f.validity, (f.subject, (f.spki, f.extensions))))) in
-    let tbs : IsTbs (from_parts p).0.0 = ((tt, ((f.serial, lt-ltb 0 p.serial f.positive), body)), signed) in
-    ((((tbs, algorithm_sequence p.algorithm f.algorithm), (bytes_eq-Decides p.algorithm p.algorithm).1 refl), proof), f.short)
+    let signed : length (tbs_fields p) < 2 ^ 24 =
+    omega (arith, f.short, all, front, element-longer 0x30 (tbs_fields p)) in
+    let proof : length (0 ∷ p.proof) < 2 ^ 24 =
+    omega (arith, f.short, all, element-longer 0x03 (0 ∷ p.proof)) in
+    let body : IsBody (from_parts p).0.0.1.1 =
+    (f.algorithm, (f.issuer, (f.validity, (f.subject, (f.spki, f.extensions))))) in
+    let tbs : IsTbs (from_parts p).0.0 =
+    ((tt, ((f.serial, lt-ltb 0 p.serial f.positive), body)), signed) in (
+      (
+        (
+          (tbs, algorithm_sequence p.algorithm f.algorithm),
+          (bytes_eq-Decides p.algorithm p.algorithm).1 refl,
+        ),
+        proof,
+      ),
+      f.short,
+    )
 
 pub certificate_form : IsForm certificate IsCertificate Anything certificate_at
 unfolding certificate_at certificate
@@ -213,27 +276,34 @@ certificate_form =
     let read : Reading Whole CertError = both_at signed_at signature_at in
     let Known : Whole → Type 0 = λ x. IsWhole x × (length (whole_text x) < 2 ^ 24) in
     let spell : Whole → Text = λ x. element 0x30 (whole_text x) in
-    said_form (λ p. spell (from_parts p)) (λ p. Known (from_parts p)) IsCertificate Anything Anything (mapped_at to_parts (inside_at 0x30 read)) parts_to parts_from (λ rest q. q)
-    (mapped_form spell Known Anything (inside_at 0x30 read) to_parts from_parts (λ x f. same_ways x f.0) (λ p f. refl)
+    said_form (λ p. spell (from_parts p)) (λ p. Known (from_parts p)) IsCertificate Anything
+    Anything (mapped_at to_parts (inside_at 0x30 read)) parts_to parts_from (λ rest q. q)
+    (mapped_form spell Known Anything (inside_at 0x30 read) to_parts from_parts
+    (λ x f. same_ways x f.0) (λ p f. refl)
     (inside_form 0x30 whole_text IsWhole read (tag_of 0x30 (lit< tt) refl)
     (ended_form whole_text IsWhole Anything read tt
-    (both_form (both tbs_text itself) IsPair Anything signed_at signature_text IsSignatureValue Anything signature_at signed_form signature_form (λ y rest f q. tt)))))
+    (both_form (both tbs_text itself) IsPair Anything signed_at signature_text IsSignatureValue
+    Anything signature_at signed_form signature_form (λ y rest f q. tt)))))
 
 -- What parse reads is the certificate of its parts, and only a certificate is read.
-pub parts_only : (bytes : Text) (p : Parts) → IsBytes bytes → parts_of bytes ≡ Ok p → (bytes ≡ certificate p) × IsCertificate p
+pub parts_only : (bytes : Text) (p : Parts) → IsBytes bytes → parts_of bytes ≡ Ok p
+    → (bytes ≡ certificate p) × IsCertificate p
 unfolding parts_of
-parts_only bytes p h e = all_takes certificate IsCertificate certificate_at certificate_form bytes p h e
+parts_only bytes p h e = all_takes certificate IsCertificate certificate_at certificate_form
+    bytes p h e
 
 pub parts_again : (p : Parts) → IsCertificate p → parts_of (certificate p) ≡ Ok p
 unfolding parts_of
 parts_again p f = all_again certificate IsCertificate certificate_at certificate_form p f
 
-pub one_certificate : (p q : Parts) (s t : Text) → IsCertificate p → IsCertificate q → certificate p ++ s ≡ certificate q ++ t → (p ≡ q) × (s ≡ t)
+pub one_certificate : (p q : Parts) (s t : Text) → IsCertificate p → IsCertificate q
+    → certificate p ++ s ≡ certificate q ++ t → (p ≡ q) × (s ≡ t)
 one_certificate p q s t = one_form certificate IsCertificate certificate_at certificate_form p q s t
 
 -- ---- an answer that is exactly what is wanted
 
-pub gives_found : (bytes : Text) (r : Result Cert CertError) → IsBytes bytes → Gives parts r (parts_of bytes)
+pub gives_found : (bytes : Text) (r : Result Cert CertError) → IsBytes bytes
+    → Gives parts r (parts_of bytes)
     → IfOk r (λ c. (bytes ≡ certificate (parts c)) × IsCertificate (parts c))
 gives_found bytes (Ok c) h e = parts_only bytes (parts c) h e
 gives_found bytes (Err fault) h e = tt
@@ -244,7 +314,8 @@ gives_only bytes r e p f same =
     let P : Result Parts CertError → Type 0 = λ wanted. Gives parts r wanted in
     subst P (ap parts_of same ∙ parts_again p f) e
 
-pub written_again : {E : Type 0} (p : Parts) (r : Result Text E) → IfOk r (λ bytes. bytes ≡ certificate p)
+pub written_again : {E : Type 0} (p : Parts) (r : Result Text E)
+    → IfOk r (λ bytes. bytes ≡ certificate p)
     → IsCertificate p → IfOk r (λ bytes. parts_of bytes ≡ Ok p)
 written_again p (Ok bytes) same f = ap parts_of same ∙ parts_again p f
 written_again p (Err e) same f = tt

@@ -1,15 +1,23 @@
--- The fields of a certificate but its extensions: what is read is spelled so, and what is spelled so is read again.
-use Rattle.std.proofs.Common.{◌≡◌, ◌≢◌, ℕ, zero, suc, ◌+◌, ◌-◌, ◌%◌, ◌^◌, ◌<◌, ◌≤◌, true, false, List, [], ◌∷◌, ◌++◌, length, slice_index, Result, Ok, Err, refl, sym, ap, subst, ◌∙◌, append-nil, arith, inl, inr, ◌⊎◌, lit<, lit≤, eqb-true, ne_eqb, lt-ltb}
+-- The fields of a certificate but its extensions: what is read is spelled so, and what is spelled
+-- so is read again.
+use Rattle.std.proofs.Common.{◌≡◌, ◌≢◌, ℕ, zero, suc, ◌+◌, ◌-◌, ◌%◌, ◌^◌, ◌<◌, ◌≤◌, true, false}
+use Rattle.std.proofs.Common.{List, [], ◌∷◌, ◌++◌, length, slice_index, Result, Ok, Err, refl, sym}
+use Rattle.std.proofs.Common.{ap, subst, ◌∙◌, append-nil, arith, inl, inr, ◌⊎◌, lit<, lit≤}
+use Rattle.std.proofs.Common.{eqb-true, ne_eqb, lt-ltb}
 use Rattle.std.specs.Prelude.{if◌then◌else◌, ◌==◌, ℤ}
 use Rattle.std.specs.List.{flat_map, AllByRecursion}
 use Rattle.std.proofs.lemmas.List.{length-append, nil_from_length}
 use Rattle.byte_forms.specs.Types.{Text}
 use Rattle.byte_forms.specs.Places.{At, IsBytes}
-use Rattle.byte_forms.specs.Readings.{◌>>=◌, some_or, discarded, both_at, mapped_at, last_at, Reading}
-use Rattle.byte_forms.specs.Forms.{Stands, IsForm, Anything, Nothing, itself, both, FitsBoth, FitsEach}
+use Rattle.byte_forms.specs.Readings.{◌>>=◌, some_or, discarded, both_at, mapped_at, last_at}
+use Rattle.byte_forms.specs.Readings.{Reading}
+use Rattle.byte_forms.specs.Forms.{Stands, IsForm, Anything, Nothing, itself, both, FitsBoth}
+use Rattle.byte_forms.specs.Forms.{FitsEach}
 use Rattle.byte_forms.specs.Lists.{up_to_end, each_at}
-use Rattle.byte_forms.proofs.Steps.{bind_ok, chosen, guard_ok, pass_ok, ok_is, discarded_ok, some_or_ok}
-use Rattle.byte_forms.proofs.Forms.{said_form, ended_form, both_form, mapped_form, last_form, one_value}
+use Rattle.byte_forms.proofs.Steps.{bind_ok, chosen, guard_ok, pass_ok, ok_is, discarded_ok}
+use Rattle.byte_forms.proofs.Steps.{some_or_ok}
+use Rattle.byte_forms.proofs.Forms.{said_form, ended_form, both_form, mapped_form, last_form}
+use Rattle.byte_forms.proofs.Forms.{one_value}
 use Rattle.byte_forms.proofs.Lists.{many_form, up_to_end_drains}
 use Rattle.der_core.specs.Elements.{element, IsTag, FitsElement}
 use Rattle.der_core.specs.Items.{Item, inside}
@@ -24,14 +32,18 @@ use Rattle.der_core.specs.declared.fault.CertError.{CertError}
 use Rattle.der_core.specs.declared.fault.CertError.TheVariants.{BadTime, BadName}
 use Rattle.der_core.proofs.Elements.{wanted_takes, wanted_again, element-longer}
 use Rattle.der_core.proofs.Rules.{oid_contents, bits_contents}
-use Rattle.der_core.proofs.Fields.{tag_of, der_ok, decoded_form, any_form, whole_form, noted_form, next_some, risen_form, rising_form}
+use Rattle.der_core.proofs.Fields.{tag_of, der_ok, decoded_form, any_form, whole_form, noted_form}
+use Rattle.der_core.proofs.Fields.{next_some, risen_form, rising_form}
 use Rattle.cert_time.specs.Calendar.{IsMoment, Period}
-use Rattle.cert_time.specs.Times.{time_tag, time_contents, time_moment, short_element, validity_element}
+use Rattle.cert_time.specs.Times.{time_tag, time_contents, time_moment, short_element}
+use Rattle.cert_time.specs.Times.{validity_element}
 use Rattle.cert_time.proofs.BothWays.{time_moment-only, time_moment-time, time_shape}
 use Rattle.cert_fields.specs.Keys.{algorithm_at, spki_at, whole_bits_of, signature_at}
 use Rattle.cert_fields.specs.Names.{attribute_at, set_at, name_at}
 use Rattle.cert_fields.specs.Times.{tag_wanted, time_at, from_to, validity_at}
-use Rattle.cert_fields.specs.Grammar.{IsIdentifier, IsElementOrNothing, IsAlgorithm, IsBits, IsPublicKey, IsAttribute, IsSet, IsName, IsValidity, IsSignatureValue}
+use Rattle.cert_fields.specs.Grammar.{IsIdentifier, IsElementOrNothing, IsAlgorithm, IsBits}
+use Rattle.cert_fields.specs.Grammar.{IsPublicKey, IsAttribute, IsSet, IsName, IsValidity}
+use Rattle.cert_fields.specs.Grammar.{IsSignatureValue}
 use Rattle.cert_fields.proofs.Sizes.{time-short}
 
 -- ---- algorithms and keys
@@ -45,19 +57,26 @@ element_some bytes f = omega (arith, ap length f.spelled, element-longer f.tag f
 pub algorithm_form : IsForm itself IsAlgorithm Anything algorithm_at
 unfolding algorithm_at
 algorithm_form =
-    whole_form 0x30 (both (element 0x06) itself) (FitsBoth IsIdentifier IsElementOrNothing) (both_at (decoded_at 0x06 oid_of) (last_at any_at)) (tag_of 0x30 (lit< tt) refl)
-    (both_form (element 0x06) IsIdentifier Anything (decoded_at 0x06 oid_of) itself IsElementOrNothing Nothing (last_at any_at)
-    identifier_form (last_form IsElement Anything any_at element_some tt any_form) (λ y rest f q. tt))
+    whole_form 0x30 (both (element 0x06) itself) (FitsBoth IsIdentifier IsElementOrNothing)
+    (both_at (decoded_at 0x06 oid_of) (last_at any_at)) (tag_of 0x30 (lit< tt) refl)
+    (both_form (element 0x06) IsIdentifier Anything (decoded_at 0x06 oid_of) itself
+    IsElementOrNothing Nothing (last_at any_at)
+    identifier_form (last_form IsElement Anything any_at element_some tt any_form)
+    (λ y rest f q. tt))
 
 bits_form : IsForm (λ b. element 0x03 (bit_string b)) IsBits Anything (decoded_at 0x03 bits_of)
-bits_form = decoded_form 0x03 bit_string IsBitString bits_of (tag_of 0x03 (lit< tt) refl) bits_contents
+bits_form = decoded_form 0x03 bit_string IsBitString bits_of (tag_of 0x03 (lit< tt) refl)
+    bits_contents
 
 pub spki_form : IsForm itself IsPublicKey Anything spki_at
 unfolding spki_at
 spki_form =
-    whole_form 0x30 (both itself (λ b. element 0x03 (bit_string b))) (FitsBoth IsAlgorithm IsBits) (both_at algorithm_at (decoded_at 0x03 bits_of)) (tag_of 0x30 (lit< tt) refl)
-    (ended_form (both itself (λ b. element 0x03 (bit_string b))) (FitsBoth IsAlgorithm IsBits) Anything (both_at algorithm_at (decoded_at 0x03 bits_of)) tt
-    (both_form itself IsAlgorithm Anything algorithm_at (λ b. element 0x03 (bit_string b)) IsBits Anything (decoded_at 0x03 bits_of)
+    whole_form 0x30 (both itself (λ b. element 0x03 (bit_string b))) (FitsBoth IsAlgorithm IsBits)
+    (both_at algorithm_at (decoded_at 0x03 bits_of)) (tag_of 0x30 (lit< tt) refl)
+    (ended_form (both itself (λ b. element 0x03 (bit_string b))) (FitsBoth IsAlgorithm IsBits)
+    Anything (both_at algorithm_at (decoded_at 0x03 bits_of)) tt
+    (both_form itself IsAlgorithm Anything algorithm_at (λ b. element 0x03 (bit_string b)) IsBits
+    Anything (decoded_at 0x03 bits_of)
     algorithm_form bits_form (λ y rest f q. tt)))
 
 -- ---- the signature
@@ -76,30 +95,44 @@ whole_bits : IsContents (λ (proof : Text). 0 ∷ proof) AnyBytes whole_bits_of
 unfolding whole_bits_of
 whole_bits = record {
   takes = λ place contents x h e.
-      let s = bind_ok (bits_of place contents) (λ (b : ℕ × Text). if b.0 == 0 then Ok b.1 else Err (BadBits place)) x e in
+      let s = bind_ok (bits_of place contents) (λ (b : ℕ × Text). if b.0 == 0 then Ok b.1
+      else Err (BadBits place)) x e in
       let g = pass_ok (s.0.0 == 0) (Ok s.0.1) (BadBits place) x s.2 in
       let known = bits_contents.takes place contents s.0 h s.1 in
-      let zero_is : s.0.0 ≡ 0 = eqb-true s.0.0 0 g.0 in
-      (known.0 ∙ ap (λ (n : ℕ). n ∷ s.0.1) zero_is ∙ ap (λ (bytes : Text). 0 ∷ bytes) (ok_is DerError s.0.1 x g.1), tt);
-  again = λ place x f. rw (bits_contents.again place (0, x) (record { few = lit≤ tt; zero = none_unused x })) refl;
+      let zero_is : s.0.0 ≡ 0 = eqb-true s.0.0 0 g.0 in (
+        known.0 ∙ ap (λ (n : ℕ). n ∷ s.0.1) zero_is
+            ∙ ap (λ (bytes : Text). 0 ∷ bytes) (ok_is DerError s.0.1 x g.1),
+        tt,
+      );
+  again = λ place x f. rw (bits_contents.again place (0, x) (record {
+    few = lit≤ tt;
+    zero =
+        none_unused x;
+  })) refl;
 }
 
-pub signature_form : IsForm (λ (proof : Text). element 0x03 (0 ∷ proof)) IsSignatureValue Anything signature_at
+pub signature_form : IsForm (λ (proof : Text). element 0x03 (0 ∷ proof)) IsSignatureValue Anything
+    signature_at
 unfolding signature_at
 signature_form =
     let spell : Text → Text = λ proof. element 0x03 (0 ∷ proof) in
-    said_form spell (λ proof. AnyBytes proof × IsSignatureValue proof) IsSignatureValue Anything Anything (decoded_at 0x03 whole_bits_of)
+    said_form spell (λ proof. AnyBytes proof
+    × IsSignatureValue proof) IsSignatureValue Anything Anything (decoded_at 0x03 whole_bits_of)
     (λ x f. f.1) (λ x f. (tt, f)) (λ rest q. q)
-    (decoded_form 0x03 (λ (proof : Text). 0 ∷ proof) AnyBytes whole_bits_of (tag_of 0x03 (lit< tt) refl) whole_bits)
+    (decoded_form 0x03 (λ (proof : Text). 0 ∷ proof) AnyBytes whole_bits_of
+    (tag_of 0x03 (lit< tt) refl) whole_bits)
 
 -- ---- names
 
 pub attribute_form : IsForm itself IsAttribute Anything attribute_at
 unfolding attribute_at
 attribute_form =
-    whole_form 0x30 (both (element 0x06) itself) (FitsBoth IsIdentifier IsElement) (both_at (decoded_at 0x06 oid_of) any_at) (tag_of 0x30 (lit< tt) refl)
-    (ended_form (both (element 0x06) itself) (FitsBoth IsIdentifier IsElement) Anything (both_at (decoded_at 0x06 oid_of) any_at) tt
-    (both_form (element 0x06) IsIdentifier Anything (decoded_at 0x06 oid_of) itself IsElement Anything any_at identifier_form any_form (λ y rest f q. tt)))
+    whole_form 0x30 (both (element 0x06) itself) (FitsBoth IsIdentifier IsElement)
+    (both_at (decoded_at 0x06 oid_of) any_at) (tag_of 0x30 (lit< tt) refl)
+    (ended_form (both (element 0x06) itself) (FitsBoth IsIdentifier IsElement) Anything
+    (both_at (decoded_at 0x06 oid_of) any_at) tt
+    (both_form (element 0x06) IsIdentifier Anything (decoded_at 0x06 oid_of) itself IsElement
+    Anything any_at identifier_form any_form (λ y rest f q. tt)))
 
 -- An element of some kind is an element.
 attribute_is : (bytes : Text) → IsAttribute bytes → IsElement bytes
@@ -120,80 +153,123 @@ all_elements : (xs : List Text) → AllByRecursion IsAttribute xs → AllByRecur
 all_elements [] f = tt
 all_elements (x ∷ xs) f = (attribute_is x f.0, all_elements xs f.1)
 
-each_elements : (seen xs : List Text) → FitsEach itself IsRisen seen xs → AllByRecursion IsElement xs
+each_elements : (seen xs : List Text) → FitsEach itself IsRisen seen xs
+    → AllByRecursion IsElement xs
 each_elements seen [] f = tt
 each_elements seen (x ∷ xs) f = (f.0.is_element, each_elements (seen ++ x ∷ []) xs f.1)
 
 -- Values read with the keys of those before them in view take all of what is left.
-pub each_drains : {X K E : Type 0} (key : X → K) (spell : X → Text) (Fits : List K → X → Type 0) (read : List K → Reading X E)
-    → ((seen : List K) (x : X) → Fits seen x → 0 < length (spell x)) → ((seen : List K) → IsForm spell (Fits seen) Anything (read seen))
-    → (n : ℕ) (seen : List K) (a : At) (xs : List X) (b : At) → IsBytes a.rest → length a.rest ≤ n → each_at key read n seen a ≡ Ok (xs, b) → b.rest ≡ []
+pub each_drains : {X K E : Type 0} (key : X → K) (spell : X → Text) (Fits : List K → X
+    → Type 0) (read : List K → Reading X E)
+    → ((seen : List K) (x : X) → Fits seen x → 0 < length (spell x))
+    → ((seen : List K) → IsForm spell (Fits seen) Anything (read seen))
+    → (n : ℕ) (seen : List K) (a : At) (xs : List X) (b : At) → IsBytes a.rest → length a.rest ≤ n
+    → each_at key read n seen a ≡ Ok (xs, b) → b.rest ≡ []
 unfolding each_at
 each_drains {X} {K} {E} key spell Fits read some form zero seen a xs b h le e =
     let same = ok_is E ([], a) (xs, b) e in
     ap (λ (v : List X × At). v.1.rest) (sym same) ∙ nil_from_length a.rest (omega arith)
 each_drains {X} {K} {E} key spell Fits read some form (suc n) seen a xs b h le e =
-    let more : Result (List X × At) E = read seen a >>= λ (x : X × At). each_at key read n (seen ++ key x.0 ∷ []) x.1 >>= λ (ys : List X × At). Ok (x.0 ∷ ys.0, ys.1) in
+    let more : Result (List X × At) E =
+    read seen a >>= λ (x : X × At). each_at key read n (seen
+    ++ key x.0 ∷ []) x.1 >>= λ (ys : List X × At). Ok (x.0 ∷ ys.0, ys.1) in
     elim (chosen (length a.rest == 0) (Ok ([], a)) more (Ok (xs, b)) e) [
       | inl c ↦
           let same = ok_is E ([], a) (xs, b) c.1 in
-          ap (λ (v : List X × At). v.1.rest) (sym same) ∙ nil_from_length a.rest (eqb-true (length a.rest) 0 c.0)
+          ap (λ (v : List X × At). v.1.rest) (sym same)
+          ∙ nil_from_length a.rest (eqb-true (length a.rest) 0 c.0)
       | inr c ↦
-          let s = bind_ok (read seen a) (λ (x : X × At). each_at key read n (seen ++ key x.0 ∷ []) x.1 >>= λ (ys : List X × At). Ok (x.0 ∷ ys.0, ys.1)) (xs, b) c.1 in
-          let t = bind_ok (each_at key read n (seen ++ key s.0.0 ∷ []) s.0.1) (λ (ys : List X × At). Ok (s.0.0 ∷ ys.0, ys.1)) (xs, b) s.2 in
+          let s = bind_ok (read seen a) (λ (x : X
+          × At). each_at key read n (seen ++ key x.0 ∷ []) x.1 >>= λ (ys : List X
+          × At). Ok (x.0 ∷ ys.0, ys.1)) (xs, b) c.1 in
+          let t = bind_ok (each_at key read n (seen ++ key s.0.0 ∷ []) s.0.1) (λ (ys : List X
+          × At). Ok (s.0.0 ∷ ys.0, ys.1)) (xs, b) s.2 in
           let one = (form seen).takes a s.0.0 s.0.1 h s.1 in
-          let all : length a.rest ≡ length (spell s.0.0) + length s.0.1.rest = ap length one.0.parts ∙ length-append (spell s.0.0) s.0.1.rest in
+          let all : length a.rest ≡ length (spell s.0.0) + length s.0.1.rest = ap length one.0.parts
+          ∙ length-append (spell s.0.0) s.0.1.rest in
           let less : length s.0.1.rest ≤ n = omega (arith, all, some seen s.0.0 one.1) in
-          let others = each_drains key spell Fits read some form n (seen ++ key s.0.0 ∷ []) s.0.1 t.0.0 t.0.1 one.0.bytes less t.1 in
-          ap (λ (v : List X × At). v.1.rest) (sym (ok_is E (s.0.0 ∷ t.0.0, t.0.1) (xs, b) t.2)) ∙ others
+          let others = each_drains key spell Fits read some form n (seen
+          ++ key s.0.0 ∷ []) s.0.1 t.0.0 t.0.1 one.0.bytes less t.1 in
+          ap (λ (v : List X × At). v.1.rest) (sym (ok_is E (s.0.0 ∷ t.0.0, t.0.1) (xs, b) t.2))
+          ∙ others
     ]
 
-checked_ok : (r : Result At DerError) (done : Unit {0}) → finished r ≡ Ok done → (b : At) × (r ≡ Ok b)
+checked_ok : (r : Result At DerError) (done : Unit {0}) → finished r ≡ Ok done → (b : At)
+    × (r ≡ Ok b)
 checked_ok (Ok b) done e = (b, refl)
 checked_ok (Err d) done e = absurd cc
 
 -- The same bytes are cut into the same elements.
-same_elements : (xs ys : List Text) → AllByRecursion IsElement xs → AllByRecursion IsElement ys → flat_map itself xs ≡ flat_map itself ys → xs ≡ ys
+same_elements : (xs ys : List Text) → AllByRecursion IsElement xs → AllByRecursion IsElement ys
+    → flat_map itself xs ≡ flat_map itself ys → xs ≡ ys
 same_elements xs ys f g same =
-    one_value (flat_map itself) (AllByRecursion IsElement) Nothing (up_to_end any_at) refl (many_form itself IsElement any_at element_some any_form) xs ys f g same
+    one_value (flat_map itself) (AllByRecursion IsElement) Nothing (up_to_end any_at) refl
+    (many_form itself IsElement any_at element_some any_form) xs ys f g same
 
-attributes_form : IsForm (flat_map itself) (AllByRecursion IsAttribute) Nothing (up_to_end attribute_at)
+attributes_form : IsForm (flat_map itself) (AllByRecursion IsAttribute) Nothing
+    (up_to_end attribute_at)
 attributes_form = many_form itself IsAttribute attribute_at attribute_some attribute_form
 
 -- The encodings that were found to rise are the attributes.
-attributes_rise : (e : Item) (xs : List Text) (done : Unit {0}) → IsBytes e.contents → e.contents ≡ flat_map itself xs → AllByRecursion IsAttribute xs → order_of e ≡ Ok done
+attributes_rise : (e : Item) (xs : List Text) (done : Unit {0}) → IsBytes e.contents
+    → e.contents ≡ flat_map itself xs → AllByRecursion IsAttribute xs → order_of e ≡ Ok done
     → FitsEach itself IsRisen [] xs
 attributes_rise e xs done h parts each order =
     let c = checked_ok (discarded (rising_at e.place (inside e))) done order in
     let d = discarded_ok (rising_at e.place (inside e)) c.0 c.1 in
     let rise = (rising_form e.place).takes (inside e) d.0 c.0 h d.1 in
-    let end : c.0.rest ≡ [] = each_drains itself itself IsRisen (λ (seen : List Text). risen_at e.place (last_of seen)) next_some (risen_form e.place) (length e.contents) [] (inside e) d.0 c.0 h (omega arith) d.1 in
-    let all : e.contents ≡ flat_map itself d.0 = rise.0.parts ∙ ap (λ (t : Text). flat_map itself d.0 ++ t) end ∙ append-nil (flat_map itself d.0) in
-    subst (FitsEach itself IsRisen []) (same_elements d.0 xs (each_elements [] d.0 rise.1) (all_elements xs each) (sym all ∙ parts)) rise.1
+    let end : c.0.rest ≡ [] = each_drains itself itself IsRisen
+    (λ (seen : List Text). risen_at e.place (last_of seen)) next_some (risen_form e.place)
+    (length e.contents) [] (inside e) d.0 c.0 h (omega arith) d.1 in
+    let all : e.contents ≡ flat_map itself d.0 = rise.0.parts
+    ∙ ap (λ (t : Text). flat_map itself d.0 ++ t) end ∙ append-nil (flat_map itself d.0) in
+    subst (FitsEach itself IsRisen []) (same_elements d.0 xs (each_elements [] d.0 rise.1)
+    (all_elements xs each) (sym all ∙ parts)) rise.1
 
-set_takes : (a : At) (x : Text) (b : At) → IsBytes a.rest → set_at a ≡ Ok (x, b) → Stands a x b × IsSet x
+set_takes : (a : At) (x : Text) (b : At) → IsBytes a.rest → set_at a ≡ Ok (x, b)
+    → Stands a x b × IsSet x
 unfolding set_at
 set_takes a x b h e =
-    let s = bind_ok (der (wanted_at 0x31 a)) (λ (v : Item × At). if length v.0.contents == 0 then Err BadName else (der (order_of v.0) >>= λ (risen : Unit {0}). discarded (up_to_end attribute_at (inside v.0)) >>= λ (c : At). der (end_at c) >>= λ (done : Unit {0}). Ok (v.0.whole, v.1))) (x, b) e in
+    let s = bind_ok (der (wanted_at 0x31 a)) (λ (v : Item × At). if length v.0.contents == 0
+    then Err BadName else (der (order_of v.0) >>= λ (risen : Unit {0}). discarded
+    (up_to_end attribute_at (inside v.0)) >>= λ (c : At). der
+    (end_at c) >>= λ (done : Unit {0}). Ok (v.0.whole, v.1))) (x, b) e in
     let i : Item = s.0.0 in
-    let g = guard_ok (length i.contents == 0) BadName (der (order_of i) >>= λ (risen : Unit {0}). discarded (up_to_end attribute_at (inside i)) >>= λ (c : At). der (end_at c) >>= λ (done : Unit {0}). Ok (i.whole, s.0.1)) (x, b) s.2 in
-    let r = bind_ok (der (order_of i)) (λ (risen : Unit {0}). discarded (up_to_end attribute_at (inside i)) >>= λ (c : At). der (end_at c) >>= λ (done : Unit {0}). Ok (i.whole, s.0.1)) (x, b) g.1 in
-    let t = bind_ok (discarded (up_to_end attribute_at (inside i))) (λ (c : At). der (end_at c) >>= λ (done : Unit {0}). Ok (i.whole, s.0.1)) (x, b) r.2 in
+    let g = guard_ok (length i.contents == 0) BadName (der (order_of i) >>= λ (risen : Unit {0}).
+    discarded (up_to_end attribute_at (inside i)) >>= λ (c : At). der
+    (end_at c) >>= λ (done : Unit {0}). Ok (i.whole, s.0.1)) (x, b) s.2 in
+    let r = bind_ok (der (order_of i)) (λ (risen : Unit {0}). discarded
+    (up_to_end attribute_at (inside i)) >>= λ (c : At). der (end_at c) >>= λ (done : Unit {0}).
+    Ok (i.whole, s.0.1)) (x, b) g.1 in
+    let t = bind_ok (discarded (up_to_end attribute_at (inside i)))
+    (λ (c : At). der (end_at c) >>= λ (done : Unit {0}). Ok (i.whole, s.0.1)) (x, b) r.2 in
     let u = bind_ok (der (end_at t.0)) (λ (done : Unit {0}). Ok (i.whole, s.0.1)) (x, b) t.2 in
     let step = discarded_ok (up_to_end attribute_at (inside i)) t.0 t.1 in
     let xs : List Text = step.0 in
     let read = wanted_takes 0x31 a i s.0.1 h (der_ok (wanted_at 0x31 a) s.0 s.1) in
     let inner = attributes_form.takes (inside i) xs t.0 read.0.bytes step.1 in
-    let end : t.0.rest ≡ [] = up_to_end_drains itself IsAttribute Anything attribute_at attribute_some attribute_form (inside i) xs t.0 read.0.bytes step.1 in
-    let all : i.contents ≡ flat_map itself xs = inner.0.parts ∙ ap (λ (c : Text). flat_map itself xs ++ c) end ∙ append-nil (flat_map itself xs) in
+    let end : t.0.rest ≡ [] = up_to_end_drains itself IsAttribute Anything attribute_at
+    attribute_some attribute_form (inside i) xs t.0 read.0.bytes step.1 in
+    let all : i.contents ≡ flat_map itself xs = inner.0.parts
+    ∙ ap (λ (c : Text). flat_map itself xs ++ c) end ∙ append-nil (flat_map itself xs) in
     let rise = attributes_rise i xs r.0 read.0.bytes all inner.1 (der_ok (order_of i) r.0 r.1) in
     let some : length i.contents ≢ 0 = λ none. absurd (differ (length i.contents) none g.0) in
-    let text : element i.tag i.contents ≡ element 0x31 (flat_map itself xs) = ap (λ (n : ℕ). element n i.contents) read.1 ∙ ap (element 0x31) all in
+    let text : element i.tag i.contents ≡ element 0x31 (flat_map itself xs) =
+    ap (λ (n : ℕ). element n i.contents) read.1 ∙ ap (element 0x31) all in
     let size : length i.contents ≡ length (flat_map itself xs) = ap length all in
     let P : Text × At → Type 0 = λ v. Stands a v.0 v.1 × IsSet v.0 in
     let Q : Text → Type 0 = λ w. Stands a w s.0.1 in
-    subst P (ok_is CertError (i.whole, s.0.1) (x, b) u.2)
-    (subst Q (sym read.0.whole) read.0.stands, (xs, (record { some = omega (arith, some, size); each = inner.1; rise = rise }, omega (arith, read.0.fits.short, size)), read.0.whole ∙ text))
+    subst P (ok_is CertError (i.whole, s.0.1) (x, b) u.2) (
+      subst Q (sym read.0.whole) read.0.stands,
+      (
+        xs,
+        (
+          record { some = omega (arith, some, size); each = inner.1; rise = rise },
+          omega (arith, read.0.fits.short, size),
+        ),
+        read.0.whole ∙ text,
+      ),
+    )
   where
     differ : (n : ℕ) → n ≡ 0 → (n == 0) ≡ false → ⊥
     differ n same other =
@@ -201,20 +277,48 @@ set_takes a x b h e =
         let no : (0 == 0) ≡ false = subst P same other in
         cc
 
-set_again : (bytes : Text) (p : ℕ) (rest : Text) → IsSet bytes → set_at (record { place = p; rest = bytes ++ rest }) ≡ Ok (bytes, record { place = p + length bytes; rest = rest })
+set_again : (bytes : Text) (p : ℕ) (rest : Text) → IsSet bytes
+    → set_at (record { place = p; rest = bytes ++ rest }) ≡ Ok (
+      bytes,
+      record {
+        place =
+            p + length bytes;
+        rest = rest;
+      },
+    )
 unfolding set_at
 set_again bytes p rest f =
     let xs : List Text = f.0 in
     let cs : Text = flat_map itself xs in
     let inner : ℕ = p + (length (element 0x31 cs) - length cs) in
-    let fits : FitsElement 0x31 cs = record { is_tag = tag_of 0x31 (lit< tt) refl; short = f.1.1 } in
+    let fits : FitsElement 0x31 cs = record {
+      is_tag = tag_of 0x31 (lit< tt) refl;
+      short =
+          f.1.1;
+    } in
     let some : length cs ≢ 0 = omega (arith, f.1.0.some) in
-    let rising : rising_at p (record { place = inner; rest = cs }) ≡ Ok (xs, record { place = inner + length cs; rest = [] }) =
-    ap (λ (c : Text). rising_at p (record { place = inner; rest = c })) (sym (append-nil cs)) ∙ (rising_form p).again xs inner [] f.1.0.rise refl in
-    let attributes : up_to_end attribute_at (record { place = inner; rest = cs }) ≡ Ok (xs, record { place = inner + length cs; rest = [] }) =
-    ap (λ (c : Text). up_to_end attribute_at (record { place = inner; rest = c })) (sym (append-nil cs)) ∙ attributes_form.again xs inner [] f.1.0.each refl in
-    let P : Text → Type 0 = λ t. set_at (record { place = p; rest = t ++ rest }) ≡ Ok (t, record { place = p + length t; rest = rest }) in
-    subst P (sym f.2) (rw (wanted_again 0x31 cs p rest fits, ne_eqb (length cs) 0 some, rising, attributes) refl)
+    let rising : rising_at p (record { place = inner; rest = cs }) ≡ Ok (
+      xs,
+      record {
+        place =
+            inner + length cs;
+        rest = [];
+      },
+    ) =
+    ap (λ (c : Text). rising_at p (record { place = inner; rest = c })) (sym (append-nil cs))
+    ∙ (rising_form p).again xs inner [] f.1.0.rise refl in
+    let attributes : up_to_end attribute_at (record { place = inner; rest = cs })
+    ≡ Ok (xs, record { place = inner + length cs; rest = [] }) =
+    ap (λ (c : Text). up_to_end attribute_at (record { place = inner; rest = c }))
+    (sym (append-nil cs)) ∙ attributes_form.again xs inner [] f.1.0.each refl in
+    let P : Text → Type 0 = λ t. set_at (record { place = p; rest = t ++ rest })
+    ≡ Ok (t, record { place = p + length t; rest = rest }) in
+    subst P (sym f.2) (rw (
+      wanted_again 0x31 cs p rest fits,
+      ne_eqb (length cs) 0 some,
+      rising,
+      attributes,
+    ) refl)
 
 pub set_form : IsForm itself IsSet Anything set_at
 set_form = record { takes = set_takes; again = λ x p rest f q. set_again x p rest f }
@@ -222,17 +326,21 @@ set_form = record { takes = set_takes; again = λ x p rest f q. set_again x p re
 pub name_form : IsForm itself IsName Anything name_at
 unfolding name_at
 name_form =
-    whole_form 0x30 (flat_map itself) (AllByRecursion IsSet) (up_to_end set_at) (tag_of 0x30 (lit< tt) refl) (many_form itself IsSet set_at set_some set_form)
+    whole_form 0x30 (flat_map itself) (AllByRecursion IsSet) (up_to_end set_at)
+    (tag_of 0x30 (lit< tt) refl) (many_form itself IsSet set_at set_some set_form)
 
 -- ---- times
 
 abbrev pub time_text : ℤ → Text
 time_text z = element (time_tag z) (time_contents z)
 
-tag_is : (tag : ℕ) (contents rest : Text) → (tag ≡ 23) ⊎ (tag ≡ 24) → tag_wanted (element tag contents ++ rest) ≡ tag
+tag_is : (tag : ℕ) (contents rest : Text) → (tag ≡ 23) ⊎ (tag ≡ 24)
+    → tag_wanted (element tag contents ++ rest) ≡ tag
 unfolding element
-tag_is tag contents rest (inl same) = let P : ℕ → Type 0 = λ t. tag_wanted (element t contents ++ rest) ≡ t in subst P (sym same) refl
-tag_is tag contents rest (inr same) = let P : ℕ → Type 0 = λ t. tag_wanted (element t contents ++ rest) ≡ t in subst P (sym same) refl
+tag_is tag contents rest (inl same) = let P : ℕ → Type 0 =
+    λ t. tag_wanted (element t contents ++ rest) ≡ t in subst P (sym same) refl
+tag_is tag contents rest (inr same) = let P : ℕ → Type 0 =
+    λ t. tag_wanted (element t contents ++ rest) ≡ t in subst P (sym same) refl
 
 time_tag-is : (z : ℤ) → (time_tag z ≡ 23) ⊎ (time_tag z ≡ 24)
 time_tag-is z = elim (time_shape z) [ inl s ↦ inl s.0 | inr s ↦ inr s.0 ]
@@ -240,27 +348,46 @@ time_tag-is z = elim (time_shape z) [ inl s ↦ inl s.0 | inr s ↦ inr s.0 ]
 time_fits : (z : ℤ) → FitsElement (time_tag z) (time_contents z)
 time_fits z =
     let short = time-short z in
-    record { is_tag = elim (time_tag-is z) [ inl s ↦ subst IsTag (sym s) (tag_of 0x17 (lit< tt) refl) | inr s ↦ subst IsTag (sym s) (tag_of 0x18 (lit< tt) refl) ]; short = omega (arith, short) }
+    record {
+      is_tag = elim (time_tag-is z) [
+        | inl s ↦ subst IsTag (sym s)
+            (tag_of 0x17 (lit< tt) refl)
+        | inr s ↦ subst IsTag (sym s) (tag_of 0x18 (lit< tt) refl)
+      ];
+      short = omega (arith, short);
+    }
 
 pub time_form : IsForm time_text IsMoment Anything time_at
 unfolding time_at
 time_form = record {
   takes = λ a z b h e.
       let tag : ℕ = tag_wanted a.rest in
-      let s = bind_ok (der (wanted_at tag a)) (λ (v : Item × At). some_or BadTime (time_moment tag v.0.contents) >>= λ (m : ℤ). Ok (m, v.1)) (z, b) e in
-      let t = bind_ok (some_or BadTime (time_moment tag s.0.0.contents)) (λ (m : ℤ). Ok (m, s.0.1)) (z, b) s.2 in
-      let known = time_moment-only tag s.0.0.contents t.0 (some_or_ok BadTime (time_moment tag s.0.0.contents) t.0 t.1) in
+      let s = bind_ok (der (wanted_at tag a)) (λ (v : Item
+      × At). some_or BadTime (time_moment tag v.0.contents) >>= λ (m : ℤ). Ok (m, v.1)) (
+        z,
+        b,
+      ) e in
+      let t = bind_ok (some_or BadTime (time_moment tag s.0.0.contents)) (λ (m : ℤ). Ok (m, s.0.1))
+      (z, b) s.2 in
+      let known = time_moment-only tag s.0.0.contents t.0
+      (some_or_ok BadTime (time_moment tag s.0.0.contents) t.0 t.1) in
       let read = wanted_takes tag a s.0.0 s.0.1 h (der_ok (wanted_at tag a) s.0 s.1) in
       let text : element s.0.0.tag s.0.0.contents ≡ time_text t.0 =
-      ap (λ (n : ℕ). element n s.0.0.contents) (read.1 ∙ known.1) ∙ ap (element (time_tag t.0)) known.2 in
+      ap (λ (n : ℕ). element n s.0.0.contents) (read.1 ∙ known.1)
+      ∙ ap (element (time_tag t.0)) known.2 in
       let Q : Text → Type 0 = λ w. Stands a w s.0.1 in
       let P : ℤ × At → Type 0 = λ v. Stands a (time_text v.0) v.1 × IsMoment v.0 in
       subst P (ok_is CertError (t.0, s.0.1) (z, b) t.2) (subst Q text read.0.stands, known.0);
   again = λ z p rest f q.
-      rw (tag_is (time_tag z) (time_contents z) rest (time_tag-is z), wanted_again (time_tag z) (time_contents z) p rest (time_fits z), time_moment-time z f) refl;
+      rw (
+        tag_is (time_tag z) (time_contents z) rest (time_tag-is z),
+        wanted_again (time_tag z) (time_contents z) p rest (time_fits z),
+        time_moment-time z f,
+      ) refl;
 }
 
-short_is : (tag : ℕ) (contents : Text) → length contents < 128 → element tag contents ≡ short_element tag contents
+short_is : (tag : ℕ) (contents : Text) → length contents < 128
+    → element tag contents ≡ short_element tag contents
 unfolding element
 short_is tag contents lt = rw (lt-ltb (length contents) 128 lt) refl
 
@@ -279,27 +406,54 @@ times-short v =
     short_time : (z : ℤ) → length (time_text z) ≤ 17
     short_time z =
         let short = time-short z in
-        omega (arith, short, ap length (short_is (time_tag z) (time_contents z) (omega (arith, short))))
+        omega (
+          arith,
+          short,
+          ap length (short_is (time_tag z) (time_contents z)
+              (omega (arith, short))),
+        )
 
 -- The validity is the element that its moments are written as.
 validity_is : (v : Period) → element 0x30 (times_text v) ≡ validity_element v
 unfolding validity_element
 validity_is v =
-    let one = short_is (time_tag v.not_before) (time_contents v.not_before) (omega (arith, time-short v.not_before)) in
-    let two = short_is (time_tag v.not_after) (time_contents v.not_after) (omega (arith, time-short v.not_after)) in
+    let one = short_is (time_tag v.not_before) (time_contents v.not_before) (omega (
+      arith,
+      time-short v.not_before,
+    )) in
+    let two = short_is (time_tag v.not_after) (time_contents v.not_after) (omega (
+      arith,
+      time-short v.not_after,
+    )) in
     short_is 0x30 (times_text v) (omega (arith, times-short v))
-    ∙ ap (short_element 0x30) (ap (λ (t : Text). t ++ time_text v.not_after) one ∙ ap (λ (t : Text). short_element (time_tag v.not_before) (time_contents v.not_before) ++ t) two)
+    ∙ ap (short_element 0x30) (ap (λ (t : Text). t ++ time_text v.not_after) one
+    ∙ ap (λ (t : Text). short_element (time_tag v.not_before) (time_contents v.not_before)
+    ++ t) two)
 
 pub validity_form : IsForm (λ (v : Text × Period). v.0) IsValidity Anything validity_at
 unfolding validity_at
 validity_form =
     let Moments : Period → Type 0 = λ v. FitsBoth IsMoment IsMoment (from_and_to v) in
-    let Known : Text × Period → Type 0 = λ v. (v.0 ≡ element 0x30 (times_text v.1)) × (Moments v.1 × (length (times_text v.1) < 2 ^ 24)) in
+    let Known : Text × Period → Type 0 = λ v. (v.0 ≡ element 0x30 (times_text v.1))
+    × (Moments v.1 × (length (times_text v.1) < 2 ^ 24)) in
     said_form (λ (v : Text × Period). v.0) Known IsValidity Anything Anything validity_at
-    (λ v f. record { period = record { not_before = f.1.0.0; not_after = f.1.0.1 }; spelled = f.0 ∙ validity_is v.1 })
-    (λ v f. (f.spelled ∙ sym (validity_is v.1), ((f.period.not_before, f.period.not_after), omega (arith, times-short v.1))))
+    (λ v f. record {
+      period = record { not_before = f.1.0.0; not_after = f.1.0.1 };
+      spelled = f.0
+          ∙ validity_is v.1;
+    })
+    (λ v f. (
+      f.spelled ∙ sym (validity_is v.1),
+      (
+        (f.period.not_before, f.period.not_after),
+        omega (arith, times-short v.1),
+      ),
+    ))
     (λ rest q. q)
-    (noted_form 0x30 times_text Moments (mapped_at from_to (both_at time_at time_at)) (tag_of 0x30 (lit< tt) refl)
+    (noted_form 0x30 times_text Moments (mapped_at from_to (both_at time_at time_at))
+    (tag_of 0x30 (lit< tt) refl)
     (ended_form times_text Moments Anything (mapped_at from_to (both_at time_at time_at)) tt
-    (mapped_form (both time_text time_text) (FitsBoth IsMoment IsMoment) Anything (both_at time_at time_at) from_to from_and_to (λ x f. refl) (λ y f. refl)
-    (both_form time_text IsMoment Anything time_at time_text IsMoment Anything time_at time_form time_form (λ y rest f q. tt)))))
+    (mapped_form (both time_text time_text) (FitsBoth IsMoment IsMoment) Anything
+    (both_at time_at time_at) from_to from_and_to (λ x f. refl) (λ y f. refl)
+    (both_form time_text IsMoment Anything time_at time_text IsMoment Anything time_at time_form
+    time_form (λ y rest f q. tt)))))

@@ -1,32 +1,37 @@
 -- An element that is read takes bytes away.
-use Rattle.std.proofs.Common.{◌≡◌, ℕ, ◌+◌, ◌-◌, ◌*◌, ◌%◌, ◌<◌, ◌≤◌, [], ◌∷◌, length, take, drop, Result, Ok, Err, subst, arith, inl, inr}
+use Rattle.std.proofs.Common.{◌≡◌, ℕ, ◌+◌, ◌-◌, ◌*◌, ◌%◌, ◌<◌, ◌≤◌, [], ◌∷◌, length, take, drop}
+use Rattle.std.proofs.Common.{Result, Ok, Err, subst, arith, inl, inr}
 use Rattle.std.specs.Prelude.{if◌then◌else◌, ◌==◌, nat_lt}
 use Rattle.std.proofs.lemmas.List.{length-drop}
 use Rattle.byte_forms.specs.Types.{Text}
 use Rattle.byte_forms.specs.Places.{At, after}
 use Rattle.byte_forms.proofs.Steps.{bind_ok, chosen, guard_ok, ok_is}
 use Rattle.der_core.specs.Items.{Item}
-use Rattle.der_core.specs.Reading.{tag_at, one_at, two_at, three_at, length_at, behind_tag, element_at}
+use Rattle.der_core.specs.Reading.{tag_at, one_at, two_at, three_at, length_at, behind_tag}
+use Rattle.der_core.specs.Reading.{element_at}
 use Rattle.der_core.specs.declared.fault.DerError.{DerError}
 use Rattle.der_core.specs.declared.fault.DerError.TheVariants.{Truncated, LongForm, HighTag}
 
 abbrev NoLonger : Text → ℕ × Text → Type 0
 NoLonger bytes v = length v.1 ≤ length bytes
 
-one_shorter : (place : ℕ) (bytes : Text) (v : ℕ × Text) → one_at place bytes ≡ Ok v → NoLonger bytes v
+one_shorter : (place : ℕ) (bytes : Text) (v : ℕ × Text) → one_at place bytes ≡ Ok v
+    → NoLonger bytes v
 one_shorter place [] v e = absurd cc
 one_shorter place (a ∷ bytes) v e =
     let g = guard_ok (nat_lt a 128) (LongForm place) (Ok (a, bytes)) v e in
     subst (NoLonger (a ∷ bytes)) (ok_is DerError (a, bytes) v g.1) (omega arith)
 
-two_shorter : (place : ℕ) (bytes : Text) (v : ℕ × Text) → two_at place bytes ≡ Ok v → NoLonger bytes v
+two_shorter : (place : ℕ) (bytes : Text) (v : ℕ × Text) → two_at place bytes ≡ Ok v
+    → NoLonger bytes v
 two_shorter place [] v e = absurd cc
 two_shorter place (a ∷ []) v e = absurd cc
 two_shorter place (a ∷ b ∷ bytes) v e =
     let g = guard_ok (a == 0) (LongForm place) (Ok (a * 256 + b, bytes)) v e in
     subst (NoLonger (a ∷ b ∷ bytes)) (ok_is DerError (a * 256 + b, bytes) v g.1) (omega arith)
 
-three_shorter : (place : ℕ) (bytes : Text) (v : ℕ × Text) → three_at place bytes ≡ Ok v → NoLonger bytes v
+three_shorter : (place : ℕ) (bytes : Text) (v : ℕ × Text) → three_at place bytes ≡ Ok v
+    → NoLonger bytes v
 three_shorter place [] v e = absurd cc
 three_shorter place (a ∷ []) v e = absurd cc
 three_shorter place (a ∷ b ∷ []) v e = absurd cc
@@ -35,7 +40,8 @@ three_shorter place (a ∷ b ∷ c ∷ bytes) v e =
     let g = guard_ok (a == 0) (LongForm place) (Ok (n, bytes)) v e in
     subst (NoLonger (a ∷ b ∷ c ∷ bytes)) (ok_is DerError (n, bytes) v g.1) (omega arith)
 
-length_shorter : (place : ℕ) (bytes : Text) (v : ℕ × Text) → length_at place bytes ≡ Ok v → NoLonger bytes v
+length_shorter : (place : ℕ) (bytes : Text) (v : ℕ × Text) → length_at place bytes ≡ Ok v
+    → NoLonger bytes v
 length_shorter place [] v e = absurd cc
 length_shorter place (first ∷ bytes) v e =
     let long : Result (ℕ × Text) DerError = Err (LongForm place) in
@@ -47,9 +53,11 @@ length_shorter place (first ∷ bytes) v e =
       | inr c ↦ elim (chosen (first == 129) (one_at place bytes) from2 (Ok v) c.1) [
         | inl d ↦ let le : length v.1 ≤ length bytes = one_shorter place bytes v d.1 in omega arith
         | inr d ↦ elim (chosen (first == 130) (two_at place bytes) from3 (Ok v) d.1) [
-          | inl f ↦ let le : length v.1 ≤ length bytes = two_shorter place bytes v f.1 in omega arith
+          | inl f ↦ let le : length v.1 ≤ length bytes =
+              two_shorter place bytes v f.1 in omega arith
           | inr f ↦ elim (chosen (first == 131) (three_at place bytes) long (Ok v) f.1) [
-            | inl g ↦ let le : length v.1 ≤ length bytes = three_shorter place bytes v g.1 in omega arith
+            | inl g ↦ let le : length v.1 ≤ length bytes =
+                three_shorter place bytes v g.1 in omega arith
             | inr g ↦ absurd (cc (g.1))
           ]
         ]
@@ -60,19 +68,37 @@ length_shorter place (first ∷ bytes) v e =
 abbrev pub IsForward : {X : Type 0} → At → X × At → Type 0
 IsForward a x = length x.1.rest < length a.rest
 
-behind_forward : (a : At) (tag : ℕ) (rest : Text) (x : Item × At) → length rest < length a.rest → behind_tag a tag rest ≡ Ok x → IsForward a x
+behind_forward : (a : At) (tag : ℕ) (rest : Text) (x : Item × At) → length rest < length a.rest
+    → behind_tag a tag rest ≡ Ok x → IsForward a x
 unfolding behind_tag
 behind_forward a tag rest x less e =
-    let item : ℕ × Text → Item = λ n. record { tag = tag; place = a.place; whole = take (length a.rest - (length n.1 - n.0)) a.rest; contents = take n.0 n.1 } in
-    let s = bind_ok (length_at a.place rest) (λ (n : ℕ × Text). if nat_lt (length n.1) n.0 then Err (Truncated a.place) else Ok (item n, after (length a.rest - (length n.1 - n.0)) a)) x e in
+    let item : ℕ × Text → Item = λ n. record {
+      tag = tag;
+      place = a.place;
+      whole =
+          take (length a.rest - (length n.1 - n.0)) a.rest;
+      contents = take n.0 n.1;
+    } in
+    let s = bind_ok (length_at a.place rest) (λ (n : ℕ × Text). if nat_lt (length n.1) n.0
+    then Err (Truncated a.place) else Ok (item n, after (length a.rest - (length n.1 - n.0)) a))
+    x e in
     let n : ℕ × Text = s.0 in
     let size : ℕ = length a.rest - (length n.1 - n.0) in
-    let g = guard_ok (nat_lt (length n.1) n.0) (Truncated a.place) (Ok (item n, after size a)) x s.2 in
+    let g = guard_ok (nat_lt (length n.1) n.0) (Truncated a.place) (Ok (
+      item n,
+      after size a,
+    )) x s.2 in
     let le : length n.1 ≤ length rest = length_shorter a.place rest n s.1 in
     let left : length (drop size a.rest) ≡ length a.rest - size = length-drop size a.rest in
-    subst (IsForward a) (ok_is DerError (item n, after size a) x g.1) (omega (arith, left, le, less))
+    subst (IsForward a) (ok_is DerError (item n, after size a) x g.1) (omega (
+      arith,
+      left,
+      le,
+      less,
+    ))
 
-tag_shorter : (place : ℕ) (bytes : Text) (v : ℕ × Text) → tag_at place bytes ≡ Ok v → length v.1 < length bytes
+tag_shorter : (place : ℕ) (bytes : Text) (v : ℕ × Text) → tag_at place bytes ≡ Ok v
+    → length v.1 < length bytes
 tag_shorter place [] v e = absurd cc
 tag_shorter place (tag ∷ rest) v e =
     let g = guard_ok (tag % 32 == 31) (HighTag place) (Ok (tag, rest)) v e in

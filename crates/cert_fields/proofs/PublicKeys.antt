@@ -12,7 +12,8 @@ use Rattle.cert_fields.proofs.FieldForms.{spki_form}
 use Rattle.der_core.proofs.Fields.{all_takes, all_again}
 
 -- Bytes that pass as a public key are one.
-pub public_key_only : (bytes : Text) → IsBytes bytes → is_public_key bytes ≡ true → IsPublicKey bytes
+pub public_key_only : (bytes : Text) → IsBytes bytes → is_public_key bytes ≡ true
+    → IsPublicKey bytes
 unfolding is_public_key
 public_key_only bytes h e =
     let r = read_ok (all_of spki_at bytes) e in

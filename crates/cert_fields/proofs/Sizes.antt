@@ -27,16 +27,21 @@ validity-short p =
     omega (arith, length-append from to, time-short p.not_before, time-short p.not_after)
 
 tbs-size : (p : Parts) → p.serial < 2 ^ 64
-    → length (tbs_fields p) ≤ 19 + length p.algorithm + length p.issuer + length p.validity_der + length p.subject + length p.spki + length p.extensions
+    → length (tbs_fields p) ≤ 19 + length p.algorithm + length p.issuer + length
+    p.validity_der + length p.subject + length p.spki + length p.extensions
 tbs-size p small =
     let number = element-short 0x02 (integer p.serial) in
     omega (
       arith,
       number,
       length-integer p.serial small,
-      length-append version (element 0x02 (integer p.serial) ++ (p.algorithm ++ (p.issuer ++ (p.validity_der ++ (p.subject ++ (p.spki ++ p.extensions)))))),
-      length-append (element 0x02 (integer p.serial)) (p.algorithm ++ (p.issuer ++ (p.validity_der ++ (p.subject ++ (p.spki ++ p.extensions))))),
-      length-append p.algorithm (p.issuer ++ (p.validity_der ++ (p.subject ++ (p.spki ++ p.extensions)))),
+      length-append version (element 0x02 (integer p.serial)
+          ++ (p.algorithm ++ (p.issuer ++ (p.validity_der
+          ++ (p.subject ++ (p.spki ++ p.extensions)))))),
+      length-append (element 0x02 (integer p.serial)) (p.algorithm
+          ++ (p.issuer ++ (p.validity_der ++ (p.subject ++ (p.spki ++ p.extensions))))),
+      length-append p.algorithm (p.issuer
+          ++ (p.validity_der ++ (p.subject ++ (p.spki ++ p.extensions)))),
       length-append p.issuer (p.validity_der ++ (p.subject ++ (p.spki ++ p.extensions))),
       length-append p.validity_der (p.subject ++ (p.spki ++ p.extensions)),
       length-append p.subject (p.spki ++ p.extensions),
@@ -52,12 +57,22 @@ pub record AreShort (p : Parts) : Type 0 where
 pub given-short : (p : CertParts) → p.serial < 2 ^ 64 → size_of p ≤ 16000000 → AreShort (given p)
 given-short p small le =
     let q : Parts = given p in
-    let signed : length (tbs_fields q) ≤ 69 + length p.issuer + length p.subject + length p.spki + length p.extensions =
+    let signed : length (tbs_fields q)
+    ≤ 69 + length p.issuer + length p.subject + length p.spki + length p.extensions =
     omega (arith, tbs-size q small, validity-short (period p.validity)) in
-    let whole = length-append (element 0x30 (tbs_fields q) ++ mtc_proof) (element 0x03 (0 ∷ p.proof)) in
+    let whole = length-append (element 0x30 (tbs_fields q) ++ mtc_proof)
+    (element 0x03 (0 ∷ p.proof)) in
     let front = length-append (element 0x30 (tbs_fields q)) mtc_proof in
     record {
       signed = omega (arith, signed, le);
       signature = omega (arith, le);
-      whole = omega (arith, signed, le, whole, front, element-short 0x30 (tbs_fields q), element-short 0x03 (0 ∷ p.proof));
+      whole = omega (
+        arith,
+        signed,
+        le,
+        whole,
+        front,
+        element-short 0x30 (tbs_fields q),
+        element-short 0x03 (0 ∷ p.proof),
+      );
     }

@@ -7,7 +7,8 @@ use Rattle.byte_forms.specs.Places.{begins_with}
 use Rattle.byte_forms.specs.Readings.{both_at, mapped_at, tested_at, headed_at, refused_at, Reading}
 use Rattle.der_core.specs.Fields.{inside_at, element_with_at, unsigned_at, all_of}
 use Rattle.der_core.specs.declared.fault.CertError.{CertError}
-use Rattle.der_core.specs.declared.fault.CertError.TheVariants.{BadVersion, BadSerial, AlgorithmsDiffer, UniqueId}
+use Rattle.der_core.specs.declared.fault.CertError.TheVariants.{BadVersion, BadSerial}
+use Rattle.der_core.specs.declared.fault.CertError.TheVariants.{AlgorithmsDiffer, UniqueId}
 use Rattle.cert_time.specs.Calendar.{Period}
 use Rattle.cert_fields.specs.Keys.{algorithm_at, spki_at, signature_at}
 use Rattle.cert_fields.specs.Names.{name_at}

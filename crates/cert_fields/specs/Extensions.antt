@@ -1,10 +1,12 @@
 -- Extensions (RFC 5280, sections 4.1 and 4.2).
-use Rattle.std.specs.Prelude.{ℕ, zero, suc, ◌&&◌, ◌||◌, Bool, true, false, not, List, [], ◌∷◌, length, is_some, Result, Ok, Err, if◌then◌else◌}
+use Rattle.std.specs.Prelude.{ℕ, zero, suc, ◌&&◌, ◌||◌, Bool, true, false, not, List, [], ◌∷◌}
+use Rattle.std.specs.Prelude.{length, is_some, Result, Ok, Err, if◌then◌else◌}
 use Rattle.std.specs.List.{list_any}
 use Rattle.std.specs.Str.{bytes_eq}
 use Rattle.byte_forms.specs.Types.{Text}
 use Rattle.byte_forms.specs.Places.{At, at}
-use Rattle.byte_forms.specs.Readings.{◌>>=◌, both_at, mapped_at, tested_at, optional_at, or_nothing_at, some_at, Reading}
+use Rattle.byte_forms.specs.Readings.{◌>>=◌, both_at, mapped_at, tested_at, optional_at}
+use Rattle.byte_forms.specs.Readings.{or_nothing_at, some_at, Reading}
 use Rattle.byte_forms.specs.Lists.{each_at}
 use Rattle.der_core.specs.Items.{inside}
 use Rattle.der_core.specs.Reading.{wanted_at}

@@ -1,5 +1,7 @@
 -- The name of a log is read exactly from its spelling.
-use Rattle.std.proofs.Common.{◌≡◌, ℕ, ◌%◌, ◌^◌, ◌<◌, Bool, true, false, length, Result, Ok, Err, Option, Some, None, IfSome, MatchOption, refl, sym, ap, subst, ◌∙◌, arith, lit<}
+use Rattle.std.proofs.Common.{◌≡◌, ℕ, ◌%◌, ◌^◌, ◌<◌, Bool, true, false, length, Result, Ok, Err}
+use Rattle.std.proofs.Common.{Option, Some, None, IfSome, MatchOption, refl, sym, ap, subst, ◌∙◌}
+use Rattle.std.proofs.Common.{arith, lit<}
 use Rattle.std.specs.Prelude.{if◌then◌else◌, ◌==◌}
 use Rattle.std.specs.Borrow.{Bor}
 use Rattle.std.proofs.lemmas.List.{length-append}
@@ -21,7 +23,8 @@ use Rattle.tls_wire.proofs.AnchorForm.{text_again}
 use Rattle.tls_wire.proofs.AnchorTexts.{text-short}
 use Rattle.cert_names.proofs.Sizes.{name-size}
 use Rattle.cert_names.specs.Names.{attribute_contents, set_contents, name_contents}
-use Rattle.cert_names.specs.LogNames.{log_id, name_with, IsLogName, is_log_id, second, log_text_at, log_attribute_at, log_set_at, log_name_at, id_only, log_in}
+use Rattle.cert_names.specs.LogNames.{log_id, name_with, IsLogName, is_log_id, second, log_text_at}
+use Rattle.cert_names.specs.LogNames.{log_attribute_at, log_set_at, log_name_at, id_only, log_in}
 
 abbrev Short : Text → Type 0
 Short contents = length contents < 2 ^ 24
@@ -49,46 +52,71 @@ parts_form : IsForm (attribute_contents log_id) IsText Anything log_text_at
 unfolding log_text_at
 parts_form =
     let fields : Reading Pair CertError = both_at (contents_at 6) (contents_at 12) in
-    mapped_form pair_text IsPair Anything (tested_at is_log_id BadName fields) second with_id id_back (λ y f. refl)
+    mapped_form pair_text IsPair Anything (tested_at is_log_id BadName fields) second with_id
+    id_back (λ y f. refl)
     (tested_form pair_text (FitsBoth Short Short) Anything fields is_log_id BadName
-    (both_form (element 6) Short Anything (contents_at 6) (element 12) Short Anything (contents_at 12)
-    (contents_form 6 (tag_of 6 (lit< tt) refl)) (contents_form 12 (tag_of 12 (lit< tt) refl)) (λ y rest f q. tt)))
+    (both_form (element 6) Short Anything (contents_at 6) (element 12) Short Anything
+    (contents_at 12)
+    (contents_form 6 (tag_of 6 (lit< tt) refl)) (contents_form 12 (tag_of 12 (lit< tt) refl))
+    (λ y rest f q. tt)))
 
 -- An element around a text.
-around : (tag : ℕ) (spell : Text → Text) (Fits : Text → Type 0) (read : Reading Text CertError) → tag < 256 → (tag % 32 == 31) ≡ false
-    → IsForm spell Fits Anything read → IsForm (λ text. element tag (spell text)) (λ text. Fits text × Short (spell text)) Anything (inside_at tag read)
-around tag spell Fits read byte low form = inside_form tag spell Fits read (tag_of tag byte low) (ended_form spell Fits Anything read tt form)
+around : (tag : ℕ) (spell : Text → Text) (Fits : Text → Type 0) (read : Reading Text CertError)
+    → tag < 256 → (tag % 32 == 31) ≡ false
+    → IsForm spell Fits Anything read → IsForm (λ text. element tag (spell text)) (λ text. Fits text
+    × Short (spell text)) Anything (inside_at tag read)
+around tag spell Fits read byte low form =
+    inside_form tag spell Fits read (tag_of tag byte low)
+    (ended_form spell Fits Anything read tt form)
 
 name_form : IsForm name_with (λ text. Short (name_contents log_id text)) Anything log_name_at
 unfolding log_name_at log_set_at log_attribute_at name_with
 name_form =
-    let Known : Text → Type 0 = λ text. ((IsText text × Short (attribute_contents log_id text)) × Short (set_contents log_id text)) × Short (name_contents log_id text) in
-    said_form name_with Known (λ text. Short (name_contents log_id text)) Anything Anything (inside_at 48 (inside_at 49 (inside_at 48 log_text_at)))
+    let Known : Text → Type 0 = λ text. ((IsText text × Short (attribute_contents log_id text))
+    × Short (set_contents log_id text)) × Short (name_contents log_id text) in
+    said_form name_with Known (λ text. Short (name_contents log_id text)) Anything Anything
+    (inside_at 48 (inside_at 49 (inside_at 48 log_text_at)))
     (λ text f. f.1)
     (λ text short.
-    let set : Short (set_contents log_id text) = omega (arith, short, element-longer 49 (set_contents log_id text)) in
-    let attribute : Short (attribute_contents log_id text) = omega (arith, set, element-longer 48 (attribute_contents log_id text)) in
-    let own : Short text = omega (arith, attribute, length-append (element 6 log_id) (element 12 text), element-longer 12 text) in
+    let set : Short (set_contents log_id text) =
+    omega (arith, short, element-longer 49 (set_contents log_id text)) in
+    let attribute : Short (attribute_contents log_id text) =
+    omega (arith, set, element-longer 48 (attribute_contents log_id text)) in
+    let own : Short text = omega (
+      arith,
+      attribute,
+      length-append (element 6 log_id) (element 12 text),
+      element-longer 12 text,
+    ) in
     (((((lit< tt, own), refl), attribute), set), short))
     (λ rest q. q)
-    (around 48 (name_contents log_id) (λ text. (IsText text × Short (attribute_contents log_id text)) × Short (set_contents log_id text)) (inside_at 49 (inside_at 48 log_text_at)) (lit< tt) refl
-    (around 49 (set_contents log_id) (λ text. IsText text × Short (attribute_contents log_id text)) (inside_at 48 log_text_at) (lit< tt) refl
+    (around 48 (name_contents log_id) (λ text. (IsText text
+    × Short (attribute_contents log_id text))
+    × Short (set_contents log_id text)) (inside_at 49 (inside_at 48 log_text_at)) (lit< tt) refl
+    (around 49 (set_contents log_id) (λ text. IsText text
+    × Short (attribute_contents log_id text)) (inside_at 48 log_text_at) (lit< tt) refl
     (around 48 (attribute_contents log_id) IsText log_text_at (lit< tt) refl parts_form)))
 
-whole_takes : (name text : Text) → IsBytes name → all_of log_name_at name ≡ Ok text → (name ≡ name_with text) × Short (name_contents log_id text)
-whole_takes name text h e = all_takes name_with (λ t. Short (name_contents log_id t)) log_name_at name_form name text h e
+whole_takes : (name text : Text) → IsBytes name → all_of log_name_at name ≡ Ok text
+    → (name ≡ name_with text) × Short (name_contents log_id text)
+whole_takes name text h e = all_takes name_with (λ t. Short (name_contents log_id t)) log_name_at
+    name_form name text h e
 
-whole_again : (text : Text) → Short (name_contents log_id text) → all_of log_name_at (name_with text) ≡ Ok text
-whole_again text short = all_again name_with (λ t. Short (name_contents log_id t)) log_name_at name_form text short
+whole_again : (text : Text) → Short (name_contents log_id text)
+    → all_of log_name_at (name_with text) ≡ Ok text
+whole_again text short = all_again name_with (λ t. Short (name_contents log_id t)) log_name_at
+    name_form text short
 
 pub log_only : (name text : Text) → IsBytes name → log_in name ≡ Some text → IsLogName name text
 unfolding log_in
 log_only name text h e = go (all_of log_name_at name) refl e
   where
-    go : (r : Result Text CertError) → all_of log_name_at name ≡ r → id_only r ≡ Some text → IsLogName name text
+    go : (r : Result Text CertError) → all_of log_name_at name ≡ r → id_only r ≡ Some text
+        → IsLogName name text
     go (Ok t) read found = chosen_text t (is_anchor_text t) refl read found
       where
-        chosen_text : (t : Text) (b : Bool) → is_anchor_text t ≡ b → all_of log_name_at name ≡ Ok t → (if b then Some t else None) ≡ Some text → IsLogName name text
+        chosen_text : (t : Text) (b : Bool) → is_anchor_text t ≡ b → all_of log_name_at name ≡ Ok t
+            → (if b then Some t else None) ≡ Some text → IsLogName name text
         chosen_text t true id read found =
             let known = whole_takes name t h read in
             let P : Text → Type 0 = IsLogName name in
@@ -101,18 +129,21 @@ log_only name text h e = go (all_of log_name_at name) refl e
 
 pub log_again : (name text : Text) → IsLogName name text → log_in name ≡ Some text
 unfolding log_in
-log_again name text f = ap (λ (n : Text). id_only (all_of log_name_at n)) f.spelled ∙ rw (whole_again text f.short, f.id) refl
+log_again name text f = ap (λ (n : Text). id_only (all_of log_name_at n)) f.spelled
+    ∙ rw (whole_again text f.short, f.id) refl
 
 -- ---- an answer that is exactly the text
 
 abbrev pub Exactly : Text → Option (Bor Text) → Type 0
 Exactly name r = MatchOption r (log_in name ≡ None) (λ text. log_in name ≡ Some text.now)
 
-pub found : (name : Text) (r : Option (Bor Text)) → IsBytes name → Exactly name r → IfSome r (λ text. IsLogName name text.now)
+pub found : (name : Text) (r : Option (Bor Text)) → IsBytes name → Exactly name r
+    → IfSome r (λ text. IsLogName name text.now)
 found name (Some text) h e = log_only name text.now h e
 found name None h e = tt
 
-pub only : (name : Text) (r : Option (Bor Text)) → Exactly name r → (text : Text) → IsLogName name text → MatchOption r ⊥ (λ id. id.now ≡ text)
+pub only : (name : Text) (r : Option (Bor Text)) → Exactly name r → (text : Text)
+    → IsLogName name text → MatchOption r ⊥ (λ id. id.now ≡ text)
 only name (Some id) e text f = some_is id.now text (sym e ∙ log_again name text f)
   where
     some_is : (x y : Text) → Some x ≡ Some y → x ≡ y

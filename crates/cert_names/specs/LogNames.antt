@@ -1,6 +1,7 @@
 -- The name of a log, as the issuer of certificates: one attribute that holds the text of the log's
 -- id.
-use Rattle.std.specs.Prelude.{◌≡◌, ◌^◌, ◌<◌, Bool, true, [], ◌∷◌, length, Option, Some, None, Result, Ok, Err, if◌then◌else◌}
+use Rattle.std.specs.Prelude.{◌≡◌, ◌^◌, ◌<◌, Bool, true, [], ◌∷◌, length, Option, Some, None}
+use Rattle.std.specs.Prelude.{Result, Ok, Err, if◌then◌else◌}
 use Rattle.std.specs.Str.{bytes_eq}
 use Rattle.byte_forms.specs.Types.{Text}
 use Rattle.byte_forms.specs.Readings.{Reading, both_at, mapped_at, tested_at}

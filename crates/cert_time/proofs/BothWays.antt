@@ -1,5 +1,7 @@
 -- What is read names one moment, and its spelling is what was read.
-use Rattle.std.proofs.Common.{◌≡◌, ℕ, ◌<◌, ◌≤◌, ◌==◌, ◌&&◌, ◌⊎◌, inl, inr, Bool, true, false, nat_lt, nat_le, cond, length, refl, sym, ap, subst, ◌∙◌, arith, ℤ, pos, Option, Some, None, IfSome}
+use Rattle.std.proofs.Common.{◌≡◌, ℕ, ◌<◌, ◌≤◌, ◌==◌, ◌&&◌, ◌⊎◌, inl, inr, Bool, true, false}
+use Rattle.std.proofs.Common.{nat_lt, nat_le, cond, length, refl, sym, ap, subst, ◌∙◌, arith, ℤ}
+use Rattle.std.proofs.Common.{pos, Option, Some, None, IfSome}
 use Rattle.std.proofs.lemmas.Bool.{and_parts, leb-true, eqb-true}
 use Rattle.std.proofs.lemmas.Bool.Decides.{nat_tests}
 use Rattle.byte_forms.specs.Types.{Text}
@@ -8,9 +10,13 @@ use Rattle.cert_time.specs.declared.civil.CivilTime.{CivilTime}
 use Rattle.cert_time.specs.Calendar.{exists, moment, moment_from, IsMoment, civil_of}
 use Rattle.cert_time.specs.Forms.{HasDigits, fits_form}
 use Rattle.cert_time.specs.Texts.{text_form, text_parts, text_with, text_moment, moment_text}
-use Rattle.cert_time.specs.Times.{utc_form, utc_parts, utc_with, utc_moment, general_form, general_parts, general_with, general_moment, time_moment, time_tag, time_contents, tag_with, contents_with}
-use Rattle.cert_time.proofs.Moments.{Exists, exists-from, exists-to, Names, civil_of-names, names-civil_of, IsMoment-names}
-use Rattle.cert_time.proofs.Spelling.{text_back, text_fits, text_read, utc_back, utc_fits, utc_read, utc_year, general_back, general_fits, general_read}
+use Rattle.cert_time.specs.Times.{utc_form, utc_parts, utc_with, utc_moment, general_form}
+use Rattle.cert_time.specs.Times.{general_parts, general_with, general_moment, time_moment}
+use Rattle.cert_time.specs.Times.{time_tag, time_contents, tag_with, contents_with}
+use Rattle.cert_time.proofs.Moments.{Exists, exists-from, exists-to, Names, civil_of-names}
+use Rattle.cert_time.proofs.Moments.{names-civil_of, IsMoment-names}
+use Rattle.cert_time.proofs.Spelling.{text_back, text_fits, text_read, utc_back, utc_fits, utc_read}
+use Rattle.cert_time.proofs.Spelling.{utc_year, general_back, general_fits, general_read}
 
 -- the moment of a text in a form
 abbrev read_by : Bool → ℕ → CivilTime → Option ℤ
@@ -20,7 +26,8 @@ some_of : (b : Bool) (w z : ℤ) → cond b (Some w) None ≡ Some z → (b ≡ 
 some_of true w z h = (refl, cc)
 some_of false w z h = cc
 
-fits_of : (b : Bool) (first_year : ℕ) (c : CivilTime) (z : ℤ) → read_by b first_year c ≡ Some z → (b ≡ true) × (moment_from first_year c ≡ Some z)
+fits_of : (b : Bool) (first_year : ℕ) (c : CivilTime) (z : ℤ) → read_by b first_year c ≡ Some z
+    → (b ≡ true) × (moment_from first_year c ≡ Some z)
 fits_of true first_year c z h = (refl, h)
 fits_of false first_year c z h = cc
 
@@ -30,7 +37,8 @@ record IsRead (b : Bool) (first_year : ℕ) (c : CivilTime) (z : ℤ) : Type 0 w
   first : first_year ≤ c.year
   names : Names z c
 
-is_read : (b : Bool) (first_year : ℕ) (c : CivilTime) (z : ℤ) → 1950 ≤ first_year → read_by b first_year c ≡ Some z → IsRead b first_year c z
+is_read : (b : Bool) (first_year : ℕ) (c : CivilTime) (z : ℤ) → 1950 ≤ first_year
+    → read_by b first_year c ≡ Some z → IsRead b first_year c z
 is_read b first_year c z low h =
     let in_form = fits_of b first_year c z h in
     let is = some_of (nat_le first_year c.year && exists c) (moment c) z in_form.1 in
@@ -43,7 +51,8 @@ is_read b first_year c z low h =
     }
 
 -- and what names the moment is read, where it fits
-reads : (b : Bool) (first_year : ℕ) (c : CivilTime) (z : ℤ) → b ≡ true → first_year ≤ c.year → Names z c → read_by b first_year c ≡ Some z
+reads : (b : Bool) (first_year : ℕ) (c : CivilTime) (z : ℤ) → b ≡ true → first_year ≤ c.year
+    → Names z c → read_by b first_year c ≡ Some z
 reads b first_year c z fits first names =
     let is = exists-from c names.exists in
     let same = names.is in
@@ -52,12 +61,23 @@ reads b first_year c z fits first names =
 has_digits : (c : CivilTime) → Exists c → HasDigits c
 has_digits c h =
     let month = days_in_month_bounds (pos c.year) c.month in
-    record { year = omega (arith, h.year_end); month = omega (arith, h.month_end); day = omega (arith, h.day_end); hour = omega (arith, h.hour); minute = omega (arith, h.minute); second = omega (arith, h.second) }
+    record {
+      year = omega (arith, h.year_end);
+      month = omega (arith, h.month_end);
+      day =
+          omega (arith, h.day_end);
+      hour = omega (arith, h.hour);
+      minute =
+          omega (arith, h.minute);
+      second = omega (arith, h.second);
+    }
 
 -- from 1950 on such a moment is in range
-pub moment_from-range : (first_year : ℕ) (c : CivilTime) → 1950 ≤ first_year → IfSome (moment_from first_year c) IsMoment
+pub moment_from-range : (first_year : ℕ) (c : CivilTime) → 1950 ≤ first_year
+    → IfSome (moment_from first_year c) IsMoment
 moment_from-range first_year c low =
-    range_of (moment_from first_year c) (λ z e. IsMoment-names z c (is_read true first_year c z low e).names) where
+    range_of (moment_from first_year c)
+    (λ z e. IsMoment-names z c (is_read true first_year c z low e).names) where
       range_of : (o : Option ℤ) → ((z : ℤ) → o ≡ Some z → IsMoment z) → IfSome o IsMoment
       range_of None h = tt
       range_of (Some z) h = h z refl
@@ -76,7 +96,8 @@ text_moment-moment_text z h =
     let names = along z c (text_parts (text_with c)) (text_read c digits) n in
     reads _ 1950 (text_parts (text_with c)) z (text_fits c digits) names.year names
 
-pub text_moment-only : (t : Text) (z : ℤ) → text_moment t ≡ Some z → IsMoment z × (t ≡ moment_text z)
+pub text_moment-only : (t : Text) (z : ℤ) → text_moment t ≡ Some z → IsMoment z
+    × (t ≡ moment_text z)
 unfolding text_moment moment_text
 text_moment-only t z h =
     let r = is_read (fits_form text_form t) 1950 (text_parts t) z (omega arith) h in
@@ -85,7 +106,8 @@ text_moment-only t z h =
 
 -- 2. Times of certificates
 
-utc_case : (z : ℤ) (contents : Text) → utc_moment contents ≡ Some z → IsMoment z × ((civil_of z).year < 2050) × (contents ≡ utc_with (civil_of z))
+utc_case : (z : ℤ) (contents : Text) → utc_moment contents ≡ Some z → IsMoment z
+    × ((civil_of z).year < 2050) × (contents ≡ utc_with (civil_of z))
 unfolding utc_moment
 utc_case z t h =
     let r = is_read (fits_form utc_form t) 1950 (utc_parts t) z (omega arith) h in
@@ -95,7 +117,8 @@ utc_case z t h =
     let low = utc_year t r.fits in
     (m, omega (arith, year), sym (utc_back t r.fits) ∙ ap utc_with e)
 
-general_case : (z : ℤ) (contents : Text) → general_moment contents ≡ Some z → IsMoment z × (2050 ≤ (civil_of z).year) × (contents ≡ general_with (civil_of z))
+general_case : (z : ℤ) (contents : Text) → general_moment contents ≡ Some z → IsMoment z
+    × (2050 ≤ (civil_of z).year) × (contents ≡ general_with (civil_of z))
 unfolding general_moment
 general_case z t h =
     let r = is_read (fits_form general_form t) 2050 (general_parts t) z (omega arith) h in
@@ -105,7 +128,8 @@ general_case z t h =
     let high = r.first in
     (m, omega (arith, year), sym (general_back t r.fits) ∙ ap general_with e)
 
-by_tag : (b c : Bool) (u g : Option ℤ) (z : ℤ) → cond b u (cond c g None) ≡ Some z → ((b ≡ true) × (u ≡ Some z)) ⊎ ((c ≡ true) × (g ≡ Some z))
+by_tag : (b c : Bool) (u g : Option ℤ) (z : ℤ) → cond b u (cond c g None) ≡ Some z
+    → ((b ≡ true) × (u ≡ Some z)) ⊎ ((c ≡ true) × (g ≡ Some z))
 by_tag true c u g z h = inl (refl, h)
 by_tag false true u g z h = inr (refl, h)
 by_tag false false u g z h = cc
@@ -117,15 +141,19 @@ below c h = let test : nat_lt c.year 2050 ≡ true = grind (arith, nat_tests) in
 from : (c : CivilTime) → 2050 ≤ c.year → (tag_with c ≡ 24) × (contents_with c ≡ general_with c)
 from c h = let test : nat_lt c.year 2050 ≡ false = grind (arith, nat_tests) in (rw test, rw test)
 
-pub time_moment-only : (tag : ℕ) (contents : Text) (z : ℤ) → time_moment tag contents ≡ Some z → IsMoment z × (tag ≡ time_tag z) × (contents ≡ time_contents z)
+pub time_moment-only : (tag : ℕ) (contents : Text) (z : ℤ) → time_moment tag contents ≡ Some z
+    → IsMoment z × (tag ≡ time_tag z) × (contents ≡ time_contents z)
 unfolding time_moment time_tag time_contents
 time_moment-only tag contents z h =
     elim (by_tag (tag == 23) (tag == 24) (utc_moment contents) (general_moment contents) z h) [
-      | inl u ↦ let r = utc_case z contents u.1 in let w = below (civil_of z) r.1 in (r.0, eqb-true tag 23 u.0 ∙ sym w.0, r.2 ∙ sym w.1)
-      | inr g ↦ let r = general_case z contents g.1 in let w = from (civil_of z) r.1 in (r.0, eqb-true tag 24 g.0 ∙ sym w.0, r.2 ∙ sym w.1)
+      | inl u ↦ let r = utc_case z contents u.1 in let w =
+          below (civil_of z) r.1 in (r.0, eqb-true tag 23 u.0 ∙ sym w.0, r.2 ∙ sym w.1)
+      | inr g ↦ let r = general_case z contents g.1 in let w =
+          from (civil_of z) r.1 in (r.0, eqb-true tag 24 g.0 ∙ sym w.0, r.2 ∙ sym w.1)
     ]
 
-utc_is : (z : ℤ) → IsMoment z → (civil_of z).year < 2050 → utc_moment (utc_with (civil_of z)) ≡ Some z
+utc_is : (z : ℤ) → IsMoment z → (civil_of z).year < 2050
+    → utc_moment (utc_with (civil_of z)) ≡ Some z
 unfolding utc_moment
 utc_is z h low =
     let c = civil_of z in
@@ -134,7 +162,8 @@ utc_is z h low =
     let names = along z c (utc_parts (utc_with c)) (utc_read c digits n.year low) n in
     reads _ 1950 (utc_parts (utc_with c)) z (utc_fits c digits) names.year names
 
-general_is : (z : ℤ) → IsMoment z → 2050 ≤ (civil_of z).year → general_moment (general_with (civil_of z)) ≡ Some z
+general_is : (z : ℤ) → IsMoment z → 2050 ≤ (civil_of z).year
+    → general_moment (general_with (civil_of z)) ≡ Some z
 unfolding general_moment
 general_is z h high =
     let c = civil_of z in
@@ -143,9 +172,15 @@ general_is z h high =
     let e = general_read c digits in
     let names = along z c (general_parts (general_with c)) e n in
     let year : (general_parts (general_with c)).year ≡ c.year = ap (λ (p : CivilTime). p.year) e in
-    reads _ 2050 (general_parts (general_with c)) z (general_fits c digits) (omega (arith, year, high)) names
+    reads _ 2050 (general_parts (general_with c)) z (general_fits c digits) (omega (
+      arith,
+      year,
+      high,
+    )) names
 
-by_year : (z : ℤ) → IsMoment z → (b : Bool) → nat_lt (civil_of z).year 2050 ≡ b → time_moment (cond b 23 24) (cond b (utc_with (civil_of z)) (general_with (civil_of z))) ≡ Some z
+by_year : (z : ℤ) → IsMoment z → (b : Bool) → nat_lt (civil_of z).year 2050 ≡ b
+    → time_moment (cond b 23 24) (cond b (utc_with (civil_of z)) (general_with (civil_of z)))
+    ≡ Some z
 unfolding time_moment
 by_year z h true e = utc_is z h (grind (arith, nat_tests))
 by_year z h false e = general_is z h (grind (arith, nat_tests))
@@ -156,11 +191,17 @@ time_moment-time z h = by_year z h (nat_lt (civil_of z).year 2050) refl
 
 -- both ways at once
 
-pub text_law : (text : Text) (z : ℤ) → (text_moment text ≡ Some z → IsMoment z × (text ≡ moment_text z)) × (IsMoment z × (text ≡ moment_text z) → text_moment text ≡ Some z)
+pub text_law : (text : Text) (z : ℤ) → (text_moment text ≡ Some z → IsMoment z
+    × (text ≡ moment_text z)) × (IsMoment z × (text ≡ moment_text z) → text_moment text ≡ Some z)
 text_law text z = (text_moment-only text z, λ p. rw p.1 (text_moment-moment_text z p.0))
 
-pub time_law : (tag : ℕ) (contents : Text) (z : ℤ) → (time_moment tag contents ≡ Some z → IsMoment z × (tag ≡ time_tag z) × (contents ≡ time_contents z)) × (IsMoment z × (tag ≡ time_tag z) × (contents ≡ time_contents z) → time_moment tag contents ≡ Some z)
-time_law tag contents z = (time_moment-only tag contents z, λ p. rw (p.1, p.2) (time_moment-time z p.0))
+pub time_law : (tag : ℕ) (contents : Text) (z : ℤ) → (time_moment tag contents ≡ Some z → IsMoment z
+    × (tag ≡ time_tag z) × (contents ≡ time_contents z)) × (IsMoment z × (tag ≡ time_tag z)
+    × (contents ≡ time_contents z) → time_moment tag contents ≡ Some z)
+time_law tag contents z = (
+  time_moment-only tag contents z,
+  λ p. rw (p.1, p.2) (time_moment-time z p.0),
+)
 
 abbrev IsShape : ℕ → Text → Type 0
 IsShape tag contents = ((tag ≡ 23) × (length contents ≡ 13)) ⊎ ((tag ≡ 24) × (length contents ≡ 15))

@@ -13,7 +13,9 @@ fits_form-length (f ∷ form) (b ∷ text) h =
     omega (arith, fits_form-length form text (and_parts (fits_byte f b) (fits_form form text) h).1)
 
 -- and one of another length hasn't it
-pub other_length : (form text : Text) → (length text ≡ length form → ⊥) → fits_form form text ≡ false
-other_length form text h = false_from_ne_true (fits_form form text) (λ e. h (fits_form-length form text e))
+pub other_length : (form text : Text) → (length text ≡ length form → ⊥)
+    → fits_form form text ≡ false
+other_length form text h = false_from_ne_true (fits_form form text)
+    (λ e. h (fits_form-length form text e))
 
 pub ruleset lengths = (fits_form-length, other_length)

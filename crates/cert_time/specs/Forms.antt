@@ -1,5 +1,6 @@
 -- Forms of texts made of digits, and the numbers that digits write.
-use Rattle.std.specs.Prelude.{ℕ, ◌+◌, ◌-◌, ◌*◌, ◌/◌, ◌%◌, ◌<◌, ◌==◌, ◌&&◌, Bool, true, false, if◌then◌else◌, [], ◌∷◌, ◌++◌, slice_index}
+use Rattle.std.specs.Prelude.{ℕ, ◌+◌, ◌-◌, ◌*◌, ◌/◌, ◌%◌, ◌<◌, ◌==◌, ◌&&◌, Bool, true, false}
+use Rattle.std.specs.Prelude.{if◌then◌else◌, [], ◌∷◌, ◌++◌, slice_index}
 use Rattle.std.specs.Char.{is_ascii_digit}
 use Rattle.byte_forms.specs.Types.{Text}
 use Rattle.cert_time.specs.declared.civil.CivilTime.{CivilTime}

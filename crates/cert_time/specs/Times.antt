@@ -1,6 +1,7 @@
 -- The times of a certificate, and its validity (RFC 5280, section 4.1.2.5; X.690, sections 11.7
 -- and 11.8).
-use Rattle.std.specs.Prelude.{ℕ, ◌+◌, ◌/◌, ◌%◌, ◌==◌, nat_lt, if◌then◌else◌, ℤ, ◌∷◌, ◌++◌, length, codes, Option, None}
+use Rattle.std.specs.Prelude.{ℕ, ◌+◌, ◌/◌, ◌%◌, ◌==◌, nat_lt, if◌then◌else◌, ℤ, ◌∷◌, ◌++◌, length}
+use Rattle.std.specs.Prelude.{codes, Option, None}
 use Rattle.byte_forms.specs.Types.{Text}
 use Rattle.cert_time.specs.declared.civil.CivilTime.{CivilTime}
 use Rattle.cert_time.specs.Calendar.{Period, moment_from, civil_of}

@@ -1,5 +1,6 @@
 -- Requests: what is read is spelled so, and what is spelled so is read again.
-use Rattle.std.proofs.Common.{◌≡◌, ℕ, ◌^◌, ◌<◌, true, List, [], ◌++◌, length, Result, Ok, Err, refl, sym, ap, subst, ◌∙◌, append-nil, eqb-true}
+use Rattle.std.proofs.Common.{◌≡◌, ℕ, ◌^◌, ◌<◌, true, List, [], ◌++◌, length, Result, Ok, Err, refl}
+use Rattle.std.proofs.Common.{sym, ap, subst, ◌∙◌, append-nil, eqb-true}
 use Rattle.std.specs.Prelude.{if◌then◌else◌, ◌==◌}
 use Rattle.std.specs.Int.{w8, w64}
 use Rattle.std.proofs.lemmas.List.{nil_from_length}
@@ -16,8 +17,11 @@ use Rattle.tls_wire.proofs.Numbers.{bytes_form, wide8, word_form}
 use Rattle.tls_wire.proofs.Vectors.{vector_form}
 use Rattle.cosigner_core.specs.declared.fault.FormError.{FormError}
 use Rattle.cosigner_core.specs.declared.fault.FormError.TheVariants.{EmptyId, Trailing}
-use Rattle.cosigner_core.specs.Reading.{advance_at, advance_in, hash_at, log_id_at, hashes_fault, short_fault, proof_at, subtree_at, subtree_in, to_advance, to_subtree, whole_in, u64_at}
-use Rattle.cosigner_core.specs.Requests.{AdvanceParts, IsAdvance, IsSubtreeRequest, SubtreeParts, advance_text, subtree_text}
+use Rattle.cosigner_core.specs.Reading.{advance_at, advance_in, hash_at, log_id_at, hashes_fault}
+use Rattle.cosigner_core.specs.Reading.{short_fault, proof_at, subtree_at, subtree_in, to_advance}
+use Rattle.cosigner_core.specs.Reading.{to_subtree, whole_in, u64_at}
+use Rattle.cosigner_core.specs.Requests.{AdvanceParts, IsAdvance, IsSubtreeRequest, SubtreeParts}
+use Rattle.cosigner_core.specs.Requests.{advance_text, subtree_text}
 
 -- ---- the parts
 
@@ -32,8 +36,10 @@ IsHash hash = length hash ≡ 32
 
 id_form : IsForm (vector w8) IsId Anything log_id_at
 id_form =
-    tested_form (vector w8) (λ id. length id < 2 ^ 8) Anything (lifted_at short_fault (vector_at w8)) has_bytes EmptyId
-    (lifted_form (vector w8) (λ id. length id < 2 ^ 8) Anything (vector_at w8) short_fault (vector_form w8 (2 ^ 8) wide8))
+    tested_form (vector w8) (λ id. length id < 2 ^ 8) Anything
+    (lifted_at short_fault (vector_at w8)) has_bytes EmptyId
+    (lifted_form (vector w8) (λ id. length id < 2 ^ 8) Anything (vector_at w8) short_fault
+    (vector_form w8 (2 ^ 8) wide8))
 
 size_form : IsForm (number w64) IsWord Anything u64_at
 size_form = lifted_form (number w64) IsWord Anything (number_at w64) short_fault word_form
@@ -56,10 +62,13 @@ abbrev IsRoot : Root → Type 0
 IsRoot = FitsBoth IsHash AreHashes
 
 root_form : IsForm root_text IsRoot Anything (both_at hash_at proof_at)
-root_form = both_form itself IsHash Anything hash_at hashes AreHashes Anything proof_at hash_form proof_form (λ y rest f q. tt)
+root_form = both_form itself IsHash Anything hash_at hashes AreHashes Anything proof_at hash_form
+    proof_form (λ y rest f q. tt)
 
-sized_form : IsForm (both (number w64) root_text) (FitsBoth IsWord IsRoot) Anything (both_at u64_at (both_at hash_at proof_at))
-sized_form = both_form (number w64) IsWord Anything u64_at root_text IsRoot Anything (both_at hash_at proof_at) size_form root_form (λ y rest f q. tt)
+sized_form : IsForm (both (number w64) root_text) (FitsBoth IsWord IsRoot) Anything
+    (both_at u64_at (both_at hash_at proof_at))
+sized_form = both_form (number w64) IsWord Anything u64_at root_text IsRoot Anything
+    (both_at hash_at proof_at) size_form root_form (λ y rest f q. tt)
 
 abbrev Advance : Type 0
 Advance = Text × (ℕ × Root)
@@ -88,18 +97,24 @@ advance_from r f = ((f.log, some-has_bytes r.log f.some), (f.size, (f.root, f.pr
 pub advance_form : IsForm advance_text IsAdvance Anything advance_at
 unfolding advance_at
 advance_form =
-    let read : At → Result (Advance × At) FormError = both_at log_id_at (both_at u64_at (both_at hash_at proof_at)) in
-    said_form (λ r. advance_spelled (from_advance r)) (λ r. AreAdvance (from_advance r)) IsAdvance Anything Anything
+    let read : At → Result (Advance × At) FormError =
+    both_at log_id_at (both_at u64_at (both_at hash_at proof_at)) in
+    said_form (λ r. advance_spelled (from_advance r)) (λ r. AreAdvance (from_advance r)) IsAdvance
+    Anything Anything
     (mapped_at to_advance read) advance_to advance_from (λ rest q. q)
-    (mapped_form advance_spelled AreAdvance Anything read to_advance from_advance (λ x f. refl) (λ r f. refl)
-    (both_form (vector w8) IsId Anything log_id_at (both (number w64) root_text) (FitsBoth IsWord IsRoot) Anything
+    (mapped_form advance_spelled AreAdvance Anything read to_advance from_advance (λ x f. refl)
+    (λ r f. refl)
+    (both_form (vector w8) IsId Anything log_id_at (both (number w64) root_text)
+    (FitsBoth IsWord IsRoot) Anything
     (both_at u64_at (both_at hash_at proof_at)) id_form sized_form (λ y rest f q. tt)))
 
 -- ---- to sign a subtree
 
-spanned_form : IsForm (both (number w64) (both (number w64) root_text)) (FitsBoth IsWord (FitsBoth IsWord IsRoot)) Anything
+spanned_form : IsForm (both (number w64) (both (number w64) root_text))
+    (FitsBoth IsWord (FitsBoth IsWord IsRoot)) Anything
     (both_at u64_at (both_at u64_at (both_at hash_at proof_at)))
-spanned_form = both_form (number w64) IsWord Anything u64_at (both (number w64) root_text) (FitsBoth IsWord IsRoot) Anything
+spanned_form = both_form (number w64) IsWord Anything u64_at (both (number w64) root_text)
+    (FitsBoth IsWord IsRoot) Anything
     (both_at u64_at (both_at hash_at proof_at)) size_form sized_form (λ y rest f q. tt)
 
 abbrev Subtree : Type 0
@@ -130,36 +145,48 @@ subtree_from r f = ((f.log, some-has_bytes r.log f.some), (f.start, (f.end, (f.h
 pub subtree_form : IsForm subtree_text IsSubtreeRequest Anything subtree_at
 unfolding subtree_at
 subtree_form =
-    let read : At → Result (Subtree × At) FormError = both_at log_id_at (both_at u64_at (both_at u64_at (both_at hash_at proof_at))) in
-    said_form (λ r. subtree_spelled (from_subtree r)) (λ r. AreSubtree (from_subtree r)) IsSubtreeRequest Anything Anything
+    let read : At → Result (Subtree × At) FormError =
+    both_at log_id_at (both_at u64_at (both_at u64_at (both_at hash_at proof_at))) in
+    said_form (λ r. subtree_spelled (from_subtree r)) (λ r. AreSubtree (from_subtree r))
+    IsSubtreeRequest Anything Anything
     (mapped_at to_subtree read) subtree_to subtree_from (λ rest q. q)
-    (mapped_form subtree_spelled AreSubtree Anything read to_subtree from_subtree (λ x f. refl) (λ r f. refl)
-    (both_form (vector w8) IsId Anything log_id_at (both (number w64) (both (number w64) root_text)) (FitsBoth IsWord (FitsBoth IsWord IsRoot)) Anything
-    (both_at u64_at (both_at u64_at (both_at hash_at proof_at))) id_form spanned_form (λ y rest f q. tt)))
+    (mapped_form subtree_spelled AreSubtree Anything read to_subtree from_subtree (λ x f. refl)
+    (λ r f. refl)
+    (both_form (vector w8) IsId Anything log_id_at (both (number w64) (both (number w64) root_text))
+    (FitsBoth IsWord (FitsBoth IsWord IsRoot)) Anything
+    (both_at u64_at (both_at u64_at (both_at hash_at proof_at))) id_form spanned_form
+    (λ y rest f q. tt)))
 
 -- ---- all of the bytes
 
-whole_only : {X : Type 0} (spell : X → Text) (Fits : X → Type 0) (read : At → Result (X × At) FormError)
+whole_only : {X : Type 0} (spell : X → Text) (Fits : X → Type 0) (read : At
+    → Result (X × At) FormError)
     → IsForm spell Fits Anything read
-    → (bytes : Text) (r : X) → IsBytes bytes → whole_in read bytes ≡ Ok r → (bytes ≡ spell r) × Fits r
+    → (bytes : Text) (r : X) → IsBytes bytes → whole_in read bytes ≡ Ok r
+    → (bytes ≡ spell r) × Fits r
 whole_only {X} spell Fits read form bytes r h e =
-    let s = bind_ok (read (at bytes 0)) (λ (x : X × At). if length x.1.rest == 0 then Ok x.0 else Err Trailing) r e in
+    let s = bind_ok (read (at bytes 0)) (λ (x : X × At). if length x.1.rest == 0 then Ok x.0
+    else Err Trailing) r e in
     let g = pass_ok (length s.0.1.rest == 0) (Ok s.0.0) Trailing r s.2 in
     let known = form.takes (at bytes 0) s.0.0 s.0.1 h s.1 in
     let none : s.0.1.rest ≡ [] = nil_from_length s.0.1.rest (eqb-true (length s.0.1.rest) 0 g.0) in
-    let all : bytes ≡ spell s.0.0 = known.0.parts ∙ ap (λ rest. spell s.0.0 ++ rest) none ∙ append-nil (spell s.0.0) in
+    let all : bytes ≡ spell s.0.0 = known.0.parts ∙ ap (λ rest. spell s.0.0 ++ rest) none
+    ∙ append-nil (spell s.0.0) in
     let P : X → Type 0 = λ x. (bytes ≡ spell x) × Fits x in
     subst P (ok_is FormError s.0.0 r g.1) (all, known.1)
 
-whole_again : {X : Type 0} (spell : X → Text) (Fits : X → Type 0) (read : At → Result (X × At) FormError)
+whole_again : {X : Type 0} (spell : X → Text) (Fits : X → Type 0) (read : At
+    → Result (X × At) FormError)
     → IsForm spell Fits Anything read → (r : X) → Fits r → whole_in read (spell r) ≡ Ok r
 whole_again {X} spell Fits read form r f =
     let step = form.again r 0 [] f tt in
     let same : spell r ≡ spell r ++ [] = sym (append-nil (spell r)) in
-    ap (λ (c : Text). read (record { place = 0; rest = c }) >>= λ (x : X × At). if length x.1.rest == 0 then Ok x.0 else Err Trailing) same
+    ap (λ (c : Text). read (record { place = 0; rest = c }) >>= λ (x : X
+    × At). if length x.1.rest == 0 then Ok x.0 else Err Trailing) same
     ∙ rw step refl
 
-pub advance_only : (bytes : Text) (r : AdvanceParts) → IsBytes bytes → advance_in bytes ≡ Ok r → (bytes ≡ advance_text r) × IsAdvance r
+pub advance_only : (bytes : Text) (r : AdvanceParts) → IsBytes bytes → advance_in bytes ≡ Ok r
+    → (bytes ≡ advance_text r) × IsAdvance r
 unfolding advance_in
 advance_only = whole_only advance_text IsAdvance advance_at advance_form
 
@@ -167,7 +194,8 @@ pub advance_again : (r : AdvanceParts) → IsAdvance r → advance_in (advance_t
 unfolding advance_in
 advance_again = whole_again advance_text IsAdvance advance_at advance_form
 
-pub subtree_only : (bytes : Text) (r : SubtreeParts) → IsBytes bytes → subtree_in bytes ≡ Ok r → (bytes ≡ subtree_text r) × IsSubtreeRequest r
+pub subtree_only : (bytes : Text) (r : SubtreeParts) → IsBytes bytes → subtree_in bytes ≡ Ok r
+    → (bytes ≡ subtree_text r) × IsSubtreeRequest r
 unfolding subtree_in
 subtree_only = whole_only subtree_text IsSubtreeRequest subtree_at subtree_form
 

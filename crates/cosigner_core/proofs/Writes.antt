@@ -6,9 +6,11 @@ use Rattle.tls_wire.specs.Spelling.{hashes}
 
 -- the last of them is the spelling of hashes
 pub four_pieces : (o first second third last a b c : Text) (items proof : List Hash)
-    → o ≡ [] → first ≡ o ++ a → second ≡ first ++ b → third ≡ second ++ c → last ≡ third ++ hashes items → items ≡ proof
+    → o ≡ [] → first ≡ o ++ a → second ≡ first ++ b → third ≡ second ++ c
+    → last ≡ third ++ hashes items → items ≡ proof
     → last ≡ a ++ (b ++ (c ++ hashes proof))
-four_pieces o first second third last a b c items proof o_is first_is second_is third_is last_is items_is =
+four_pieces o first second third last a b c items proof o_is first_is second_is third_is
+    last_is items_is =
     last_is
     ∙ ap (λ x. third ++ hashes x) items_is
     ∙ ap (λ t. t ++ hashes proof) third_is
@@ -21,7 +23,8 @@ pub five_pieces : (o first second third fourth last a b c d : Text) (items proof
     → o ≡ [] → first ≡ o ++ a → second ≡ first ++ b → third ≡ second ++ c → fourth ≡ third ++ d
     → last ≡ fourth ++ hashes items → items ≡ proof
     → last ≡ a ++ (b ++ (c ++ (d ++ hashes proof)))
-five_pieces o first second third fourth last a b c d items proof o_is first_is second_is third_is fourth_is last_is items_is =
+five_pieces o first second third fourth last a b c d items proof o_is first_is second_is third_is
+    fourth_is last_is items_is =
     last_is
     ∙ ap (λ x. fourth ++ hashes x) items_is
     ∙ ap (λ t. t ++ hashes proof) fourth_is

@@ -5,11 +5,13 @@ use Rattle.byte_forms.specs.Types.{Hash, Text}
 use Rattle.byte_forms.specs.Places.{at, has_bytes}
 use Rattle.byte_forms.specs.Readings.{Reading, both_at, lifted_at, mapped_at, tested_at, ◌>>=◌}
 use Rattle.tls_wire.specs.declared.cursor.HashesError.{HashesError}
-use Rattle.tls_wire.specs.declared.cursor.HashesError.TheVariants.{HashLength as NoMultiple, Short as NotFitting}
+use Rattle.tls_wire.specs.declared.cursor.HashesError.TheVariants.{HashLength as NoMultiple}
+use Rattle.tls_wire.specs.declared.cursor.HashesError.TheVariants.{Short as NotFitting}
 use Rattle.tls_wire.specs.declared.cursor.Short.{Short as ShortForm}
 use Rattle.tls_wire.specs.Reading.{bytes_at, hashes_at, number_at, vector_at}
 use Rattle.cosigner_core.specs.declared.fault.FormError.{FormError}
-use Rattle.cosigner_core.specs.declared.fault.FormError.TheVariants.{EmptyId, HashLength, Short, Trailing}
+use Rattle.cosigner_core.specs.declared.fault.FormError.TheVariants.{EmptyId, HashLength, Short}
+use Rattle.cosigner_core.specs.declared.fault.FormError.TheVariants.{Trailing}
 use Rattle.cosigner_core.specs.Requests.{AdvanceParts, SubtreeParts}
 
 -- A form that doesn't fit, as a fault of the request.

@@ -1,19 +1,26 @@
 -- An element that is read is spelled so, and one that is spelled so is read again.
-use Rattle.std.proofs.Common.{◌≡◌, ◌≢◌, ℕ, ◌+◌, ◌-◌, ◌*◌, ◌/◌, ◌%◌, ◌^◌, ◌<◌, ◌≤◌, true, false, [], ◌∷◌, ◌++◌, length, take, drop, Result, Ok, Err, refl, sym, ap, subst, ◌∙◌, append_assoc, arith, inl, inr, eq-eqb, ne_eqb, eqb-true, le-ltb, lt-ltb, ltb-true, ltb-false, true≢false, div-add-mod'}
+use Rattle.std.proofs.Common.{◌≡◌, ◌≢◌, ℕ, ◌+◌, ◌-◌, ◌*◌, ◌/◌, ◌%◌, ◌^◌, ◌<◌, ◌≤◌, true, false, []}
+use Rattle.std.proofs.Common.{◌∷◌, ◌++◌, length, take, drop, Result, Ok, Err, refl, sym, ap, subst}
+use Rattle.std.proofs.Common.{◌∙◌, append_assoc, arith, inl, inr, eq-eqb, ne_eqb, eqb-true, le-ltb}
+use Rattle.std.proofs.Common.{lt-ltb, ltb-true, ltb-false, true≢false, div-add-mod'}
 use Rattle.std.specs.Prelude.{if◌then◌else◌, ◌==◌, nat_lt}
 use Rattle.std.proofs.lemmas.Bool.{cases_lt}
 use Rattle.std.proofs.lemmas.Nat.{div-mul-add, mod-mul-add}
-use Rattle.std.proofs.lemmas.List.{take_at, drop_at, take-append-drop, length-append, length-take-le}
+use Rattle.std.proofs.lemmas.List.{take_at, drop_at, take-append-drop, length-append}
+use Rattle.std.proofs.lemmas.List.{length-take-le}
 use Rattle.byte_forms.specs.Types.{Text}
 use Rattle.byte_forms.specs.Places.{At, IsBytes, begins_with}
 use Rattle.byte_forms.specs.Readings.{◌>>=◌}
-use Rattle.byte_forms.proofs.Steps.{bind_ok, chosen, guard_ok, pass_ok, ok_is, IsBytes-rest, IsBytes-front, IsBytes-back}
+use Rattle.byte_forms.proofs.Steps.{bind_ok, chosen, guard_ok, pass_ok, ok_is, IsBytes-rest}
+use Rattle.byte_forms.proofs.Steps.{IsBytes-front, IsBytes-back}
 use Rattle.der_core.specs.Elements.{length_octets, element, IsTag, FitsElement}
 use Rattle.der_core.specs.Items.{Item}
-use Rattle.der_core.specs.Reading.{tag_at, one_at, two_at, three_at, length_at, behind_tag, element_at, wanted_at}
+use Rattle.der_core.specs.Reading.{tag_at, one_at, two_at, three_at, length_at, behind_tag}
+use Rattle.der_core.specs.Reading.{element_at, wanted_at}
 use Rattle.der_core.specs.Forms.{IsRead, element_item}
 use Rattle.der_core.specs.declared.fault.DerError.{DerError}
-use Rattle.der_core.specs.declared.fault.DerError.TheVariants.{Truncated, LongForm, HighTag, WrongTag}
+use Rattle.der_core.specs.declared.fault.DerError.TheVariants.{Truncated, LongForm, HighTag}
+use Rattle.der_core.specs.declared.fault.DerError.TheVariants.{WrongTag}
 
 -- ---- lengths
 
@@ -28,7 +35,8 @@ octets_two n le lt =
     let low : 128 ≤ n = omega arith in
     rw (le-ltb n 128 low, le-ltb n 256 le, lt-ltb n 65536 lt) refl
 
-octets_three : (n : ℕ) → 65536 ≤ n → length_octets n ≡ 131 ∷ n / 65536 ∷ n / 256 % 256 ∷ n % 256 ∷ []
+octets_three : (n : ℕ) → 65536 ≤ n → length_octets n
+    ≡ 131 ∷ n / 65536 ∷ n / 256 % 256 ∷ n % 256 ∷ []
 octets_three n le =
     let low : 128 ≤ n = omega arith in
     let some : 256 ≤ n = omega arith in
@@ -40,16 +48,23 @@ pub record IsLength (all : Text) (n : ℕ) (rest : Text) : Type 0 where
   pub short : n < 2 ^ 24
   pub bytes : IsBytes rest
 
-one_takes : (place : ℕ) (bytes : Text) (n : ℕ) (rest : Text) → IsBytes bytes → one_at place bytes ≡ Ok (n, rest) → IsLength (129 ∷ bytes) n rest
+one_takes : (place : ℕ) (bytes : Text) (n : ℕ) (rest : Text) → IsBytes bytes
+    → one_at place bytes ≡ Ok (n, rest) → IsLength (129 ∷ bytes) n rest
 one_takes place [] n rest h e = absurd cc
 one_takes place (a ∷ bytes) n rest h e =
     let g = guard_ok (nat_lt a 128) (LongForm place) (Ok (a, bytes)) (n, rest) e in
     let le : 128 ≤ a = ltb-false a 128 g.0 in
     let P : ℕ × Text → Type 0 = λ v. IsLength (129 ∷ a ∷ bytes) v.0 v.1 in
     subst P (ok_is DerError (a, bytes) (n, rest) g.1)
-    (record { parts = rw (octets_one a le (h 0)) refl; short = omega (arith, h 0); bytes = IsBytes-rest a bytes h })
+    (record {
+      parts = rw (octets_one a le (h 0)) refl;
+      short = omega (arith, h 0);
+      bytes =
+          IsBytes-rest a bytes h;
+    })
 
-two_takes : (place : ℕ) (bytes : Text) (n : ℕ) (rest : Text) → IsBytes bytes → two_at place bytes ≡ Ok (n, rest) → IsLength (130 ∷ bytes) n rest
+two_takes : (place : ℕ) (bytes : Text) (n : ℕ) (rest : Text) → IsBytes bytes
+    → two_at place bytes ≡ Ok (n, rest) → IsLength (130 ∷ bytes) n rest
 two_takes place [] n rest h e = absurd cc
 two_takes place (a ∷ []) n rest h e = absurd cc
 two_takes place (a ∷ b ∷ bytes) n rest h e =
@@ -60,9 +75,15 @@ two_takes place (a ∷ b ∷ bytes) n rest h e =
     let octets = octets_two (a * 256 + b) (omega arith) (omega arith) in
     let P : ℕ × Text → Type 0 = λ v. IsLength (130 ∷ a ∷ b ∷ bytes) v.0 v.1 in
     subst P (ok_is DerError (a * 256 + b, bytes) (n, rest) g.1)
-    (record { parts = rw (octets, div-mul-add a 256 b low, mod-mul-add a 256 b low) refl; short = omega arith; bytes = IsBytes-rest b bytes (IsBytes-rest a (b ∷ bytes) h) })
+    (record {
+      parts = rw (octets, div-mul-add a 256 b low, mod-mul-add a 256 b low) refl;
+      short =
+          omega arith;
+      bytes = IsBytes-rest b bytes (IsBytes-rest a (b ∷ bytes) h);
+    })
 
-three_takes : (place : ℕ) (bytes : Text) (n : ℕ) (rest : Text) → IsBytes bytes → three_at place bytes ≡ Ok (n, rest) → IsLength (131 ∷ bytes) n rest
+three_takes : (place : ℕ) (bytes : Text) (n : ℕ) (rest : Text) → IsBytes bytes
+    → three_at place bytes ≡ Ok (n, rest) → IsLength (131 ∷ bytes) n rest
 three_takes place [] n rest h e = absurd cc
 three_takes place (a ∷ []) n rest h e = absurd cc
 three_takes place (a ∷ b ∷ []) n rest h e = absurd cc
@@ -79,9 +100,15 @@ three_takes place (a ∷ b ∷ c ∷ bytes) n rest h e =
     let third : k % 256 ≡ c = omega arith in
     let P : ℕ × Text → Type 0 = λ v. IsLength (131 ∷ a ∷ b ∷ c ∷ bytes) v.0 v.1 in
     subst P (ok_is DerError (k, bytes) (n, rest) g.1)
-    (record { parts = rw (octets, first, second, third) refl; short = omega arith; bytes = IsBytes-rest c bytes (IsBytes-rest b (c ∷ bytes) (IsBytes-rest a (b ∷ c ∷ bytes) h)) })
+    (record {
+      parts = rw (octets, first, second, third) refl;
+      short = omega arith;
+      bytes =
+          IsBytes-rest c bytes (IsBytes-rest b (c ∷ bytes) (IsBytes-rest a (b ∷ c ∷ bytes) h));
+    })
 
-pub length_takes : (place : ℕ) (bytes : Text) (n : ℕ) (rest : Text) → IsBytes bytes → length_at place bytes ≡ Ok (n, rest) → IsLength bytes n rest
+pub length_takes : (place : ℕ) (bytes : Text) (n : ℕ) (rest : Text) → IsBytes bytes
+    → length_at place bytes ≡ Ok (n, rest) → IsLength bytes n rest
 length_takes place [] n rest h e = absurd cc
 length_takes place (first ∷ bytes) n rest h e =
     let others = IsBytes-rest first bytes h in
@@ -93,7 +120,12 @@ length_takes place (first ∷ bytes) n rest h e =
     elim (chosen (nat_lt first 128) (Ok (first, bytes)) from1 (Ok (n, rest)) e) [
       | inl c ↦
           let lt = ltb-true first 128 c.0 in
-          subst P (ok_is DerError (first, bytes) (n, rest) c.1) (record { parts = rw (octets_small first lt) refl; short = omega arith; bytes = others })
+          subst P (ok_is DerError (first, bytes) (n, rest) c.1) (record {
+            parts =
+                rw (octets_small first lt) refl;
+            short = omega arith;
+            bytes = others;
+          })
       | inr c ↦
           elim (chosen (first == 129) (one_at place bytes) from2 (Ok (n, rest)) c.1) [
             | inl d ↦ rw (eqb-true first 129 d.0) (one_takes place bytes n rest others d.1)
@@ -101,13 +133,17 @@ length_takes place (first ∷ bytes) n rest h e =
                 elim (chosen (first == 130) (two_at place bytes) from3 (Ok (n, rest)) d.1) [
                   | inl f ↦ rw (eqb-true first 130 f.0) (two_takes place bytes n rest others f.1)
                   | inr f ↦
-                      let g = pass_ok (first == 131) (three_at place bytes) (LongForm place) (n, rest) f.1 in
+                      let g = pass_ok (first == 131) (three_at place bytes) (LongForm place) (
+                        n,
+                        rest,
+                      ) f.1 in
                       rw (eqb-true first 131 g.0) (three_takes place bytes n rest others g.1)
                 ]
           ]
     ]
 
-pub length_again : (place n : ℕ) (rest : Text) → n < 2 ^ 24 → length_at place (length_octets n ++ rest) ≡ Ok (n, rest)
+pub length_again : (place n : ℕ) (rest : Text) → n < 2 ^ 24
+    → length_at place (length_octets n ++ rest) ≡ Ok (n, rest)
 length_again place n rest short =
     elim (cases_lt n 128) [
       | inl lt ↦ rw (octets_small n lt, lt-ltb n 128 lt) refl
@@ -121,7 +157,8 @@ length_again place n rest short =
                       rw (octets_two n more lt, ne_eqb (n / 256) 0 some, div-add-mod' n 256) refl
                   | inr most ↦
                       let some : n / 65536 ≢ 0 = omega arith in
-                      let whole : n / 65536 * 65536 + (n / 256 % 256 * 256 + n % 256) ≡ n = omega arith in
+                      let whole : n / 65536 * 65536 + (n / 256 % 256 * 256 + n % 256) ≡ n =
+                      omega arith in
                       rw (octets_three n most, ne_eqb (n / 65536) 0 some, whole) refl
                 ]
           ]
@@ -132,16 +169,26 @@ length_again place n rest short =
 -- The answer that an element gives, by its parts.
 abbrev element_read : ℕ → ℕ → ℕ → Text → Text → Text → Result (Item × At) DerError
 element_read place tag size whole contents rest =
-    Ok (record { tag = tag; place = place; whole = whole; contents = contents }, record { place = place + size; rest = rest })
+    Ok (
+      record { tag = tag; place = place; whole = whole; contents = contents },
+      record {
+        place =
+            place + size;
+        rest = rest;
+      },
+    )
 
 made : (place tag : ℕ) (s s' : ℕ) (w w' c c' r r' : Text) → s ≡ s' → w ≡ w' → c ≡ c' → r ≡ r'
     → element_read place tag s w c r ≡ element_read place tag s' w' c' r'
 made place tag s s' w w' c c' r r' p q u v = cc
 
 -- An element behind its tag, whatever spells its length.
-cut_out : (place tag k : ℕ) (octets contents rest : Text) → length contents ≡ k → length_at place (octets ++ (contents ++ rest)) ≡ Ok (k, contents ++ rest)
-    → behind_tag (record { place = place; rest = tag ∷ (octets ++ contents) ++ rest }) tag (octets ++ (contents ++ rest))
-    ≡ element_read place tag (length (tag ∷ (octets ++ contents))) (tag ∷ (octets ++ contents)) contents rest
+cut_out : (place tag k : ℕ) (octets contents rest : Text) → length contents ≡ k
+    → length_at place (octets ++ (contents ++ rest)) ≡ Ok (k, contents ++ rest)
+    → behind_tag (record { place = place; rest = tag ∷ (octets ++ contents) ++ rest }) tag (octets
+    ++ (contents ++ rest))
+    ≡ element_read place tag (length (tag ∷ (octets ++ contents))) (tag ∷ (octets ++ contents))
+    contents rest
 unfolding behind_tag
 cut_out place tag k octets contents rest count len =
     let text : Text = tag ∷ (octets ++ contents) in
@@ -157,53 +204,109 @@ cut_out place tag k octets contents rest count len =
     (ap (λ (n : ℕ). drop n all) size ∙ drop_at text rest (length text) refl))
 
 behind_again : (place tag : ℕ) (contents rest : Text) → length contents < 2 ^ 24
-    → behind_tag (record { place = place; rest = element tag contents ++ rest }) tag (length_octets (length contents) ++ (contents ++ rest))
-    ≡ Ok (element_item tag contents place, record { place = place + length (element tag contents); rest = rest })
+    → behind_tag (record { place = place; rest = element tag contents ++ rest }) tag
+    (length_octets (length contents) ++ (contents ++ rest))
+    ≡ Ok (
+      element_item tag contents place,
+      record {
+        place =
+            place + length (element tag contents);
+        rest = rest;
+      },
+    )
 unfolding element
 behind_again place tag contents rest short =
-    cut_out place tag (length contents) (length_octets (length contents)) contents rest refl (length_again place (length contents) (contents ++ rest) short)
+    cut_out place tag (length contents) (length_octets (length contents)) contents rest refl
+    (length_again place (length contents) (contents ++ rest) short)
 
-element_parts : (tag : ℕ) (contents rest : Text) → element tag contents ++ rest ≡ tag ∷ (length_octets (length contents) ++ (contents ++ rest))
+element_parts : (tag : ℕ) (contents rest : Text)
+    → element tag contents ++ rest ≡ tag ∷ (length_octets (length contents) ++ (contents ++ rest))
 unfolding element
-element_parts tag contents rest = ap (λ (t : Text). tag ∷ t) (append_assoc (length_octets (length contents)) contents rest)
+element_parts tag contents rest = ap (λ (t : Text). tag ∷ t)
+    (append_assoc (length_octets (length contents)) contents rest)
 
 -- What was read is the element that stands there.
-is_read : (a : At) (tag : ℕ) (contents rest : Text) (e : Item) (b : At) → IsBytes a.rest → FitsElement tag contents → a.rest ≡ element tag contents ++ rest
-    → element_read a.place tag (length (element tag contents)) (element tag contents) contents rest ≡ Ok (e, b)
+is_read : (a : At) (tag : ℕ) (contents rest : Text) (e : Item) (b : At) → IsBytes a.rest
+    → FitsElement tag contents → a.rest ≡ element tag contents ++ rest
+    → element_read a.place tag (length (element tag contents)) (element tag contents) contents rest
+    ≡ Ok (e, b)
     → IsRead a e b × (e.tag ≡ tag)
 is_read a tag contents rest e b h fits parts same =
     let P : Item × At → Type 0 = λ v. IsRead a v.0 v.1 × (v.0.tag ≡ tag) in
-    let others : IsBytes (contents ++ rest) = IsBytes-back (length_octets (length contents)) (contents ++ rest) (IsBytes-rest tag _ (subst IsBytes (parts ∙ element_parts tag contents rest) h)) in
+    let others : IsBytes (contents ++ rest) =
+    IsBytes-back (length_octets (length contents)) (contents ++ rest)
+    (IsBytes-rest tag _ (subst IsBytes (parts ∙ element_parts tag contents rest) h)) in
     let behind : IsBytes rest = IsBytes-back contents rest others in
-    subst P (ok_is DerError (element_item tag contents a.place, record { place = a.place + length (element tag contents); rest = rest }) (e, b) same)
-    (record { stands = record { parts = parts; place = refl; bytes = behind }; fits = fits; whole = refl; place = refl; bytes = IsBytes-front contents rest others }, refl)
+    subst P (ok_is DerError (
+      element_item tag contents a.place,
+      record {
+        place =
+            a.place + length (element tag contents);
+        rest = rest;
+      },
+    ) (e, b) same) (
+      record {
+        stands = record { parts = parts; place = refl; bytes = behind };
+        fits = fits;
+        whole =
+            refl;
+        place = refl;
+        bytes = IsBytes-front contents rest others;
+      },
+      refl,
+    )
 
 -- The bytes of an element behind its tag, cut out of what is left.
-behind_takes : (a : At) (tag : ℕ) (rest : Text) (e : Item) (b : At) → a.rest ≡ tag ∷ rest → IsBytes a.rest → IsTag tag → behind_tag a tag rest ≡ Ok (e, b)
+behind_takes : (a : At) (tag : ℕ) (rest : Text) (e : Item) (b : At) → a.rest ≡ tag ∷ rest
+    → IsBytes a.rest → IsTag tag → behind_tag a tag rest ≡ Ok (e, b)
     → IsRead a e b × (e.tag ≡ tag)
 unfolding behind_tag
 behind_takes a tag rest e b cut h is_tag read =
     let s = bind_ok (length_at a.place rest)
-    (λ (n : ℕ × Text). if nat_lt (length n.1) n.0 then Err (Truncated a.place) else element_read a.place tag (length a.rest - (length n.1 - n.0)) (take (length a.rest - (length n.1 - n.0)) a.rest) (take n.0 n.1) (drop (length a.rest - (length n.1 - n.0)) a.rest))
+    (λ (n : ℕ × Text). if nat_lt (length n.1) n.0 then Err (Truncated a.place)
+    else element_read a.place tag (length a.rest - (length n.1 - n.0))
+    (take (length a.rest - (length n.1 - n.0)) a.rest) (take n.0 n.1)
+    (drop (length a.rest - (length n.1 - n.0)) a.rest))
     (e, b) read in
     let n : ℕ = s.0.0 in
     let others : Text = s.0.1 in
-    let len = length_takes a.place rest n others (IsBytes-rest tag rest (subst IsBytes cut h)) s.1 in
-    let g = guard_ok (nat_lt (length others) n) (Truncated a.place) (element_read a.place tag (length a.rest - (length others - n)) (take (length a.rest - (length others - n)) a.rest) (take n others) (drop (length a.rest - (length others - n)) a.rest)) (e, b) s.2 in
+    let len = length_takes a.place rest n others (IsBytes-rest tag rest (subst IsBytes cut h))
+    s.1 in
+    let g = guard_ok (nat_lt (length others) n) (Truncated a.place)
+    (element_read a.place tag (length a.rest - (length others - n))
+    (take (length a.rest - (length others - n)) a.rest) (take n others)
+    (drop (length a.rest - (length others - n)) a.rest)) (e, b) s.2 in
     let le : n ≤ length others = ltb-false (length others) n g.0 in
     let contents : Text = take n others in
     let behind : Text = drop n others in
     let count : length contents ≡ n = length-take-le n others le in
-    let spelled : length_octets n ++ others ≡ length_octets (length contents) ++ (contents ++ behind) = rw (count, take-append-drop n others) refl in
-    let rest_is : rest ≡ length_octets (length contents) ++ (contents ++ behind) = len.parts ∙ spelled in
-    let parts : a.rest ≡ element tag contents ++ behind = cut ∙ (ap (λ (t : Text). tag ∷ t) rest_is ∙ sym (element_parts tag contents behind)) in
+    let spelled : length_octets n ++ others ≡ length_octets (length contents)
+    ++ (contents ++ behind) = rw (count, take-append-drop n others) refl in
+    let rest_is : rest ≡ length_octets (length contents) ++ (contents ++ behind) = len.parts
+    ∙ spelled in
+    let parts : a.rest ≡ element tag contents ++ behind = cut ∙ (ap (λ (t : Text). tag ∷ t) rest_is
+    ∙ sym (element_parts tag contents behind)) in
     let short : length contents < 2 ^ 24 = omega (arith, len.short) in
-    let moved : behind_tag a tag rest ≡ behind_tag (record { place = a.place; rest = element tag contents ++ behind }) tag (length_octets (length contents) ++ (contents ++ behind)) =
+    let moved : behind_tag a tag rest ≡ behind_tag (record {
+      place = a.place;
+      rest =
+          element tag contents ++ behind;
+    }) tag (length_octets (length contents)
+    ++ (contents ++ behind)) =
     ap (λ (t : Text). behind_tag (record { place = a.place; rest = t }) tag rest) parts
-    ∙ ap (λ (t : Text). behind_tag (record { place = a.place; rest = element tag contents ++ behind }) tag t) rest_is in
-    is_read a tag contents behind e b h (record { is_tag = is_tag; short = short }) parts (sym (behind_again a.place tag contents behind short) ∙ (sym moved ∙ read))
+    ∙ ap (λ (t : Text). behind_tag (record {
+      place = a.place;
+      rest =
+          element tag contents ++ behind;
+    }) tag t) rest_is in
+    is_read a tag contents behind e b h (record {
+      is_tag = is_tag;
+      short =
+          short;
+    }) parts (sym (behind_again a.place tag contents behind short) ∙ (sym moved ∙ read))
 
-tag_takes : (place : ℕ) (bytes : Text) (tag : ℕ) (rest : Text) → IsBytes bytes → tag_at place bytes ≡ Ok (tag, rest) → (bytes ≡ tag ∷ rest) × IsTag tag
+tag_takes : (place : ℕ) (bytes : Text) (tag : ℕ) (rest : Text) → IsBytes bytes
+    → tag_at place bytes ≡ Ok (tag, rest) → (bytes ≡ tag ∷ rest) × IsTag tag
 tag_takes place [] tag rest h e = absurd cc
 tag_takes place (t ∷ bytes) tag rest h e =
     let g = guard_ok (t % 32 == 31) (HighTag place) (Ok (t, bytes)) (tag, rest) e in
@@ -214,46 +317,74 @@ tag_takes place (t ∷ bytes) tag rest h e =
 tag_again : (place tag : ℕ) (rest : Text) → IsTag tag → tag_at place (tag ∷ rest) ≡ Ok (tag, rest)
 tag_again place tag rest is_tag = rw (ne_eqb (tag % 32) 31 is_tag.low) refl
 
-pub element_takes : (a : At) (e : Item) (b : At) → IsBytes a.rest → element_at a ≡ Ok (e, b) → IsRead a e b
+pub element_takes : (a : At) (e : Item) (b : At) → IsBytes a.rest → element_at a ≡ Ok (e, b)
+    → IsRead a e b
 unfolding element_at
 element_takes a e b h read =
     let s = bind_ok (tag_at a.place a.rest) (λ (t : ℕ × Text). behind_tag a t.0 t.1) (e, b) read in
     let t = tag_takes a.place a.rest s.0.0 s.0.1 h s.1 in
     (behind_takes a s.0.0 s.0.1 e b t.0 h t.1 s.2).0
 
-pub wanted_takes : (wanted : ℕ) (a : At) (e : Item) (b : At) → IsBytes a.rest → wanted_at wanted a ≡ Ok (e, b) → IsRead a e b × (e.tag ≡ wanted)
+pub wanted_takes : (wanted : ℕ) (a : At) (e : Item) (b : At) → IsBytes a.rest
+    → wanted_at wanted a ≡ Ok (e, b) → IsRead a e b × (e.tag ≡ wanted)
 unfolding wanted_at
 wanted_takes wanted a e b h read =
-    let s = bind_ok (tag_at a.place a.rest) (λ (t : ℕ × Text). if t.0 == wanted then behind_tag a t.0 t.1 else Err (WrongTag a.place)) (e, b) read in
+    let s = bind_ok (tag_at a.place a.rest) (λ (t : ℕ × Text). if t.0 == wanted
+    then behind_tag a t.0 t.1 else Err (WrongTag a.place)) (e, b) read in
     let t = tag_takes a.place a.rest s.0.0 s.0.1 h s.1 in
     let g = pass_ok (s.0.0 == wanted) (behind_tag a s.0.0 s.0.1) (WrongTag a.place) (e, b) s.2 in
     let found = behind_takes a s.0.0 s.0.1 e b t.0 h t.1 g.1 in
     (found.0, found.1 ∙ eqb-true s.0.0 wanted g.0)
 
 pub element_again : (tag : ℕ) (contents : Text) (place : ℕ) (rest : Text) → FitsElement tag contents
-    → element_at (record { place = place; rest = element tag contents ++ rest }) ≡ Ok (element_item tag contents place, record { place = place + length (element tag contents); rest = rest })
+    → element_at (record { place = place; rest = element tag contents ++ rest })
+    ≡ Ok (
+      element_item tag contents place,
+      record {
+        place =
+            place + length (element tag contents);
+        rest = rest;
+      },
+    )
 unfolding element_at
 element_again tag contents place rest fits =
     let a : At = record { place = place; rest = element tag contents ++ rest } in
     let behind : Text = length_octets (length contents) ++ (contents ++ rest) in
-    let tagged : tag_at place (element tag contents ++ rest) ≡ Ok (tag, behind) = ap (tag_at place) (element_parts tag contents rest) ∙ tag_again place tag behind fits.is_tag in
-    ap (λ (r : Result (ℕ × Text) DerError). r >>= λ t. behind_tag a t.0 t.1) tagged ∙ behind_again place tag contents rest fits.short
+    let tagged : tag_at place (element tag contents ++ rest) ≡ Ok (tag, behind) =
+    ap (tag_at place) (element_parts tag contents rest)
+    ∙ tag_again place tag behind fits.is_tag in
+    ap (λ (r : Result (ℕ × Text) DerError). r >>= λ t. behind_tag a t.0 t.1) tagged
+    ∙ behind_again place tag contents rest fits.short
 
 pub wanted_again : (tag : ℕ) (contents : Text) (place : ℕ) (rest : Text) → FitsElement tag contents
-    → wanted_at tag (record { place = place; rest = element tag contents ++ rest }) ≡ Ok (element_item tag contents place, record { place = place + length (element tag contents); rest = rest })
+    → wanted_at tag (record { place = place; rest = element tag contents ++ rest })
+    ≡ Ok (
+      element_item tag contents place,
+      record {
+        place =
+            place + length (element tag contents);
+        rest = rest;
+      },
+    )
 unfolding wanted_at
 wanted_again tag contents place rest fits =
     let a : At = record { place = place; rest = element tag contents ++ rest } in
     let behind : Text = length_octets (length contents) ++ (contents ++ rest) in
-    let tagged : tag_at place (element tag contents ++ rest) ≡ Ok (tag, behind) = ap (tag_at place) (element_parts tag contents rest) ∙ tag_again place tag behind fits.is_tag in
-    let Wanted : Result (ℕ × Text) DerError → Result (Item × At) DerError = λ r. r >>= λ t. if t.0 == tag then behind_tag a t.0 t.1 else Err (WrongTag place) in
+    let tagged : tag_at place (element tag contents ++ rest) ≡ Ok (tag, behind) =
+    ap (tag_at place) (element_parts tag contents rest)
+    ∙ tag_again place tag behind fits.is_tag in
+    let Wanted : Result (ℕ × Text) DerError → Result (Item × At) DerError =
+    λ r. r >>= λ t. if t.0 == tag then behind_tag a t.0 t.1 else Err (WrongTag place) in
     let same : (tag == tag) ≡ true = eq-eqb tag tag refl in
     ap Wanted tagged ∙ (rw same refl ∙ behind_again place tag contents rest fits.short)
 
 -- An element has more bytes than its contents, and at most five more.
 pub element-longer : (tag : ℕ) (contents : Text) → length contents < length (element tag contents)
 unfolding element
-element-longer tag contents = omega (arith, length-append (length_octets (length contents)) contents)
+element-longer tag contents = omega (
+  arith,
+  length-append (length_octets (length contents)) contents,
+)
 
 octets-short : (n : ℕ) → length (length_octets n) ≤ 4
 octets-short n =
@@ -270,19 +401,37 @@ octets-short n =
           ]
     ]
 
-pub element-short : (tag : ℕ) (contents : Text) → length (element tag contents) ≤ length contents + 5
+pub element-short : (tag : ℕ) (contents : Text)
+    → length (element tag contents) ≤ length contents + 5
 unfolding element
-element-short tag contents = omega (arith, length-append (length_octets (length contents)) contents, octets-short (length contents))
+element-short tag contents = omega (
+  arith,
+  length-append (length_octets (length contents)) contents,
+  octets-short (length contents),
+)
 
-pub begins_with-element : (tag : ℕ) (contents rest : Text) → begins_with tag (element tag contents ++ rest) ≡ true
+pub begins_with-element : (tag : ℕ) (contents rest : Text)
+    → begins_with tag (element tag contents ++ rest) ≡ true
 unfolding element
 begins_with-element tag contents rest = eq-eqb tag tag refl
 
 -- No spelling of an element begins another one.
-pub one_element : (s t : ℕ) (c d a b : Text) → FitsElement s c → FitsElement t d → element s c ++ a ≡ element t d ++ b → (s ≡ t) × (c ≡ d) × (a ≡ b)
+pub one_element : (s t : ℕ) (c d a b : Text) → FitsElement s c → FitsElement t d
+    → element s c ++ a ≡ element t d ++ b → (s ≡ t) × (c ≡ d) × (a ≡ b)
 one_element s t c d a b fits fits' same =
     let one = element_again s c 0 a fits in
     let two = element_again t d 0 b fits' in
     let moved = ap (λ (u : Text). element_at (record { place = 0; rest = u })) same in
-    let pair = ok_is DerError (element_item s c 0, record { place = 0 + length (element s c); rest = a }) (element_item t d 0, record { place = 0 + length (element t d); rest = b }) (sym one ∙ (moved ∙ two)) in
-    (ap (λ (v : Item × At). v.0.tag) pair, ap (λ (v : Item × At). v.0.contents) pair, ap (λ (v : Item × At). v.1.rest) pair)
+    let pair = ok_is DerError (
+      element_item s c 0,
+      record {
+        place = 0 + length (element s c);
+        rest =
+            a;
+      },
+    ) (element_item t d 0, record { place = 0 + length (element t d); rest = b }) (sym one
+    ∙ (moved ∙ two)) in (
+      ap (λ (v : Item × At). v.0.tag) pair,
+      ap (λ (v : Item × At). v.0.contents) pair,
+      ap (λ (v : Item × At). v.1.rest) pair,
+    )

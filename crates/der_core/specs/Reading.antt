@@ -1,11 +1,13 @@
 -- Reading one element, with its faults in their order.
-use Rattle.std.specs.Prelude.{ℕ, ◌+◌, ◌-◌, ◌*◌, ◌%◌, nat_lt, ◌==◌, [], ◌∷◌, length, take, Result, Ok, Err, if◌then◌else◌}
+use Rattle.std.specs.Prelude.{ℕ, ◌+◌, ◌-◌, ◌*◌, ◌%◌, nat_lt, ◌==◌, [], ◌∷◌, length, take, Result}
+use Rattle.std.specs.Prelude.{Ok, Err, if◌then◌else◌}
 use Rattle.byte_forms.specs.Types.{Text}
 use Rattle.byte_forms.specs.Places.{At, after}
 use Rattle.byte_forms.specs.Readings.{Reading, ◌>>=◌}
 use Rattle.der_core.specs.Items.{Item}
 use Rattle.der_core.specs.declared.fault.DerError.{DerError}
-use Rattle.der_core.specs.declared.fault.DerError.TheVariants.{WrongTag, HighTag, LongForm, Truncated, Trailing}
+use Rattle.der_core.specs.declared.fault.DerError.TheVariants.{WrongTag, HighTag, LongForm}
+use Rattle.der_core.specs.declared.fault.DerError.TheVariants.{Truncated, Trailing}
 
 -- The tag. A tag that is missing is another tag; one that goes on in further bytes is high.
 abbrev pub tag_at : ℕ → Text → Result (ℕ × Text) DerError

@@ -6,7 +6,8 @@ use Rattle.disk_core.specs.declared.disk.Disk.{Ghosts}
 
 module _ {D : Type 0} (g : Ghosts D) where
   -- no call yet
-  pub started : (now : D) (P : List ℕ → Type 0) → ((c : List ℕ) → g.left_since now (g.moment now) c → g.may_leave now c)
+  pub started : (now : D) (P : List ℕ → Type 0) → ((c : List ℕ) → g.left_since now (g.moment now) c
+      → g.may_leave now c)
       → ((c : List ℕ) → g.may_leave now c → P c) → LeavesOnly g now now P
   started now P only_now now_is = record {
     later = omega arith;
@@ -16,50 +17,70 @@ module _ {D : Type 0} (g : Ghosts D) where
 
   -- one call more
   pub goes_on : (old mid new : D) (P : List ℕ → Type 0) → LeavesOnly g old mid P
-      → Elapses (g.moment mid) (g.moment new) (g.left_since mid) (g.left_since new) (g.may_leave new)
+      → Elapses (g.moment mid) (g.moment new) (g.left_since mid) (g.left_since new)
+      (g.may_leave new)
       → ((c : List ℕ) → g.may_leave new c → P c) → LeavesOnly g old new P
   goes_on old mid new P run call now_is =
-      let past_or_now : (t : ℕ) (c : List ℕ) → t ≤ g.moment old → g.left_since new t c → g.left_since mid t c ⊎ g.may_leave new c
+      let past_or_now : (t : ℕ) (c : List ℕ) → t ≤ g.moment old → g.left_since new t c
+      → g.left_since mid t c ⊎ g.may_leave new c
       = λ t c le since. call.nothing_else t c (let a = run.later in omega arith) since in
       record {
         later = let a = run.later in let b = call.later in omega arith;
-        each = λ c since. elim (past_or_now (g.moment old) c (omega arith) since) [ inl past ↦ run.each c past | inr now ↦ now_is c now ];
-        before = λ t c le since. elim (past_or_now t c le since) [ inl past ↦ run.before t c le past | inr now ↦ inr (now_is c now) ];
+        each = λ c since. elim (past_or_now (g.moment old) c (omega arith) since)
+            [ inl past ↦ run.each c past | inr now ↦ now_is c now ];
+        before = λ t c le since. elim (past_or_now t c le since) [
+          | inl past ↦ run.before t c le past
+          | inr now ↦ inr (now_is c now)
+        ];
       }
 
   -- one run behind another
-  pub joined : (old mid new : D) (P : List ℕ → Type 0) → LeavesOnly g old mid P → LeavesOnly g mid new P → LeavesOnly g old new P
+  pub joined : (old mid new : D) (P : List ℕ → Type 0) → LeavesOnly g old mid P
+      → LeavesOnly g mid new P → LeavesOnly g old new P
   joined old mid new P first second = record {
     later = let a = first.later in let b = second.later in omega arith;
-    each = λ c since. elim (second.before (g.moment old) c first.later since) [ inl past ↦ first.each c past | inr is ↦ is ];
-    before = λ t c le since. elim (second.before t c (let a = first.later in omega arith) since) [ inl past ↦ first.before t c le past | inr is ↦ inr is ];
+    each = λ c since. elim (second.before (g.moment old) c first.later since)
+        [ inl past ↦ first.each c past | inr is ↦ is ];
+    before = λ t c le since. elim (second.before t c (let a =
+        first.later in omega arith) since) [
+          | inl past ↦ first.before t c le past
+          | inr is ↦ inr is
+        ];
   }
 
   -- what has P has Q
-  pub weaker : (old new : D) (P Q : List ℕ → Type 0) → ((c : List ℕ) → P c → Q c) → LeavesOnly g old new P → LeavesOnly g old new Q
+  pub weaker : (old new : D) (P Q : List ℕ → Type 0) → ((c : List ℕ) → P c → Q c)
+      → LeavesOnly g old new P → LeavesOnly g old new Q
   weaker old new P Q is run = record {
     later = run.later;
     each = λ c since. is c (run.each c since);
-    before = λ t c le since. elim (run.before t c le since) [ inl past ↦ inl past | inr p ↦ inr (is c p) ];
+    before = λ t c le since. elim (run.before t c le since) [
+      | inl past ↦ inl past
+      | inr p ↦ inr (is c p)
+    ];
   }
 
   -- what a crash leaves now, it leaves at a moment of the run
-  pub left_now : (old new : D) (P : List ℕ → Type 0) → ((t : ℕ) (c : List ℕ) → t ≤ g.moment new → g.may_leave new c → g.left_since new t c)
+  pub left_now : (old new : D) (P : List ℕ → Type 0) → ((t : ℕ) (c : List ℕ) → t ≤ g.moment new
+      → g.may_leave new c → g.left_since new t c)
       → LeavesOnly g old new P → (c : List ℕ) → g.may_leave new c → P c
-  left_now old new P counts_now run = λ c left. run.each c (counts_now (g.moment old) c run.later left)
+  left_now old new P counts_now run =
+      λ c left. run.each c (counts_now (g.moment old) c run.later left)
 
   -- a look behind another
   pub looked_on : (old mid new : D) → Looks g old mid → Looks g mid new → Looks g old new
   looked_on old mid new first second = record {
     told = second.told ∙ first.told;
     crash = λ c left. first.crash c (second.crash c left);
-    moments = joined old mid new (g.may_leave old) first.moments (weaker mid new (g.may_leave mid) (g.may_leave old) first.crash second.moments);
+    moments = joined old mid new (g.may_leave old) first.moments (weaker mid new (g.may_leave mid)
+        (g.may_leave old) first.crash second.moments);
     known = let a = first.known in let b = second.known in omega arith;
     faults = let a = first.faults in let b = second.faults in omega arith;
   }
 
   -- no look
-  pub no_look : (now : D) → ((c : List ℕ) → g.left_since now (g.moment now) c → g.may_leave now c) → Looks g now now
+  pub no_look : (now : D) → ((c : List ℕ) → g.left_since now (g.moment now) c → g.may_leave now c)
+      → Looks g now now
   no_look now only_now = record {
     told = refl;
     crash = λ c left. left;

@@ -1,35 +1,51 @@
 -- One call more in the replay of a disk in memory.
-use Rattle.std.proofs.Common.{◌≡◌, inl, inr, ℕ, ◌+◌, ◌<◌, ◌≤◌, Bool, true, false, if◌then◌else◌, ◌∙◌, List, [], ◌∷◌, ◌++◌, length, take, get_or, refl, ap, sym, subst, arith}
+use Rattle.std.proofs.Common.{◌≡◌, inl, inr, ℕ, ◌+◌, ◌<◌, ◌≤◌, Bool, true, false, if◌then◌else◌}
+use Rattle.std.proofs.Common.{◌∙◌, List, [], ◌∷◌, ◌++◌, length, take, get_or, refl, ap, sym, subst}
+use Rattle.std.proofs.Common.{arith}
 use Rattle.std.proofs.lemmas.List.{take_all, take_more, take-append-le, length_push}
 use Rattle.std.proofs.lemmas.Bool.{cases_lt}
 use Rattle.disk_core.specs.Disk.{overwritten, Torn, Follows, NoNew, Only, Elapses}
 use Rattle.disk_core.specs.Writes.{torn_none}
-use Rattle.disk_core.specs.Replay.{State, settled, step, run, state_now, state_at, IsImage, LeftSince}
+use Rattle.disk_core.specs.Replay.{State, settled, step, run, state_now, state_at, IsImage}
+use Rattle.disk_core.specs.Replay.{LeftSince}
 use Rattle.disk_core.specs.declared.memory.call.Call.TheVariants.{Write, Sync}
 use Rattle.disk_core.specs.declared.memory.call.Made.{Made}
 
-run-append : (s : State) (calls : List Made) (made : Made) → run s (calls ++ made ∷ []) ≡ step (run s calls) made
+run-append : (s : State) (calls : List Made) (made : Made)
+    → run s (calls ++ made ∷ []) ≡ step (run s calls) made
 run-append s [] made = refl
 run-append s (first ∷ calls) made = run-append (step s first) calls made
 
 -- the state behind one call more
-pub state_pushed : (first : List ℕ) (calls next : List Made) (made : Made) → next ≡ calls ++ made ∷ []
+pub state_pushed : (first : List ℕ) (calls next : List Made) (made : Made)
+    → next ≡ calls ++ made ∷ []
     → state_now first next ≡ step (state_now first calls) made
 state_pushed first calls next made is = rw is (run-append (settled first) calls made)
 
 -- the moments behind one call more
-pub time_pushed : (first : List ℕ) (calls next : List Made) (made : Made) → next ≡ calls ++ made ∷ []
-    → Elapses (length calls) (length next) (LeftSince first calls) (LeftSince first next) (IsImage (state_now first next))
+pub time_pushed : (first : List ℕ) (calls next : List Made) (made : Made)
+    → next ≡ calls ++ made ∷ []
+    → Elapses (length calls) (length next) (LeftSince first calls) (LeftSince first next)
+    (IsImage (state_now first next))
 time_pushed first calls next made is =
     let longer : length next ≡ length calls + 1 = rw is (length_push calls made) in
-    let front : (count : ℕ) → count ≤ length calls → state_at first next count ≡ state_at first calls count
-    = λ count le. subst (λ (n : List Made). state_at first n count ≡ state_at first calls count) (sym is)
-    (ap (λ (kept : List Made). run (settled first) kept) (take-append-le count calls (made ∷ []) le)) in
+    let front : (count : ℕ) → count ≤ length calls
+    → state_at first next count ≡ state_at first calls count
+    = λ count le. subst (λ (n : List Made). state_at first n count
+    ≡ state_at first calls count) (sym is)
+    (ap (λ (kept : List Made). run (settled first) kept)
+    (take-append-le count calls (made ∷ []) le)) in
     record {
       later = omega arith;
       nothing_else = λ t c le since. elim (cases_lt (length calls) since.0) [
-        | inl past ↦ inr (subst (λ (kept : List Made). IsImage (run (settled first) kept) c) (take_all since.0 next (let l = since.2 in omega arith)) since.3)
-        | inr within ↦ inl (since.0, since.1, within, subst (λ (s : State). IsImage s c) (front since.0 within) since.3)
+        | inl past ↦ inr (subst (λ (kept : List Made). IsImage (run (settled first) kept) c)
+            (take_all since.0 next (let l = since.2 in omega arith)) since.3)
+        | inr within ↦ inl (
+          since.0,
+          since.1,
+          within,
+          subst (λ (s : State). IsImage s c) (front since.0 within) since.3,
+        )
       ];
       keeps = λ t c le since. (
         since.0,
@@ -41,49 +57,86 @@ time_pushed first calls next made is =
 
 -- no call more
 pub time_same : (first : List ℕ) (calls next : List Made) → next ≡ calls
-    → Elapses (length calls) (length next) (LeftSince first calls) (LeftSince first next) (IsImage (state_now first next))
-time_same first calls next is = rw is (record { later = omega arith; nothing_else = λ t c le since. inl since; keeps = λ t c le since. since })
+    → Elapses (length calls) (length next) (LeftSince first calls) (LeftSince first next)
+    (IsImage (state_now first next))
+time_same first calls next is = rw is (record {
+  later = omega arith;
+  nothing_else =
+      λ t c le since. inl since;
+  keeps = λ t c le since. since;
+})
 
 -- Behind a call that leaves the state alone a crash leaves nothing new.
-pub quiet_pushed : (first : List ℕ) (calls next : List Made) (made : Made) → ((s : State) → step s made ≡ s) → next ≡ calls ++ made ∷ []
+pub quiet_pushed : (first : List ℕ) (calls next : List Made) (made : Made)
+    → ((s : State) → step s made ≡ s) → next ≡ calls ++ made ∷ []
     → NoNew (IsImage (state_now first calls)) (IsImage (state_now first next))
 quiet_pushed first calls next made quiet is =
-    λ c now. subst (λ (s : State). IsImage s c) (state_pushed first calls next made is ∙ quiet (state_now first calls)) now
+    λ c now. subst (λ (s : State). IsImage s c) (state_pushed first calls next made is
+    ∙ quiet (state_now first calls)) now
 
 -- Behind a write, done or refused, each image is one from before, torn.
 pub torn_pushed : (first : List ℕ) (calls next : List Made) (place : ℕ) (piece : List ℕ) (ok : Bool)
     → next ≡ calls ++ record { call = Write place piece; ok = ok } ∷ []
-    → Follows (Torn place (length piece)) (IsImage (state_now first calls)) (IsImage (state_now first next))
+    → Follows (Torn place (length piece)) (IsImage (state_now first calls))
+    (IsImage (state_now first next))
 torn_pushed first calls next place piece ok is =
-    λ c now. subst (λ (s : State). IsImage s c) (state_pushed first calls next (record { call = Write place piece; ok = ok }) is) now
+    λ c now. subst (λ (s : State). IsImage s c) (state_pushed first calls next (record {
+      call =
+          Write place piece;
+      ok = ok;
+    }) is) now
 
 pub torn_same : (first : List ℕ) (calls next : List Made) (place count : ℕ) → next ≡ calls
     → Follows (Torn place count) (IsImage (state_now first calls)) (IsImage (state_now first next))
 torn_same first calls next place count is =
-    λ c now. (c, subst (λ (kept : List Made). IsImage (state_now first kept) c) is now, torn_none place count c)
+    λ c now. (
+      c,
+      subst (λ (kept : List Made). IsImage (state_now first kept) c) is now,
+      torn_none place count c,
+    )
 
 -- Behind a sync a crash leaves what is seen.
-pub sync_pushed : (first : List ℕ) (calls next : List Made) → next ≡ calls ++ record { call = Sync; ok = true } ∷ []
+pub sync_pushed : (first : List ℕ) (calls next : List Made) → next ≡ calls ++ record {
+  call =
+      Sync;
+  ok = true;
+} ∷ []
     → Only (state_now first calls).seen (IsImage (state_now first next))
 sync_pushed first calls next is =
-    λ c now. subst (λ (s : State). IsImage s c) (state_pushed first calls next (record { call = Sync; ok = true }) is) now
+    λ c now. subst (λ (s : State). IsImage s c) (state_pushed first calls next (record {
+      call =
+          Sync;
+      ok = true;
+    }) is) now
 
 -- A call that isn't seen, or is not even noted.
-pub seen_kept : (first : List ℕ) (calls next : List Made) (made : Made) (noted : Bool) → ((s : State) → (step s made).seen ≡ s.seen)
-    → next ≡ (if noted then calls ++ made ∷ [] else calls) → (state_now first next).seen ≡ (state_now first calls).seen
-seen_kept first calls next made true keeps is = ap (λ (s : State). s.seen) (state_pushed first calls next made is) ∙ keeps (state_now first calls)
-seen_kept first calls next made false keeps is = ap (λ (kept : List Made). (state_now first kept).seen) is
+pub seen_kept : (first : List ℕ) (calls next : List Made) (made : Made) (noted : Bool)
+    → ((s : State) → (step s made).seen ≡ s.seen)
+    → next ≡ (if noted then calls ++ made ∷ [] else calls)
+    → (state_now first next).seen ≡ (state_now first calls).seen
+seen_kept first calls next made true keeps is =
+    ap (λ (s : State). s.seen) (state_pushed first calls next made is)
+    ∙ keeps (state_now first calls)
+seen_kept first calls next made false keeps is =
+    ap (λ (kept : List Made). (state_now first kept).seen) is
 
 -- A write that is done is seen.
-pub written_pushed : (first : List ℕ) (calls next : List Made) (place : ℕ) (piece live after : List ℕ)
+pub written_pushed : (first : List ℕ) (calls next : List Made) (place : ℕ)
+    (piece live after : List ℕ)
     → next ≡ calls ++ record { call = Write place piece; ok = true } ∷ []
-    → live ≡ (state_now first calls).seen → after ≡ overwritten place piece live → after ≡ (state_now first next).seen
+    → live ≡ (state_now first calls).seen → after ≡ overwritten place piece live
+    → after ≡ (state_now first next).seen
 written_pushed first calls next place piece live after is was wrote =
     wrote ∙ ap (overwritten place piece) was
-    ∙ sym (ap (λ (s : State). s.seen) (state_pushed first calls next (record { call = Write place piece; ok = true }) is))
+    ∙ sym (ap (λ (s : State). s.seen) (state_pushed first calls next (record {
+      call =
+          Write place piece;
+      ok = true;
+    }) is))
 
 -- the state behind one of the calls, from the one before it
-pub state_more : (first : List ℕ) (calls : List Made) (index : ℕ) (made : Made) → index < length calls → made ≡ get_or calls index made
+pub state_more : (first : List ℕ) (calls : List Made) (index : ℕ) (made : Made)
+    → index < length calls → made ≡ get_or calls index made
     → state_at first calls (index + 1) ≡ step (state_at first calls index) made
 state_more first calls index made within is =
     ap (λ (kept : List Made). run (settled first) kept) (take_more calls index made within)

@@ -1,11 +1,13 @@
 -- Laws of the replay: what a read gives is an image, and an image of now is one of those since an
 -- earlier moment.
-use Rattle.std.specs.Prelude.{◌≡◌, ℕ, ◌≤◌, Bool, true, false, List, [], ◌∷◌, length, take, refl, Some}
+use Rattle.std.specs.Prelude.{◌≡◌, ℕ, ◌≤◌, Bool, true, false, List, [], ◌∷◌, length, take, refl}
+use Rattle.std.specs.Prelude.{Some}
 use Rattle.std.proofs.Common.{arith, sym, subst}
 use Rattle.std.proofs.lemmas.List.{take_all}
 use Rattle.byte_forms.specs.Places.{IsBytes}
 use Rattle.disk_core.specs.Writes.{torn_none, torn_all}
-use Rattle.disk_core.specs.Replay.{State, settled, after_call, step, run, state_now, IsImage, LeftSince}
+use Rattle.disk_core.specs.Replay.{State, settled, after_call, step, run, state_now, IsImage}
+use Rattle.disk_core.specs.Replay.{LeftSince}
 use Rattle.disk_core.specs.declared.memory.call.Call.{Call}
 use Rattle.disk_core.specs.declared.memory.call.Call.TheVariants.{Len, Read, Write, Sync}
 use Rattle.disk_core.specs.declared.memory.call.Made.{Made}

@@ -1,7 +1,9 @@
 -- Laws of a write: what is written whole, not at all, or in part is one of its torn images.
 use Rattle.std.specs.Prelude.{◌≡◌, ℕ, ◌+◌, ◌-◌, ◌≤◌, min, max, List, ◌++◌, length, take, drop, refl}
 use Rattle.std.proofs.Common.{arith, inl, inr}
-use Rattle.std.proofs.lemmas.List.{length-take, length-drop, length-append, take-append-le, take_all, drop_all, take_at, drop_at, drop-drop, append-nil, append_assoc, take_min, take_rest}
+use Rattle.std.proofs.lemmas.List.{length-take, length-drop, length-append, take-append-le}
+use Rattle.std.proofs.lemmas.List.{take_all, drop_all, take_at, drop_at, drop-drop, append-nil}
+use Rattle.std.proofs.lemmas.List.{append_assoc, take_min, take_rest}
 use Rattle.std.proofs.lemmas.Bool.{cases_lt}
 use Rattle.disk_core.specs.Disk.{overwritten, Torn}
 

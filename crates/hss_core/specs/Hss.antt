@@ -1,6 +1,7 @@
 -- HSS, levels of LMS trees (RFC 8554, 6): the tree of each level signs the public key of the next
 -- one, and the lowest signs the message.
-use Rattle.std.specs.Prelude.{◌≡◌, ℕ, zero, suc, ◌+◌, ◌==◌, ◌&&◌, if◌then◌else◌, Bool, false, nat_le, not, ◌++◌, length, take, drop, Option, Some, None}
+use Rattle.std.specs.Prelude.{◌≡◌, ℕ, zero, suc, ◌+◌, ◌==◌, ◌&&◌, if◌then◌else◌, Bool, false}
+use Rattle.std.specs.Prelude.{nat_le, not, ◌++◌, length, take, drop, Option, Some, None}
 use Rattle.std.specs.Option.{option_map_or}
 use Rattle.std.specs.Int.{w32, to_be_bytes}
 use Rattle.byte_forms.specs.Types.{Text}

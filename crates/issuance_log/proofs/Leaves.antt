@@ -7,7 +7,9 @@ use Rattle.tree_core.specs.Tree.{leaf_hash, root_of, tree_hash}
 
 -- the tree hash of a part of the entries is the root over that part of the leaf hashes
 pub part_root : (h : List ℕ → List ℕ) (entries : List (List ℕ)) (start end : ℕ)
-    → tree_hash h (part_of entries start end) ≡ root_of h (part_of (map (leaf_hash h) entries) start end)
+    → tree_hash h (part_of entries start end)
+    ≡ root_of h (part_of (map (leaf_hash h) entries) start end)
 part_root h entries start end =
     ap (root_of h)
-    (sym (take-map (leaf_hash h) (end - start) (drop start entries)) ∙ ap (take (end - start)) (sym (drop-map (leaf_hash h) start entries)))
+    (sym (take-map (leaf_hash h) (end - start) (drop start entries))
+    ∙ ap (take (end - start)) (sym (drop-map (leaf_hash h) start entries)))

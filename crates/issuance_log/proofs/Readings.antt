@@ -14,16 +14,22 @@ use Rattle.issuance_log.specs.Results.{Finds, Takes}
 use Rattle.issuance_log.specs.declared.error.RecordError.{RecordError}
 use Rattle.issuance_log.specs.declared.error.RecordError.TheVariants.{Unfit, Memory}
 
-module _ {D : Type 0} {g : Ghosts D} (h : HashFunction) (old new : Opening D g) (body : Text) (last : last_body new ≡ body) (read : HasRead old new)
+module _ {D : Type 0} {g : Ghosts D} (h : HashFunction) (old new : Opening D g) (body : Text)
+    (last : last_body new ≡ body) (read : HasRead old new)
     (looks : Looks g (opening_disk old) (opening_disk new)) where
   -- the record with this number is not taken
-  pub cause_taken : (s t : LogState) (k : ℕ) (why : RecordError) → IfSome (read_list old) (λ list. k ≡ length list) → HasFolded (log_fold h) s old
-      → Takes (next_log h s body) s (Err why) t → HasCauseOf g h (opening_disk old) (opening_disk new) (refusal_at k why)
-  cause_taken s t k Unfit count was takes = refused_next (log_fold h) old new body last read looks s k count was takes.0
+  pub cause_taken : (s t : LogState) (k : ℕ) (why : RecordError)
+      → IfSome (read_list old) (λ list. k ≡ length list) → HasFolded (log_fold h) s old
+      → Takes (next_log h s body) s (Err why) t
+      → HasCauseOf g h (opening_disk old) (opening_disk new) (refusal_at k why)
+  cause_taken s t k Unfit count was takes =
+      refused_next (log_fold h) old new body last read looks s k count was takes.0
   cause_taken s t k Memory count was takes = tt
 
   -- nor is the first one
-  pub cause_begun : (why : RecordError) → read_list old ≡ option_map (λ _. []) (g.told (opening_disk old)) → Finds (λ (s : LogState). s) (begun body) (Err why)
+  pub cause_begun : (why : RecordError)
+      → read_list old ≡ option_map (λ _. []) (g.told (opening_disk old))
+      → Finds (λ (s : LogState). s) (begun body) (Err why)
       → HasCauseOf g h (opening_disk old) (opening_disk new) (refusal_at 0 why)
   cause_begun Unfit none finds = refused_first (log_fold h) old new body last read looks none finds
   cause_begun Memory none finds = tt

@@ -1,5 +1,7 @@
 -- What the records of a log spell.
-use Rattle.std.proofs.Common.{◌≡◌, ℕ, ◌&&◌, ◌==◌, nat_lt, nat_le, if◌then◌else◌, Bool, true, false, List, ◌++◌, length, Option, Some, None, option_map, option_and_then, Result, Ok, Err, refl, subst, ap, sym, ◌∙◌, arith}
+use Rattle.std.proofs.Common.{◌≡◌, ℕ, ◌&&◌, ◌==◌, nat_lt, nat_le, if◌then◌else◌, Bool, true, false}
+use Rattle.std.proofs.Common.{List, ◌++◌, length, Option, Some, None, option_map, option_and_then}
+use Rattle.std.proofs.Common.{Result, Ok, Err, refl, subst, ap, sym, ◌∙◌, arith}
 use Rattle.std.specs.Int.{w8, w32}
 use Rattle.std.proofs.lemmas.Bool.{leb-true, ltb-true}
 use Rattle.byte_forms.specs.Places.{At, at, IsBytes}
@@ -10,18 +12,23 @@ use Rattle.tls_wire.specs.Spelling.{number, vector}
 use Rattle.tls_wire.specs.declared.cursor.Short.{Short}
 use Rattle.tls_wire.specs.declared.fault.AnchorBytesError.{AnchorBytesError}
 use Rattle.tls_wire.proofs.AnchorForm.{anchor_takes}
-use Rattle.issuance_log.specs.Folds.{LogState, new_log, with_item, with_entry, by_tag, begun, next_log}
+use Rattle.issuance_log.specs.Folds.{LogState, new_log, with_item, with_entry, by_tag, begun}
+use Rattle.issuance_log.specs.Folds.{next_log}
 use Rattle.log_entry.specs.Matching.{matches}
-use Rattle.issuance_log.specs.Records.{settings_at, entry_at, whole_of, with_id, settings_with, tagged, settings_in, item_in, settings_record}
+use Rattle.issuance_log.specs.Records.{settings_at, entry_at, whole_of, with_id, settings_with}
+use Rattle.issuance_log.specs.Records.{tagged, settings_in, item_in, settings_record}
 use Rattle.issuance_log.specs.Rules.{IsFirst, IsNext}
 use Rattle.issuance_log.specs.Settings.{Settings, are_allowed, AreAllowed}
-use Rattle.issuance_log.proofs.Spelled.{some_value, FitSettings, settings_text, settings_form, settings_again, item_takes, tagged_takes, next_added}
+use Rattle.issuance_log.proofs.Spelled.{some_value, FitSettings, settings_text, settings_form}
+use Rattle.issuance_log.proofs.Spelled.{settings_again, item_takes, tagged_takes, next_added}
 
-option_from : {X : Type 0} (f : X → Option LogState) (o : Option X) (t : LogState) → option_and_then f o ≡ Some t → (x : X) × (o ≡ Some x) × (f x ≡ Some t)
+option_from : {X : Type 0} (f : X → Option LogState) (o : Option X) (t : LogState)
+    → option_and_then f o ≡ Some t → (x : X) × (o ≡ Some x) × (f x ≡ Some t)
 option_from {X} f None t is = let wrong : None ≡ Some t = is in cc
 option_from {X} f (Some x) t is = (x, refl, is)
 
-test_from : {X : Type 0} (b : Bool) (o : Option X) (x : X) → (if b then o else None) ≡ Some x → (b ≡ true) × (o ≡ Some x)
+test_from : {X : Type 0} (b : Bool) (o : Option X) (x : X) → (if b then o else None) ≡ Some x
+    → (b ≡ true) × (o ≡ Some x)
 test_from {X} true o x is = (refl, is)
 test_from {X} false o x is = let wrong : None ≡ Some x = is in cc
 
@@ -29,26 +36,34 @@ both_true : (a b : Bool) → (a && b) ≡ true → (a ≡ true) × (b ≡ true)
 both_true true b is = (refl, is)
 both_true false b is = let wrong : false ≡ true = is in cc
 
-pub is_next : (h : List ℕ → List ℕ) (s : LogState) (body : List ℕ) (t : LogState) → IsNext h s body t → next_log h s body ≡ Some t
+pub is_next : (h : List ℕ → List ℕ) (s : LogState) (body : List ℕ) (t : LogState)
+    → IsNext h s body t → next_log h s body ≡ Some t
 is_next h s body t is =
-    ap (next_log h s) is.spelled ∙ next_added h s is.entry is.key is.room is.short_entry is.short_key is.belongs ∙ ap Some (sym is.made)
+    ap (next_log h s) is.spelled ∙ next_added h s is.entry is.key is.room is.short_entry
+    is.short_key is.belongs ∙ ap Some (sym is.made)
 
-pub next_is : (h : List ℕ → List ℕ) (s : LogState) (body : List ℕ) (t : LogState) → IsBytes body → next_log h s body ≡ Some t → IsNext h s body t
+pub next_is : (h : List ℕ → List ℕ) (s : LogState) (body : List ℕ) (t : LogState) → IsBytes body
+    → next_log h s body ≡ Some t → IsNext h s body t
 unfolding next_log item_in
 next_is h s body t bytes is = go (number_at w8 (at body 0)) refl is
   where
-    go : (r : Result (ℕ × At) Short) → number_at w8 (at body 0) ≡ r → by_tag h s r ≡ Some t → IsNext h s body t
+    go : (r : Result (ℕ × At) Short) → number_at w8 (at body 0) ≡ r → by_tag h s r ≡ Some t
+        → IsNext h s body t
     go (Err short) was is = let wrong : None ≡ Some t = is in cc
     go (Ok tag) was is =
-        let test = test_from (tag.0 == 2) (option_and_then (with_entry h s) (whole_of (entry_at tag.1))) t is in
+        let test = test_from (tag.0 == 2) (option_and_then (with_entry h s)
+        (whole_of (entry_at tag.1))) t is in
         let item = option_from (with_entry h s) (whole_of (entry_at tag.1)) t test.1 in
         let entry = item.0.0 in
         let key = item.0.1 in
         let found : item_in body ≡ Some (entry, key)
-        = ap (tagged 2 entry_at) was ∙ ap (λ (b : Bool). if b then whole_of (entry_at tag.1) else None) test.0 ∙ item.1 in
+        = ap (tagged 2 entry_at) was ∙ ap (λ (b : Bool). if b then whole_of (entry_at tag.1)
+        else None) test.0 ∙ item.1 in
         let spelled = item_takes body entry key bytes found in
-        let made = test_from (nat_lt (length s.entries) s.settings.limit && matches h entry key) (Some (with_item entry key s)) t item.2 in
-        let tests = both_true (nat_lt (length s.entries) s.settings.limit) (matches h entry key) made.0 in
+        let made = test_from (nat_lt (length s.entries) s.settings.limit && matches h entry key)
+        (Some (with_item entry key s)) t item.2 in
+        let tests = both_true (nat_lt (length s.entries) s.settings.limit)
+        (matches h entry key) made.0 in
         record {
           entry = entry;
           key = key;
@@ -63,19 +78,35 @@ next_is h s body t bytes is = go (number_at w8 (at body 0)) refl is
 pub is_first : (body : List ℕ) (s : LogState) → IsFirst body s → begun body ≡ Some s
 unfolding begun
 is_first body s is =
-    ap (λ (b : List ℕ). option_map new_log (settings_in b)) is.spelled ∙ ap (option_map new_log) (settings_again is.settings is.id is.allowed) ∙ ap Some (sym is.made)
+    ap (λ (b : List ℕ). option_map new_log (settings_in b)) is.spelled
+    ∙ ap (option_map new_log) (settings_again is.settings is.id is.allowed)
+    ∙ ap Some (sym is.made)
 
 pub first_is : (body : List ℕ) (s : LogState) → IsBytes body → begun body ≡ Some s → IsFirst body s
 unfolding begun settings_in settings_record
 first_is body s bytes is =
     let found = map_from (settings_in body) is in
-    let read = option_from_settings (tagged 1 settings_at (number_at w8 (at body 0))) found.0 found.1 in
-    let spelled = tagged_takes 1 (omega arith) settings_text FitSettings settings_at settings_form body read.0 bytes read.1 in
-    let tests = test_from (are_allowed read.0.1.0 read.0.1.1) (with_id read.0.1.0 read.0.1.1 (anchor_of read.0.0)) found.0 read.2 in
+    let read = option_from_settings (tagged 1 settings_at (number_at w8 (at body 0)))
+    found.0 found.1 in
+    let spelled = tagged_takes 1 (omega arith) settings_text FitSettings settings_at settings_form
+    body read.0 bytes read.1 in
+    let tests = test_from (are_allowed read.0.1.0 read.0.1.1)
+    (with_id read.0.1.0 read.0.1.1 (anchor_of read.0.0)) found.0 read.2 in
     let made = id_from read.0.1.0 read.0.1.1 (anchor_of read.0.0) found.0 tests.1 in
     let id = anchor_takes read.0.0 made.0 (id_bytes body read.0 bytes spelled.0) made.1 in
-    let settings : Settings = record { id = read.0.0; max_active = read.0.1.0; limit = read.0.1.1 } in
-    let same : found.0 ≡ settings = sym made.2 ∙ ap (λ (b : List ℕ). record { id = b; max_active = read.0.1.0; limit = read.0.1.1 }) id.0 in
+    let settings : Settings = record {
+      id = read.0.0;
+      max_active = read.0.1.0;
+      limit =
+          read.0.1.1;
+    } in
+    let same : found.0 ≡ settings = sym made.2
+    ∙ ap (λ (b : List ℕ). record {
+      id = b;
+      max_active = read.0.1.0;
+      limit =
+          read.0.1.1;
+    }) id.0 in
     record {
       settings = settings;
       spelled = spelled.0;
@@ -84,28 +115,41 @@ first_is body s bytes is =
       made = sym found.2 ∙ ap new_log same;
     }
   where
-    map_from : (o : Option Settings) → option_map new_log o ≡ Some s → (x : Settings) × (o ≡ Some x) × (new_log x ≡ s)
+    map_from : (o : Option Settings) → option_map new_log o ≡ Some s → (x : Settings) × (o ≡ Some x)
+        × (new_log x ≡ s)
     map_from None is = let wrong : None ≡ Some s = is in cc
     map_from (Some x) is = (x, refl, some_value (new_log x) s is)
 
-    option_from_settings : (o : Option (List ℕ × (ℕ × ℕ))) (x : Settings) → option_and_then settings_with o ≡ Some x
+    option_from_settings : (o : Option (List ℕ × (ℕ × ℕ))) (x : Settings)
+        → option_and_then settings_with o ≡ Some x
         → (v : List ℕ × (ℕ × ℕ)) × (o ≡ Some v) × (settings_with v ≡ Some x)
     option_from_settings None x is = let wrong : None ≡ Some x = is in cc
     option_from_settings (Some v) x is = (v, refl, is)
 
-    id_from : (active limit : ℕ) (r : Result (List ℕ) AnchorBytesError) (x : Settings) → with_id active limit r ≡ Some x
+    id_from : (active limit : ℕ) (r : Result (List ℕ) AnchorBytesError) (x : Settings)
+        → with_id active limit r ≡ Some x
         → (id : List ℕ) × (r ≡ Ok id) × (record { id = id; max_active = active; limit = limit } ≡ x)
     id_from active limit (Ok id) x is = (id, refl, some_value _ x is)
     id_from active limit (Err fault) x is = let wrong : None ≡ Some x = is in cc
 
-    id_bytes : (body : List ℕ) (v : List ℕ × (ℕ × ℕ)) → IsBytes body → body ≡ number w8 1 ++ settings_text v → IsBytes v.0
+    id_bytes : (body : List ℕ) (v : List ℕ × (ℕ × ℕ)) → IsBytes body
+        → body ≡ number w8 1 ++ settings_text v → IsBytes v.0
     id_bytes body v bytes is =
         let behind = IsBytes-back (number w8 1) (settings_text v) (subst IsBytes is bytes) in
-        IsBytes-back (number w8 (length v.0)) v.0 (IsBytes-front (vector w8 v.0) (number w32 v.1.0 ++ number w32 v.1.1) behind)
+        IsBytes-back (number w8 (length v.0)) v.0 (IsBytes-front (vector w8 v.0) (number w32 v.1.0
+        ++ number w32 v.1.1) behind)
 
     allowed_tests : (active limit : ℕ) → are_allowed active limit ≡ true → AreAllowed active limit
     allowed_tests active limit is =
-        let sides = both_true (nat_le 1 active && nat_le active 10000) (nat_le 2 limit && nat_le limit 1048576) is in
+        let sides = both_true (nat_le 1 active && nat_le active 10000)
+        (nat_le 2 limit && nat_le limit 1048576) is in
         let left = both_true (nat_le 1 active) (nat_le active 10000) sides.0 in
         let right = both_true (nat_le 2 limit) (nat_le limit 1048576) sides.1 in
-        record { some_active = leb-true 1 active left.0; few_active = leb-true active 10000 left.1; some = leb-true 2 limit right.0; few = leb-true limit 1048576 right.1 }
+        record {
+          some_active = leb-true 1 active left.0;
+          few_active =
+              leb-true active 10000 left.1;
+          some = leb-true 2 limit right.0;
+          few =
+              leb-true limit 1048576 right.1;
+        }

@@ -1,6 +1,7 @@
 -- What the records of a journal make of a log. The first one begins it, and each later one changes
 -- it by its tag.
-use Rattle.std.specs.Prelude.{ℕ, ◌==◌, ◌&&◌, nat_lt, List, [], ◌∷◌, ◌++◌, length, Option, Some, None, option_map, option_and_then, Result, Ok, Err, if◌then◌else◌}
+use Rattle.std.specs.Prelude.{ℕ, ◌==◌, ◌&&◌, nat_lt, List, [], ◌∷◌, ◌++◌, length, Option, Some}
+use Rattle.std.specs.Prelude.{None, option_map, option_and_then, Result, Ok, Err, if◌then◌else◌}
 use Rattle.std.specs.Int.{w8}
 use Rattle.byte_forms.specs.Places.{At, at}
 use Rattle.byte_forms.specs.Types.{Text, HashFunction}

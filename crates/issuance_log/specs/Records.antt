@@ -1,6 +1,7 @@
 -- The records of a log's journal: a tag of one byte, and what it says. Numbers have their highest
 -- byte first.
-use Rattle.std.specs.Prelude.{ℕ, ◌++◌, length, ◌==◌, Option, Some, None, option_and_then, Result, Ok, Err, if◌then◌else◌}
+use Rattle.std.specs.Prelude.{ℕ, ◌++◌, length, ◌==◌, Option, Some, None, option_and_then, Result}
+use Rattle.std.specs.Prelude.{Ok, Err, if◌then◌else◌}
 use Rattle.std.specs.Int.{w8, w16, w32}
 use Rattle.byte_forms.specs.Types.{Text}
 use Rattle.byte_forms.specs.Places.{At, at}

@@ -1,5 +1,6 @@
 -- What the calls of a log refuse, as functions of what it shows.
-use Rattle.std.specs.Prelude.{◌≡◌, ◌≢◌, ℕ, ◌+◌, ◌==◌, nat_lt, Bool, [], length, slice_index_or, Option, Some, None, option_map, Result, Ok, Err, if◌then◌else◌}
+use Rattle.std.specs.Prelude.{◌≡◌, ◌≢◌, ℕ, ◌+◌, ◌==◌, nat_lt, Bool, [], length, slice_index_or}
+use Rattle.std.specs.Prelude.{Option, Some, None, option_map, Result, Ok, Err, if◌then◌else◌}
 use Rattle.byte_forms.specs.Types.{Text}
 use Rattle.journal_core.specs.Format.{most_bytes}
 use Rattle.journal_core.specs.declared.error.AppendError.{AppendError}
@@ -7,7 +8,8 @@ use Rattle.journal_core.specs.declared.error.AppendError.TheVariants as append_e
 use Rattle.issuance_log.specs.Folds.{LogState}
 use Rattle.issuance_log.specs.Records.{entry_record}
 use Rattle.issuance_log.specs.declared.error.LogError.{LogError}
-use Rattle.issuance_log.specs.declared.error.LogError.TheVariants.{Full, TooLarge, NoSuchEntry, Append, Memory}
+use Rattle.issuance_log.specs.declared.error.LogError.TheVariants.{Full, TooLarge, NoSuchEntry}
+use Rattle.issuance_log.specs.declared.error.LogError.TheVariants.{Append, Memory}
 
 -- The refusal of a record that the journal settles, the first that holds: of a journal that an
 -- append has broken, and of one whose file would pass 2^31 bytes.

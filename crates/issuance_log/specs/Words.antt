@@ -1,5 +1,6 @@
 -- What a log shows, and what a call that appends a record makes of it.
-use Rattle.std.specs.Prelude.{◌≡◌, ℕ, ◌+◌, Bool, true, false, List, [], ◌∷◌, ◌++◌, length, Option, option_map, Result, Ok, Err}
+use Rattle.std.specs.Prelude.{◌≡◌, ℕ, ◌+◌, Bool, true, false, List, [], ◌∷◌, ◌++◌, length, Option}
+use Rattle.std.specs.Prelude.{option_map, Result, Ok, Err}
 use Rattle.byte_forms.specs.Types.{Text}
 use Rattle.mtc_io.specs.Counts.{Rose}
 use Rattle.disk_core.specs.declared.disk.Disk.{Ghosts}
@@ -9,7 +10,8 @@ use Rattle.journal_core.specs.declared.journal.Journal.{Journal}
 use Rattle.journal_core.specs.declared.error.AppendError.TheVariants as append_error
 use Rattle.issuance_log.specs.Folds.{LogState}
 use Rattle.issuance_log.specs.declared.error.LogError.{LogError}
-use Rattle.issuance_log.specs.declared.error.LogError.TheVariants.{Full, TooLarge, NoSuchEntry, Append, Memory}
+use Rattle.issuance_log.specs.declared.error.LogError.TheVariants.{Full, TooLarge, NoSuchEntry}
+use Rattle.issuance_log.specs.declared.error.LogError.TheVariants.{Append, Memory}
 use Rattle.issuance_log.specs.declared.log.Log.{Log}
 
 module _ {H D : Type 0} {hashes : Hashes H} {g : Ghosts D} where

@@ -1,15 +1,22 @@
 -- The two writes of an append, and what a crash makes of each.
-use Rattle.std.proofs.Common.{◌≡◌, ◌≢◌, inl, inr, ℕ, ◌+◌, ◌-◌, ◌<◌, ◌≤◌, min, List, [], ◌∷◌, ◌++◌, length, take, drop, get_or, slice_index, refl, ap, sym, ◌∙◌, subst, arith}
+use Rattle.std.proofs.Common.{◌≡◌, ◌≢◌, inl, inr, ℕ, ◌+◌, ◌-◌, ◌<◌, ◌≤◌, min, List, [], ◌∷◌, ◌++◌}
+use Rattle.std.proofs.Common.{length, take, drop, get_or, slice_index, refl, ap, sym, ◌∙◌, subst}
+use Rattle.std.proofs.Common.{arith}
 use Rattle.std.specs.Int.{w32, to_be_bytes}
-use Rattle.std.proofs.lemmas.List.{take-take, drop-take, drop-drop, take_all, take_at, drop_at, get_or-take, get_or-drop, get_or_at, append_assoc, length-append, length-take, length-drop}
+use Rattle.std.proofs.lemmas.List.{take-take, drop-take, drop-drop, take_all, take_at, drop_at}
+use Rattle.std.proofs.lemmas.List.{get_or-take, get_or-drop, get_or_at, append_assoc, length-append}
+use Rattle.std.proofs.lemmas.List.{length-take, length-drop}
 use Rattle.std.proofs.lemmas.Bool.{cases_eq}
 use Rattle.disk_core.specs.Disk.{overwritten, part, Torn}
 use Rattle.disk_core.specs.Writes.{torn_all}
-use Rattle.journal_core.specs.Format.{behind, IsClosedAt, StandsFor, StandsForEither, tail_of, new_file_of}
-use Rattle.journal_core.proofs.Records.{part_kept, byte_kept, records_kept, header_kept, stands_kept, behind_later, behind-append, records-append}
+use Rattle.journal_core.specs.Format.{behind, IsClosedAt, StandsFor, StandsForEither, tail_of}
+use Rattle.journal_core.specs.Format.{new_file_of}
+use Rattle.journal_core.proofs.Records.{part_kept, byte_kept, records_kept, header_kept}
+use Rattle.journal_core.proofs.Records.{stands_kept, behind_later, behind-append, records-append}
 
 -- The write behind the closed gate leaves the list as it was, however it is torn.
-pub torn_behind : (end count : ℕ) (records : List (List ℕ)) (old new : List ℕ) → end ≡ behind 16 records + 1 → Torn end count old new
+pub torn_behind : (end count : ℕ) (records : List (List ℕ)) (old new : List ℕ)
+    → end ≡ behind 16 records + 1 → Torn end count old new
     → StandsFor old records → StandsFor new records
 torn_behind end count records old new end_is torn is =
     let there = is.ends.there in
@@ -27,76 +34,99 @@ pub length-tail : (body : List ℕ) → length (tail_of body) ≡ 5 + length bod
 length-tail body = simp length-append (omega arith)
 
 -- after the first write
-pub staged : (end : ℕ) (records : List (List ℕ)) (body old new : List ℕ) → end ≡ behind 16 records + 1 → StandsFor old records
+pub staged : (end : ℕ) (records : List (List ℕ)) (body old new : List ℕ)
+    → end ≡ behind 16 records + 1 → StandsFor old records
     → new ≡ overwritten end (tail_of body) old → IsStaged new records body
 staged end records body old new end_is is new_is =
     let there = is.ends.there in
     let front : length (take end old) ≡ end = simp length-take (omega arith) in
     let back = drop (end + length (tail_of body)) old in
     let behind_front : drop end (overwritten end (tail_of body) old) ≡ tail_of body ++ back
-    = rw (append_assoc (take end old) (tail_of body) back) (drop_at (take end old) (tail_of body ++ back) end front) in
+    = rw (append_assoc (take end old) (tail_of body) back) (drop_at (take end old) (tail_of body
+    ++ back) end front) in
     let found : part end (5 + length body) (overwritten end (tail_of body) old) ≡ tail_of body
     = rw behind_front (take_at (tail_of body) back (5 + length body) (length-tail body)) in
     record {
       stands = subst (λ (bytes : List ℕ). StandsFor bytes records) (sym new_is)
-          (torn_behind end (length (tail_of body)) records old _ end_is (torn_all end (tail_of body) old) is);
-      tail = subst (λ (bytes : List ℕ). part (behind 16 records + 1) (5 + length body) bytes ≡ tail_of body) (sym new_is)
-          (subst (λ (n : ℕ). part n (5 + length body) (overwritten end (tail_of body) old) ≡ tail_of body) end_is found);
+          (torn_behind end (length (tail_of body)) records old _ end_is
+          (torn_all end (tail_of body) old) is);
+      tail = subst (λ (bytes : List ℕ). part (behind 16 records + 1) (5 + length body) bytes
+          ≡ tail_of body) (sym new_is)
+          (subst (λ (n : ℕ). part n (5 + length body) (overwritten end (tail_of body) old)
+          ≡ tail_of body) end_is found);
     }
 
 -- what lies behind a torn range, below the old end
-part_after : (from place count : ℕ) (old new : List ℕ) → take (length old - from) (drop from new) ≡ drop from old
+part_after : (from place count : ℕ) (old new : List ℕ) → take (length old - from) (drop from new)
+    ≡ drop from old
     → from ≤ place → place + count ≤ length old → part place count new ≡ part place count old
 part_after from place count old new same past within =
     let split : place ≡ from + (place - from) = omega arith in
     let kept : take (length old - from) (drop from new) ≡ take (length old - from) (drop from old)
     = same ∙ sym (take_all (length old - from) (drop from old) (simp length-drop (omega arith))) in
-    let shifted : (bytes : List ℕ) → part place count bytes ≡ part (place - from) count (drop from bytes)
-    = λ bytes. ap (take count) (ap (λ (n : ℕ). drop n bytes) split ∙ sym (drop-drop (place - from) from bytes)) in
-    shifted new ∙ part_kept (length old - from) (place - from) count (drop from old) (drop from new) kept (omega arith) ∙ sym (shifted old)
+    let shifted : (bytes : List ℕ) → part place count bytes
+    ≡ part (place - from) count (drop from bytes)
+    = λ bytes. ap (take count) (ap (λ (n : ℕ). drop n bytes) split
+    ∙ sym (drop-drop (place - from) from bytes)) in
+    shifted new ∙ part_kept (length old - from) (place - from) count (drop from old)
+    (drop from new) kept (omega arith) ∙ sym (shifted old)
 
-byte_after : (from place : ℕ) (old new : List ℕ) → take (length old - from) (drop from new) ≡ drop from old
+byte_after : (from place : ℕ) (old new : List ℕ) → take (length old - from) (drop from new)
+    ≡ drop from old
     → from ≤ place → place < length old → slice_index new place ≡ slice_index old place
 byte_after from place old new same past within =
     let kept : take (length old - from) (drop from new) ≡ take (length old - from) (drop from old)
     = same ∙ sym (take_all (length old - from) (drop from old) (simp length-drop (omega arith))) in
     let split : from + (place - from) ≡ place = omega arith in
-    let shifted : (bytes : List ℕ) → slice_index bytes place ≡ slice_index (drop from bytes) (place - from)
-    = λ bytes. sym (get_or-drop from bytes (place - from) 0 ∙ ap (λ (n : ℕ). get_or bytes n 0) split) in
-    shifted new ∙ byte_kept (length old - from) (place - from) (drop from old) (drop from new) kept (omega arith) ∙ sym (shifted old)
+    let shifted : (bytes : List ℕ) → slice_index bytes place
+    ≡ slice_index (drop from bytes) (place - from)
+    = λ bytes. sym (get_or-drop from bytes (place - from) 0
+    ∙ ap (λ (n : ℕ). get_or bytes n 0) split) in
+    shifted new ∙ byte_kept (length old - from) (place - from) (drop from old) (drop from new) kept
+    (omega arith) ∙ sym (shifted old)
 
-module _ (bytes : List ℕ) (records : List (List ℕ)) (body : List ℕ) (is : IsStaged bytes records body) where
+module _ (bytes : List ℕ) (records : List (List ℕ)) (body : List ℕ)
+    (is : IsStaged bytes records body) where
   -- what the staged record holds
   staged_length : behind 16 records + (5 + length body) < length bytes
   staged_length =
-      let found : length (part (behind 16 records + 1) (5 + length body) bytes) ≡ 5 + length body = ap length is.tail ∙ length-tail body in
-      let there : length (part (behind 16 records + 1) (5 + length body) bytes) ≤ length bytes - (behind 16 records + 1)
+      let found : length (part (behind 16 records + 1) (5 + length body) bytes) ≡ 5 + length body =
+      ap length is.tail ∙ length-tail body in
+      let there : length (part (behind 16 records + 1) (5 + length body) bytes)
+      ≤ length bytes - (behind 16 records + 1)
       = simp (length-take, length-drop) (omega arith) in
       omega arith
 
   staged_size : part (behind 16 records + 1) 4 bytes ≡ to_be_bytes w32 (length body)
   staged_size =
-      sym (take-take 4 (5 + length body) (drop (behind 16 records + 1) bytes) (omega arith)) ∙ ap (take 4) is.tail
-      ∙ ap (take 4) (append_assoc (to_be_bytes w32 (length body)) body (0 ∷ [])) ∙ take_at (to_be_bytes w32 (length body)) (body ++ 0 ∷ []) 4 refl
+      sym (take-take 4 (5 + length body) (drop (behind 16 records + 1) bytes) (omega arith))
+      ∙ ap (take 4) is.tail
+      ∙ ap (take 4) (append_assoc (to_be_bytes w32 (length body)) body (0 ∷ []))
+      ∙ take_at (to_be_bytes w32 (length body)) (body ++ 0 ∷ []) 4 refl
 
   pub staged_body : part (behind 16 records + 5) (length body) bytes ≡ body
   staged_body =
       let behind_gate = drop (behind 16 records + 1) bytes in
       let split : behind 16 records + 5 ≡ (behind 16 records + 1) + 4 = omega arith in
-      let size_and_body : length (to_be_bytes w32 (length body) ++ body) ≡ 4 + length body = length-append (to_be_bytes w32 (length body)) body in
+      let size_and_body : length (to_be_bytes w32 (length body) ++ body) ≡ 4 + length body =
+      length-append (to_be_bytes w32 (length body)) body in
       ap (λ (n : ℕ). take (length body) (drop n bytes)) split
       ∙ ap (take (length body)) (sym (drop-drop 4 (behind 16 records + 1) bytes))
       ∙ sym (drop-take 4 (length body) behind_gate)
-      ∙ ap (drop 4) (sym (take-take (4 + length body) (5 + length body) behind_gate (omega arith)) ∙ ap (take (4 + length body)) is.tail
+      ∙ ap (drop 4) (sym (take-take (4 + length body) (5 + length body) behind_gate (omega arith))
+      ∙ ap (take (4 + length body)) is.tail
       ∙ take_at (to_be_bytes w32 (length body) ++ body) (0 ∷ []) (4 + length body) size_and_body)
       ∙ drop_at (to_be_bytes w32 (length body)) body 4 refl
 
   staged_end : slice_index bytes (behind 16 records + 5 + length body) ≡ 0
   staged_end =
       let behind_gate = drop (behind 16 records + 1) bytes in
-      let split : behind 16 records + 5 + length body ≡ (behind 16 records + 1) + (4 + length body) = omega arith in
-      let size_and_body : length (to_be_bytes w32 (length body) ++ body) ≡ 4 + length body = length-append (to_be_bytes w32 (length body)) body in
-      ap (λ (n : ℕ). get_or bytes n 0) split ∙ sym (get_or-drop (behind 16 records + 1) bytes (4 + length body) 0)
+      let split : behind 16 records + 5 + length body
+      ≡ (behind 16 records + 1) + (4 + length body) = omega arith in
+      let size_and_body : length (to_be_bytes w32 (length body) ++ body) ≡ 4 + length body =
+      length-append (to_be_bytes w32 (length body)) body in
+      ap (λ (n : ℕ). get_or bytes n 0) split
+      ∙ sym (get_or-drop (behind 16 records + 1) bytes (4 + length body) 0)
       ∙ sym (get_or-take (5 + length body) behind_gate (4 + length body) 0 (omega arith))
       ∙ ap (λ (t : List ℕ). get_or t (4 + length body) 0) is.tail
       ∙ get_or_at (to_be_bytes w32 (length body) ++ body) 0 [] 0 (4 + length body) size_and_body
@@ -111,30 +141,43 @@ module _ (bytes : List ℕ) (records : List (List ℕ)) (body : List ℕ) (is : 
     -- the gate is still closed
     pub gate_shut : slice_index new (behind 16 records) ≡ 0 → StandsFor new records
     gate_shut shut = record {
-      begins = header_kept (behind 16 records) bytes new front_same (behind_later 16 records) is.stands.begins;
-      holds = records_kept (behind 16 records) 16 records bytes new front_same (omega arith) is.stands.holds;
-      ends = record { there = (let there = is.stands.ends.there in let longer = torn.no_shorter in omega arith); shut = shut };
+      begins = header_kept (behind 16 records) bytes new front_same (behind_later 16 records)
+          is.stands.begins;
+      holds = records_kept (behind 16 records) 16 records bytes new front_same
+          (omega arith) is.stands.holds;
+      ends = record {
+        there = (let there = is.stands.ends.there in let longer =
+            torn.no_shorter in omega arith);
+        shut = shut;
+      };
     }
 
     -- the gate is open
-    pub gate_open : 1 ≤ length body → length body ≤ 131072 → slice_index new (behind 16 records) ≢ 0 → StandsFor new (records ++ body ∷ [])
+    pub gate_open : 1 ≤ length body → length body ≤ 131072 → slice_index new (behind 16 records) ≢ 0
+        → StandsFor new (records ++ body ∷ [])
     gate_open some few opened =
         let gate = behind 16 records in
         let there : gate + (5 + length body) < length bytes = staged_length in
         let longer = torn.no_shorter in
         record {
           begins = header_kept gate bytes new front_same (behind_later 16 records) is.stands.begins;
-          holds = records-append new 16 records body (records_kept gate 16 records bytes new front_same (omega arith) is.stands.holds) (record {
-            some = some;
-            few = few;
-            open_gate = opened;
-            size = part_after (gate + 1) (gate + 1) 4 bytes new torn.after (omega arith) (omega arith) ∙ staged_size;
-            body_is = part_after (gate + 1) (gate + 5) (length body) bytes new torn.after (omega arith) (omega arith) ∙ staged_body;
-          });
-          ends = subst (λ (place : ℕ). IsClosedAt new place) (sym (behind-append 16 records body)) (record {
-            there = omega arith;
-            shut = byte_after (gate + 1) (gate + 5 + length body) bytes new torn.after (omega arith) (omega arith) ∙ staged_end;
-          });
+          holds = records-append new 16 records body
+              (records_kept gate 16 records bytes new front_same (omega arith) is.stands.holds)
+              (record {
+                some = some;
+                few = few;
+                open_gate = opened;
+                size = part_after (gate + 1) (gate + 1) 4 bytes new torn.after (omega arith)
+                    (omega arith) ∙ staged_size;
+                body_is = part_after (gate + 1) (gate + 5) (length body) bytes new torn.after
+                    (omega arith) (omega arith) ∙ staged_body;
+              });
+          ends = subst (λ (place : ℕ). IsClosedAt new place) (sym (behind-append 16 records body))
+              (record {
+                there = omega arith;
+                shut = byte_after (gate + 1) (gate + 5 + length body) bytes new torn.after
+                    (omega arith) (omega arith) ∙ staged_end;
+              });
         }
 
     -- however the write of the gate is torn
@@ -145,16 +188,19 @@ module _ (bytes : List ℕ) (records : List (List ℕ)) (body : List ℕ) (is : 
     ]
 
   -- after the second write
-  pub opened : (new : List ℕ) → 1 ≤ length body → length body ≤ 131072 → new ≡ overwritten (behind 16 records) (1 ∷ []) bytes
+  pub opened : (new : List ℕ) → 1 ≤ length body → length body ≤ 131072
+      → new ≡ overwritten (behind 16 records) (1 ∷ []) bytes
       → StandsFor new (records ++ body ∷ [])
   opened new some few new_is =
       let gate = behind 16 records in
       let there = is.stands.ends.there in
       let front : length (take gate bytes) ≡ gate = simp length-take (omega arith) in
       let one : slice_index (overwritten gate (1 ∷ []) bytes) gate ≡ 1
-      = rw (append_assoc (take gate bytes) (1 ∷ []) (drop (gate + 1) bytes)) (get_or_at (take gate bytes) 1 (drop (gate + 1) bytes) 0 gate front) in
+      = rw (append_assoc (take gate bytes) (1 ∷ []) (drop (gate + 1) bytes))
+      (get_or_at (take gate bytes) 1 (drop (gate + 1) bytes) 0 gate front) in
       subst (λ (c : List ℕ). StandsFor c (records ++ body ∷ [])) (sym new_is)
-      (gate_open (overwritten gate (1 ∷ []) bytes) (torn_all gate (1 ∷ []) bytes) some few (λ (shut : _ ≡ 0). let wrong : 1 ≡ 0 = sym one ∙ shut in cc))
+      (gate_open (overwritten gate (1 ∷ []) bytes) (torn_all gate (1 ∷ []) bytes) some few
+      (λ (shut : _ ≡ 0). let wrong : 1 ≡ 0 = sym one ∙ shut in cc))
 
 -- A new file, after its first write.
 pub first_staged : (body : List ℕ) → IsStaged (new_file_of body) [] body

@@ -1,5 +1,6 @@
 -- A disk on which a journal was begun.
-use Rattle.std.proofs.Common.{◌≡◌, ℕ, ◌+◌, ◌≤◌, List, [], ◌∷◌, ◌++◌, length, Option, Some, None, IfSome, option_map, refl, ap, sym, ◌∙◌, subst, arith}
+use Rattle.std.proofs.Common.{◌≡◌, ℕ, ◌+◌, ◌≤◌, List, [], ◌∷◌, ◌++◌, length, Option, Some, None}
+use Rattle.std.proofs.Common.{IfSome, option_map, refl, ap, sym, ◌∙◌, subst, arith}
 use Rattle.std.proofs.lemmas.List.{append-nil, drop_all}
 use Rattle.disk_core.specs.Disk.{overwritten, Only}
 use Rattle.disk_core.specs.declared.disk.Disk.{Ghosts}
@@ -15,43 +16,60 @@ pub first_stands : (first b : List ℕ) → 1 ≤ length first → length first 
     → b ≡ overwritten 16 (1 ∷ []) (overwritten 0 (new_file_of first) []) → StandsFor b (first ∷ [])
 first_stands first b some few is =
     let whole : overwritten 0 (new_file_of first) [] ≡ new_file_of first
-    = ap (λ (rest : List ℕ). new_file_of first ++ rest) (drop_all (0 + length (new_file_of first)) [] (omega arith)) ∙ append-nil (new_file_of first) in
-    opened (new_file_of first) [] first (first_staged first) b some few (is ∙ ap (overwritten 16 (1 ∷ [])) whole)
+    = ap (λ (rest : List ℕ). new_file_of first ++ rest)
+    (drop_all (0 + length (new_file_of first)) [] (omega arith))
+    ∙ append-nil (new_file_of first) in
+    opened (new_file_of first) [] first (first_staged first) b some few (is
+    ∙ ap (overwritten 16 (1 ∷ [])) whole)
 
 module _ {D : Type 0} (g : Ghosts D) (old new : D) (first piece : List ℕ)
     (empty : IfSome (g.told old) (λ b. b ≡ []))
     (piece_is : piece ≡ new_file_of first) (some : 1 ≤ length first) (few : length first ≤ 131072)
-    (written : g.told new ≡ option_map (λ b. overwritten 16 (1 ∷ []) (overwritten 0 piece b)) (g.told old))
+    (written : g.told new ≡ option_map (λ b. overwritten 16 (1 ∷ []) (overwritten 0 piece b))
+    (g.told old))
     (durable : IfSome (g.told new) (λ b. Only b (g.may_leave new))) where
   started_stands : (b : List ℕ) → g.told new ≡ Some b → StandsFor b (first ∷ [])
   started_stands b told =
-      let (was, told_old, b_is) = told_before (g.told old) (g.told new) (λ (b : List ℕ). overwritten 16 (1 ∷ []) (overwritten 0 piece b)) b written told in
+      let (was, told_old, b_is) = told_before (g.told old) (g.told new)
+      (λ (b : List ℕ). overwritten 16 (1 ∷ []) (overwritten 0 piece b)) b written told in
       let none : was ≡ [] = at_told (λ (b : List ℕ). b ≡ []) (g.told old) was told_old empty in
-      first_stands first b some few (b_is ∙ ap (λ (b : List ℕ). overwritten 16 (1 ∷ []) (overwritten 0 piece b)) none
+      first_stands first b some few (b_is
+      ∙ ap (λ (b : List ℕ). overwritten 16 (1 ∷ []) (overwritten 0 piece b)) none
       ∙ ap (λ (p : List ℕ). overwritten 16 (1 ∷ []) (overwritten 0 p [])) piece_is)
 
-  pub started_settled : (b : List ℕ) → g.told new ≡ Some b → IsSettled b (g.may_leave new) (length first + 22)
+  pub started_settled : (b : List ℕ) → g.told new ≡ Some b
+      → IsSettled b (g.may_leave new) (length first + 22)
   started_settled b told =
       let stands = started_stands b told in
       let same : records_of b ≡ first ∷ [] = records_of-stands b _ stands in
       record {
         stands = subst (λ (list : List (List ℕ)). StandsFor b list) (sym same) stands;
-        end_is = subst (λ (list : List (List ℕ)). length first + 22 ≡ behind 16 list + 1) (sym same) (omega arith);
-        only = at_told (λ (bytes : List ℕ). Only bytes (g.may_leave new)) (g.told new) b told durable;
+        end_is = subst (λ (list : List (List ℕ)). length first + 22 ≡ behind 16 list + 1) (sym same)
+            (omega arith);
+        only = at_told (λ (bytes : List ℕ). Only bytes (g.may_leave new))
+            (g.told new) b told durable;
       }
 
   pub started_all : IfSome (option_map records_of (g.told new)) (AllStandFor g new)
-  started_all = of_records (AllStandFor g new) (g.told new) (λ b told. let is = started_settled b told in
-      λ c left. subst (λ (bytes : List ℕ). StandsFor bytes (records_of b)) (sym (is.only c left)) is.stands)
+  started_all = of_records (AllStandFor g new) (g.told new) (λ b told. let is =
+      started_settled b told in
+      λ c left. subst (λ (bytes : List ℕ). StandsFor bytes (records_of b))
+      (sym (is.only c left)) is.stands)
 
-  pub started_records : option_map records_of (g.told new) ≡ option_map (λ _. first ∷ []) (g.told old)
+  pub started_records : option_map records_of (g.told new)
+      ≡ option_map (λ _. first ∷ []) (g.told old)
   started_records = go (g.told old) refl
     where
-      go : (was : Option (List ℕ)) → g.told old ≡ was → option_map records_of (g.told new) ≡ option_map (λ _. first ∷ []) (g.told old)
+      go : (was : Option (List ℕ)) → g.told old ≡ was
+          → option_map records_of (g.told new) ≡ option_map (λ _. first ∷ []) (g.told old)
       go None is =
-          let none : g.told new ≡ None = written ∙ ap (option_map (λ (b : List ℕ). overwritten 16 (1 ∷ []) (overwritten 0 piece b))) is in
+          let none : g.told new ≡ None = written
+          ∙ ap (option_map (λ (b : List ℕ). overwritten 16 (1 ∷ []) (overwritten 0 piece b)))
+          is in
           rw (none, is) refl
       go (Some bytes) is =
           let now : List ℕ = overwritten 16 (1 ∷ []) (overwritten 0 piece bytes) in
-          let told : g.told new ≡ Some now = written ∙ ap (option_map (λ (b : List ℕ). overwritten 16 (1 ∷ []) (overwritten 0 piece b))) is in
+          let told : g.told new ≡ Some now = written
+          ∙ ap (option_map (λ (b : List ℕ). overwritten 16 (1 ∷ []) (overwritten 0 piece b)))
+          is in
           rw (told, is) (ap Some (records_of-stands now _ (started_stands now told)))

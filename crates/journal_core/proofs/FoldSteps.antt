@@ -1,16 +1,20 @@
 -- One step of the reading of a file by a fold, over its opening.
-use Rattle.std.proofs.Common.{◌≡◌, ◌≢◌, ℕ, false, List, [], ◌∷◌, ◌++◌, length, take, Option, Some, None, IfSome, option_map, Ok, Err, refl, ap, sym, ◌∙◌, subst, append_assoc, arith}
+use Rattle.std.proofs.Common.{◌≡◌, ◌≢◌, ℕ, false, List, [], ◌∷◌, ◌++◌, length, take, Option, Some}
+use Rattle.std.proofs.Common.{None, IfSome, option_map, Ok, Err, refl, ap, sym, ◌∙◌, subst}
+use Rattle.std.proofs.Common.{append_assoc, arith}
 use Rattle.disk_core.specs.Moments.{Looks}
 use Rattle.disk_core.specs.declared.disk.Disk.{Ghosts}
 use Rattle.journal_core.specs.Folds.{Fold, state_behind, read_by, AreRefused, IsCauseOf}
 use Rattle.journal_core.specs.Format.{header, records_before}
 use Rattle.journal_core.specs.Opens.{HasReason, IsOfHeader, IsOfRecord, IsWalkTo}
-use Rattle.journal_core.specs.Openings.{opening_disk, read_list, next_place, refusal, last_body, HasRead, HasEnded, HasStepped}
+use Rattle.journal_core.specs.Openings.{opening_disk, read_list, next_place, refusal, last_body}
+use Rattle.journal_core.specs.Openings.{HasRead, HasEnded, HasStepped}
 use Rattle.journal_core.specs.Readings.{HasFolded, HasFound}
 use Rattle.journal_core.specs.Walk.{Ending, walk_of, at_gate, at_bad_length, at_cut}
 use Rattle.journal_core.specs.declared.opening.Opening.{Opening}
 use Rattle.journal_core.specs.declared.error.OpenError.{OpenError}
-use Rattle.journal_core.specs.declared.error.OpenError.TheVariants.{NotJournal, BadLength, CutShort, Failed, Memory}
+use Rattle.journal_core.specs.declared.error.OpenError.TheVariants.{NotJournal, BadLength, CutShort}
+use Rattle.journal_core.specs.declared.error.OpenError.TheVariants.{Failed, Memory}
 use Rattle.journal_core.proofs.Folds.{state_next, state_stops, state_begins, state_begins_not}
 use Rattle.journal_core.proofs.Found.{read_ends, read_none, read_bad, read_other}
 use Rattle.journal_core.proofs.Told.{if_told, at_told, if_some}
@@ -20,146 +24,236 @@ abbrev pushed : List ℕ → List (List ℕ) → List (List ℕ)
 pushed body list = list ++ body ∷ []
 
 -- a fact of the records that were read, and one of these with a record more
-if_pushed : (P Q : List (List ℕ) → Type 0) (old new : Option (List (List ℕ))) (body : List ℕ) → new ≡ option_map (pushed body) old
+if_pushed : (P Q : List (List ℕ) → Type 0) (old new : Option (List (List ℕ))) (body : List ℕ)
+    → new ≡ option_map (pushed body) old
     → ((list : List (List ℕ)) → P list → Q (pushed body list)) → IfSome old P → IfSome new Q
-if_pushed P Q None new body is step fact = subst (λ (o : Option (List (List ℕ))). IfSome o Q) (sym is) tt
-if_pushed P Q (Some list) new body is step fact = subst (λ (o : Option (List (List ℕ))). IfSome o Q) (sym is) (step list fact)
+if_pushed P Q None new body is step fact =
+    subst (λ (o : Option (List (List ℕ))). IfSome o Q) (sym is) tt
+if_pushed P Q (Some list) new body is step fact =
+    subst (λ (o : Option (List (List ℕ))). IfSome o Q) (sym is) (step list fact)
 
-all_empty : (told : Option (List ℕ)) (list : Option (List (List ℕ))) → list ≡ option_map (λ _. []) told → IfSome list (λ l. l ≡ [])
+all_empty : (told : Option (List ℕ)) (list : Option (List (List ℕ)))
+    → list ≡ option_map (λ _. []) told → IfSome list (λ l. l ≡ [])
 all_empty None list is = subst (λ (o : Option (List (List ℕ))). IfSome o (λ l. l ≡ [])) (sym is) tt
-all_empty (Some b) list is = subst (λ (o : Option (List (List ℕ))). IfSome o (λ l. l ≡ [])) (sym is) refl
+all_empty (Some b) list is = subst (λ (o : Option (List (List ℕ))). IfSome o (λ l. l ≡ []))
+    (sym is) refl
 
 some_is : (x y : List (List ℕ)) → Some x ≡ Some y → x ≡ y
 some_is x y is = cc
 
 module _ {D : Type 0} {g : Ghosts D} {S E : Type 0} (fold : Fold S E) (old new : Opening D g) where
   -- what the disk told and the records that were read, where it tells them
-  read_at : (o : Opening D g) (b : List ℕ) → g.told (opening_disk o) ≡ Some b → read_list o ≡ Some (records_before b (next_place o))
+  read_at : (o : Opening D g) (b : List ℕ) → g.told (opening_disk o) ≡ Some b
+      → read_list o ≡ Some (records_before b (next_place o))
   read_at o b told = ap (option_map (λ (bytes : List ℕ). records_before bytes (next_place o))) told
 
-  of_list : (o : Opening D g) (b : List ℕ) → g.told (opening_disk o) ≡ Some b → (P : List (List ℕ) → Type 0) → IfSome (read_list o) P → P (records_before b (next_place o))
-  of_list o b told P fact = at_told P (read_list o) (records_before b (next_place o)) (read_at o b told) fact
+  of_list : (o : Opening D g) (b : List ℕ) → g.told (opening_disk o) ≡ Some b
+      → (P : List (List ℕ) → Type 0) → IfSome (read_list o) P → P (records_before b (next_place o))
+  of_list o b told P fact = at_told P (read_list o) (records_before b (next_place o))
+      (read_at o b told) fact
 
   -- ---- one record more
 
   module _ (body : List ℕ) (last : last_body new ≡ body) (read : HasRead old new) where
     list_is : read_list new ≡ option_map (pushed body) (read_list old)
-    list_is = subst (λ (b : List ℕ). read_list new ≡ option_map (λ list. list ++ b ∷ []) (read_list old)) last read.list
+    list_is = subst (λ (b : List ℕ). read_list new
+        ≡ option_map (λ list. list ++ b ∷ []) (read_list old)) last read.list
 
-    pub folded_next : (s t : S) → HasFolded fold s old → fold.takes s body ≡ Some t → HasFolded fold t new
+    pub folded_next : (s t : S) → HasFolded fold s old → fold.takes s body ≡ Some t
+        → HasFolded fold t new
     folded_next s t was next = record {
       unended = read.goes_on.0;
       unrefused = read.goes_on.1;
-      made = if_pushed (λ (list : List (List ℕ)). state_behind fold list ≡ Ok s) (λ (list : List (List ℕ)). state_behind fold list ≡ Ok t)
-          (read_list old) (read_list new) body list_is (λ list is. state_next fold list s body t is next) was.made;
+      made = if_pushed (λ (list : List (List ℕ)). state_behind fold list
+          ≡ Ok s) (λ (list : List (List ℕ)). state_behind fold list ≡ Ok t)
+          (read_list old) (read_list new) body list_is
+          (λ list is. state_next fold list s body t is next) was.made;
     }
 
-    pub folded_first : (s : S) → read_list old ≡ option_map (λ _. []) (g.told (opening_disk old)) → fold.begins body ≡ Some s → HasFolded fold s new
+    pub folded_first : (s : S) → read_list old ≡ option_map (λ _. []) (g.told (opening_disk old))
+        → fold.begins body ≡ Some s → HasFolded fold s new
     folded_first s none is = record {
       unended = read.goes_on.0;
       unrefused = read.goes_on.1;
-      made = if_pushed (λ (list : List (List ℕ)). list ≡ []) (λ (list : List (List ℕ)). state_behind fold list ≡ Ok s) (read_list old) (read_list new) body
-          list_is (λ list empty. ap (λ (l : List (List ℕ)). state_behind fold (pushed body l)) empty ∙ state_begins fold body s is) (all_empty _ (read_list old) none);
+      made = if_pushed (λ (list : List (List ℕ)). list
+          ≡ []) (λ (list : List (List ℕ)). state_behind fold list ≡ Ok s) (read_list old)
+          (read_list new) body
+          list_is (λ list empty. ap (λ (l : List (List ℕ)). state_behind fold (pushed body l)) empty
+          ∙ state_begins fold body s is) (all_empty _ (read_list old) none);
     }
 
     module _ (looks : Looks g (opening_disk old) (opening_disk new)) where
       -- the whole records of the file begin with those that were read and this one
       walk_begins : (b : List ℕ) → g.told (opening_disk old) ≡ Some b
-          → (rest : List (List ℕ)) × ((walk_of b).records ≡ records_before b (next_place old) ++ body ∷ rest)
+          → (rest : List (List ℕ)) × ((walk_of b).records ≡ records_before b (next_place old)
+          ++ body ∷ rest)
       walk_begins b told =
           let told_new : g.told (opening_disk new) ≡ Some b = looks.told ∙ told in
-          let begin = records_begin b (g.may_leave (opening_disk new)) (next_place new) (new.reading b told_new) in
-          let more : records_before b (next_place new) ≡ pushed body (records_before b (next_place old))
-          = some_is _ _ (sym (read_at new b told_new) ∙ list_is ∙ ap (option_map (pushed body)) (read_at old b told)) in
-          (begin.0, begin.1 ∙ ap (λ (list : List (List ℕ)). list ++ begin.0) more ∙ append_assoc (records_before b (next_place old)) (body ∷ []) begin.0)
+          let begin = records_begin b (g.may_leave (opening_disk new)) (next_place new)
+          (new.reading b told_new) in
+          let more : records_before b (next_place new)
+          ≡ pushed body (records_before b (next_place old))
+          = some_is _ _ (sym (read_at new b told_new) ∙ list_is
+          ∙ ap (option_map (pushed body)) (read_at old b told)) in (
+            begin.0,
+            begin.1 ∙ ap (λ (list : List (List ℕ)). list ++ begin.0) more
+                ∙ append_assoc (records_before b (next_place old)) (body ∷ []) begin.0,
+          )
 
       -- the record with this number is not taken
-      pub refused_next : (s : S) (k : ℕ) → IfSome (read_list old) (λ list. k ≡ length list) → HasFolded fold s old → fold.takes s body ≡ None
+      pub refused_next : (s : S) (k : ℕ) → IfSome (read_list old) (λ list. k ≡ length list)
+          → HasFolded fold s old → fold.takes s body ≡ None
           → AreRefused fold (g.told (opening_disk old)) (fold.bad_record k)
-      refused_next s k count was next = if_told (λ (b : List ℕ). read_by fold b ≡ Err (fold.bad_record k)) (g.told (opening_disk old)) (λ b told.
+      refused_next s k count was next =
+          if_told (λ (b : List ℕ). read_by fold b ≡ Err (fold.bad_record k))
+          (g.told (opening_disk old)) (λ b told.
           let list = records_before b (next_place old) in
           let walk = walk_begins b told in
-          let state : state_behind fold list ≡ Ok s = of_list old b told (λ (l : List (List ℕ)). state_behind fold l ≡ Ok s) was.made in
-          let number : k ≡ length list = of_list old b told (λ (l : List (List ℕ)). k ≡ length l) count in
+          let state : state_behind fold list ≡ Ok s =
+          of_list old b told (λ (l : List (List ℕ)). state_behind fold l ≡ Ok s) was.made in
+          let number : k ≡ length list = of_list old b told (λ (l : List (List ℕ)). k
+          ≡ length l) count in
           read_bad fold b list body walk.0 k (old.reading b told).begins walk.1
           (state_stops fold list s body walk.0 state next ∙ ap Err (sym number)))
 
       -- the first record is not taken
-      pub refused_first : read_list old ≡ option_map (λ _. []) (g.told (opening_disk old)) → fold.begins body ≡ None
+      pub refused_first : read_list old ≡ option_map (λ _. []) (g.told (opening_disk old))
+          → fold.begins body ≡ None
           → AreRefused fold (g.told (opening_disk old)) (fold.bad_record 0)
-      refused_first none next = if_told (λ (b : List ℕ). read_by fold b ≡ Err (fold.bad_record 0)) (g.told (opening_disk old)) (λ b told.
+      refused_first none next = if_told (λ (b : List ℕ). read_by fold b ≡ Err (fold.bad_record 0))
+          (g.told (opening_disk old)) (λ b told.
           let list = records_before b (next_place old) in
           let walk = walk_begins b told in
-          let empty : list ≡ [] = of_list old b told (λ (l : List (List ℕ)). l ≡ []) (all_empty _ (read_list old) none) in
-          read_bad fold b [] body walk.0 0 (old.reading b told).begins (walk.1 ∙ ap (λ (l : List (List ℕ)). l ++ body ∷ walk.0) empty)
+          let empty : list ≡ [] = of_list old b told (λ (l : List (List ℕ)). l
+          ≡ []) (all_empty _ (read_list old) none) in
+          read_bad fold b [] body walk.0 0 (old.reading b told).begins (walk.1
+          ∙ ap (λ (l : List (List ℕ)). l ++ body ∷ walk.0) empty)
           (state_begins_not fold body walk.0 next))
 
   -- ---- the closed gate
 
   module _ (ended : HasEnded old new) (looks : Looks g (opening_disk old) (opening_disk new)) where
-    walk_ends : (b : List ℕ) → g.told (opening_disk new) ≡ Some b → walk_of b ≡ record { records = records_before b (next_place new); end = at_gate }
-    walk_ends b told = of_list new b told (λ (l : List (List ℕ)). walk_of b ≡ record { records = l; end = at_gate })
-        (at_told (λ (bytes : List ℕ). IfSome (read_list new) (λ l. walk_of bytes ≡ record { records = l; end = at_gate })) (g.told (opening_disk new)) b told ended.walk)
+    walk_ends : (b : List ℕ) → g.told (opening_disk new) ≡ Some b → walk_of b ≡ record {
+      records =
+          records_before b (next_place new);
+      end = at_gate;
+    }
+    walk_ends b told = of_list new b told (λ (l : List (List ℕ)). walk_of b ≡ record {
+      records =
+          l;
+      end = at_gate;
+    })
+        (at_told (λ (bytes : List ℕ). IfSome (read_list new) (λ l. walk_of bytes
+        ≡ record { records = l; end = at_gate })) (g.told (opening_disk new)) b told ended.walk)
 
     pub found_last : (s : S) → HasFolded fold s old → HasFound fold s new
     found_last s was =
-        let made : IfSome (read_list new) (λ l. state_behind fold l ≡ Ok s) = subst (λ (o : Option (List (List ℕ))). IfSome o (λ l. state_behind fold l ≡ Ok s)) (sym ended.list) was.made in
+        let made : IfSome (read_list new) (λ l. state_behind fold l ≡ Ok s) =
+        subst (λ (o : Option (List (List ℕ))). IfSome o (λ l. state_behind fold l ≡ Ok s))
+        (sym ended.list) was.made in
         record {
           ended = ended.ended;
           made = made;
-          found = if_told (λ (b : List ℕ). IfSome (read_list new) (λ l. read_by fold b ≡ Ok (record { records = l; state = s }))) (g.told (opening_disk new)) (λ b told.
-              subst (λ (o : Option (List (List ℕ))). IfSome o (λ l. read_by fold b ≡ Ok (record { records = l; state = s }))) (sym (read_at new b told))
-              (read_ends fold b (records_before b (next_place new)) at_gate s (new.reading b told).begins (walk_ends b told)
+          found = if_told (λ (b : List ℕ). IfSome (read_list new) (λ l. read_by fold b
+              ≡ Ok (record { records = l; state = s }))) (g.told (opening_disk new)) (λ b told.
+              subst (λ (o : Option (List (List ℕ))). IfSome o (λ l. read_by fold b
+              ≡ Ok (record { records = l; state = s }))) (sym (read_at new b told))
+              (read_ends fold b (records_before b (next_place new)) at_gate s
+              (new.reading b told).begins (walk_ends b told)
               (of_list new b told (λ (l : List (List ℕ)). state_behind fold l ≡ Ok s) made)));
           stands = ended.stands;
         }
 
-    pub missing_first : read_list old ≡ option_map (λ _. []) (g.told (opening_disk old)) → AreRefused fold (g.told (opening_disk old)) (fold.bad_record 0)
-    missing_first none = if_told (λ (b : List ℕ). read_by fold b ≡ Err (fold.bad_record 0)) (g.told (opening_disk old)) (λ b told.
+    pub missing_first : read_list old ≡ option_map (λ _. []) (g.told (opening_disk old))
+        → AreRefused fold (g.told (opening_disk old)) (fold.bad_record 0)
+    missing_first none = if_told (λ (b : List ℕ). read_by fold b ≡ Err (fold.bad_record 0))
+        (g.told (opening_disk old)) (λ b told.
         let told_new : g.told (opening_disk new) ≡ Some b = looks.told ∙ told in
         let empty : records_before b (next_place new) ≡ []
-        = of_list new b told_new (λ (l : List (List ℕ)). l ≡ []) (subst (λ (o : Option (List (List ℕ))). IfSome o (λ l. l ≡ [])) (sym ended.list) (all_empty _ (read_list old) none)) in
-        read_none fold b at_gate (old.reading b told).begins (subst (λ (l : List (List ℕ)). walk_of b ≡ record { records = l; end = at_gate }) empty (walk_ends b told_new)))
+        = of_list new b told_new (λ (l : List (List ℕ)). l
+        ≡ []) (subst (λ (o : Option (List (List ℕ))). IfSome o (λ l. l ≡ [])) (sym ended.list)
+        (all_empty _ (read_list old) none)) in
+        read_none fold b at_gate (old.reading b told).begins
+        (subst (λ (l : List (List ℕ)). walk_of b ≡ record {
+          records = l;
+          end =
+              at_gate;
+        }) empty (walk_ends b told_new)))
 
   -- ---- the journal's own refusals
 
   abbrev EndsSo : List ℕ → ℕ → Ending → E → Type 0
-  EndsSo b at end why = g.told (opening_disk old) ≡ Some b → walk_of b ≡ record { records = records_before b (next_place old); end = end } → read_by fold b ≡ Err why
+  EndsSo b at end why = g.told (opening_disk old) ≡ Some b → walk_of b ≡ record {
+    records =
+        records_before b (next_place old);
+    end = end;
+  } → read_by fold b ≡ Err why
 
-  cause_by : ((b : List ℕ) (at : ℕ) → EndsSo b at (at_bad_length at) (fold.not_read (BadLength at))) → ((b : List ℕ) (at : ℕ) → EndsSo b at (at_cut at) (fold.not_read (CutShort at)))
-      → (why : OpenError) → HasReason g (opening_disk old) (opening_disk new) (next_place old) why → IsOfRecord why
-      → IfSome (g.told (opening_disk old)) (λ b. IfSome (read_list old) (IsWalkTo why b)) → IsCauseOf g fold (opening_disk old) (opening_disk new) why
+  cause_by : ((b : List ℕ) (at : ℕ) → EndsSo b at (at_bad_length at) (fold.not_read (BadLength at)))
+      → ((b : List ℕ) (at : ℕ) → EndsSo b at (at_cut at) (fold.not_read (CutShort at)))
+      → (why : OpenError) → HasReason g (opening_disk old) (opening_disk new) (next_place old) why
+      → IsOfRecord why
+      → IfSome (g.told (opening_disk old)) (λ b. IfSome (read_list old) (IsWalkTo why b))
+      → IsCauseOf g fold (opening_disk old) (opening_disk new) why
   cause_by bad cut NotJournal reason kind walk = absurd kind
-  cause_by bad cut (BadLength at) reason kind walk = if_told (λ (b : List ℕ). read_by fold b ≡ Err (fold.not_read (BadLength at))) (g.told (opening_disk old)) (λ b told.
-      bad b at told (of_list old b told (IsWalkTo (BadLength at) b) (at_told (λ (bytes : List ℕ). IfSome (read_list old) (IsWalkTo (BadLength at) bytes)) (g.told (opening_disk old)) b told walk)))
-  cause_by bad cut (CutShort at) reason kind walk = if_told (λ (b : List ℕ). read_by fold b ≡ Err (fold.not_read (CutShort at))) (g.told (opening_disk old)) (λ b told.
-      cut b at told (of_list old b told (IsWalkTo (CutShort at) b) (at_told (λ (bytes : List ℕ). IfSome (read_list old) (IsWalkTo (CutShort at) bytes)) (g.told (opening_disk old)) b told walk)))
+  cause_by bad cut (BadLength at) reason kind walk =
+      if_told (λ (b : List ℕ). read_by fold b ≡ Err (fold.not_read (BadLength at)))
+      (g.told (opening_disk old)) (λ b told.
+      bad b at told (of_list old b told (IsWalkTo (BadLength at) b)
+      (at_told (λ (bytes : List ℕ). IfSome (read_list old) (IsWalkTo (BadLength at) bytes))
+      (g.told (opening_disk old)) b told walk)))
+  cause_by bad cut (CutShort at) reason kind walk =
+      if_told (λ (b : List ℕ). read_by fold b ≡ Err (fold.not_read (CutShort at)))
+      (g.told (opening_disk old)) (λ b told.
+      cut b at told (of_list old b told (IsWalkTo (CutShort at) b)
+      (at_told (λ (bytes : List ℕ). IfSome (read_list old) (IsWalkTo (CutShort at) bytes))
+      (g.told (opening_disk old)) b told walk)))
   cause_by bad cut Failed reason kind walk = reason
   cause_by bad cut Memory reason kind walk = tt
 
-  pub cause_next : (s : S) (why : OpenError) → HasFolded fold s old → HasStepped old new false (Some why) → IsCauseOf g fold (opening_disk old) (opening_disk new) why
+  pub cause_next : (s : S) (why : OpenError) → HasFolded fold s old
+      → HasStepped old new false (Some why)
+      → IsCauseOf g fold (opening_disk old) (opening_disk new) why
   cause_next s why was step =
-      let log : (b : List ℕ) → g.told (opening_disk old) ≡ Some b → state_behind fold (records_before b (next_place old)) ≡ Ok s
+      let log : (b : List ℕ) → g.told (opening_disk old) ≡ Some b
+      → state_behind fold (records_before b (next_place old)) ≡ Ok s
       = λ b told. of_list old b told (λ (l : List (List ℕ)). state_behind fold l ≡ Ok s) was.made in
-      cause_by (λ b at told walk. read_ends fold b (records_before b (next_place old)) (at_bad_length at) s (old.reading b told).begins walk (log b told))
-      (λ b at told walk. read_ends fold b (records_before b (next_place old)) (at_cut at) s (old.reading b told).begins walk (log b told))
+      cause_by (λ b at told walk. read_ends fold b (records_before b (next_place old))
+      (at_bad_length at) s (old.reading b told).begins walk (log b told))
+      (λ b at told walk. read_ends fold b (records_before b (next_place old)) (at_cut at) s
+      (old.reading b told).begins walk (log b told))
       why (step.reason was.unrefused) (step.kind was.unrefused) (step.walk was.unrefused)
 
-  pub cause_first : (why : OpenError) → read_list old ≡ option_map (λ _. []) (g.told (opening_disk old)) → refusal old ≡ None → HasStepped old new false (Some why)
+  pub cause_first : (why : OpenError)
+      → read_list old ≡ option_map (λ _. []) (g.told (opening_disk old)) → refusal old ≡ None
+      → HasStepped old new false (Some why)
       → IsCauseOf g fold (opening_disk old) (opening_disk new) why
   cause_first why none unrefused step =
-      let empty : (b : List ℕ) → g.told (opening_disk old) ≡ Some b → records_before b (next_place old) ≡ []
-      = λ b told. of_list old b told (λ (l : List (List ℕ)). l ≡ []) (all_empty _ (read_list old) none) in
-      let walked : (b : List ℕ) (end : Ending) → g.told (opening_disk old) ≡ Some b → walk_of b ≡ record { records = records_before b (next_place old); end = end } → walk_of b ≡ record { records = []; end = end }
-      = λ b end told walk. subst (λ (l : List (List ℕ)). walk_of b ≡ record { records = l; end = end }) (empty b told) walk in
-      cause_by (λ b at told walk. read_none fold b (at_bad_length at) (old.reading b told).begins (walked b (at_bad_length at) told walk))
-      (λ b at told walk. read_none fold b (at_cut at) (old.reading b told).begins (walked b (at_cut at) told walk))
+      let empty : (b : List ℕ) → g.told (opening_disk old) ≡ Some b
+      → records_before b (next_place old) ≡ []
+      = λ b told. of_list old b told (λ (l : List (List ℕ)). l
+      ≡ []) (all_empty _ (read_list old) none) in
+      let walked : (b : List ℕ) (end : Ending) → g.told (opening_disk old) ≡ Some b
+      → walk_of b ≡ record { records = records_before b (next_place old); end = end }
+      → walk_of b ≡ record { records = []; end = end }
+      = λ b end told walk. subst (λ (l : List (List ℕ)). walk_of b ≡ record {
+        records = l;
+        end =
+            end;
+      }) (empty b told) walk in
+      cause_by (λ b at told walk. read_none fold b (at_bad_length at) (old.reading b told).begins
+      (walked b (at_bad_length at) told walk))
+      (λ b at told walk. read_none fold b (at_cut at) (old.reading b told).begins
+      (walked b (at_cut at) told walk))
       why (step.reason unrefused) (step.kind unrefused) (step.walk unrefused)
 
 module _ {D : Type 0} (g : Ghosts D) {S E : Type 0} (fold : Fold S E) where
   -- a file that isn't begun to be read
-  pub cause_begin : (old new : D) (why : OpenError) → HasReason g old new 0 why → IsOfHeader why → IsCauseOf g fold old new why
-  cause_begin old new NotJournal reason kind = if_some (λ (b : List ℕ). take 16 b ≢ header) (λ (b : List ℕ). read_by fold b ≡ Err (fold.not_read NotJournal))
+  pub cause_begin : (old new : D) (why : OpenError) → HasReason g old new 0 why → IsOfHeader why
+      → IsCauseOf g fold old new why
+  cause_begin old new NotJournal reason kind =
+      if_some (λ (b : List ℕ). take 16 b ≢ header) (λ (b : List ℕ). read_by fold b
+      ≡ Err (fold.not_read NotJournal))
       (g.told old) (λ b other. read_other fold b other) reason
   cause_begin old new (BadLength at) reason kind = absurd kind
   cause_begin old new (CutShort at) reason kind = absurd kind
@@ -167,12 +261,18 @@ module _ {D : Type 0} (g : Ghosts D) {S E : Type 0} (fold : Fold S E) where
   cause_begin old new Memory reason kind = tt
 
   -- a refusal behind calls that only look
-  pub refused_later : (old mid : D) (why : E) → Looks g old mid → AreRefused fold (g.told mid) why → AreRefused fold (g.told old) why
-  refused_later old mid why looks are = subst (λ (told : Option (List ℕ)). AreRefused fold told why) looks.told are
+  pub refused_later : (old mid : D) (why : E) → Looks g old mid → AreRefused fold (g.told mid) why
+      → AreRefused fold (g.told old) why
+  refused_later old mid why looks are =
+      subst (λ (told : Option (List ℕ)). AreRefused fold told why) looks.told are
 
-  pub cause_later : (old mid new : D) (why : OpenError) → Looks g old mid → IsCauseOf g fold mid new why → IsCauseOf g fold old new why
-  cause_later old mid new NotJournal looks cause = refused_later old mid (fold.not_read NotJournal) looks cause
-  cause_later old mid new (BadLength at) looks cause = refused_later old mid (fold.not_read (BadLength at)) looks cause
-  cause_later old mid new (CutShort at) looks cause = refused_later old mid (fold.not_read (CutShort at)) looks cause
+  pub cause_later : (old mid new : D) (why : OpenError) → Looks g old mid
+      → IsCauseOf g fold mid new why → IsCauseOf g fold old new why
+  cause_later old mid new NotJournal looks cause =
+      refused_later old mid (fold.not_read NotJournal) looks cause
+  cause_later old mid new (BadLength at) looks cause =
+      refused_later old mid (fold.not_read (BadLength at)) looks cause
+  cause_later old mid new (CutShort at) looks cause =
+      refused_later old mid (fold.not_read (CutShort at)) looks cause
   cause_later old mid new Failed looks cause = let a = looks.faults in grind arith
   cause_later old mid new Memory looks cause = tt

@@ -1,5 +1,7 @@
 -- A file whose walk ends at a closed gate stands for the records of the walk.
-use Rattle.std.proofs.Common.{◌≡◌, ◌≢◌, ◌⊎◌, inl, inr, ℕ, zero, suc, ◌+◌, ◌≤◌, ◌==◌, ◌||◌, nat_lt, if◌then◌else◌, Bool, true, false, List, [], ◌∷◌, length, take, slice_index, Result, Ok, Err, refl, ap, sym, subst, ◌∙◌, arith}
+use Rattle.std.proofs.Common.{◌≡◌, ◌≢◌, ◌⊎◌, inl, inr, ℕ, zero, suc, ◌+◌, ◌≤◌, ◌==◌, ◌||◌, nat_lt}
+use Rattle.std.proofs.Common.{if◌then◌else◌, Bool, true, false, List, [], ◌∷◌, length, take}
+use Rattle.std.proofs.Common.{slice_index, Result, Ok, Err, refl, ap, sym, subst, ◌∙◌, arith}
 use Rattle.std.specs.Int.{w32, to_be_bytes}
 use Rattle.std.specs.Str.{bytes_eq}
 use Rattle.std.proofs.lemmas.Bool.{eqb-true, eqb-false, ltb-true, ltb-false}
@@ -11,21 +13,30 @@ use Rattle.byte_forms.specs.Readings.{◌>>=◌, lifted}
 use Rattle.byte_forms.proofs.Steps.{bind_ok, ok_is, IsBytes-drop, IsBytes-take}
 use Rattle.disk_core.specs.Disk.{part}
 use Rattle.journal_core.specs.Folds.{Fold, Found, state_behind, closing, tested, walked, read_by}
-use Rattle.journal_core.specs.Format.{header, IsRecordAt, AreRecordsAt, behind, IsClosedAt, StandsFor, size_at, body_at}
-use Rattle.journal_core.specs.Walk.{Ending, at_gate, at_bad_length, at_cut, Walk, walk_from, walk_of}
+use Rattle.journal_core.specs.Format.{header, IsRecordAt, AreRecordsAt, behind, IsClosedAt}
+use Rattle.journal_core.specs.Format.{StandsFor, size_at, body_at}
+use Rattle.journal_core.specs.Walk.{Ending, at_gate, at_bad_length, at_cut, Walk, walk_from}
+use Rattle.journal_core.specs.Walk.{walk_of}
 use Rattle.journal_core.specs.declared.error.OpenError.TheVariants.{NotJournal}
 
 -- a length that was read is spelled by its four bytes
-size_spelled : (bytes : List ℕ) (place : ℕ) → IsBytes bytes → place + 5 ≤ length bytes → to_be_bytes w32 (size_at bytes place) ≡ part (place + 1) 4 bytes
+size_spelled : (bytes : List ℕ) (place : ℕ) → IsBytes bytes → place + 5 ≤ length bytes
+    → to_be_bytes w32 (size_at bytes place) ≡ part (place + 1) 4 bytes
 size_spelled bytes place are there =
-    let four : length (part (place + 1) 4 bytes) ≡ 4 = simp (length-take, length-drop) (omega arith) in
-    be_bytes_4 (part (place + 1) 4 bytes) (size_at bytes place) four (IsBytes-take 4 _ (IsBytes-drop (place + 1) bytes are)) refl
+    let four : length (part (place + 1) 4 bytes) ≡ 4 =
+    simp (length-take, length-drop) (omega arith) in
+    be_bytes_4 (part (place + 1) 4 bytes) (size_at bytes place) four
+    (IsBytes-take 4 _ (IsBytes-drop (place + 1) bytes are)) refl
 
 -- a record whose length was read
-record_here : (bytes : List ℕ) (place : ℕ) → IsBytes bytes → slice_index bytes place ≢ 0 → 1 ≤ size_at bytes place → size_at bytes place ≤ 131072
-    → place + 5 + size_at bytes place ≤ length bytes → (length (body_at bytes place) ≡ size_at bytes place) × IsRecordAt bytes place (body_at bytes place)
+record_here : (bytes : List ℕ) (place : ℕ) → IsBytes bytes → slice_index bytes place ≢ 0
+    → 1 ≤ size_at bytes place → size_at bytes place ≤ 131072
+    → place + 5 + size_at bytes place ≤ length bytes
+    → (length (body_at bytes place) ≡ size_at bytes place)
+    × IsRecordAt bytes place (body_at bytes place)
 record_here bytes place are opened some few within =
-    let size : length (body_at bytes place) ≡ size_at bytes place = simp (length-take, length-drop) (omega arith) in (
+    let size : length (body_at bytes place) ≡ size_at bytes place =
+    simp (length-take, length-drop) (omega arith) in (
       size,
       record {
         some = omega arith;
@@ -56,19 +67,31 @@ went false = inr refl
 sized : (n : ℕ) → ((n == 0) || nat_lt 131072 n) ≡ false → (1 ≤ n) × (n ≤ 131072)
 sized n is = go (n == 0) (nat_lt 131072 n) refl refl is
   where
-    go : (a b : Bool) → (n == 0) ≡ a → nat_lt 131072 n ≡ b → (a || b) ≡ false → (1 ≤ n) × (n ≤ 131072)
+    go : (a b : Bool) → (n == 0) ≡ a → nat_lt 131072 n ≡ b → (a || b) ≡ false → (1 ≤ n)
+        × (n ≤ 131072)
     go true b zero_ above is = let wrong : true ≡ false = is in cc
     go false true zero_ above is = let wrong : true ≡ false = is in cc
-    go false false zero_ above is = ((let some = eqb-false n 0 zero_ in omega arith), ltb-false 131072 n above)
+    go false false zero_ above is = (
+      (let some = eqb-false n 0 zero_ in omega arith),
+      ltb-false 131072 n above,
+    )
 
-walk_stands : (most : ℕ) (bytes : List ℕ) (place : ℕ) (list : List (List ℕ)) → IsBytes bytes → Closes (walk_from most bytes place) list → Stand bytes place list
+walk_stands : (most : ℕ) (bytes : List ℕ) (place : ℕ) (list : List (List ℕ)) → IsBytes bytes
+    → Closes (walk_from most bytes place) list → Stand bytes place list
 walk_stands zero bytes place list are is = absurd (not_cut place is.1)
 walk_stands (suc most) bytes place list are is = elim (went (nat_lt place (length bytes))) [
   | inr outside ↦ absurd (not_cut place (rw outside at is).1)
   | inl inside ↦ elim (went (slice_index bytes place == 0)) [
     | inl shut ↦
         let ends = rw (inside, shut) at is in
-        subst (Stand bytes place) ends.0 (tt, record { there = ltb-true _ _ inside; shut = eqb-true _ _ shut })
+        subst (Stand bytes place) ends.0 (
+          tt,
+          record {
+            there = ltb-true _ _ inside;
+            shut =
+                eqb-true _ _ shut;
+          },
+        )
     | inr opened ↦ elim (went (nat_lt (length bytes) (place + 5))) [
       | inl short ↦ absurd (not_cut place (rw (inside, opened, short) at is).1)
       | inr head ↦ elim (went ((size_at bytes place == 0) || nat_lt 131072 (size_at bytes place))) [
@@ -78,10 +101,17 @@ walk_stands (suc most) bytes place list are is = elim (went (nat_lt place (lengt
           | inr whole ↦
               let goes = rw (inside, opened, head, good, whole) at is in
               let size = sized (size_at bytes place) good in
-              let here = record_here bytes place are (eqb-false _ _ opened) size.0 size.1 (ltb-false _ _ whole) in
-              let far : place + 5 + size_at bytes place ≡ place + 5 + length (body_at bytes place) = omega (arith, here.0) in
-              let rest = walk_stands most bytes (place + 5 + size_at bytes place) (walk_from most bytes (place + 5 + size_at bytes place)).records are (refl, goes.1) in
-              let moved = subst (λ (n : ℕ). Stand bytes n (walk_from most bytes (place + 5 + size_at bytes place)).records) far rest in
+              let here = record_here bytes place are (eqb-false _ _ opened) size.0 size.1
+              (ltb-false _ _ whole) in
+              let far : place + 5 + size_at bytes place ≡ place + 5 + length (body_at bytes place) =
+              omega (arith, here.0) in
+              let rest = walk_stands most bytes (place + 5 + size_at bytes place)
+              (walk_from most bytes (place + 5 + size_at bytes place)).records are (
+                refl,
+                goes.1,
+              ) in
+              let moved = subst (λ (n : ℕ). Stand bytes n
+              (walk_from most bytes (place + 5 + size_at bytes place)).records) far rest in
               subst (Stand bytes place) goes.0 ((here.1, moved.0), moved.1)
         ]
       ]
@@ -113,7 +143,8 @@ module _ {S E : Type 0} (fold : Fold S E) where
       let wrong : Err (fold.bad_record 0) ≡ Ok s = closed.1 in cc
   tested_ok (first ∷ list) end s is = lifted_ok (state_behind fold (first ∷ list)) end s is
 
-  pub found_stands : (bytes : List ℕ) (found : Found S) → IsBytes bytes → read_by fold bytes ≡ Ok found
+  pub found_stands : (bytes : List ℕ) (found : Found S) → IsBytes bytes
+      → read_by fold bytes ≡ Ok found
       → StandsFor bytes found.records × (state_behind fold found.records ≡ Ok found.state)
   unfolding read_by walk_of
   found_stands bytes found are is = go (bytes_eq (take 16 bytes) header) refl is
@@ -122,11 +153,17 @@ module _ {S E : Type 0} (fold : Fold S E) where
           → StandsFor bytes found.records × (state_behind fold found.records ≡ Ok found.state)
       behind_header begins is =
           let walk = walk_of bytes in
-          let step = bind_ok (tested fold walk.records walk.end) (λ (s : S). Ok (record { records = walk.records; state = s })) found is in
-          let made : record { records = walk.records; state = step.0 } ≡ found = ok_is E _ _ step.2 in
+          let step = bind_ok (tested fold walk.records walk.end) (λ (s : S). Ok (record {
+            records =
+                walk.records;
+            state = s;
+          })) found is in
+          let made : record { records = walk.records; state = step.0 } ≡ found =
+          ok_is E _ _ step.2 in
           let state = tested_ok walk.records walk.end step.0 step.1 in
           let stand = walk_stands (length bytes) bytes 16 walk.records are (refl, state.0) in
-          let P : Found S → Type 0 = λ f. StandsFor bytes f.records × (state_behind fold f.records ≡ Ok f.state) in
+          let P : Found S → Type 0 = λ f. StandsFor bytes f.records
+          × (state_behind fold f.records ≡ Ok f.state) in
           subst P made (record { begins = begins; holds = stand.0; ends = stand.1 }, state.1)
 
       go : (b : Bool) → bytes_eq (take 16 bytes) header ≡ b

@@ -1,26 +1,33 @@
 -- Facts of the bytes of a disk, where it tells them.
-use Rattle.std.proofs.Common.{◌≡◌, List, ℕ, Option, Some, None, IfSome, option_map, refl, sym, subst, ◌∙◌}
+use Rattle.std.proofs.Common.{◌≡◌, List, ℕ, Option, Some, None, IfSome, option_map, refl, sym}
+use Rattle.std.proofs.Common.{subst, ◌∙◌}
 use Rattle.journal_core.specs.Format.{records_of}
 
-pub if_told : {X : Type 0} (P : X → Type 0) (told : Option X) → ((x : X) → told ≡ Some x → P x) → IfSome told P
+pub if_told : {X : Type 0} (P : X → Type 0) (told : Option X) → ((x : X) → told ≡ Some x → P x)
+    → IfSome told P
 if_told P None is = tt
 if_told P (Some x) is = is x refl
 
-pub at_told : {X : Type 0} (P : X → Type 0) (told : Option X) (x : X) → told ≡ Some x → IfSome told P → P x
+pub at_told : {X : Type 0} (P : X → Type 0) (told : Option X) (x : X) → told ≡ Some x
+    → IfSome told P → P x
 at_told {X} P told x is fact = subst (λ (o : Option X). IfSome o P) is fact
 
 -- where a disk tells its bytes behind a write, it told them before, and they are the old ones
 -- overwritten
-pub told_before : (old new : Option (List ℕ)) (write : List ℕ → List ℕ) (now : List ℕ) → new ≡ option_map write old → new ≡ Some now
+pub told_before : (old new : Option (List ℕ)) (write : List ℕ → List ℕ) (now : List ℕ)
+    → new ≡ option_map write old → new ≡ Some now
     → (was : List ℕ) × (old ≡ Some was) × (now ≡ write was)
 told_before None new write now is told = let wrong : None ≡ Some now = sym is ∙ told in cc
-told_before (Some was) new write now is told = (was, refl, (let same : Some (write was) ≡ Some now = sym is ∙ told in cc))
+told_before (Some was) new write now is told =
+    (was, refl, (let same : Some (write was) ≡ Some now = sym is ∙ told in cc))
 
 -- a fact of the records, where the disk tells its bytes
-pub of_records : (P : List (List ℕ) → Type 0) (told : Option (List ℕ)) → ((b : List ℕ) → told ≡ Some b → P (records_of b)) → IfSome (option_map records_of told) P
+pub of_records : (P : List (List ℕ) → Type 0) (told : Option (List ℕ))
+    → ((b : List ℕ) → told ≡ Some b → P (records_of b)) → IfSome (option_map records_of told) P
 of_records P None is = tt
 of_records P (Some b) is = is b refl
 
-pub if_some : {X : Type 0} (P Q : X → Type 0) (told : Option X) → ((x : X) → P x → Q x) → IfSome told P → IfSome told Q
+pub if_some : {X : Type 0} (P Q : X → Type 0) (told : Option X) → ((x : X) → P x → Q x)
+    → IfSome told P → IfSome told Q
 if_some P Q None is fact = tt
 if_some P Q (Some x) is fact = is x fact

@@ -1,57 +1,85 @@
 -- Where the reading of a file ends, its walk ends.
-use Rattle.std.proofs.Common.{◌≡◌, ◌≢◌, ◌⊎◌, inl, inr, ℕ, zero, suc, ◌+◌, ◌<◌, ◌≤◌, ◌==◌, ◌||◌, nat_lt, true, false, List, [], ◌∷◌, ◌++◌, length, slice_index, refl, ap, ◌∙◌, subst, arith}
+use Rattle.std.proofs.Common.{◌≡◌, ◌≢◌, ◌⊎◌, inl, inr, ℕ, zero, suc, ◌+◌, ◌<◌, ◌≤◌, ◌==◌, ◌||◌}
+use Rattle.std.proofs.Common.{nat_lt, true, false, List, [], ◌∷◌, ◌++◌, length, slice_index, refl}
+use Rattle.std.proofs.Common.{ap, ◌∙◌, subst, arith}
 use Rattle.std.proofs.lemmas.Bool.{ne_eqb, lt-ltb, le-ltb, cases_lt}
-use Rattle.journal_core.specs.Format.{IsRecordAt, AreRecordsAt, behind, IsClosedAt, size_at, records_before, IsBadLengthAt, IsCutShortAt}
+use Rattle.journal_core.specs.Format.{IsRecordAt, AreRecordsAt, behind, IsClosedAt, size_at}
+use Rattle.journal_core.specs.Format.{records_before, IsBadLengthAt, IsCutShortAt}
 use Rattle.journal_core.specs.Settled.{IsReading}
-use Rattle.journal_core.specs.Walk.{Ending, Walk, at_gate, at_bad_length, at_cut, ends_here, with_record, walk_from, walk_of}
+use Rattle.journal_core.specs.Walk.{Ending, Walk, at_gate, at_bad_length, at_cut, ends_here}
+use Rattle.journal_core.specs.Walk.{with_record, walk_from, walk_of}
 use Rattle.journal_core.proofs.Records.{size_is, body_found, behind_far}
 use Rattle.journal_core.proofs.ReadOn.{header_length, record_within, are_within}
 
 -- at a record
-pub walk_record : (most : ℕ) (bytes : List ℕ) (place : ℕ) (body : List ℕ) → IsRecordAt bytes place body
-    → walk_from (suc most) bytes place ≡ with_record body (walk_from most bytes (place + 5 + length body))
+pub walk_record : (most : ℕ) (bytes : List ℕ) (place : ℕ) (body : List ℕ)
+    → IsRecordAt bytes place body
+    → walk_from (suc most) bytes place
+    ≡ with_record body (walk_from most bytes (place + 5 + length body))
 walk_record most bytes place body is =
     let there = record_within bytes place body is in
     let some = is.some in
     let few = is.few in
     let size : size_at bytes place ≡ length body = size_is bytes place body is in
     let inside : nat_lt place (length bytes) ≡ true = lt-ltb place (length bytes) (omega arith) in
-    let opened : (slice_index bytes place == 0) ≡ false = ne_eqb (slice_index bytes place) 0 is.open_gate in
-    let head : nat_lt (length bytes) (place + 5) ≡ false = le-ltb (length bytes) (place + 5) (omega arith) in
-    let above : (length body == 0) ≡ false = ne_eqb (length body) 0 (λ (none : length body ≡ 0). omega arith) in
+    let opened : (slice_index bytes place == 0) ≡ false =
+    ne_eqb (slice_index bytes place) 0 is.open_gate in
+    let head : nat_lt (length bytes) (place + 5) ≡ false =
+    le-ltb (length bytes) (place + 5) (omega arith) in
+    let above : (length body == 0) ≡ false =
+    ne_eqb (length body) 0 (λ (none : length body ≡ 0). omega arith) in
     let below : nat_lt 131072 (length body) ≡ false = le-ltb 131072 (length body) (omega arith) in
-    let whole : nat_lt (length bytes) (place + 5 + length body) ≡ false = le-ltb (length bytes) (place + 5 + length body) (omega arith) in
+    let whole : nat_lt (length bytes) (place + 5 + length body) ≡ false =
+    le-ltb (length bytes) (place + 5 + length body) (omega arith) in
     rw (inside, opened, head, body_found bytes place body is, size, above, below, whole) refl
 
 -- behind the records that were read
-walk_read : (most : ℕ) (bytes : List ℕ) (place : ℕ) (read : List (List ℕ)) (end : Ending) → AreRecordsAt bytes place read → length read < most
-    → ((left : ℕ) → walk_from (suc left) bytes (behind place read) ≡ ends_here end) → walk_from most bytes place ≡ record { records = read; end = end }
+walk_read : (most : ℕ) (bytes : List ℕ) (place : ℕ) (read : List (List ℕ)) (end : Ending)
+    → AreRecordsAt bytes place read → length read < most
+    → ((left : ℕ) → walk_from (suc left) bytes (behind place read) ≡ ends_here end)
+    → walk_from most bytes place ≡ record { records = read; end = end }
 walk_read zero bytes place read end are few ends = absurd (omega arith)
 walk_read (suc most) bytes place [] end are few ends = ends most
 walk_read (suc most) bytes place (body ∷ read) end are few ends =
     walk_record most bytes place body are.0
-    ∙ ap (with_record body) (walk_read most bytes (place + 5 + length body) read end are.1 (omega arith) ends)
+    ∙ ap (with_record body) (walk_read most bytes (place + 5 + length body) read end are.1
+    (omega arith) ends)
 
-module _ (bytes : List ℕ) (read : List (List ℕ)) (place : ℕ) (are : AreRecordsAt bytes 16 read) (place_is : place ≡ behind 16 read) (some : 16 ≤ length bytes) where
+module _ (bytes : List ℕ) (read : List (List ℕ)) (place : ℕ) (are : AreRecordsAt bytes 16 read)
+    (place_is : place ≡ behind 16 read) (some : 16 ≤ length bytes) where
   few : length read < length bytes
-  few = let far = behind_far 16 read in let within = are_within bytes 16 read are some in omega arith
+  few = let far = behind_far 16 read in let within =
+      are_within bytes 16 read are some in omega arith
 
-  ends_with : (end : Ending) → ((left : ℕ) → walk_from (suc left) bytes place ≡ ends_here end) → walk_of bytes ≡ record { records = read; end = end }
+  ends_with : (end : Ending) → ((left : ℕ) → walk_from (suc left) bytes place ≡ ends_here end)
+      → walk_of bytes ≡ record { records = read; end = end }
   unfolding walk_of
-  ends_with end ends = walk_read (length bytes) bytes 16 read end are few (λ left. subst (λ (n : ℕ). walk_from (suc left) bytes n ≡ ends_here end) place_is (ends left))
+  ends_with end ends = walk_read (length bytes) bytes 16 read end are few
+      (λ left. subst (λ (n : ℕ). walk_from (suc left) bytes n ≡ ends_here end) place_is (ends left))
 
-  pub walk_closed : IsClosedAt bytes place → walk_of bytes ≡ record { records = read; end = at_gate }
+  pub walk_closed : IsClosedAt bytes place → walk_of bytes ≡ record {
+    records =
+        read;
+    end = at_gate;
+  }
   walk_closed is = ends_with at_gate (λ left.
       let inside : nat_lt place (length bytes) ≡ true = lt-ltb place (length bytes) is.there in
       rw (inside, is.shut) refl)
 
-  pub walk_bad : IsBadLengthAt bytes place → walk_of bytes ≡ record { records = read; end = at_bad_length place }
+  pub walk_bad : IsBadLengthAt bytes place → walk_of bytes ≡ record {
+    records = read;
+    end =
+        at_bad_length place;
+  }
   walk_bad is = ends_with (at_bad_length place) (λ left.
       let there = is.there in
       let inside : nat_lt place (length bytes) ≡ true = lt-ltb place (length bytes) (omega arith) in
-      let opened : (slice_index bytes place == 0) ≡ false = ne_eqb (slice_index bytes place) 0 is.open_gate in
-      let head : nat_lt (length bytes) (place + 5) ≡ false = le-ltb (length bytes) (place + 5) (omega arith) in
-      let bad : ((size_at bytes place == 0) || nat_lt 131072 (size_at bytes place)) ≡ true = bad_size (size_at bytes place) is.bad in
+      let opened : (slice_index bytes place == 0) ≡ false =
+      ne_eqb (slice_index bytes place) 0 is.open_gate in
+      let head : nat_lt (length bytes) (place + 5) ≡ false =
+      le-ltb (length bytes) (place + 5) (omega arith) in
+      let bad : ((size_at bytes place == 0) || nat_lt 131072 (size_at bytes place)) ≡ true =
+      bad_size (size_at bytes place) is.bad in
       rw (inside, opened, head, bad) refl)
     where
       bad_size : (n : ℕ) → (n ≡ 0) ⊎ (131072 < n) → ((n == 0) || nat_lt 131072 n) ≡ true
@@ -61,33 +89,52 @@ module _ (bytes : List ℕ) (read : List (List ℕ)) (place : ℕ) (are : AreRec
           let above : nat_lt 131072 n ≡ true = lt-ltb 131072 n many in
           rw (zero_not, above) refl
 
-  pub walk_cut : IsCutShortAt bytes place → walk_of bytes ≡ record { records = read; end = at_cut place }
-  walk_cut is = ends_with (at_cut place) (λ left. elim is [ inl before ↦ outside before left | inr within ↦ inside within.0 within.1 left ])
+  pub walk_cut : IsCutShortAt bytes place → walk_of bytes ≡ record {
+    records = read;
+    end =
+        at_cut place;
+  }
+  walk_cut is = ends_with (at_cut place) (λ left. elim is [
+    | inl before ↦ outside before left
+    | inr within ↦ inside within.0 within.1 left
+  ])
     where
-      outside : length bytes ≤ place → (left : ℕ) → walk_from (suc left) bytes place ≡ ends_here (at_cut place)
+      outside : length bytes ≤ place → (left : ℕ)
+          → walk_from (suc left) bytes place ≡ ends_here (at_cut place)
       outside before left =
           let test : nat_lt place (length bytes) ≡ false = le-ltb place (length bytes) before in
           rw test refl
 
-      short_head : slice_index bytes place ≢ 0 → place < length bytes → length bytes < place + 5 → (left : ℕ) → walk_from (suc left) bytes place ≡ ends_here (at_cut place)
+      short_head : slice_index bytes place ≢ 0 → place < length bytes → length bytes < place + 5
+          → (left : ℕ) → walk_from (suc left) bytes place ≡ ends_here (at_cut place)
       short_head opened_is there short left =
           let test : nat_lt place (length bytes) ≡ true = lt-ltb place (length bytes) there in
-          let opened : (slice_index bytes place == 0) ≡ false = ne_eqb (slice_index bytes place) 0 opened_is in
-          let head : nat_lt (length bytes) (place + 5) ≡ true = lt-ltb (length bytes) (place + 5) short in
+          let opened : (slice_index bytes place == 0) ≡ false =
+          ne_eqb (slice_index bytes place) 0 opened_is in
+          let head : nat_lt (length bytes) (place + 5) ≡ true =
+          lt-ltb (length bytes) (place + 5) short in
           rw (test, opened, head) refl
 
-      short_body : slice_index bytes place ≢ 0 → place < length bytes → place + 5 ≤ length bytes → 1 ≤ size_at bytes place → size_at bytes place ≤ 131072
-          → length bytes < place + 5 + size_at bytes place → (left : ℕ) → walk_from (suc left) bytes place ≡ ends_here (at_cut place)
+      short_body : slice_index bytes place ≢ 0 → place < length bytes → place + 5 ≤ length bytes
+          → 1 ≤ size_at bytes place → size_at bytes place ≤ 131072
+          → length bytes < place + 5 + size_at bytes place → (left : ℕ)
+          → walk_from (suc left) bytes place ≡ ends_here (at_cut place)
       short_body opened_is there long_head some few short left =
           let test : nat_lt place (length bytes) ≡ true = lt-ltb place (length bytes) there in
-          let opened : (slice_index bytes place == 0) ≡ false = ne_eqb (slice_index bytes place) 0 opened_is in
-          let head : nat_lt (length bytes) (place + 5) ≡ false = le-ltb (length bytes) (place + 5) long_head in
-          let above : (size_at bytes place == 0) ≡ false = ne_eqb (size_at bytes place) 0 (λ (none : size_at bytes place ≡ 0). omega arith) in
-          let below : nat_lt 131072 (size_at bytes place) ≡ false = le-ltb 131072 (size_at bytes place) few in
-          let cut : nat_lt (length bytes) (place + 5 + size_at bytes place) ≡ true = lt-ltb (length bytes) (place + 5 + size_at bytes place) short in
+          let opened : (slice_index bytes place == 0) ≡ false =
+          ne_eqb (slice_index bytes place) 0 opened_is in
+          let head : nat_lt (length bytes) (place + 5) ≡ false =
+          le-ltb (length bytes) (place + 5) long_head in
+          let above : (size_at bytes place == 0) ≡ false =
+          ne_eqb (size_at bytes place) 0 (λ (none : size_at bytes place ≡ 0). omega arith) in
+          let below : nat_lt 131072 (size_at bytes place) ≡ false =
+          le-ltb 131072 (size_at bytes place) few in
+          let cut : nat_lt (length bytes) (place + 5 + size_at bytes place) ≡ true =
+          lt-ltb (length bytes) (place + 5 + size_at bytes place) short in
           rw (test, opened, head, above, below, cut) refl
 
-      inside : slice_index bytes place ≢ 0 → (length bytes < place + 5) ⊎ ((1 ≤ size_at bytes place) × (size_at bytes place ≤ 131072) × (length bytes < place + 5 + size_at bytes place))
+      inside : slice_index bytes place ≢ 0 → (length bytes < place + 5) ⊎ ((1 ≤ size_at bytes place)
+          × (size_at bytes place ≤ 131072) × (length bytes < place + 5 + size_at bytes place))
           → (left : ℕ) → walk_from (suc left) bytes place ≡ ends_here (at_cut place)
       inside opened_is within left = elim (cases_lt place (length bytes)) [
         | inr before ↦ outside before left

@@ -1,6 +1,7 @@
 -- What a kind of journal makes of its records, and how a file is read as one: the first record that
 -- breaks the rules, or else how the file ends.
-use Rattle.std.specs.Prelude.{◌≡◌, ℕ, ◌+◌, List, [], ◌∷◌, take, Option, IfSome, Result, Ok, Err, if◌then◌else◌}
+use Rattle.std.specs.Prelude.{◌≡◌, ℕ, ◌+◌, List, [], ◌∷◌, take, Option, IfSome, Result, Ok, Err}
+use Rattle.std.specs.Prelude.{if◌then◌else◌}
 use Rattle.std.specs.Str.{bytes_eq}
 use Rattle.byte_forms.specs.Readings.{◌>>=◌, lifted, some_or}
 use Rattle.mtc_io.specs.Counts.{Rose}
@@ -8,7 +9,8 @@ use Rattle.disk_core.specs.declared.disk.Disk.{Ghosts}
 use Rattle.journal_core.specs.Format.{header}
 use Rattle.journal_core.specs.Walk.{Ending, at_gate, at_bad_length, at_cut, Walk, walk_of}
 use Rattle.journal_core.specs.declared.error.OpenError.{OpenError}
-use Rattle.journal_core.specs.declared.error.OpenError.TheVariants.{NotJournal, BadLength, CutShort, Failed, Memory}
+use Rattle.journal_core.specs.declared.error.OpenError.TheVariants.{NotJournal, BadLength, CutShort}
+use Rattle.journal_core.specs.declared.error.OpenError.TheVariants.{Failed, Memory}
 
 -- A kind of journal: the state that a first record begins, and the state behind one record more,
 -- each none where the record breaks the rules. Its faults: a record by its number that breaks the

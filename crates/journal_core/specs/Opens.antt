@@ -5,7 +5,8 @@ use Rattle.disk_core.specs.declared.disk.Disk.{Ghosts}
 use Rattle.journal_core.specs.Format.{header, IsBadLengthAt, IsCutShortAt}
 use Rattle.journal_core.specs.Walk.{walk_of, at_bad_length, at_cut}
 use Rattle.journal_core.specs.declared.error.OpenError.{OpenError}
-use Rattle.journal_core.specs.declared.error.OpenError.TheVariants.{NotJournal, BadLength, CutShort, Failed, Memory}
+use Rattle.journal_core.specs.declared.error.OpenError.TheVariants.{NotJournal, BadLength, CutShort}
+use Rattle.journal_core.specs.declared.error.OpenError.TheVariants.{Failed, Memory}
 
 -- the cause of a refusal at a place, over the disk before the call and after it
 abbrev pub HasReason : {D : Type 0} → Ghosts D → D → D → ℕ → OpenError → Type 0

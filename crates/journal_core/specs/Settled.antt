@@ -2,7 +2,8 @@
 use Rattle.std.specs.Prelude.{◌≡◌, ℕ, ◌+◌, List, [], ◌∷◌, length, take}
 use Rattle.std.proofs.Props.{props}
 use Rattle.disk_core.specs.Disk.{Only}
-use Rattle.journal_core.specs.Format.{header, IsRecordAt, AreRecordsAt, behind, end_behind, IsClosedAt, StandsFor, records_of, records_before}
+use Rattle.journal_core.specs.Format.{header, IsRecordAt, AreRecordsAt, behind, end_behind}
+use Rattle.journal_core.specs.Format.{IsClosedAt, StandsFor, records_of, records_before}
 
 -- the bytes stand for their records, all of it is on the disk, and `end` is the place behind the
 -- closed gate

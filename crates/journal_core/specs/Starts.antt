@@ -1,5 +1,6 @@
 -- What `start` makes of a disk, and what it leaves of one where it refuses.
-use Rattle.std.specs.Prelude.{◌≡◌, ◌≢◌, ℕ, ◌+◌, ◌≤◌, false, List, [], ◌∷◌, length, is_some, option_map, IfSome}
+use Rattle.std.specs.Prelude.{◌≡◌, ◌≢◌, ℕ, ◌+◌, ◌≤◌, false, List, [], ◌∷◌, length, is_some}
+use Rattle.std.specs.Prelude.{option_map, IfSome}
 use Rattle.mtc_io.specs.Counts.{Rose}
 use Rattle.disk_core.specs.Moments.{Looks}
 use Rattle.disk_core.specs.declared.disk.Disk.{Ghosts}

@@ -1,6 +1,7 @@
 -- The reading of a file as a function of its bytes: its whole records from the first one on, and
 -- how it ends.
-use Rattle.std.specs.Prelude.{ℕ, zero, suc, ◌+◌, ◌==◌, ◌||◌, nat_lt, if◌then◌else◌, List, [], ◌∷◌, length, slice_index}
+use Rattle.std.specs.Prelude.{ℕ, zero, suc, ◌+◌, ◌==◌, ◌||◌, nat_lt, if◌then◌else◌, List, [], ◌∷◌}
+use Rattle.std.specs.Prelude.{length, slice_index}
 use Rattle.journal_core.specs.Format.{size_at, body_at}
 
 -- at a closed gate; at a place where an open record has a bad length; where the file ends too early

@@ -1,5 +1,6 @@
 -- What a journal shows, and what `append` makes of it.
-use Rattle.std.specs.Prelude.{◌≡◌, ℕ, ◌+◌, ◌≤◌, Bool, true, false, List, [], ◌∷◌, ◌++◌, length, Option, option_map, IfSome, Result, Ok, Err}
+use Rattle.std.specs.Prelude.{◌≡◌, ℕ, ◌+◌, ◌≤◌, Bool, true, false, List, [], ◌∷◌, ◌++◌, length}
+use Rattle.std.specs.Prelude.{Option, option_map, IfSome, Result, Ok, Err}
 use Rattle.std.specs.Int.{w32, to_be_bytes}
 use Rattle.mtc_io.specs.Counts.{Rose}
 use Rattle.disk_core.specs.Disk.{part}

@@ -23,7 +23,8 @@ digit_within W8 i below = omega arith
 
 -- the sum over all digits of a hash, shifted, is its checksum
 pub checksum_done : (t : OtsType) (s : Text) (sum i : ℕ) → i ≡ 256 / width t
-    → sum ≡ checksum_sum s (width t) i → sum ≤ i * steps t → sum * 2 ^ shift t % 65536 ≡ checksum t s
+    → sum ≡ checksum_sum s (width t) i → sum ≤ i * steps t
+    → sum * 2 ^ shift t % 65536 ≡ checksum t s
 checksum_done t s sum i all is few =
     let whole : sum ≡ checksum_sum s (width t) (256 / width t) = rw (← all) is in
     let small : sum ≤ 256 / width t * steps t = rw (← all) few in

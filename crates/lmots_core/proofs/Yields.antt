@@ -1,7 +1,11 @@
--- A signature leads back to the key that made it: each chain is finished from where the signature left it.
-use Rattle.std.proofs.Common.{◌∙◌, zero-add, add-zero, add-suc, add_assoc, ◌≡◌, ℕ, zero, suc, ◌+◌, ◌-◌, ◌*◌, ◌^◌, ◌<◌, ◌≤◌, ◌++◌, length, drop, Some, refl, ap, arith, append_assoc, length-append, length-drop, inl, inr}
+-- A signature leads back to the key that made it: each chain is finished from where the signature
+-- left it.
+use Rattle.std.proofs.Common.{◌∙◌, zero-add, add-zero, add-suc, add_assoc, ◌≡◌, ℕ, zero, suc, ◌+◌}
+use Rattle.std.proofs.Common.{◌-◌, ◌*◌, ◌^◌, ◌<◌, ◌≤◌, ◌++◌, length, drop, Some, refl, ap, arith}
+use Rattle.std.proofs.Common.{append_assoc, length-append, length-drop, inl, inr}
 use Rattle.std.proofs.lemmas.Bool.{cases_eq}
-use Rattle.std.proofs.lemmas.List.{take_all, take_at, drop_at, drop-drop, take-append-le, drop-append-le}
+use Rattle.std.proofs.lemmas.List.{take_all, take_at, drop_at, drop-drop, take-append-le}
+use Rattle.std.proofs.lemmas.List.{drop-append-le}
 use Rattle.std.proofs.lemmas.Nat.{from_be_bytes-to_be_bytes_4}
 use Rattle.std.specs.Int.{w32, to_be_bytes}
 use Rattle.byte_forms.specs.Types.{Text}
@@ -10,7 +14,10 @@ use Rattle.lmots_core.specs.declared.parameters.OtsType.{OtsType}
 use Rattle.lmots_core.specs.declared.parameters.OtsType.TheVariants.{W1, W2, W4, W8}
 use Rattle.lmots_core.specs.Parameters.{chains, signature_length, steps, typecode, type_of_code}
 use Rattle.lmots_core.specs.Strings.{value_at, concatenated, u32_at}
-use Rattle.lmots_core.specs.Ots.{candidate_key, candidate_of, chain, chain_end, chain_prefix, chain_step, coded_hash, digit, finished_link, message_hash, public_key, randomizer, secret_start, signature, signed_link, SignatureYieldsKey}
+use Rattle.lmots_core.specs.Ots.{candidate_key, candidate_of, chain, chain_end, chain_prefix}
+use Rattle.lmots_core.specs.Ots.{chain_step, coded_hash, digit, finished_link, message_hash}
+use Rattle.lmots_core.specs.Ots.{public_key, randomizer, secret_start, signature, signed_link}
+use Rattle.lmots_core.specs.Ots.{SignatureYieldsKey}
 
 -- steps made in two goes are steps made in one
 pub chain-add : (p : Text) (a n m : ℕ) (x : Text)
@@ -25,15 +32,22 @@ unfolding chain chain_step
 length-chain p a zero x size = size
 length-chain p a (suc n) x size = length-sha256 _
 
-pub length-secret_start : (id : Text) (q : ℕ) (seed : Text) (i : ℕ) → length (secret_start id q seed i) ≡ 32
+pub length-secret_start : (id : Text) (q : ℕ) (seed : Text) (i : ℕ)
+    → length (secret_start id q seed i) ≡ 32
 unfolding secret_start
 length-secret_start id q seed i = length-sha256 _
 
 -- pieces of 32 bytes, one behind the other
-pub length-concatenated : (f : ℕ → Text) (n : ℕ) → ((i : ℕ) → length (f i) ≡ 32) → length (concatenated f n) ≡ 32 * n
+pub length-concatenated : (f : ℕ → Text) (n : ℕ) → ((i : ℕ) → length (f i) ≡ 32)
+    → length (concatenated f n) ≡ 32 * n
 unfolding concatenated
 length-concatenated f zero size = refl
-length-concatenated f (suc n) size = omega (arith, length-append (concatenated f n) (f n), length-concatenated f n size, size n)
+length-concatenated f (suc n) size = omega (
+  arith,
+  length-append (concatenated f n) (f n),
+  length-concatenated f n size,
+  size n,
+)
 
 -- piece i is where it is looked for
 pub concatenated-part : (f : ℕ → Text) (n i : ℕ) → ((i : ℕ) → length (f i) ≡ 32) → i < n
@@ -43,16 +57,22 @@ concatenated-part f zero i size below = absurd (omega arith)
 concatenated-part f (suc n) i size below =
     let all : length (concatenated f n) ≡ 32 * n = length-concatenated f n size in
     elim (cases_eq i n) [
-      | inl same ↦ rw (same, drop_at (concatenated f n) (f n) (32 * n) all) (take_all 32 (f n) (omega (arith, size n)))
+      | inl same ↦ rw (same, drop_at (concatenated f n) (f n) (32 * n) all)
+          (take_all 32 (f n) (omega (arith, size n)))
       | inr differ ↦
           let earlier : i < n = omega arith in
           let front = drop-append-le (32 * i) (concatenated f n) (f n) (omega (arith, all)) in
-          let within = take-append-le 32 (drop (32 * i) (concatenated f n)) (f n) (omega (arith, all, length-drop (32 * i) (concatenated f n))) in
+          let within = take-append-le 32 (drop (32 * i) (concatenated f n)) (f n) (omega (
+            arith,
+            all,
+            length-drop (32 * i) (concatenated f n),
+          )) in
           rw (front, within) (concatenated-part f n i size earlier)
     ]
 
 -- pieces that agree make the same whole
-pub concatenated-same : (f g : ℕ → Text) (n : ℕ) → ((i : ℕ) → i < n → f i ≡ g i) → concatenated f n ≡ concatenated g n
+pub concatenated-same : (f g : ℕ → Text) (n : ℕ) → ((i : ℕ) → i < n → f i ≡ g i)
+    → concatenated f n ≡ concatenated g n
 unfolding concatenated
 concatenated-same f g zero same = refl
 concatenated-same f g (suc n) same =
@@ -80,25 +100,34 @@ finished_end t id q seed coded s i told =
     let p = chain_prefix id q i in
     let d = digit t coded i in
     let all : d + (steps t - d) ≡ steps t = omega (arith, digit_small t coded i) in
-    let on : chain p (0 + d) (steps t - d) (chain p 0 d (secret_start id q seed i)) ≡ chain p 0 (d + (steps t - d)) (secret_start id q seed i) =
+    let on : chain p (0 + d) (steps t - d) (chain p 0 d (secret_start id q seed i))
+    ≡ chain p 0 (d + (steps t - d)) (secret_start id q seed i) =
     chain-add p 0 d (steps t - d) (secret_start id q seed i) in
     rw told (rw (zero-add, all) at on)
 
 -- the parts of a signature, behind its first 36 bytes
 pub signature-part : (code c : Text) (f : ℕ → Text) (n i : ℕ) → length code ≡ 4 → length c ≡ 32
-    → ((k : ℕ) → length (f k) ≡ 32) → i < n → value_at (code ++ c ++ concatenated f n) (36 + 32 * i) ≡ f i
+    → ((k : ℕ) → length (f k) ≡ 32) → i < n
+    → value_at (code ++ c ++ concatenated f n) (36 + 32 * i) ≡ f i
 signature-part code c f n i four size sizes below =
     let head : length (code ++ c) ≡ 36 = omega (arith, length-append code c) in
-    rw (← drop-drop (32 * i) 36 (code ++ c ++ concatenated f n), drop_at (code ++ c) (concatenated f n) 36 head)
+    rw (
+      ← drop-drop (32 * i) 36 (code ++ c ++ concatenated f n),
+      drop_at (code ++ c) (concatenated f n) 36 head,
+    )
     (concatenated-part f n i sizes below)
 
 -- the randomizer of a signature, behind its first 4 bytes
-pub second_part : (code c rest : Text) → length code ≡ 4 → length c ≡ 32 → value_at (code ++ c ++ rest) 4 ≡ c
-second_part code c rest four size = rw (append_assoc, drop_at code (c ++ rest) 4 four) (take_at c rest 32 size)
+pub second_part : (code c rest : Text) → length code ≡ 4 → length c ≡ 32
+    → value_at (code ++ c ++ rest) 4 ≡ c
+second_part code c rest four size =
+    rw (append_assoc, drop_at code (c ++ rest) 4 four) (take_at c rest 32 size)
 
 -- a signature of a known type and of its length has a candidate key
-pub candidate_key-whole : (t : OtsType) (id : Text) (q : ℕ) (message s : Text) → u32_at s 0 ≡ typecode t
-    → length s ≡ signature_length t → candidate_key id q message s ≡ Some (candidate_of t id q message s)
+pub candidate_key-whole : (t : OtsType) (id : Text) (q : ℕ) (message s : Text)
+    → u32_at s 0 ≡ typecode t
+    → length s ≡ signature_length t → candidate_key id q message s
+    ≡ Some (candidate_of t id q message s)
 unfolding candidate_key
 candidate_key-whole W1 id q message s code size = rw (code, size) refl
 candidate_key-whole W2 id q message s code size = rw (code, size) refl
@@ -115,7 +144,8 @@ typecode_small W8 = omega arith
 length-signed_link : (t : OtsType) (id : Text) (q : ℕ) (seed coded : Text) (i : ℕ)
     → length (signed_link t id q seed coded i) ≡ 32
 length-signed_link t id q seed coded i =
-    length-chain (chain_prefix id q i) 0 (digit t coded i) (secret_start id q seed i) (length-secret_start id q seed i)
+    length-chain (chain_prefix id q i) 0 (digit t coded i) (secret_start id q seed i)
+    (length-secret_start id q seed i)
 
 -- a signature has the length of its type
 pub length-signature : (t : OtsType) (id : Text) (q : ℕ) (seed message : Text)
@@ -126,7 +156,8 @@ length-signature t id q seed message =
     let coded = coded_hash t (message_hash id q c message) in
     let links = concatenated (signed_link t id q seed coded) (chains t) in
     let size = length-secret_start id q seed 65533 in
-    let sizes = length-concatenated (signed_link t id q seed coded) (chains t) (length-signed_link t id q seed coded) in
+    let sizes = length-concatenated (signed_link t id q seed coded) (chains t)
+    (length-signed_link t id q seed coded) in
     omega (arith, length-append (to_be_bytes w32 (typecode t) ++ c) links, size, sizes)
 
 -- and begins with its typecode
@@ -136,7 +167,8 @@ unfolding signature u32_at
 signature-typecode t id q seed message = from_be_bytes-to_be_bytes_4 (typecode t) (typecode_small t)
 
 -- whatever the secret, the signature of a message yields the public key
-pub signature_yields_key : (t : OtsType) (id seed message : Text) (q : ℕ) → SignatureYieldsKey t id q seed message
+pub signature_yields_key : (t : OtsType) (id seed message : Text) (q : ℕ)
+    → SignatureYieldsKey t id q seed message
 unfolding candidate_of signature public_key
 signature_yields_key t id seed message q =
     let c = randomizer id q seed in
@@ -149,7 +181,8 @@ signature_yields_key t id seed message q =
     let kept : value_at (code ++ c ++ links) 4 ≡ c = second_part code c links refl size in
     let whole = candidate_key-whole t id q message (signature t id q seed message)
     (signature-typecode t id q seed message) (length-signature t id q seed message) in
-    let ends = concatenated-same (finished_link t id q coded (code ++ c ++ links)) (chain_end t id q seed) (chains t)
+    let ends = concatenated-same (finished_link t id q coded (code ++ c ++ links))
+    (chain_end t id q seed) (chains t)
     (λ i below. finished_end t id q seed coded (code ++ c ++ links) i
     (signature-part code c told (chains t) i refl size sizes below)) in
     whole ∙ ap Some (rw (kept, ends) refl)

@@ -1,11 +1,13 @@
 -- LM-OTS, the one-time signatures of RFC 8554, with SHA-256. id is the identifier I of 16 bytes, q
 -- the number of the one-time key under it, seed the secret of 32 bytes.
-use Rattle.std.specs.Prelude.{◌≡◌, ℕ, zero, suc, ◌+◌, ◌-◌, ◌*◌, ◌/◌, ◌%◌, ◌^◌, ◌==◌, if◌then◌else◌, nat_lt, [], ◌∷◌, ◌++◌, length, slice_index, Option, Some, None}
+use Rattle.std.specs.Prelude.{◌≡◌, ℕ, zero, suc, ◌+◌, ◌-◌, ◌*◌, ◌/◌, ◌%◌, ◌^◌, ◌==◌, if◌then◌else◌}
+use Rattle.std.specs.Prelude.{nat_lt, [], ◌∷◌, ◌++◌, length, slice_index, Option, Some, None}
 use Rattle.std.specs.Int.{w16, w32, to_be_bytes}
 use Rattle.byte_forms.specs.Types.{Hash, Text}
 use Rattle.sha2.specs.Sha256.{sha256}
 use Rattle.lmots_core.specs.declared.parameters.OtsType.{OtsType}
-use Rattle.lmots_core.specs.Parameters.{width, chains, shift, typecode, type_of_code, steps, signature_length}
+use Rattle.lmots_core.specs.Parameters.{width, chains, shift, typecode, type_of_code, steps}
+use Rattle.lmots_core.specs.Parameters.{signature_length}
 use Rattle.lmots_core.specs.Strings.{value_at, u32_at, concatenated}
 
 -- ---- chains (4.3)

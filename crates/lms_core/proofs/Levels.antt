@@ -1,5 +1,6 @@
 -- The nodes that a tree keeps, filled from the leaves to the root.
-use Rattle.std.proofs.Common.{◌≡◌, inl, inr, ℕ, zero, suc, ◌+◌, ◌-◌, ◌*◌, ◌/◌, ◌^◌, ◌<◌, ◌≤◌, List, [], length, refl, arith}
+use Rattle.std.proofs.Common.{◌≡◌, inl, inr, ℕ, zero, suc, ◌+◌, ◌-◌, ◌*◌, ◌/◌, ◌^◌, ◌<◌, ◌≤◌, List}
+use Rattle.std.proofs.Common.{[], length, refl, arith}
 use Rattle.std.proofs.Math.Nat.{sub-zero}
 use Rattle.std.proofs.lemmas.Nat.{pow_pos}
 use Rattle.std.proofs.lemmas.List.{get_or-set_other, get_or-set_same}
@@ -21,7 +22,8 @@ length-tree_value k (suc d) r = length-sha256 _
 
 -- where the leaves are there, all nodes from the first leaf on are
 pub HoldsFrom-leaves : (key : PrivateKey) (nodes : List Hash)
-    → ((k : ℕ) → 2 ^ height key.lms ≤ k → k < 2 * 2 ^ height key.lms → slice_index_or nodes k [] ≡ tree_value key 0 k)
+    → ((k : ℕ) → 2 ^ height key.lms ≤ k → k < 2 * 2 ^ height key.lms
+    → slice_index_or nodes k [] ≡ tree_value key 0 k)
     → HoldsFrom key (2 ^ height key.lms) nodes
 HoldsFrom-leaves key nodes each zero k within from to beyond =
     let below : k < 2 * 2 ^ height key.lms = rw sub-zero at to in each k beyond below
@@ -33,9 +35,11 @@ HoldsFrom-leaves key nodes each (suc d) k within from to beyond =
 
 -- an inner node is there once it is hashed over the two below it
 node_here : (key : PrivateKey) (nodes : List Hash) (p d : ℕ) → d ≤ height key.lms
-    → 2 ^ (height key.lms - d) ≤ p → p < 2 * 2 ^ (height key.lms - d) → 0 < p → p < 2 ^ height key.lms
+    → 2 ^ (height key.lms - d) ≤ p → p < 2 * 2 ^ (height key.lms - d) → 0 < p
+    → p < 2 ^ height key.lms
     → HoldsFrom key (p + 1) nodes
-    → inner_node key.id p (slice_index_or nodes (2 * p) []) (slice_index_or nodes (2 * p + 1) []) ≡ tree_value key d p
+    → inner_node key.id p (slice_index_or nodes (2 * p) []) (slice_index_or nodes (2 * p + 1) [])
+    ≡ tree_value key d p
 unfolding tree_value
 node_here key nodes p zero within from to some low held =
     let beyond : 2 ^ height key.lms ≤ p = rw sub-zero at from in absurd (omega arith)
@@ -43,14 +47,17 @@ node_here key nodes p (suc d) within from to some low held =
     let same : height key.lms - suc d ≡ height key.lms - (d + 1) = omega arith in
     let half : 2 * 2 ^ (height key.lms - suc d) ≡ 2 ^ (height key.lms - d) =
     rw same (pow_half (height key.lms) d (omega arith)) in
-    let left = held d (2 * p) (omega arith) (omega (arith, half)) (omega (arith, half)) (omega arith) in
-    let right = held d (2 * p + 1) (omega arith) (omega (arith, half)) (omega (arith, half)) (omega arith) in
+    let left = held d (2 * p) (omega arith) (omega (arith, half)) (omega (arith, half))
+    (omega arith) in
+    let right = held d (2 * p + 1) (omega arith) (omega (arith, half)) (omega (arith, half))
+    (omega arith) in
     rw (left, right) refl
 
 -- and then all from its place on are
 pub HoldsFrom-more : (key : PrivateKey) (nodes : List Hash) (value : Text) (p : ℕ) → 0 < p
     → p < 2 ^ height key.lms → length nodes ≡ 2 * 2 ^ height key.lms → HoldsFrom key (p + 1) nodes
-    → value ≡ inner_node key.id p (slice_index_or nodes (2 * p) []) (slice_index_or nodes (2 * p + 1) [])
+    → value ≡ inner_node key.id p (slice_index_or nodes (2 * p) [])
+    (slice_index_or nodes (2 * p + 1) [])
     → HoldsFrom key p (slice_set nodes p value)
 HoldsFrom-more key nodes value p some low count held made d k within from to beyond =
     elim (cases_eq k p) [
@@ -75,4 +82,8 @@ path_node-held key nodes q i place held below is from to =
     let beside = sibling_within (2 ^ (height key.lms - (i + 1))) place from_half to_half in
     let low : 2 ^ (height key.lms - i) ≤ sibling place = rw half at beside.0 in
     let high : sibling place < 2 * 2 ^ (height key.lms - i) = rw half at beside.1 in
-    rw (← is) (held.each i (sibling place) (omega arith) low high (omega (arith, low, pow_pos (height key.lms - i))))
+    rw (← is) (held.each i (sibling place) (omega arith) low high (omega (
+      arith,
+      low,
+      pow_pos (height key.lms - i),
+    )))

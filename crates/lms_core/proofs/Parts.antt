@@ -9,11 +9,13 @@ use Rattle.lmots_core.specs.Strings.{u32_at}
 -- a part of m bytes behind n bytes
 pub part : (before x after : Text) (n m : ℕ) → length before ≡ n → length x ≡ m
     → take m (drop n (before ++ x ++ after)) ≡ x
-part before x after n m at size = rw (append_assoc, drop_at before (x ++ after) n at) (take_at x after m size)
+part before x after n m at size = rw (append_assoc, drop_at before (x ++ after) n at)
+    (take_at x after m size)
 
 -- a number behind n bytes
 pub word_part : (before rest : Text) (n code : ℕ) → length before ≡ n → code < 2 ^ 32
     → u32_at (before ++ to_be_bytes w32 code ++ rest) n ≡ code
 unfolding u32_at
 word_part before rest n code at small =
-    rw (part before (to_be_bytes w32 code) rest n 4 at refl) (from_be_bytes-to_be_bytes_4 code small)
+    rw (part before (to_be_bytes w32 code) rest n 4 at refl)
+    (from_be_bytes-to_be_bytes_4 code small)

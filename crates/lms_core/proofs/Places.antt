@@ -1,5 +1,6 @@
 -- The places of a tree's nodes: numbers that double and halve from level to level.
-use Rattle.std.proofs.Common.{◌≡◌, ℕ, suc, ◌+◌, ◌-◌, ◌*◌, ◌/◌, ◌^◌, ◌<◌, ◌≤◌, refl, arith, add-one, mul_comm, pow-suc}
+use Rattle.std.proofs.Common.{◌≡◌, ℕ, suc, ◌+◌, ◌-◌, ◌*◌, ◌/◌, ◌^◌, ◌<◌, ◌≤◌, refl, arith, add-one}
+use Rattle.std.proofs.Common.{mul_comm, pow-suc}
 use Rattle.std.proofs.Math.Nat.{div-div-eq-div-mul, pow-le-pow_right}
 use Rattle.std.proofs.lemmas.Bool.Decides.{nat_tests}
 use Rattle.lms_core.specs.Trees.{sibling}
@@ -19,5 +20,6 @@ pub pow_most : (h d : ℕ) → d < h → 2 * 2 ^ (h - (d + 1)) ≤ 2 ^ h
 pow_most h d below = rw (pow_half h d below) (pow-le-pow_right (omega arith) (omega arith))
 
 -- a sibling stands on the same level
-pub sibling_within : (a k : ℕ) → 2 * a ≤ k → k < 2 * (2 * a) → (2 * a ≤ sibling k) × (sibling k < 2 * (2 * a))
+pub sibling_within : (a k : ℕ) → 2 * a ≤ k → k < 2 * (2 * a) → (2 * a ≤ sibling k)
+    × (sibling k < 2 * (2 * a))
 sibling_within a k from to = grind (arith, nat_tests)

@@ -1,6 +1,7 @@
 -- What an LMS public key, a message and a signature are answered (RFC 8554, 5.4.2): nothing where
 -- the signature verifies, and otherwise the first refusal that holds.
-use Rattle.std.specs.Prelude.{◌≡◌, ℕ, ◌+◌, ◌^◌, ◌==◌, ◌&&◌, if◌then◌else◌, Bool, false, nat_lt, not, length, take, drop, Option, Some, None, Result, Ok, Err}
+use Rattle.std.specs.Prelude.{◌≡◌, ℕ, ◌+◌, ◌^◌, ◌==◌, ◌&&◌, if◌then◌else◌, Bool, false, nat_lt, not}
+use Rattle.std.specs.Prelude.{length, take, drop, Option, Some, None, Result, Ok, Err}
 use Rattle.std.specs.Str.{bytes_eq}
 use Rattle.byte_forms.specs.Types.{Hash, Text}
 use Rattle.lmots_core.specs.declared.parameters.OtsType.{OtsType}
@@ -9,7 +10,8 @@ use Rattle.lmots_core.specs.Strings.{value_at, u32_at}
 use Rattle.lmots_core.specs.Ots.{candidate_key}
 use Rattle.lms_core.specs.declared.heights.LmsType.{LmsType}
 use Rattle.lms_core.specs.declared.refusals.SigError.{SigError}
-use Rattle.lms_core.specs.declared.refusals.SigError.TheVariants.{BadKey, BadLength, TypeDiffers, BadIndex, WrongRoot}
+use Rattle.lms_core.specs.declared.refusals.SigError.TheVariants.{BadKey, BadLength, TypeDiffers}
+use Rattle.lms_core.specs.declared.refusals.SigError.TheVariants.{BadIndex, WrongRoot}
 use Rattle.lms_core.specs.Heights.{height, lms_code, lms_type_of_code, lms_signature_length}
 use Rattle.lms_core.specs.Trees.{climbed, leaf_node, lms_public, lms_signature, private_key}
 

@@ -1,6 +1,7 @@
 -- LMS, trees of one-time keys (RFC 8554, 5), with SHA-256. The nodes are numbered from the root,
 -- which is 1; below node r are 2 * r and 2 * r + 1, and leaf q is node 2^h + q.
-use Rattle.std.specs.Prelude.{ℕ, zero, suc, ◌+◌, ◌-◌, ◌*◌, ◌/◌, ◌%◌, ◌^◌, ◌==◌, if◌then◌else◌, [], ◌∷◌, ◌++◌, take}
+use Rattle.std.specs.Prelude.{ℕ, zero, suc, ◌+◌, ◌-◌, ◌*◌, ◌/◌, ◌%◌, ◌^◌, ◌==◌, if◌then◌else◌, []}
+use Rattle.std.specs.Prelude.{◌∷◌, ◌++◌, take}
 use Rattle.std.specs.Int.{w32, to_be_bytes}
 use Rattle.byte_forms.specs.Types.{Hash, Text}
 use Rattle.sha2.specs.Sha256.{sha256}

@@ -1,8 +1,10 @@
 -- Reading an entry, with its faults in their order.
-use Rattle.std.specs.Prelude.{ℕ, ◌+◌, ◌*◌, ◌==◌, Bool, [], ◌∷◌, length, Option, Some, None, Result, Ok, Err, if◌then◌else◌}
+use Rattle.std.specs.Prelude.{ℕ, ◌+◌, ◌*◌, ◌==◌, Bool, [], ◌∷◌, length, Option, Some, None, Result}
+use Rattle.std.specs.Prelude.{Ok, Err, if◌then◌else◌}
 use Rattle.byte_forms.specs.Types.{Text, Hash}
 use Rattle.byte_forms.specs.Places.{At, at}
-use Rattle.byte_forms.specs.Readings.{Reading, ◌>>=◌, lifted, lifted_at, both_at, mapped_at, tested_at}
+use Rattle.byte_forms.specs.Readings.{Reading, ◌>>=◌, lifted, lifted_at, both_at, mapped_at}
+use Rattle.byte_forms.specs.Readings.{tested_at}
 use Rattle.der_core.specs.Reading.{end_at}
 use Rattle.der_core.specs.Fields.{der, contents_at}
 use Rattle.der_core.specs.declared.fault.CertError.{CertError}
@@ -13,7 +15,8 @@ use Rattle.cert_fields.specs.Times.{validity_at}
 use Rattle.cert_fields.specs.Extensions.{extensions_at}
 use Rattle.log_entry.specs.Entries.{TbsParts}
 use Rattle.log_entry.specs.declared.fault.EntryError.{EntryError}
-use Rattle.log_entry.specs.declared.fault.EntryError.TheVariants.{Short, UnknownType, Body, BadHashLength, NullHasBody}
+use Rattle.log_entry.specs.declared.fault.EntryError.TheVariants.{Short, UnknownType, Body}
+use Rattle.log_entry.specs.declared.fault.EntryError.TheVariants.{BadHashLength, NullHasBody}
 
 -- A field of a certificate, with its faults as faults of the entry.
 abbrev pub field_at : {X : Type 0} → Reading X CertError → Reading X EntryError

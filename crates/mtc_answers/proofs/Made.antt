@@ -6,7 +6,9 @@ use Rattle.disk_core.specs.Moments.{LeavesOnly, Looks}
 use Rattle.disk_core.specs.Same.{SameDevice}
 use Rattle.disk_core.specs.declared.disk.Disk.{Ghosts}
 use Rattle.journal_core.specs.Format.{StandsForEither}
-use Rattle.mtc_answers.specs.Made.{Journaled, untouched, reads, appended, started, Images, Leaving, Kept, WasRead, HasAdded, HasKept, HasMade, MayHaveMade, IsOpen, Adds, MayAdd, Leaves}
+use Rattle.mtc_answers.specs.Made.{Journaled, untouched, reads, appended, started, Images, Leaving}
+use Rattle.mtc_answers.specs.Made.{Kept, WasRead, HasAdded, HasKept, HasMade, MayHaveMade, IsOpen}
+use Rattle.mtc_answers.specs.Made.{Adds, MayAdd, Leaves}
 use Rattle.mtc_answers.specs.Settled.{LeftBy}
 use Rattle.mtc_answers.specs.declared.answer.Stop.{Stop}
 use Rattle.mtc_answers.specs.declared.answer.Stop.TheVariants.{Room, Memory}

@@ -1,5 +1,6 @@
 -- The steps of which each command's outcome is made, in the order of the program's steps.
-use Rattle.std.specs.Prelude.{ℕ, nat_lt, List, length, codes, Option, Some, None, Result, Ok, Err, if◌then◌else◌}
+use Rattle.std.specs.Prelude.{ℕ, nat_lt, List, length, codes, Option, Some, None, Result, Ok, Err}
+use Rattle.std.specs.Prelude.{if◌then◌else◌}
 use Rattle.mtc_answers.specs.declared.answer.Answer.{Answer}
 use Rattle.mtc_answers.specs.declared.answer.Answer.TheVariants.{Says, Stops}
 use Rattle.mtc_answers.specs.declared.answer.Said.{Said}

@@ -1,5 +1,6 @@
 -- The parts of requests, from the leaf hashes of the entries.
-use Rattle.std.proofs.Common.{◌≡◌, ◌-◌, ℕ, ◌<◌, ◌==◌, true, false, List, [], length, take, sym, ap, subst, ◌∙◌, Result, IfOk, if◌then◌else◌, arith}
+use Rattle.std.proofs.Common.{◌≡◌, ◌-◌, ℕ, ◌<◌, ◌==◌, true, false, List, [], length, take, sym, ap}
+use Rattle.std.proofs.Common.{subst, ◌∙◌, Result, IfOk, if◌then◌else◌, arith}
 use Rattle.std.specs.Prelude.{map, Bool}
 use Rattle.std.proofs.Math.Nat.{zero-mod}
 use Rattle.std.proofs.lemmas.List.{take_all, take-map}

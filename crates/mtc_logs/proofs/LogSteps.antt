@@ -1,5 +1,6 @@
 -- Opening a log: from what the opening found to the outcome behind it.
-use Rattle.std.proofs.Common.{◌≡◌, Option, None, Some, option_map, IfSome, IfErr, Result, Ok, Err, refl, sym, subst, arith, rules}
+use Rattle.std.proofs.Common.{◌≡◌, Option, None, Some, option_map, IfSome, IfErr, Result, Ok, Err}
+use Rattle.std.proofs.Common.{refl, sym, subst, arith, rules}
 use Rattle.byte_forms.specs.Types.{HashFunction, Text}
 use Rattle.disk_core.specs.Moments.{Looks}
 use Rattle.disk_core.specs.declared.disk.Disk.{Ghosts}
@@ -70,4 +71,5 @@ pub fallen_left : {D : Type 0} (g : Ghosts D) (old mid new : D) (did : Journaled
 fallen_left g old mid new did (Room file) image looks fallen =
     may_have_made g old mid new did image looks fallen
 fallen_left g old mid new did Memory image looks fallen =
-    subst (λ d. Leaves g (HasKept did) (Some old) (Some d)) (sym fallen) (kept_of g old mid did looks)
+    subst (λ d. Leaves g (HasKept did) (Some old) (Some d)) (sym fallen)
+    (kept_of g old mid did looks)

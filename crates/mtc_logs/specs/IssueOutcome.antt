@@ -11,9 +11,15 @@ use Rattle.issuance_log.specs.declared.error.LogError.TheVariants as log_error
 use Rattle.authority_core.specs.Issues.{issued_entry, issued_record}
 use Rattle.authority_core.specs.Requests.{RequestParts}
 use Rattle.authority_core.specs.declared.requests.error.Field.{Field}
-use Rattle.authority_core.specs.declared.requests.error.Field.TheVariants.{NotBefore, NotAfter, Dns, CommonName, PublicKey}
+use Rattle.authority_core.specs.declared.requests.error.Field.TheVariants.{NotBefore, NotAfter, Dns}
+use Rattle.authority_core.specs.declared.requests.error.Field.TheVariants.{CommonName, PublicKey}
 use Rattle.authority_core.specs.declared.requests.error.RequestError.{RequestError}
-use Rattle.authority_core.specs.declared.requests.error.RequestError.TheVariants.{NotToml, UnknownKey, Missing as MissingKey, BadValue, DatesReversed, NoNames, Memory}
+use Rattle.authority_core.specs.declared.requests.error.RequestError.TheVariants.{NotToml}
+use Rattle.authority_core.specs.declared.requests.error.RequestError.TheVariants.{UnknownKey}
+use Rattle.authority_core.specs.declared.requests.error.RequestError.TheVariants.{Missing as MissingKey}
+use Rattle.authority_core.specs.declared.requests.error.RequestError.TheVariants.{BadValue}
+use Rattle.authority_core.specs.declared.requests.error.RequestError.TheVariants.{DatesReversed}
+use Rattle.authority_core.specs.declared.requests.error.RequestError.TheVariants.{NoNames, Memory}
 use Rattle.mtc_answers.specs.declared.answer.Stopped.TheVariants.{Beyond}
 use Rattle.mtc_answers.specs.Lines.{command_line}
 use Rattle.mtc_answers.specs.Steps.{Outcome, stops_on, appends}

@@ -1,5 +1,6 @@
 -- The outcomes of the commands on a log: `init-log`, `checkpoint` and `entries`.
-use Rattle.std.specs.Prelude.{ℕ, nat_lt, List, [], ◌++◌, length, slice_index_or, map, codes, Option, if◌then◌else◌}
+use Rattle.std.specs.Prelude.{ℕ, nat_lt, List, [], ◌++◌, length, slice_index_or, map, codes, Option}
+use Rattle.std.specs.Prelude.{if◌then◌else◌}
 use Rattle.std.specs.Fmt.{decimal}
 use Rattle.std.specs.Int.{w16}
 use Rattle.std.specs.List.{concat, range_with_len}
@@ -31,7 +32,8 @@ log_line id = codes "log " ++ (text_of id ++ codes "\n")
 
 -- A journal of this first record, with this text, where its name has no file.
 abbrev pub made_outcome : Text → Text → Text → Option Text → Outcome
-made_outcome journal first text file = with_fresh (codes "init-log") journal file (starts first text)
+made_outcome journal first text file =
+    with_fresh (codes "init-log") journal file (starts first text)
 
 abbrev pub init_log_outcome : Text → Text → ℕ → ℕ → Files → Outcome
 init_log_outcome journal id active limit files = made_outcome journal

@@ -1,5 +1,6 @@
 -- The outcomes of the commands `consist` and `subtree`: requests to a cosigner of the log.
-use Rattle.std.specs.Prelude.{ℕ, ◌==◌, true, nat_lt, nat_le, not, List, [], length, take, map, codes, if◌then◌else◌}
+use Rattle.std.specs.Prelude.{ℕ, ◌==◌, true, nat_lt, nat_le, not, List, [], length, take, map}
+use Rattle.std.specs.Prelude.{codes, if◌then◌else◌}
 use Rattle.byte_forms.specs.Types.{Hash, HashFunction, Text}
 use Rattle.cosigner_core.specs.Requests.{AdvanceParts, SubtreeParts, advance_text, subtree_text}
 use Rattle.issuance_log.specs.Folds.{LogState}
@@ -71,4 +72,5 @@ subtree_answer h start end size s =
     else Says Done (subtree_text (subtree_of h s start end size))))
 
 abbrev pub subtree_says : HashFunction → ℕ → ℕ → ℕ → FoundLog → Outcome
-subtree_says h start end size found = answers_on found.records (subtree_answer h start end size found.state)
+subtree_says h start end size found =
+    answers_on found.records (subtree_answer h start end size found.state)

@@ -1,5 +1,6 @@
 -- What the work on a log has to give, why it ends without an answer, and what it leaves.
-use Rattle.std.specs.Prelude.{◌≡◌, ◌≢◌, ◌≤◌, false, codes, Option, Some, None, Result, Ok, Err, IfOk, IfErr, IfSome, IsOk}
+use Rattle.std.specs.Prelude.{◌≡◌, ◌≢◌, ◌≤◌, false, codes, Option, Some, None, Result, Ok, Err}
+use Rattle.std.specs.Prelude.{IfOk, IfErr, IfSome, IsOk}
 use Rattle.byte_forms.specs.Types.{HashFunction, Text}
 use Rattle.mtc_io.specs.Counts.{Rose}
 use Rattle.disk_core.specs.declared.disk.Disk.{Ghosts}
@@ -30,7 +31,8 @@ use Rattle.mtc_logs.specs.LogOutcomes.{checkpoint_says, entries_says}
 use Rattle.mtc_logs.specs.LogSteps.{found_log, no_log, open_fault_text}
 use Rattle.mtc_logs.specs.RequestOutcomes.{consist_says, subtree_says}
 use Rattle.mtc_logs.specs.declared.work.Work.{Work}
-use Rattle.mtc_logs.specs.declared.work.Work.TheVariants.{Checkpoint, Entries, Issue, Consist, Subtree}
+use Rattle.mtc_logs.specs.declared.work.Work.TheVariants.{Checkpoint, Entries, Issue, Consist}
+use Rattle.mtc_logs.specs.declared.work.Work.TheVariants.{Subtree}
 
 -- What a command has to answer over a log that was found.
 unfoldable pub work_says : HashFunction → Work → FoundLog → Outcome

@@ -54,7 +54,8 @@ fn growth_of<H: TreeHash, D: Disk>(log: &mut Log<H, D>, old: u64, new: u64) -> P
     requires more { old < new }
     requires within { new ≤ length (state_of log.old).entries }
     ensures proof { result ≡ (if old == 0 then []
-        else proof_of H.hash 0 old true (take new (map (leaf_hash H.hash) (state_of log.old).entries))) }
+        else proof_of H.hash 0 old true
+        (take new (map (leaf_hash H.hash) (state_of log.old).entries))) }
     ensures same { log.new ≡ log.old }
 {
     if old == 0 {

@@ -1,17 +1,21 @@
 -- Reading a proof, with its faults in their order.
-use Rattle.std.specs.Prelude.{ℕ, zero, suc, ◌-◌, ◌==◌, List, [], ◌∷◌, length, Result, Ok, Err, if◌then◌else◌}
+use Rattle.std.specs.Prelude.{ℕ, zero, suc, ◌-◌, ◌==◌, List, [], ◌∷◌, length, Result, Ok, Err}
+use Rattle.std.specs.Prelude.{if◌then◌else◌}
 use Rattle.std.specs.Int.{Width, w8, w16, w64}
 use Rattle.byte_forms.specs.Types.{Hash, Text}
 use Rattle.byte_forms.specs.Places.{At, at, has_bytes}
-use Rattle.byte_forms.specs.Readings.{Reading, ◌>>=◌, lifted_at, discarded, both_at, mapped_at, tested_at}
+use Rattle.byte_forms.specs.Readings.{Reading, ◌>>=◌, lifted_at, discarded, both_at, mapped_at}
+use Rattle.byte_forms.specs.Readings.{tested_at}
 use Rattle.byte_forms.specs.Lists.{up_to_end}
 use Rattle.tls_wire.specs.Reading.{number_at, vector_at, hashes_at}
 use Rattle.tls_wire.specs.declared.cursor.HashesError.{HashesError}
-use Rattle.tls_wire.specs.declared.cursor.HashesError.TheVariants.{Short as NotFitting, HashLength as NoMultiple}
+use Rattle.tls_wire.specs.declared.cursor.HashesError.TheVariants.{Short as NotFitting}
+use Rattle.tls_wire.specs.declared.cursor.HashesError.TheVariants.{HashLength as NoMultiple}
 use Rattle.tls_wire.specs.declared.cursor.Short.{Short as ShortForm}
 use Rattle.mtc_proof.specs.Proofs.{SigParts, ProofParts}
 use Rattle.mtc_proof.specs.declared.fault.ProofError.{ProofError}
-use Rattle.mtc_proof.specs.declared.fault.ProofError.TheVariants.{Short, HashLength, Trailing, EmptyId}
+use Rattle.mtc_proof.specs.declared.fault.ProofError.TheVariants.{Short, HashLength, Trailing}
+use Rattle.mtc_proof.specs.declared.fault.ProofError.TheVariants.{EmptyId}
 
 -- A form that doesn't fit, as a fault of the proof.
 abbrev pub of_short : ShortForm → ProofError

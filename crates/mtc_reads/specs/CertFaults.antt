@@ -2,9 +2,13 @@
 use Rattle.std.specs.Prelude.{ℕ, List, ◌++◌, codes}
 use Rattle.std.specs.Fmt.{decimal}
 use Rattle.der_core.specs.declared.fault.DerError.{DerError}
-use Rattle.der_core.specs.declared.fault.DerError.TheVariants.{Truncated, LongForm, HighTag, WrongTag, BadInteger, BadBool, BadOid, BadBits, SetOrder, Trailing}
+use Rattle.der_core.specs.declared.fault.DerError.TheVariants.{Truncated, LongForm, HighTag}
+use Rattle.der_core.specs.declared.fault.DerError.TheVariants.{WrongTag, BadInteger, BadBool}
+use Rattle.der_core.specs.declared.fault.DerError.TheVariants.{BadOid, BadBits, SetOrder, Trailing}
 use Rattle.der_core.specs.declared.fault.CertError.{CertError}
-use Rattle.der_core.specs.declared.fault.CertError.TheVariants.{Der, BadVersion, BadSerial, BadTime, AlgorithmsDiffer, RepeatedExtension, UniqueId, BadExtension, BadName}
+use Rattle.der_core.specs.declared.fault.CertError.TheVariants.{Der, BadVersion, BadSerial, BadTime}
+use Rattle.der_core.specs.declared.fault.CertError.TheVariants.{AlgorithmsDiffer, RepeatedExtension}
+use Rattle.der_core.specs.declared.fault.CertError.TheVariants.{UniqueId, BadExtension, BadName}
 
 -- A fault of an element, with the element's offset.
 abbrev pub der_fault_text : DerError → List ℕ

@@ -1,13 +1,18 @@
 -- The refusals of a member file, and their names.
 use Rattle.std.specs.Prelude.{ℕ, List, codes}
 use Rattle.tls_wire.specs.declared.cursor.HashesError.{HashesError}
-use Rattle.tls_wire.specs.declared.cursor.HashesError.TheVariants.{HashLength as HashesHashLength, Short as HashesShort}
+use Rattle.tls_wire.specs.declared.cursor.HashesError.TheVariants.{HashLength as HashesHashLength}
+use Rattle.tls_wire.specs.declared.cursor.HashesError.TheVariants.{Short as HashesShort}
 use Rattle.tree_core.specs.declared.error.EvalError.{EvalError}
-use Rattle.tree_core.specs.declared.error.EvalError.TheVariants.{BadSubtree as EvalBadSubtree, Outside as EvalOutside, WrongLength as EvalWrongLength}
+use Rattle.tree_core.specs.declared.error.EvalError.TheVariants.{BadSubtree as EvalBadSubtree}
+use Rattle.tree_core.specs.declared.error.EvalError.TheVariants.{Outside as EvalOutside}
+use Rattle.tree_core.specs.declared.error.EvalError.TheVariants.{WrongLength as EvalWrongLength}
 use Rattle.mtc_reads.specs.declared.member.judgement.MemberError.{MemberError}
 use Rattle.mtc_reads.specs.declared.member.judgement.MemberError.TheVariants.{Short, HashLength}
 use Rattle.mtc_reads.specs.declared.member.judgement.MemberRefusal.{MemberRefusal}
-use Rattle.mtc_reads.specs.declared.member.judgement.MemberRefusal.TheVariants.{BadSubtree, Outside, WrongLength, HashDiffers}
+use Rattle.mtc_reads.specs.declared.member.judgement.MemberRefusal.TheVariants.{BadSubtree, Outside}
+use Rattle.mtc_reads.specs.declared.member.judgement.MemberRefusal.TheVariants.{WrongLength}
+use Rattle.mtc_reads.specs.declared.member.judgement.MemberRefusal.TheVariants.{HashDiffers}
 
 -- A fault of the hashes, as one of the file.
 abbrev pub member_fault : HashesError → MemberError

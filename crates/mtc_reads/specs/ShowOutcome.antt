@@ -1,5 +1,6 @@
 -- The outcome of `show CERT`.
-use Rattle.std.specs.Prelude.{ℕ, ◌&&◌, Bool, nat_le, [], ◌∷◌, ◌++◌, length, codes, Option, Some, None, Result, Ok, Err, bytes_eq, if◌then◌else◌}
+use Rattle.std.specs.Prelude.{ℕ, ◌&&◌, Bool, nat_le, [], ◌∷◌, ◌++◌, length, codes, Option, Some}
+use Rattle.std.specs.Prelude.{None, Result, Ok, Err, bytes_eq, if◌then◌else◌}
 use Rattle.std.specs.Fmt.{decimal}
 use Rattle.std.specs.List.{list_all, flat_map}
 use Rattle.hex.specs.Hex.{encode_lower}

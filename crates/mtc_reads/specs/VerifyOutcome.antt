@@ -11,9 +11,16 @@ use Rattle.policy_core.specs.declared.answer.Accepted.{Accepted}
 use Rattle.policy_core.specs.declared.error.Key.{Key}
 use Rattle.policy_core.specs.declared.error.Key.TheVariants.{LogId, Start, End, Hash, Table}
 use Rattle.policy_core.specs.declared.error.StoreError.{StoreError}
-use Rattle.policy_core.specs.declared.error.StoreError.TheVariants.{NotToml, UnknownKey, Missing as MissingKey, BadValue, RepeatedSubtree, BadRange, Memory}
+use Rattle.policy_core.specs.declared.error.StoreError.TheVariants.{NotToml, UnknownKey}
+use Rattle.policy_core.specs.declared.error.StoreError.TheVariants.{Missing as MissingKey, BadValue}
+use Rattle.policy_core.specs.declared.error.StoreError.TheVariants.{RepeatedSubtree, BadRange}
+use Rattle.policy_core.specs.declared.error.StoreError.TheVariants.{Memory}
 use Rattle.policy_core.specs.declared.refusal.Refusal.{Refusal}
-use Rattle.policy_core.specs.declared.refusal.Refusal.TheVariants.{Grammar, Algorithm, UnknownLog, NotYet, Expired, UnknownCritical, Revoked, ProofGrammar, ProofShape, LandmarkDiffers, TooFewCosigners}
+use Rattle.policy_core.specs.declared.refusal.Refusal.TheVariants.{Grammar, Algorithm, UnknownLog}
+use Rattle.policy_core.specs.declared.refusal.Refusal.TheVariants.{NotYet, Expired, UnknownCritical}
+use Rattle.policy_core.specs.declared.refusal.Refusal.TheVariants.{Revoked, ProofGrammar}
+use Rattle.policy_core.specs.declared.refusal.Refusal.TheVariants.{ProofShape, LandmarkDiffers}
+use Rattle.policy_core.specs.declared.refusal.Refusal.TheVariants.{TooFewCosigners}
 use Rattle.policy_core.specs.Judgement.{judgement}
 use Rattle.mtc_answers.specs.declared.answer.Said.TheVariants.{Done, Against}
 use Rattle.mtc_answers.specs.declared.answer.Stopped.TheVariants.{BadForm}

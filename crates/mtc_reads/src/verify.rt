@@ -160,7 +160,8 @@ pub fn verify<'a, H: TreeHash, R: Room>(
 ) -> Result<Answer, Stop<'a>>
     requires lent { R.lent room.old < 2 ^ 32 }
     requires time { is_time now ≡ true }
-    ensures { HasAnswered R.Room R.Dsk.Disk (verify_outcome H.hash cert.now store.now now (R.file room.old))
+    ensures { HasAnswered R.Room R.Dsk.Disk
+        (verify_outcome H.hash cert.now store.now now (R.file room.old))
         room.old room.new result }
 {
     let bytes = match read_input(alloc, room, cert, INPUT_LIMIT)? {

@@ -1,6 +1,7 @@
 -- What the calls of a room do. A room's files are a function from names to bytes, and one from
 -- names to devices.
-use Rattle.std.specs.Prelude.{◌≡◌, ◌≢◌, ℕ, ◌+◌, ◌≤◌, List, Option, None, Some, Result, is_ok, IsSome, IsErrOf, OnOk, if◌then◌else◌}
+use Rattle.std.specs.Prelude.{◌≡◌, ◌≢◌, ℕ, ◌+◌, ◌≤◌, List, Option, None, Some, Result, is_ok}
+use Rattle.std.specs.Prelude.{IsSome, IsErrOf, OnOk, if◌then◌else◌}
 use Rattle.mtc_io.specs.Counts.{Rose}
 use Rattle.mtc_room.specs.declared.error.RoomError.{RoomError}
 use Rattle.mtc_room.specs.declared.error.RoomError.TheVariants.{Absent, Exists, Failed}

@@ -1,14 +1,18 @@
 -- How a command ends, as steps of a node.
-use Rattle.std.proofs.Common.{◌≡◌, ◌⊎◌, inl, inr, ℕ, true, false, Bool, List, [], ◌∷◌, ◌++◌, length, Option, None, Some, IfSome, refl, sym, subst, ◌∙◌, arith, rules}
+use Rattle.std.proofs.Common.{◌≡◌, ◌⊎◌, inl, inr, ℕ, true, false, Bool, List, [], ◌∷◌, ◌++◌, length}
+use Rattle.std.proofs.Common.{Option, None, Some, IfSome, refl, sym, subst, ◌∙◌, arith, rules}
 use Rattle.std.proofs.lemmas.Bool.Decides.{leb_tells}
 use Rattle.disk_core.specs.declared.disk.Disk.{Ghosts}
 use Rattle.mtc_room.specs.Room.{TellsFile}
 use Rattle.journal_core.specs.Format.{StandsFor, StandsForEither}
 use Rattle.journal_core.proofs.Records.{records_of-stands}
 use Rattle.mtc_answers.specs.Answers.{IsEarly}
-use Rattle.mtc_answers.specs.Made.{Journaled, untouched, reads, appended, started, Images, images_at, IsOnOld, Kept, WasRead, HasMade, MayHaveMade}
+use Rattle.mtc_answers.specs.Made.{Journaled, untouched, reads, appended, started, Images}
+use Rattle.mtc_answers.specs.Made.{images_at, IsOnOld, Kept, WasRead, HasMade, MayHaveMade}
 use Rattle.mtc_answers.proofs.Made.{ReadsImage}
-use Rattle.mtc_top.specs.Nodes.{NodeState, StandsForNode, AllStandForNode, stop, begin, same, stopped, begun, has_settled, has_handed, IsRecord, NotHanded, IsOneOf, TookSome, EndsWell}
+use Rattle.mtc_top.specs.Nodes.{NodeState, StandsForNode, AllStandForNode, stop, begin, same}
+use Rattle.mtc_top.specs.Nodes.{stopped, begun, has_settled, has_handed, IsRecord, NotHanded}
+use Rattle.mtc_top.specs.Nodes.{IsOneOf, TookSome, EndsWell}
 
 -- what was read are the records of the node behind a stop
 record Stopped (n : NodeState) (list : List (List ℕ)) : Type 0 where

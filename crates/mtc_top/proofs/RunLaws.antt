@@ -1,5 +1,6 @@
 -- What follows of each run, and how it ends as steps of a node.
-use Rattle.std.proofs.Common.{◌≡◌, ◌≢◌, ◌≤◌, inl, inr, ℕ, List, [], ◌∷◌, ◌++◌, Option, None, Some, sym, subst, arith, rules}
+use Rattle.std.proofs.Common.{◌≡◌, ◌≢◌, ◌≤◌, inl, inr, ℕ, List, [], ◌∷◌, ◌++◌, Option, None, Some}
+use Rattle.std.proofs.Common.{sym, subst, arith, rules}
 use Rattle.std.proofs.lemmas.Bool.Decides.{eqb_tells}
 use Rattle.std.specs.Io.KnownBytes.{Appends}
 use Rattle.disk_core.specs.declared.disk.Disk.{Ghosts as Disks}
@@ -8,12 +9,14 @@ use Rattle.mtc_room.specs.Room.{TellsFile}
 use Rattle.mtc_room.specs.declared.room.Room.{Ghosts as Rooms}
 use Rattle.journal_core.specs.Format.{StandsFor}
 use Rattle.mtc_answers.specs.Answers.{IsEarly, status_of, out_of}
-use Rattle.mtc_answers.specs.Made.{Journaled, Images, Leaving, untouched, appended, started, HasKept, HasMade, MayHaveMade, Leaves}
+use Rattle.mtc_answers.specs.Made.{Journaled, Images, Leaving, untouched, appended, started}
+use Rattle.mtc_answers.specs.Made.{HasKept, HasMade, MayHaveMade, Leaves}
 use Rattle.mtc_answers.specs.Served.{OfEach}
 use Rattle.mtc_answers.specs.declared.answer.Answer.{Answer}
 use Rattle.mtc_answers.specs.declared.answer.Answer.TheVariants.{Says, Stops}
 use Rattle.mtc_answers.specs.declared.answer.Said.TheVariants.{Done, Against}
-use Rattle.mtc_answers.specs.declared.answer.Stopped.TheVariants.{BadWords, BadForm, Refused, Missing, Beyond}
+use Rattle.mtc_answers.specs.declared.answer.Stopped.TheVariants.{BadWords, BadForm, Refused}
+use Rattle.mtc_answers.specs.declared.answer.Stopped.TheVariants.{Missing, Beyond}
 use Rattle.mtc_answers.proofs.Made.{ReadsImage}
 use Rattle.mtc_answers.proofs.Served.{each_so, both_so}
 use Rattle.mtc_top.specs.Nodes.{AllStandForNode, TookSome, fresh_node}

@@ -1,6 +1,7 @@
 -- A node's journal as a state of a history, and how a command may end: which steps of the history
 -- it was.
-use Rattle.std.specs.Prelude.{◌≡◌, ◌⊎◌, ℕ, ◌<◌, Bool, true, false, List, [], ◌∷◌, ◌++◌, length, Option, None, Some, if◌then◌else◌}
+use Rattle.std.specs.Prelude.{◌≡◌, ◌⊎◌, ℕ, ◌<◌, Bool, true, false, List, [], ◌∷◌, ◌++◌, length}
+use Rattle.std.specs.Prelude.{Option, None, Some, if◌then◌else◌}
 use Rattle.journal_core.specs.Format.{StandsFor}
 use Rattle.mtc_answers.specs.Answers.{IsEarly}
 use Rattle.mtc_answers.specs.Made.{Images, Journaled, appended}

@@ -10,7 +10,8 @@ use Rattle.mtc_room.specs.declared.room.Room.{Ghosts as Rooms}
 use Rattle.mtc_words.specs.Words.{command_of, known_word}
 use Rattle.mtc_answers.specs.Answers.{status_of, out_of, err_of, IsEarly}
 use Rattle.mtc_answers.specs.Lines.{command_line, file_line, memory_line, WritesLine}
-use Rattle.mtc_answers.specs.Made.{Journaled, Leaving, untouched, IsOnOld, HasKept, HasMade, MayHaveMade}
+use Rattle.mtc_answers.specs.Made.{Journaled, Leaving, untouched, IsOnOld, HasKept, HasMade}
+use Rattle.mtc_answers.specs.Made.{MayHaveMade}
 use Rattle.mtc_answers.specs.Served.{Journals, OfEach, LeavesEach}
 use Rattle.mtc_answers.specs.Steps.{Outcome}
 use Rattle.mtc_answers.specs.declared.answer.Answer.{Answer}

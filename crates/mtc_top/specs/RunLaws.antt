@@ -5,9 +5,11 @@ use Rattle.journal_core.specs.Format.{StandsFor}
 use Rattle.mtc_io.specs.Counts.{Rose}
 use Rattle.mtc_io.specs.declared.sink.Sink.{Ghosts as Sinks}
 use Rattle.mtc_room.specs.declared.room.Room.{Ghosts as Rooms}
-use Rattle.mtc_answers.specs.Made.{Journaled, appended, started, Images, IsOnOld, images_at, moment_at, images_since}
+use Rattle.mtc_answers.specs.Made.{Journaled, appended, started, Images, IsOnOld, images_at}
+use Rattle.mtc_answers.specs.Made.{moment_at, images_since}
 use Rattle.mtc_answers.specs.Served.{OfEach}
-use Rattle.mtc_top.specs.Nodes.{NodeState, StandsForNode, AllStandForNode, EndsWell, TookSome, fresh_node}
+use Rattle.mtc_top.specs.Nodes.{NodeState, StandsForNode, AllStandForNode, EndsWell, TookSome}
+use Rattle.mtc_top.specs.Nodes.{fresh_node}
 use Rattle.mtc_top.specs.Run.{journals, Prints, Answered, HasRun}
 
 module _ {R S D O E : Type 0} (h : List ℕ → List ℕ) (rooms : Rooms R S D) (disks : Disks D)

@@ -2,7 +2,9 @@
 use Rattle.std.specs.Prelude.{ℕ, List, [], ◌∷◌, ◌++◌, codes}
 use Rattle.std.specs.Fmt.{decimal}
 use Rattle.mtc_words.specs.declared.error.WordError.{WordError}
-use Rattle.mtc_words.specs.declared.error.WordError.TheVariants.{NoCommand, UnknownCommand, BadWord, WrongCount, BadNumber, BadId, Memory}
+use Rattle.mtc_words.specs.declared.error.WordError.TheVariants.{NoCommand, UnknownCommand, BadWord}
+use Rattle.mtc_words.specs.declared.error.WordError.TheVariants.{WrongCount, BadNumber, BadId}
+use Rattle.mtc_words.specs.declared.error.WordError.TheVariants.{Memory}
 use Rattle.mtc_answers.specs.declared.answer.Stopped.TheVariants.{BadWords}
 use Rattle.mtc_answers.specs.Lines.{bare_line, command_line}
 use Rattle.mtc_answers.specs.Steps.{Outcome, stops}

@@ -1,7 +1,9 @@
 -- What contracts see of a command.
 use Rattle.std.specs.Prelude.{◌≡◌, ℕ, ◌==◌, ◌&&◌, ◌||◌, Bool, true, nat_le, List, Result, Ok, Err}
 use Rattle.mtc_words.specs.declared.command.Command.{Command}
-use Rattle.mtc_words.specs.declared.command.Command.TheVariants.{Member, Show, Verify, InitLog, Issue, Checkpoint, Entries, Consist, Subtree, Keygen}
+use Rattle.mtc_words.specs.declared.command.Command.TheVariants.{Member, Show, Verify, InitLog}
+use Rattle.mtc_words.specs.declared.command.Command.TheVariants.{Issue, Checkpoint, Entries}
+use Rattle.mtc_words.specs.declared.command.Command.TheVariants.{Consist, Subtree, Keygen}
 use Rattle.mtc_words.specs.declared.error.WordError.{WordError}
 
 -- A command with the values of its words: a text is the list of its bytes, and so is an id.

@@ -1,7 +1,9 @@
 -- The table of the commands: the name of each, and how many words it wants.
 use Rattle.std.specs.Prelude.{ℕ, List, Option, Some, None, codes, bytes_eq, if◌then◌else◌}
 use Rattle.mtc_words.specs.declared.name.Name.{Name}
-use Rattle.mtc_words.specs.declared.name.Name.TheVariants.{Member, Show, Verify, InitLog, Issue, Checkpoint, Entries, Consist, Subtree, Keygen}
+use Rattle.mtc_words.specs.declared.name.Name.TheVariants.{Member, Show, Verify, InitLog, Issue}
+use Rattle.mtc_words.specs.declared.name.Name.TheVariants.{Checkpoint, Entries, Consist, Subtree}
+use Rattle.mtc_words.specs.declared.name.Name.TheVariants.{Keygen}
 
 -- The command that a word names.
 unfoldable pub named_command : List ℕ → Option Name

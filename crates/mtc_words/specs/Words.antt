@@ -1,13 +1,19 @@
 -- The words of a command, and what they say: the first fault in the order of the tests, or the
 -- command.
-use Rattle.std.specs.Prelude.{ℕ, ◌+◌, ◌==◌, Bool, true, List, [], ◌∷◌, length, Option, Some, None, Result, Ok, Err, slice_index_or, is_some, if◌then◌else◌}
+use Rattle.std.specs.Prelude.{ℕ, ◌+◌, ◌==◌, Bool, true, List, [], ◌∷◌, length, Option, Some, None}
+use Rattle.std.specs.Prelude.{Result, Ok, Err, slice_index_or, is_some, if◌then◌else◌}
 use Rattle.byte_forms.specs.Readings.{◌>>=◌, blamed}
 use Rattle.tls_wire.specs.Anchors.{anchor_text}
 use Rattle.mtc_words.specs.declared.error.WordError.{WordError}
-use Rattle.mtc_words.specs.declared.error.WordError.TheVariants.{NoCommand, UnknownCommand, BadWord, WrongCount, BadNumber, BadId}
+use Rattle.mtc_words.specs.declared.error.WordError.TheVariants.{NoCommand, UnknownCommand, BadWord}
+use Rattle.mtc_words.specs.declared.error.WordError.TheVariants.{WrongCount, BadNumber, BadId}
 use Rattle.mtc_words.specs.declared.name.Name.{Name}
-use Rattle.mtc_words.specs.declared.name.Name.TheVariants.{Member, Show, Verify, InitLog, Issue, Checkpoint, Entries, Consist, Subtree, Keygen}
-use Rattle.mtc_words.specs.Commands.{CommandValue, member, show, verify, init_log, issue, checkpoint, entries, consist, subtree, keygen, is_height, is_width, is_time, is_active, is_limit, is_any}
+use Rattle.mtc_words.specs.declared.name.Name.TheVariants.{Member, Show, Verify, InitLog, Issue}
+use Rattle.mtc_words.specs.declared.name.Name.TheVariants.{Checkpoint, Entries, Consist, Subtree}
+use Rattle.mtc_words.specs.declared.name.Name.TheVariants.{Keygen}
+use Rattle.mtc_words.specs.Commands.{CommandValue, member, show, verify, init_log, issue}
+use Rattle.mtc_words.specs.Commands.{checkpoint, entries, consist, subtree, keygen, is_height}
+use Rattle.mtc_words.specs.Commands.{is_width, is_time, is_active, is_limit, is_any}
 use Rattle.mtc_words.specs.Names.{named_command, word_count}
 use Rattle.mtc_words.specs.Numbers.{number_of}
 

@@ -85,7 +85,8 @@ fn id(alloc: Global, place: usize, word: &str) -> Result<AnchorId, WordError>
 // The words of `init-log`.
 fn init_log<'a>(alloc: Global, words: &'a [String]) -> Result<Command<'a>, WordError>
     requires { length words.now ≡ word_count Name.InitLog }
-    ensures exact { Answers WordError.Memory (command_from Name.InitLog (map string_bytes words.now)) (said result) }
+    ensures exact { Answers WordError.Memory
+        (command_from Name.InitLog (map string_bytes words.now)) (said result) }
     ensures range { IfOk result (λ command. IsInRange (command_value command)) }
 {
     let active = active(3, words[2].as_str())?;
@@ -147,7 +148,8 @@ fn entries<'a>(words: &'a [String]) -> Result<Command<'a>, WordError>
 // The command of this name with its words, of which there are as many as it wants.
 pub fn build<'a>(alloc: Global, name: Name, words: &'a [String]) -> Result<Command<'a>, WordError>
     requires { length words.now ≡ word_count name }
-    ensures exact { Answers WordError.Memory (command_from name (map string_bytes words.now)) (said result) }
+    ensures exact { Answers WordError.Memory
+        (command_from name (map string_bytes words.now)) (said result) }
     ensures range { IfOk result (λ command. IsInRange (command_value command)) }
 {
     match name {

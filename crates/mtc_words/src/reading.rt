@@ -51,7 +51,8 @@ fn fault(words: &[String], want: usize) -> Option<WordError>
 /// `BadId` with that of the first id word that is no anchor id.
 #[tactic(auto, unfolding(crate::specs::Words::command_of))]
 pub fn read_words<'a>(alloc: Global, words: &'a [String]) -> Result<Command<'a>, WordError>
-    ensures exact { Answers WordError.Memory (command_of (map string_bytes words.now)) (said result) }
+    ensures exact { Answers WordError.Memory
+        (command_of (map string_bytes words.now)) (said result) }
     ensures range { IfOk result (λ command. IsInRange (command_value command)) }
 {
     let Some((first, rest)) = words.split_first() else {

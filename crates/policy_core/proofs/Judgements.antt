@@ -1,5 +1,6 @@
 -- A certificate is accepted exactly where the grammars, the tree and the store say so.
-use Rattle.std.proofs.Common.{◌≡◌, ℕ, List, ◌∷◌, ◌++◌, length, Option, Some, None, Result, Ok, refl, sym, ap, subst, ◌∙◌}
+use Rattle.std.proofs.Common.{◌≡◌, ℕ, List, ◌∷◌, ◌++◌, length, Option, Some, None, Result, Ok, refl}
+use Rattle.std.proofs.Common.{sym, ap, subst, ◌∙◌}
 use Rattle.std.specs.Prelude.{ℤ}
 use Rattle.std.specs.List.{find}
 use Rattle.std.specs.Str.{bytes_eq}
@@ -22,9 +23,11 @@ use Rattle.policy_core.specs.declared.answer.Accepted.{Accepted}
 use Rattle.policy_core.specs.declared.lists.Trusted.{Trusted}
 use Rattle.policy_core.specs.declared.store.Store.{Store}
 use Rattle.policy_core.specs.declared.refusal.Refusal.{Refusal}
-use Rattle.policy_core.specs.declared.refusal.Refusal.TheVariants.{Grammar, ProofGrammar, ProofShape, LandmarkDiffers}
+use Rattle.policy_core.specs.declared.refusal.Refusal.TheVariants.{Grammar, ProofGrammar}
+use Rattle.policy_core.specs.declared.refusal.Refusal.TheVariants.{ProofShape, LandmarkDiffers}
 use Rattle.policy_core.specs.Acceptance.{IsAmong, IsAccepted}
-use Rattle.policy_core.specs.Judgement.{admitted, is_of, accepted, by_trust, decided, judged, judgement}
+use Rattle.policy_core.specs.Judgement.{admitted, is_of, accepted, by_trust, decided, judged}
+use Rattle.policy_core.specs.Judgement.{judgement}
 use Rattle.policy_core.proofs.Asked.{admitted_only, admitted_again}
 use Rattle.policy_core.proofs.TrustedHash.{find_only, find_again}
 
@@ -33,27 +36,38 @@ use Rattle.policy_core.proofs.TrustedHash.{find_only, find_again}
 abbrev trusted_with : ℕ → ℕ → List ℕ → Trusted
 trusted_with start end hash = record { start = start; end = end; hash = hash }
 
-pub record IsDecided (subtrees : List Trusted) (index start end : ℕ) (hash : List ℕ) (a : Accepted) : Type 0 where
+pub record IsDecided (subtrees : List Trusted) (index start end : ℕ) (hash : List ℕ)
+    (a : Accepted) : Type 0 where
   pub trusted : IsAmong (trusted_with start end hash) subtrees
   pub known : a ≡ accepted index start end hash
 
-decided_only : (subtrees : List Trusted) (index start end : ℕ) (hash : List ℕ) (a : Accepted) → decided subtrees index start end hash ≡ Ok a
+decided_only : (subtrees : List Trusted) (index start end : ℕ) (hash : List ℕ) (a : Accepted)
+    → decided subtrees index start end hash ≡ Ok a
     → IsDecided subtrees index start end hash a
 unfolding decided
 decided_only subtrees index start end hash a e = go (find (is_of start end) subtrees) refl e
   where
-    go : (o : Option Trusted) → find (is_of start end) subtrees ≡ o → by_trust index start end hash o ≡ Ok a → IsDecided subtrees index start end hash a
+    go : (o : Option Trusted) → find (is_of start end) subtrees ≡ o
+        → by_trust index start end hash o ≡ Ok a → IsDecided subtrees index start end hash a
     go None found e = absurd cc
     go (Some t) found e =
-        let g = pass_ok (bytes_eq t.hash hash) (Ok (accepted index start end hash)) LandmarkDiffers a e in
+        let g = pass_ok (bytes_eq t.hash hash) (Ok (accepted index start end hash))
+        LandmarkDiffers a e in
         let f = find_only start end subtrees t found in
         let same : t.hash ≡ hash = (bytes_eq-Decides t.hash hash).0 g.0 in
         let all : t ≡ trusted_with start end hash =
-        ap (λ (n : ℕ). trusted_with n t.end t.hash) f.from ∙ (ap (λ (n : ℕ). trusted_with start n t.hash) f.to ∙ ap (λ (b : List ℕ). trusted_with start end b) same) in
+        ap (λ (n : ℕ). trusted_with n t.end t.hash) f.from
+        ∙ (ap (λ (n : ℕ). trusted_with start n t.hash) f.to
+        ∙ ap (λ (b : List ℕ). trusted_with start end b) same) in
         let P : Trusted → Type 0 = λ x. IsAmong x subtrees in
-        record { trusted = subst P all f.among; known = sym (ok_is Refusal (accepted index start end hash) a g.1) }
+        record {
+          trusted = subst P all f.among;
+          known =
+              sym (ok_is Refusal (accepted index start end hash) a g.1);
+        }
 
-decided_again : (store : Store) (index start end : ℕ) (hash : List ℕ) → IsValid store → IsAmong (trusted_with start end hash) store.subtrees
+decided_again : (store : Store) (index start end : ℕ) (hash : List ℕ) → IsValid store
+    → IsAmong (trusted_with start end hash) store.subtrees
     → decided store.subtrees index start end hash ≡ Ok (accepted index start end hash)
 unfolding decided
 decided_again store index start end hash valid among =
@@ -64,7 +78,8 @@ decided_again store index start end hash valid among =
 
 abbrev with_proof : (List ℕ → List ℕ) → Store → Parts → ProofParts → Result Accepted Refusal
 with_proof h store c p =
-    lifted ProofShape (evaluation h (leaf_hash h (entry_of h c)) c.serial p.start p.end p.path) >>= λ hash. decided store.subtrees c.serial p.start p.end hash
+    lifted ProofShape (evaluation h (leaf_hash h (entry_of h c)) c.serial p.start p.end p.path) >>=
+    λ hash. decided store.subtrees c.serial p.start p.end hash
 
 abbrev admitted_with : (List ℕ → List ℕ) → Store → Parts → Result Accepted Refusal
 admitted_with h store c = lifted ProofGrammar (proof_in c.proof) >>= λ p. with_proof h store c p
@@ -74,23 +89,29 @@ proof_bytes : (p : Parts) → IsBytes (certificate p) → IsBytes p.proof
 unfolding certificate element
 proof_bytes p h =
     let fields : List ℕ = certificate_fields p in
-    let inner : IsBytes fields = IsBytes-back (length_octets (length fields)) fields (IsBytes-rest 48 (length_octets (length fields) ++ fields) h) in
+    let inner : IsBytes fields = IsBytes-back (length_octets (length fields)) fields
+    (IsBytes-rest 48 (length_octets (length fields) ++ fields) h) in
     let bits : List ℕ = 0 ∷ p.proof in
-    let signature : IsBytes (element 3 bits) = IsBytes-back (element 48 (tbs_fields p) ++ p.algorithm) (element 3 bits) inner in
-    let contents : IsBytes bits = IsBytes-back (length_octets (length bits)) bits (IsBytes-rest 3 (length_octets (length bits) ++ bits) signature) in
+    let signature : IsBytes (element 3 bits) =
+    IsBytes-back (element 48 (tbs_fields p) ++ p.algorithm) (element 3 bits) inner in
+    let contents : IsBytes bits = IsBytes-back (length_octets (length bits)) bits
+    (IsBytes-rest 3 (length_octets (length bits) ++ bits) signature) in
     IsBytes-rest 0 p.proof contents
 
-pub accepted_only : (h : List ℕ → List ℕ) (bytes : List ℕ) (store : Store) (now : ℤ) (a : Accepted) → IsBytes bytes
+pub accepted_only : (h : List ℕ → List ℕ) (bytes : List ℕ) (store : Store) (now : ℤ) (a : Accepted)
+    → IsBytes bytes
     → judgement h bytes store now ≡ Ok a → IsAccepted h bytes store now a
 unfolding judged judgement
 accepted_only h bytes store now a ok e =
     let s = bind_ok (lifted Grammar (parts_of bytes)) (judged h store now) a e in
     let c : Parts = s.0 in
     let t = bind_ok (admitted store now c) (λ (done : Unit {0}). admitted_with h store c) a s.2 in
-    let u = bind_ok (lifted ProofGrammar (proof_in c.proof)) (λ (p : ProofParts). with_proof h store c p) a t.2 in
+    let u = bind_ok (lifted ProofGrammar (proof_in c.proof))
+    (λ (p : ProofParts). with_proof h store c p) a t.2 in
     let p : ProofParts = u.0 in
     let eval = evaluation h (leaf_hash h (entry_of h c)) c.serial p.start p.end p.path in
-    let v = bind_ok (lifted ProofShape eval) (λ (hash : List ℕ). decided store.subtrees c.serial p.start p.end hash) a u.2 in
+    let v = bind_ok (lifted ProofShape eval) (λ (hash : List ℕ). decided store.subtrees c.serial
+    p.start p.end hash) a u.2 in
     let cert = parts_only bytes c ok (lifted_ok Grammar (parts_of bytes) c s.1) in
     let admission = admitted_only store now c t.0 t.1 in
     let inner : IsBytes c.proof = proof_bytes c (subst IsBytes cert.0 ok) in
@@ -117,7 +138,8 @@ accepted_only h bytes store now a ok e =
       known = end.known ∙ ap (λ (b : List ℕ). accepted c.serial p.start p.end b) hash;
     }
 
-pub accepted_again : (h : List ℕ → List ℕ) (bytes : List ℕ) (store : Store) (now : ℤ) (a : Accepted) → IsValid store
+pub accepted_again : (h : List ℕ → List ℕ) (bytes : List ℕ) (store : Store) (now : ℤ) (a : Accepted)
+    → IsValid store
     → IsAccepted h bytes store now a → judgement h bytes store now ≡ Ok a
 unfolding judged judgement
 accepted_again h bytes store now a valid f =
@@ -132,6 +154,7 @@ accepted_again h bytes store now a valid f =
       extensions = f.extensions;
       not_revoked = f.not_revoked;
     }) in
-    let three : proof_in c.proof ≡ Ok p = ap proof_in f.proof_spelled ∙ proofs_again p f.proof_fits in
+    let three : proof_in c.proof ≡ Ok p = ap proof_in f.proof_spelled
+    ∙ proofs_again p f.proof_fits in
     let last = decided_again store c.serial p.start p.end a.hash valid f.trusted in
     rw (one, two, three, f.evaluates, last) (ap (λ (x : Accepted). Ok x) (sym f.known))

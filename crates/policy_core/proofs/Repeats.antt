@@ -1,5 +1,8 @@
 -- Intervals that repeat, told by those before each.
-use Rattle.std.proofs.Common.{◌≡◌, ℕ, ◌+◌, ◌<◌, ◌≤◌, ◌==◌, Bool, true, false, ◌||◌, ◌&&◌, not, cond, List, [], ◌∷◌, ◌++◌, length, get_or, take, drop, Ordering, Less, Equal, Greater, nat_cmp, is_eq, refl, ap, sym, ◌∙◌, append_assoc, arith}
+use Rattle.std.proofs.Common.{◌≡◌, ℕ, ◌+◌, ◌<◌, ◌≤◌, ◌==◌, Bool, true, false, ◌||◌, ◌&&◌, not, cond}
+use Rattle.std.proofs.Common.{List, [], ◌∷◌, ◌++◌, length, get_or, take, drop, Ordering, Less}
+use Rattle.std.proofs.Common.{Equal, Greater, nat_cmp, is_eq, refl, ap, sym, ◌∙◌, append_assoc}
+use Rattle.std.proofs.Common.{arith}
 use Rattle.std.proofs.lemmas.Bool.Decides.{nat_tests}
 use Rattle.std.proofs.lemmas.List.{append-nil, drop_more, drop_all, take_more}
 use Rattle.std.specs.BTreeMap.{is_at}
@@ -37,31 +40,39 @@ or_joined : (a b c : Bool) → ((a || b) || c) ≡ (a || (b || c))
 or_joined true b c = refl
 or_joined false b c = refl
 
-list_any-push : {X : Type 0} (test : X → Bool) (xs : List X) (x : X) → list_any test (xs ++ x ∷ []) ≡ (list_any test xs || test x)
+list_any-push : {X : Type 0} (test : X → Bool) (xs : List X) (x : X)
+    → list_any test (xs ++ x ∷ []) ≡ (list_any test xs || test x)
 list_any-push test [] x = or_nothing (test x)
-list_any-push test (y ∷ ys) x = ap (λ (b : Bool). test y || b) (list_any-push test ys x) ∙ sym (or_joined (test y) (list_any test ys) (test x))
+list_any-push test (y ∷ ys) x = ap (λ (b : Bool). test y || b) (list_any-push test ys x)
+    ∙ sym (or_joined (test y) (list_any test ys) (test x))
 
-has_repeat-push : (xs : List Trusted) (x : Trusted) → has_repeat (xs ++ x ∷ []) ≡ (has_repeat xs || list_any (has_interval (x.start, x.end)) xs)
+has_repeat-push : (xs : List Trusted) (x : Trusted)
+    → has_repeat (xs ++ x ∷ []) ≡ (has_repeat xs || list_any (has_interval (x.start, x.end)) xs)
 unfolding has_repeat
 has_repeat-push [] x = refl
 has_repeat-push (y ∷ ys) x =
     ap (λ (b : Bool). b || has_repeat (ys ++ x ∷ [])) (list_any-push (has_same_interval y) ys x)
-    ∙ (ap (λ (b : Bool). (list_any (has_same_interval y) ys || has_same_interval y x) || b) (has_repeat-push ys x)
-    ∙ shuffled (list_any (has_same_interval y) ys) (has_same_interval y x) (has_repeat ys) (list_any (has_interval (x.start, x.end)) ys))
+    ∙ (ap (λ (b : Bool). (list_any (has_same_interval y) ys || has_same_interval y x) || b)
+    (has_repeat-push ys x)
+    ∙ shuffled (list_any (has_same_interval y) ys) (has_same_interval y x) (has_repeat ys)
+    (list_any (has_interval (x.start, x.end)) ys))
 
 -- an interval among those that stand before it
 unfoldable pub repeats_behind : List Trusted → List Trusted → Bool
 repeats_behind seen [] = false
-repeats_behind seen (x ∷ xs) = list_any (has_interval (x.start, x.end)) seen || repeats_behind (seen ++ x ∷ []) xs
+repeats_behind seen (x ∷ xs) = list_any (has_interval (x.start, x.end)) seen || repeats_behind (seen
+    ++ x ∷ []) xs
 
-behind : (seen xs : List Trusted) → has_repeat (seen ++ xs) ≡ (has_repeat seen || repeats_behind seen xs)
+behind : (seen xs : List Trusted) → has_repeat (seen ++ xs)
+    ≡ (has_repeat seen || repeats_behind seen xs)
 unfolding repeats_behind
 behind seen [] = ap has_repeat (append-nil seen) ∙ sym (or_nothing (has_repeat seen))
 behind seen (x ∷ xs) =
     ap has_repeat (sym (append_assoc seen (x ∷ []) xs))
     ∙ (behind (seen ++ x ∷ []) xs
     ∙ (ap (λ (b : Bool). b || repeats_behind (seen ++ x ∷ []) xs) (has_repeat-push seen x)
-    ∙ or_joined (has_repeat seen) (list_any (has_interval (x.start, x.end)) seen) (repeats_behind (seen ++ x ∷ []) xs)))
+    ∙ or_joined (has_repeat seen) (list_any (has_interval (x.start, x.end)) seen)
+    (repeats_behind (seen ++ x ∷ []) xs)))
 
 -- at the front nothing is seen
 pub repeats_behind-nothing : (xs : List Trusted) → repeats_behind [] xs ≡ has_repeat xs
@@ -71,14 +82,20 @@ repeats_behind-nothing xs = sym (behind [] xs)
 -- one step on
 pub repeats_behind-step : (xs : List Trusted) (i : ℕ) (d : Trusted) → i < length xs
     → repeats_behind (take i xs) (drop i xs)
-    ≡ (list_any (has_interval ((get_or xs i d).start, (get_or xs i d).end)) (take i xs) || repeats_behind (take (i + 1) xs) (drop (i + 1) xs))
+    ≡ (list_any (has_interval ((get_or xs i d).start, (get_or xs i d).end))
+    (take i xs) || repeats_behind (take (i + 1) xs) (drop (i + 1) xs))
 unfolding repeats_behind
 repeats_behind-step xs i d lt =
     ap (repeats_behind (take i xs)) (drop_more xs i d lt)
-    ∙ ap (λ (seen : List Trusted). list_any (has_interval ((get_or xs i d).start, (get_or xs i d).end)) (take i xs) || repeats_behind seen (drop (i + 1) xs)) (sym (take_more xs i d lt))
+    ∙ ap (λ (seen : List Trusted). list_any (has_interval (
+      (get_or xs i d).start,
+      (get_or xs i d).end,
+    )) (take i xs) || repeats_behind seen (drop (i + 1) xs))
+    (sym (take_more xs i d lt))
 
 -- at the end nothing is left
-pub repeats_behind-end : (seen xs : List Trusted) (n : ℕ) → length xs ≤ n → repeats_behind seen (drop n xs) ≡ false
+pub repeats_behind-end : (seen xs : List Trusted) (n : ℕ) → length xs ≤ n
+    → repeats_behind seen (drop n xs) ≡ false
 unfolding repeats_behind
 repeats_behind-end seen xs n le = ap (repeats_behind seen) (drop_all n xs le)
 
@@ -104,25 +121,32 @@ one_more true false = refl
 one_more false c = sym (or_nothing c)
 
 pub holds_nothing : (set : BTreeSet (ℕ × ℕ)) → IsEmpty set → Holds set []
-holds_nothing set empty = record { each = λ k. ap (λ (ks : List (ℕ × ℕ)). list_any (is_at (by_interval k)) ks) empty }
+holds_nothing set empty = record {
+  each =
+      λ k. ap (λ (ks : List (ℕ × ℕ)). list_any (is_at (by_interval k)) ks) empty;
+}
 
-pub holds_more : (old new : BTreeSet (ℕ × ℕ)) (xs : List Trusted) (x : Trusted) → Holds old xs → Updates by_interval old new (x.start, x.end) true
+pub holds_more : (old new : BTreeSet (ℕ × ℕ)) (xs : List Trusted) (x : Trusted) → Holds old xs
+    → Updates by_interval old new (x.start, x.end) true
     → Holds new (xs ++ x ∷ [])
 holds_more old new xs x holds updates = record {
   each = λ k.
       updates.0 k
       ∙ (ap (λ (b : Bool). cond b true (contains by_interval old k)) (same_key x k)
       ∙ (one_more (has_interval k x) (contains by_interval old k)
-      ∙ (ap (λ (b : Bool). b || has_interval k x) (holds.each k) ∙ sym (list_any-push (has_interval k) xs x))));
+      ∙ (ap (λ (b : Bool). b || has_interval k x) (holds.each k)
+      ∙ sym (list_any-push (has_interval k) xs x))));
 }
 
-holds_next : (set : BTreeSet (ℕ × ℕ)) (xs : List Trusted) (i : ℕ) (d : Trusted) (b : Bool) → i < length xs → Holds set (take i xs)
+holds_next : (set : BTreeSet (ℕ × ℕ)) (xs : List Trusted) (i : ℕ) (d : Trusted) (b : Bool)
+    → i < length xs → Holds set (take i xs)
     → repeats_behind (take i xs) (drop i xs) ≡ has_repeat xs
     → contains by_interval set ((get_or xs i d).start, (get_or xs i d).end) ≡ b
     → (b || repeats_behind (take (i + 1) xs) (drop (i + 1) xs)) ≡ has_repeat xs
 holds_next set xs i d b lt holds whole found =
     let key : ℕ × ℕ = ((get_or xs i d).start, (get_or xs i d).end) in
-    ap (λ (a : Bool). a || repeats_behind (take (i + 1) xs) (drop (i + 1) xs)) (sym found ∙ holds.each key)
+    ap (λ (a : Bool). a || repeats_behind (take (i + 1) xs) (drop (i + 1) xs)) (sym found
+    ∙ holds.each key)
     ∙ (sym (repeats_behind-step xs i d lt) ∙ whole)
 
 was_there : (b : Bool) → not b ≡ false → b ≡ true
@@ -134,20 +158,26 @@ was_new true h = sym h
 was_new false h = refl
 
 -- an interval that is there already repeats
-pub repeats_there : (set : BTreeSet (ℕ × ℕ)) (xs : List Trusted) (i : ℕ) (d : Trusted) → i < length xs → Holds set (take i xs)
+pub repeats_there : (set : BTreeSet (ℕ × ℕ)) (xs : List Trusted) (i : ℕ) (d : Trusted)
+    → i < length xs → Holds set (take i xs)
     → repeats_behind (take i xs) (drop i xs) ≡ has_repeat xs
-    → not (contains by_interval set ((get_or xs i d).start, (get_or xs i d).end)) ≡ false → true ≡ has_repeat xs
-repeats_there set xs i d lt holds whole h = holds_next set xs i d true lt holds whole (was_there _ h)
+    → not (contains by_interval set ((get_or xs i d).start, (get_or xs i d).end)) ≡ false
+    → true ≡ has_repeat xs
+repeats_there set xs i d lt holds whole h =
+    holds_next set xs i d true lt holds whole (was_there _ h)
 
 -- a new one leaves the question to those behind it
-pub repeats_later : (set : BTreeSet (ℕ × ℕ)) (xs : List Trusted) (i : ℕ) (d : Trusted) → i < length xs → Holds set (take i xs)
+pub repeats_later : (set : BTreeSet (ℕ × ℕ)) (xs : List Trusted) (i : ℕ) (d : Trusted)
+    → i < length xs → Holds set (take i xs)
     → repeats_behind (take i xs) (drop i xs) ≡ has_repeat xs
     → not (contains by_interval set ((get_or xs i d).start, (get_or xs i d).end)) ≡ true
     → repeats_behind (take (i + 1) xs) (drop (i + 1) xs) ≡ has_repeat xs
 repeats_later set xs i d lt holds whole h = holds_next set xs i d false lt holds whole (was_new _ h)
 
 -- the set with one more
-pub holds_next_one : (old new : BTreeSet (ℕ × ℕ)) (xs : List Trusted) (i : ℕ) (d : Trusted) → i < length xs → Holds old (take i xs)
-    → Updates by_interval old new ((get_or xs i d).start, (get_or xs i d).end) true → Holds new (take (i + 1) xs)
+pub holds_next_one : (old new : BTreeSet (ℕ × ℕ)) (xs : List Trusted) (i : ℕ) (d : Trusted)
+    → i < length xs → Holds old (take i xs)
+    → Updates by_interval old new ((get_or xs i d).start, (get_or xs i d).end) true
+    → Holds new (take (i + 1) xs)
 holds_next_one old new xs i d lt holds updates =
     rw (take_more xs i d lt) (holds_more old new (take i xs) (get_or xs i d) holds updates)

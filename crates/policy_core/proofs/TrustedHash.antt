@@ -1,5 +1,6 @@
 -- The trusted subtree of an interval.
-use Rattle.std.proofs.Common.{◌≡◌, ℕ, Bool, true, false, List, [], ◌∷◌, Some, cond, refl, sym, ap, subst, ◌∙◌, inl, inr, eq-eqb, eqb-true}
+use Rattle.std.proofs.Common.{◌≡◌, ℕ, Bool, true, false, List, [], ◌∷◌, Some, cond, refl, sym, ap}
+use Rattle.std.proofs.Common.{subst, ◌∙◌, inl, inr, eq-eqb, eqb-true}
 use Rattle.std.specs.Prelude.{◌==◌, ◌&&◌}
 use Rattle.std.specs.List.{find, AllByRecursion, IsDistinct}
 use Rattle.policy_core.specs.Stores.{has_same_interval}
@@ -20,19 +21,32 @@ both_equal a b c d e = go (a == b) (c == d) refl refl e
     go true false first second e = absurd cc
     go false q first second e = absurd cc
 
-pub find_only : (start end : ℕ) (xs : List Trusted) (t : Trusted) → find (is_of start end) xs ≡ Some t → IsFound start end t xs
+pub find_only : (start end : ℕ) (xs : List Trusted) (t : Trusted)
+    → find (is_of start end) xs ≡ Some t → IsFound start end t xs
 find_only start end [] t e = absurd cc
 find_only start end (x ∷ xs) t e = go (is_of start end x) refl e (λ h. find_only start end xs t h)
   where
     go : (b : Bool) → is_of start end x ≡ b → cond b (Some x) (find (is_of start end) xs) ≡ Some t
-        → (find (is_of start end) xs ≡ Some t → IsFound start end t xs) → IsFound start end t (x ∷ xs)
+        → (find (is_of start end) xs ≡ Some t → IsFound start end t xs)
+        → IsFound start end t (x ∷ xs)
     go true test e later =
         let same : x ≡ t = cc in
         let two = both_equal x.start start x.end end test in
-        record { among = inl same; from = sym (ap (λ (y : Trusted). y.start) same) ∙ two.0; to = sym (ap (λ (y : Trusted). y.end) same) ∙ two.1 }
-    go false test e later = let f = later e in record { among = inr f.among; from = f.from; to = f.to }
+        record {
+          among = inl same;
+          from = sym (ap (λ (y : Trusted). y.start) same) ∙ two.0;
+          to =
+              sym (ap (λ (y : Trusted). y.end) same) ∙ two.1;
+        }
+    go false test e later = let f = later e in record {
+      among = inr f.among;
+      from =
+          f.from;
+      to = f.to;
+    }
 
-all_at : (P : Trusted → Type 0) (t : Trusted) (xs : List Trusted) → AllByRecursion P xs → IsAmong t xs → P t
+all_at : (P : Trusted → Type 0) (t : Trusted) (xs : List Trusted) → AllByRecursion P xs
+    → IsAmong t xs → P t
 all_at P t [] all among = absurd among
 all_at P t (x ∷ xs) all (inl same) = subst P same all.0
 all_at P t (x ∷ xs) all (inr later) = all_at P t xs all.1 later
@@ -40,7 +54,8 @@ all_at P t (x ∷ xs) all (inr later) = all_at P t xs all.1 later
 is_itself : (t : Trusted) → is_of t.start t.end t ≡ true
 is_itself t = rw (eq-eqb t.start t.start refl, eq-eqb t.end t.end refl) refl
 
-pub find_again : (t : Trusted) (xs : List Trusted) → IsDistinct has_same_interval xs → IsAmong t xs → find (is_of t.start t.end) xs ≡ Some t
+pub find_again : (t : Trusted) (xs : List Trusted) → IsDistinct has_same_interval xs → IsAmong t xs
+    → find (is_of t.start t.end) xs ≡ Some t
 unfolding IsDistinct
 find_again t [] distinct among = absurd among
 find_again t (x ∷ xs) distinct (inl same) =

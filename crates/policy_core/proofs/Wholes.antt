@@ -13,7 +13,8 @@ use Rattle.policy_core.specs.declared.store.Store.{Store}
 use Rattle.policy_core.specs.Files.{has_repeat, are_subtrees, are_inhabited}
 use Rattle.policy_core.specs.Stores.{has_same_interval, IsOfSubtree, IsInhabited, IsValid}
 
-none_same : (x : Trusted) (xs : List Trusted) → list_any (has_same_interval x) xs ≡ false → AllByRecursion (λ y. has_same_interval x y ≡ false) xs
+none_same : (x : Trusted) (xs : List Trusted) → list_any (has_same_interval x) xs ≡ false
+    → AllByRecursion (λ y. has_same_interval x y ≡ false) xs
 none_same x [] h = tt
 none_same x (y ∷ ys) h =
     let (here, more) = or_parts (has_same_interval x y) (list_any (has_same_interval x) ys) h in
@@ -41,4 +42,10 @@ ranges (x ∷ xs) h =
 pub whole : (s : Store) → s.name ≡ name_with (text_of s.log) → has_repeat s.subtrees ≡ false
     → are_subtrees s.subtrees ≡ true → are_inhabited s.revoked ≡ true → IsValid s
 whole s name distinct valid short =
-    record { name = name; subtrees = subtrees s.subtrees valid; different = different s.subtrees distinct; revoked = ranges s.revoked short }
+    record {
+      name = name;
+      subtrees = subtrees s.subtrees valid;
+      different =
+          different s.subtrees distinct;
+      revoked = ranges s.revoked short;
+    }

@@ -1,6 +1,7 @@
 -- The store file: what a text says, or why it is none. The faults stand in the order in which they
 -- are looked for.
-use Rattle.std.specs.Prelude.{◌&&◌, ◌||◌, nat_lt, Bool, false, List, [], ◌∷◌, codes, Option, Some, None, Result, Ok, Err, if◌then◌else◌}
+use Rattle.std.specs.Prelude.{◌&&◌, ◌||◌, nat_lt, Bool, false, List, [], ◌∷◌, codes, Option, Some}
+use Rattle.std.specs.Prelude.{None, Result, Ok, Err, if◌then◌else◌}
 use Rattle.std.specs.List.{list_any, list_all}
 use Rattle.std.specs.Option.{option_and_then}
 use Rattle.std.specs.Result.{result_ok}
@@ -8,7 +9,8 @@ use Rattle.byte_forms.specs.Types.{Text}
 use Rattle.byte_forms.specs.Readings.{◌>>=◌, some_or}
 use Rattle.cert_names.specs.LogNames.{name_with}
 use Rattle.tls_wire.specs.Anchors.{anchor_text, text_of}
-use Rattle.toml.specs.Data.{Data, Items, no_items, item, Members, as_array, as_str, as_table, get_member}
+use Rattle.toml.specs.Data.{Data, Items, no_items, item, Members, as_array, as_str, as_table}
+use Rattle.toml.specs.Data.{get_member}
 use Rattle.toml_fields.specs.Tree.{tree_of, has_only}
 use Rattle.toml_fields.specs.Fields.{required_field}
 use Rattle.toml_fields.specs.Codes.{number_data, hash_data}
@@ -17,7 +19,9 @@ use Rattle.tree_core.specs.declared.spans.Span.{Span}
 use Rattle.policy_core.specs.declared.error.Key.{Key}
 use Rattle.policy_core.specs.declared.error.Key.TheVariants.{LogId, Start, End, Hash, Table}
 use Rattle.policy_core.specs.declared.error.StoreError.{StoreError}
-use Rattle.policy_core.specs.declared.error.StoreError.TheVariants.{NotToml, UnknownKey, Missing, BadValue, RepeatedSubtree, BadRange}
+use Rattle.policy_core.specs.declared.error.StoreError.TheVariants.{NotToml, UnknownKey, Missing}
+use Rattle.policy_core.specs.declared.error.StoreError.TheVariants.{BadValue, RepeatedSubtree}
+use Rattle.policy_core.specs.declared.error.StoreError.TheVariants.{BadRange}
 use Rattle.policy_core.specs.declared.lists.Trusted.{Trusted}
 use Rattle.policy_core.specs.declared.store.Store.{Store}
 use Rattle.policy_core.specs.Stores.{has_same_interval}

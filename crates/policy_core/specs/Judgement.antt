@@ -1,6 +1,7 @@
 -- The judgement of a certificate by a relying party: the first refusal that holds, or what is known
 -- of the certificate.
-use Rattle.std.specs.Prelude.{ℕ, ◌&&◌, ◌==◌, Bool, not, nat_lt, nat_le, int_lt, ℤ, List, Option, Some, None, Result, Ok, Err, if◌then◌else◌}
+use Rattle.std.specs.Prelude.{ℕ, ◌&&◌, ◌==◌, Bool, not, nat_lt, nat_le, int_lt, ℤ, List, Option}
+use Rattle.std.specs.Prelude.{Some, None, Result, Ok, Err, if◌then◌else◌}
 use Rattle.std.specs.List.{list_any, find}
 use Rattle.std.specs.Str.{bytes_eq}
 use Rattle.byte_forms.specs.Types.{Text, Hash, HashFunction}
@@ -18,7 +19,11 @@ use Rattle.policy_core.specs.declared.answer.By.TheVariants.{Landmark}
 use Rattle.policy_core.specs.declared.lists.Trusted.{Trusted}
 use Rattle.policy_core.specs.declared.store.Store.{Store}
 use Rattle.policy_core.specs.declared.refusal.Refusal.{Refusal}
-use Rattle.policy_core.specs.declared.refusal.Refusal.TheVariants.{Grammar, Algorithm, UnknownLog, NotYet, Expired, UnknownCritical, Revoked, ProofGrammar, ProofShape, LandmarkDiffers, TooFewCosigners}
+use Rattle.policy_core.specs.declared.refusal.Refusal.TheVariants.{Grammar, Algorithm, UnknownLog}
+use Rattle.policy_core.specs.declared.refusal.Refusal.TheVariants.{NotYet, Expired, UnknownCritical}
+use Rattle.policy_core.specs.declared.refusal.Refusal.TheVariants.{Revoked, ProofGrammar}
+use Rattle.policy_core.specs.declared.refusal.Refusal.TheVariants.{ProofShape, LandmarkDiffers}
+use Rattle.policy_core.specs.declared.refusal.Refusal.TheVariants.{TooFewCosigners}
 
 -- A range holds its start and not its end.
 abbrev pub is_in : ℕ → Span → Bool

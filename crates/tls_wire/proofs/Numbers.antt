@@ -1,8 +1,10 @@
 -- Numbers as forms.
-use Rattle.std.proofs.Common.{◌≡◌, ℕ, ◌^◌, ◌<◌, ◌≤◌, false, List, [], ◌∷◌, ◌++◌, length, take, Ok, refl, ap, subst, arith, ltb, le-ltb, ltb-false, mod-eq_of_lt}
+use Rattle.std.proofs.Common.{◌≡◌, ℕ, ◌^◌, ◌<◌, ◌≤◌, false, List, [], ◌∷◌, ◌++◌, length, take, Ok}
+use Rattle.std.proofs.Common.{refl, ap, subst, arith, ltb, le-ltb, ltb-false, mod-eq_of_lt}
 use Rattle.std.specs.Int.{Width, w8, w16, w32, w64, byte_len, from_be_bytes}
 use Rattle.std.proofs.lemmas.List.{take_at, drop_at, length-append, length-take}
-use Rattle.std.proofs.lemmas.Nat.{be_bytes_2, be_bytes_4, be_bytes_8, from_be_bytes-to_be_bytes_2, from_be_bytes-to_be_bytes_4, from_be_bytes-to_be_bytes_8}
+use Rattle.std.proofs.lemmas.Nat.{be_bytes_2, be_bytes_4, be_bytes_8, from_be_bytes-to_be_bytes_2}
+use Rattle.std.proofs.lemmas.Nat.{from_be_bytes-to_be_bytes_4, from_be_bytes-to_be_bytes_8}
 use Rattle.byte_forms.specs.Places.{At, IsBytes, after}
 use Rattle.byte_forms.specs.Forms.{Stands, IsForm, Anything, itself}
 use Rattle.byte_forms.proofs.Steps.{guard_ok, ok_is, IsBytes-take, Stands-front}
@@ -13,11 +15,13 @@ use Rattle.tls_wire.specs.Spelling.{number}
 -- The numbers below the limit and the byte strings of a width are each other's.
 pub record IsWide (w : Width) (limit : ℕ) : Type 0 where
   pub len : (n : ℕ) → length (number w n) ≡ byte_len w
-  pub back : (bytes : List ℕ) → length bytes ≡ byte_len w → IsBytes bytes → number w (from_be_bytes w bytes) ≡ bytes
+  pub back : (bytes : List ℕ) → length bytes ≡ byte_len w → IsBytes bytes
+      → number w (from_be_bytes w bytes) ≡ bytes
   pub again : (n : ℕ) → n < limit → from_be_bytes w (number w n) ≡ n
   pub below : (bytes : List ℕ) → IsBytes bytes → from_be_bytes w bytes < limit
 
-one_byte : (bytes : List ℕ) → length bytes ≡ 1 → IsBytes bytes → number w8 (from_be_bytes w8 bytes) ≡ bytes
+one_byte : (bytes : List ℕ) → length bytes ≡ 1 → IsBytes bytes
+    → number w8 (from_be_bytes w8 bytes) ≡ bytes
 one_byte [] len h = absurd (omega arith)
 one_byte (b ∷ []) len h = let small : b < 256 = h 0 in ap (λ (n : ℕ). n ∷ []) (mod-eq_of_lt small)
 one_byte (b ∷ c ∷ bytes) len h = absurd (omega arith)
@@ -54,24 +58,31 @@ wide64 = record {
   below = λ bytes h. omega (arith, h 0, h 1, h 2, h 3, h 4, h 5, h 6, h 7);
 }
 
-pub bytes_form : (count : ℕ) → IsForm itself (λ bytes. length bytes ≡ count) Anything (bytes_at count)
+pub bytes_form : (count : ℕ) → IsForm itself (λ bytes. length bytes ≡ count) Anything
+    (bytes_at count)
 bytes_form count = record {
   takes = λ a bytes b h e.
-      let g = guard_ok (ltb (length a.rest) count) (short a) (Ok (take count a.rest, after count a)) (bytes, b) e in
+      let g = guard_ok (ltb (length a.rest) count) (short a) (Ok (take count a.rest, after count a))
+      (bytes, b) e in
       let long : count ≤ length a.rest = ltb-false _ _ g.0 in
       let P : List ℕ × At → Type 0 = λ v. Stands a v.0 v.1 × (length v.0 ≡ count) in
       subst P (ok_is Short (take count a.rest, after count a) (bytes, b) g.1)
       (Stands-front a count long h, omega (arith, length-take count a.rest));
   again = λ bytes p rest f q.
-      let long : ltb (length (bytes ++ rest)) count ≡ false = le-ltb _ _ (omega (arith, length-append bytes rest)) in
+      let long : ltb (length (bytes ++ rest)) count ≡ false =
+      le-ltb _ _ (omega (arith, length-append bytes rest)) in
       rw (long, take_at bytes rest count f, drop_at bytes rest count f, f) refl;
 }
 
-pub number_form : (w : Width) (limit : ℕ) → IsWide w limit → IsForm (number w) (λ n. n < limit) Anything (number_at w)
+pub number_form : (w : Width) (limit : ℕ) → IsWide w limit
+    → IsForm (number w) (λ n. n < limit) Anything (number_at w)
 number_form w limit wide = record {
   takes = λ a n b h e.
       let front = take (byte_len w) a.rest in
-      let g = guard_ok (ltb (length a.rest) (byte_len w)) (short a) (Ok (from_be_bytes w front, after (byte_len w) a)) (n, b) e in
+      let g = guard_ok (ltb (length a.rest) (byte_len w)) (short a) (Ok (
+        from_be_bytes w front,
+        after (byte_len w) a,
+      )) (n, b) e in
       let long : byte_len w ≤ length a.rest = ltb-false _ _ g.0 in
       let bytes = IsBytes-take (byte_len w) a.rest h in
       let same = wide.back front (omega (arith, length-take (byte_len w) a.rest)) bytes in
@@ -80,8 +91,15 @@ number_form w limit wide = record {
       (rw same (Stands-front a (byte_len w) long h), wide.below front bytes);
   again = λ n p rest f q.
       let len = wide.len n in
-      let long : ltb (length (number w n ++ rest)) (byte_len w) ≡ false = le-ltb _ _ (omega (arith, length-append (number w n) rest)) in
-      rw (long, take_at (number w n) rest (byte_len w) len, drop_at (number w n) rest (byte_len w) len, wide.again n f, len) refl;
+      let long : ltb (length (number w n ++ rest)) (byte_len w) ≡ false =
+      le-ltb _ _ (omega (arith, length-append (number w n) rest)) in
+      rw (
+        long,
+        take_at (number w n) rest (byte_len w) len,
+        drop_at (number w n) rest (byte_len w) len,
+        wide.again n f,
+        len,
+      ) refl;
 }
 
 -- Numbers of eight bytes.

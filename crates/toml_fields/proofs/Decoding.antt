@@ -7,10 +7,12 @@ use Rattle.base64.specs.GeneralPurpose.{decode_of, decoded_of}
 use Rattle.base64.specs.declared.decode.DecodeError.{DecodeError}
 use Rattle.toml_fields.specs.Codes.{bytes_of_base64}
 
-pub bytes_of_base64-some : (text bytes : Text) → decode_of standard text ≡ Ok bytes → bytes_of_base64 text ≡ Some bytes
+pub bytes_of_base64-some : (text bytes : Text) → decode_of standard text ≡ Ok bytes
+    → bytes_of_base64 text ≡ Some bytes
 unfolding bytes_of_base64 decoded_of
 bytes_of_base64-some text bytes h = ap result_ok h
 
-pub bytes_of_base64-none : (text : Text) (e : DecodeError) → decode_of standard text ≡ Err e → bytes_of_base64 text ≡ None
+pub bytes_of_base64-none : (text : Text) (e : DecodeError) → decode_of standard text ≡ Err e
+    → bytes_of_base64 text ≡ None
 unfolding bytes_of_base64 decoded_of
 bytes_of_base64-none text e h = ap result_ok h

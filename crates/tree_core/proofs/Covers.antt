@@ -1,12 +1,16 @@
 -- The cover of an interval.
-use Rattle.std.proofs.Common.{◌≡◌, ℕ, zero, suc, ◌+◌, ◌*◌, ◌-◌, ◌/◌, ◌%◌, ◌^◌, ◌<◌, ◌≤◌, ⊎_elim, ltb, Some, None, sym, ◌∙◌, ap, refl, subst, arith}
+use Rattle.std.proofs.Common.{◌≡◌, ℕ, zero, suc, ◌+◌, ◌*◌, ◌-◌, ◌/◌, ◌%◌, ◌^◌, ◌<◌, ◌≤◌, ⊎_elim}
+use Rattle.std.proofs.Common.{ltb, Some, None, sym, ◌∙◌, ap, refl, subst, arith}
 use Rattle.std.specs.Prelude.{bit_and, bit_xor}
 use Rattle.std.specs.Int.{bit_at}
 use Rattle.std.specs.Int.Bits.{xor_self}
-use Rattle.std.proofs.Math.Nat.{div-eq_of_lt, div-eq_of_lt-le, le-div_iff_mul-le, mod-lt, mul-mod_left, mul-one, mul_assoc, pow-succ'}
+use Rattle.std.proofs.Math.Nat.{div-eq_of_lt, div-eq_of_lt-le, le-div_iff_mul-le, mod-lt}
+use Rattle.std.proofs.Math.Nat.{mul-mod_left, mul-one, mul_assoc, pow-succ'}
 use Rattle.std.proofs.Math.Pow.{pow_mono}
-use Rattle.std.proofs.lemmas.Bool.{cond-false, cond-true, cond_both, cases_lt, eq-eqb, ltb-false, ltb-true, ne_eqb}
-use Rattle.std.proofs.lemmas.Nat.{and-not, and_mask, one_shl, pow-add, pow_pos, shr-shr, shr_split, xor_lt, xor_shr}
+use Rattle.std.proofs.lemmas.Bool.{cond-false, cond-true, cond_both, cases_lt, eq-eqb, ltb-false}
+use Rattle.std.proofs.lemmas.Bool.{ltb-true, ne_eqb}
+use Rattle.std.proofs.lemmas.Nat.{and-not, and_mask, one_shl, pow-add, pow_pos, shr-shr, shr_split}
+use Rattle.std.proofs.lemmas.Nat.{xor_lt, xor_shr}
 use Rattle.std.proofs.lemmas.Nat.Bits.{bit_at-lt, bit_at-zero, bit_at_xor, same_from_bits}
 use Rattle.tree_core.proofs.Powers.{power_over_least}
 use Rattle.tree_core.specs.Cover.{CoversInterval, bit_length, clear_low, cover_of}
@@ -51,7 +55,8 @@ bit_length_unique n b above below =
 -- two numbers are equal where no bit differs
 same_from_xor : (a b : ℕ) → bit_xor a b ≡ 0 → a ≡ b
 same_from_xor a b none = same_from_bits a b (λ i.
-    let x : (bit_at a i + bit_at b i) % 2 ≡ 0 = sym (bit_at_xor a b i) ∙ ap (λ n. bit_at n i) none ∙ bit_at-zero i in
+    let x : (bit_at a i + bit_at b i) % 2 ≡ 0 = sym (bit_at_xor a b i) ∙ ap (λ n. bit_at n i) none
+    ∙ bit_at-zero i in
     let p = bit_at-lt a i in
     let q = bit_at-lt b i in
     omega arith)
@@ -60,7 +65,8 @@ pub xor_positive : (a b : ℕ) → a < b → 0 < bit_xor a b
 xor_positive a b lt =
     ⊎_elim
     (λ (some : 0 < bit_xor a b). some)
-    (λ (none : bit_xor a b ≤ 0). let same = same_from_xor a b (omega arith) in let no : ⊥ = omega arith in absurd no)
+    (λ (none : bit_xor a b ≤ 0). let same = same_from_xor a b (omega arith) in let no : ⊥ =
+    omega arith in absurd no)
     (cases_lt 0 (bit_xor a b))
 
 -- two numbers with one half are neighbours, where they differ and are in order
@@ -96,14 +102,17 @@ neighbours s t d lt bit =
     let positive = pow_pos d in
     let high : s / 2 ^ suc d ≡ t / 2 ^ suc d =
     same_from_xor _ _ (sym (xor_shr s t (suc d)) ∙ div-eq_of_lt bit.above) in
-    let low_s : s / 2 ^ d / 2 ^ 1 ≡ s / 2 ^ suc d = shr-shr s d 1 ∙ ap (λ k. s / 2 ^ k) (omega arith) in
-    let low_t : t / 2 ^ d / 2 ^ 1 ≡ t / 2 ^ suc d = shr-shr t d 1 ∙ ap (λ k. t / 2 ^ k) (omega arith) in
+    let low_s : s / 2 ^ d / 2 ^ 1 ≡ s / 2 ^ suc d = shr-shr s d 1
+    ∙ ap (λ k. s / 2 ^ k) (omega arith) in
+    let low_t : t / 2 ^ d / 2 ^ 1 ≡ t / 2 ^ suc d = shr-shr t d 1
+    ∙ ap (λ k. t / 2 ^ k) (omega arith) in
     let set = bit.set in
     let some : 1 ≤ bit_xor s t / 2 ^ d =
     (le-div_iff_mul-le {k = 2 ^ d} {x = 1} {y = bit_xor s t} positive).1 (omega arith) in
     let shifted = xor_shr s t d in
     let order : s / 2 ^ d ≤ t / 2 ^ d =
-    (le-div_iff_mul-le {k = 2 ^ d} {x = s / 2 ^ d} {y = t} positive).1 (let split = shr_split s d in omega arith) in
+    (le-div_iff_mul-le {k = 2 ^ d} {x = s / 2 ^ d} {y = t} positive).1 (let split =
+    shr_split s d in omega arith) in
     neighbours_from (s / 2 ^ d) (t / 2 ^ d) (low_s ∙ high ∙ sym low_t) order (omega arith)
 
 -- a multiple of a power of two begins a subtree of each length up to that power
@@ -145,11 +154,16 @@ IsSubtree_multiple q i start end is some within =
 left_part : (s middle b k : ℕ) → middle ≡ (k + 1) * 2 ^ b → s < middle → middle ≤ s + 2 ^ b
     → clear_low s b + 2 ^ b ≡ middle
 left_part s middle b k is before near =
-    let quotient : s / 2 ^ b ≡ k = div-eq_of_lt-le {k = k} (2 ^ b) {m = s} (omega arith) (omega arith) in
+    let quotient : s / 2 ^ b ≡ k = div-eq_of_lt-le {k = k} (2 ^ b) {m =
+    s} (omega arith) (omega arith) in
     ap (λ n. n * 2 ^ b + 2 ^ b) quotient ∙ sym (is ∙ omega arith)
 
 pub covers_one : (start end : ℕ) → end - start ≡ 1
-    → CoversInterval start end (record { first = record { start = start; end = end }; second = None })
+    → CoversInterval start end (record {
+      first = record { start = start; end = end };
+      second =
+          None;
+    })
 covers_one start end one = record {
   begins = omega arith;
   holds = omega arith;
@@ -174,7 +188,8 @@ covers_two s t end d b lt end_is bit b_is =
     let rest_s : s % 2 ^ d < 2 ^ d = mod-lt s positive in
     let rest_t : t % 2 ^ d < 2 ^ d = mod-lt t positive in
     let P : ℕ → Type 0 = HasLength (2 ^ d - 1 - bit_and s (2 ^ d - 1)) in
-    let length : HasLength (2 ^ d - 1 - bit_and s (2 ^ d - 1)) b = subst P (sym b_is) (bit_length_bounds _) in
+    let length : HasLength (2 ^ d - 1 - bit_and s (2 ^ d - 1)) b =
+    subst P (sym b_is) (bit_length_bounds _) in
     let above = length.above in
     let below = length.below in
     let lacks : 2 ^ d - 1 - bit_and s (2 ^ d - 1) + 1 + s ≡ t / 2 ^ d * 2 ^ d = omega arith in
@@ -183,20 +198,31 @@ covers_two s t end d b lt end_is bit b_is =
     let some = pow_pos (d - b) in
     let a = s / 2 ^ d in
     let q = 2 ^ (d - b) in
-    let count : (s / 2 ^ d + 1) * 2 ^ (d - b) ≡ (s / 2 ^ d * 2 ^ (d - b) + 2 ^ (d - b) - 1) + 1 = omega arith in
+    let count : (s / 2 ^ d + 1) * 2 ^ (d - b) ≡ (s / 2 ^ d * 2 ^ (d - b) + 2 ^ (d - b) - 1) + 1 =
+    omega arith in
     let multiple : t / 2 ^ d * 2 ^ d ≡ ((s / 2 ^ d * 2 ^ (d - b) + 2 ^ (d - b) - 1) + 1) * 2 ^ b =
-    middle_is ∙ ap (λ p. (s / 2 ^ d + 1) * p) parts ∙ sym (mul_assoc (s / 2 ^ d + 1) (2 ^ (d - b)) (2 ^ b))
+    middle_is ∙ ap (λ p. (s / 2 ^ d + 1) * p) parts
+    ∙ sym (mul_assoc (s / 2 ^ d + 1) (2 ^ (d - b)) (2 ^ b))
     ∙ ap (λ m. m * 2 ^ b) count in
     let left : clear_low s b + 2 ^ b ≡ t / 2 ^ d * 2 ^ d =
-    left_part s (t / 2 ^ d * 2 ^ d) b (s / 2 ^ d * 2 ^ (d - b) + 2 ^ (d - b) - 1) multiple (omega arith)
+    left_part s (t / 2 ^ d * 2 ^ d) b (s / 2 ^ d * 2 ^ (d - b) + 2 ^ (d - b) - 1) multiple
+    (omega arith)
     (omega arith) in
     let room = pow_pos b in
     let split_low = shr_split s b in
     record {
       begins = omega arith;
       holds = omega arith;
-      first = IsSubtree_multiple (s / 2 ^ b) b (clear_low s b) (clear_low t d) refl (omega arith) (omega arith);
-      rest = (refl, (refl, IsSubtree_multiple (t / 2 ^ d) d (clear_low t d) end refl (omega arith) (omega arith)));
+      first = IsSubtree_multiple (s / 2 ^ b) b (clear_low s b) (clear_low t d) refl (omega arith)
+          (omega arith);
+      rest = (
+        refl,
+        (
+          refl,
+          IsSubtree_multiple (t / 2 ^ d) d (clear_low t d) end refl (omega arith)
+              (omega arith),
+        ),
+      );
     }
 
 pub cover_of-one : (start end : ℕ) → end - start ≡ 1
@@ -241,7 +267,8 @@ lacking_within n d =
     let positive = pow_pos d in
     let length = bit_length_bounds (2 ^ d - 1 - bit_and n (2 ^ d - 1)) in
     let below = length.below in
-    length_le (2 ^ d - 1) d (bit_length (2 ^ d - 1 - bit_and n (2 ^ d - 1))) (omega arith) (omega arith)
+    length_le (2 ^ d - 1) d (bit_length (2 ^ d - 1 - bit_and n (2 ^ d - 1))) (omega arith)
+    (omega arith)
 
 pub cover_of-two : (start end split left left_start middle : ℕ) → (end - start ≡ 1 → ⊥)
     → split ≡ bit_length (bit_xor start (end - 1)) - 1
@@ -254,18 +281,25 @@ pub cover_of-two : (start end split left left_start middle : ℕ) → (end - sta
     } ≡ cover_of start end
 unfolding cover_of
 cover_of-two start end split left left_start middle several split_is left_is middle_is start_is =
-    rw (start_is, middle_is, left_is, split_is) (sym (cond-false _ _ _ (ne_eqb (end - start) 1 several)))
+    rw (start_is, middle_is, left_is, split_is)
+    (sym (cond-false _ _ _ (ne_eqb (end - start) 1 several)))
 
 pub covers_found : (start end split left left_start middle : ℕ) → start < end
     → (end - start ≡ 1 → ⊥) → end < 2 ^ 64
     → split ≡ bit_length (bit_xor start (end - 1)) - 1
     → left ≡ bit_length (2 ^ split - 1 - bit_and start (2 ^ split - 1))
     → middle ≡ clear_low (end - 1) split → left_start ≡ clear_low start left
-    → CoversInterval start end (record
-    { first = record { start = left_start; end = middle }; second = Some (record { start = middle; end = end }) })
-covers_found start end split left left_start middle before several fits split_is left_is middle_is start_is =
+    → CoversInterval start end (record {
+      first = record { start = left_start; end = middle };
+      second =
+          Some (record { start = middle; end = end });
+    })
+covers_found start end split left left_start middle before several fits split_is left_is
+    middle_is start_is =
     let order : start < end - 1 = omega arith in
     let found = difference start (end - 1) order (omega arith) in
     let highest : IsHighestBit (bit_xor start (end - 1)) split =
-    (let P : ℕ → Type 0 = IsHighestBit (bit_xor start (end - 1)) in subst P (sym split_is) found.0) in
-    rw (start_is, middle_is) (covers_two start (end - 1) end split left order (omega arith) highest left_is)
+    (let P : ℕ → Type 0 = IsHighestBit (bit_xor start (end - 1)) in subst P
+    (sym split_is) found.0) in
+    rw (start_is, middle_is) (covers_two start (end - 1) end split left order
+    (omega arith) highest left_is)

@@ -1,9 +1,13 @@
 -- Evaluation from the leaf up, one level after another, is the definition's recursion from the
 -- root down.
-use Rattle.std.proofs.Common.{◌≡◌, ℕ, ◌+◌, ◌*◌, ◌-◌, ◌/◌, ◌%◌, ◌<◌, ◌≤◌, ◌⊎◌, ⊎_elim, Bool, true, false, ◌&&◌, cond, eqb, ltb, leb, List, [], ◌∷◌, ◌++◌, length, drop, get_or, Some, None, Ok, Err, sym, ◌∙◌, ap, refl, arith}
+use Rattle.std.proofs.Common.{◌≡◌, ℕ, ◌+◌, ◌*◌, ◌-◌, ◌/◌, ◌%◌, ◌<◌, ◌≤◌, ◌⊎◌, ⊎_elim, Bool, true}
+use Rattle.std.proofs.Common.{false, ◌&&◌, cond, eqb, ltb, leb, List, [], ◌∷◌, ◌++◌, length, drop}
+use Rattle.std.proofs.Common.{get_or, Some, None, Ok, Err, sym, ◌∙◌, ap, refl, arith}
 use Rattle.std.specs.Prelude.{Option, not, option_map, reverse}
 use Rattle.std.specs.Option.{ok_or}
-use Rattle.std.proofs.lemmas.Bool.{and_from, and_left, and_parts, and_right, leb-true, ltb-true, cond-true, cond-false, eq-eqb, ne_eqb, le-leb, lt-leb, le-ltb, lt-ltb, cases_lt, cases_eq, not_from_true, not_from_false}
+use Rattle.std.proofs.lemmas.Bool.{and_from, and_left, and_parts, and_right, leb-true, ltb-true}
+use Rattle.std.proofs.lemmas.Bool.{cond-true, cond-false, eq-eqb, ne_eqb, le-leb, lt-leb, le-ltb}
+use Rattle.std.proofs.lemmas.Bool.{lt-ltb, cases_lt, cases_eq, not_from_true, not_from_false}
 use Rattle.std.proofs.lemmas.List.{drop_more, drop_all, reverse-append}
 use Rattle.tree_core.proofs.Powers.{split_bounds, split_half, split_unique}
 use Rattle.tree_core.specs.declared.error.EvalError.TheVariants.{BadSubtree, Outside, WrongLength}
@@ -17,7 +21,8 @@ use Rattle.tree_core.specs.Tree.{pair_hash}
 pub eval-leaf : (h : List ℕ → List ℕ) (m n : ℕ) (leaf : List ℕ) → m ≡ 0 → n ≡ 1
     → eval_from_root h m n leaf [] ≡ Some leaf
 unfolding eval_from_root
-eval-leaf h m n leaf first only = cond-true _ _ _ (and_from _ _ (eq-eqb m 0 first) (eq-eqb n 1 only))
+eval-leaf h m n leaf first only = cond-true _ _ _ (and_from _ _ (eq-eqb m 0 first)
+    (eq-eqb n 1 only))
 
 -- no sibling is left, and this is no tree of one leaf with that leaf
 pub eval-short : (h : List ℕ → List ℕ) (m n : ℕ) (leaf : List ℕ) → 2 ≤ m + n
@@ -25,7 +30,8 @@ pub eval-short : (h : List ℕ → List ℕ) (m n : ℕ) (leaf : List ℕ) → 2
 unfolding eval_from_root
 eval-short h m n leaf more =
     ⊎_elim
-    (λ (first : m ≡ 0). cond-false _ _ _ (and_right (eqb m 0) (eqb n 1) (ne_eqb n 1 (λ only. omega arith))))
+    (λ (first : m ≡ 0). cond-false _ _ _
+    (and_right (eqb m 0) (eqb n 1) (ne_eqb n 1 (λ only. omega arith))))
     (λ (other : m ≡ 0 → ⊥). cond-false _ _ _ (and_left (eqb m 0) (eqb n 1) (ne_eqb m 0 other)))
     (cases_eq m 0)
 
@@ -37,7 +43,8 @@ eval-long h m n leaf z q one = cond-true _ _ _ (le-leb n 1 one)
 
 pub eval-left : (h : List ℕ → List ℕ) (m n k : ℕ) (leaf z : List ℕ) (q : List (List ℕ)) → 1 < n
     → split_of n ≡ k → m < k
-    → eval_from_root h m n leaf (z ∷ q) ≡ option_map (λ a. pair_hash h a z) (eval_from_root h m k leaf q)
+    → eval_from_root h m n leaf (z ∷ q)
+    ≡ option_map (λ a. pair_hash h a z) (eval_from_root h m k leaf q)
 unfolding eval_from_root
 eval-left h m n k leaf z q more is left =
     let here : m < split_of n = omega arith in
@@ -48,7 +55,8 @@ eval-left h m n k leaf z q more is left =
 pub eval-right : (h : List ℕ → List ℕ) (m n k a b : ℕ) (leaf z : List ℕ) (q : List (List ℕ))
     → 1 < n → split_of n ≡ k
     → m ≡ k + a → n ≡ k + b
-    → eval_from_root h m n leaf (z ∷ q) ≡ option_map (λ a. pair_hash h z a) (eval_from_root h a b leaf q)
+    → eval_from_root h m n leaf (z ∷ q)
+    ≡ option_map (λ a. pair_hash h z a) (eval_from_root h a b leaf q)
 unfolding eval_from_root
 eval-right h m n k a b leaf z q more is m_is n_is =
     let place : m - split_of n ≡ a = omega arith in
@@ -83,7 +91,8 @@ eval-pair h r p up m n a c i j m_is n_is i_bit j_bit sibling one left right =
     ∙ sym top)
     (λ (second : 1 ≤ m).
     eval-right h m n 1 (m - 1) (n - 1) r p [] (omega arith) split (omega arith) (omega arith)
-    ∙ ap (option_map (λ x. pair_hash h p x)) (eval-leaf h (m - 1) (n - 1) r (omega arith) (omega arith))
+    ∙ ap (option_map (λ x. pair_hash h p x)) (eval-leaf h (m - 1) (n - 1) r (omega arith)
+    (omega arith))
     ∙ ap Some (right (omega arith))
     ∙ sym top)
     (cases_lt m 1)
@@ -102,9 +111,11 @@ eval-short_step h r p up m n a c i j m_is n_is i_bit j_bit sibling some =
     ∙ ap (option_map (λ x. pair_hash h x p)) (eval-short h m (2 * split_of c) r (omega arith))
     ∙ sym top)
     (λ (second : 2 * split_of c ≤ m).
-    eval-right h m n (2 * split_of c) (m - 2 * split_of c) (n - 2 * split_of c) r p [] (omega arith) split
+    eval-right h m n (2 * split_of c) (m - 2 * split_of c) (n - 2 * split_of c) r p []
+    (omega arith) split
     (omega arith) (omega arith)
-    ∙ ap (option_map (λ x. pair_hash h p x)) (eval-short h (m - 2 * split_of c) (n - 2 * split_of c) r (omega arith))
+    ∙ ap (option_map (λ x. pair_hash h p x)) (eval-short h (m - 2 * split_of c) (n - 2 * split_of c)
+    r (omega arith))
     ∙ sym top)
     (cases_lt m (2 * split_of c))
 
@@ -121,7 +132,8 @@ eval-long_step h r p up z q m n a c i j m_is n_is i_bit j_bit sibling one =
     ∙ ap (option_map (λ x. pair_hash h x z)) (eval-one_push h q m 1 r p (omega arith))
     ∙ sym top)
     (λ (second : 1 ≤ m).
-    eval-right h m n 1 (m - 1) (n - 1) r z (q ++ p ∷ []) (omega arith) split (omega arith) (omega arith)
+    eval-right h m n 1 (m - 1) (n - 1) r z (q ++ p ∷ []) (omega arith) split (omega arith)
+    (omega arith)
     ∙ ap (option_map (λ x. pair_hash h z x)) (eval-one_push h q (m - 1) (n - 1) r p (omega arith))
     ∙ sym top)
     (cases_lt m 1)
@@ -145,16 +157,20 @@ eval-step h r p up (z ∷ q) m n a c i j m_is n_is i_bit j_bit sibling left righ
     (λ (first : a < split_of c).
     eval-left h m n (2 * split_of c) r z (q ++ p ∷ []) (omega arith) split (omega arith)
     ∙ ap (option_map (λ x. pair_hash h x z))
-    (eval-step h r p up q m (2 * split_of c) a (split_of c) i 1 m_is (omega arith) i_bit (omega arith)
+    (eval-step h r p up q m (2 * split_of c) a (split_of c) i 1 m_is (omega arith) i_bit
+    (omega arith)
     (omega arith) left right)
     ∙ sym (eval-left h a c (split_of c) up z q some refl first))
     (λ (second : split_of c ≤ a).
-    eval-right h m n (2 * split_of c) (m - 2 * split_of c) (n - 2 * split_of c) r z (q ++ p ∷ []) (omega arith)
+    eval-right h m n (2 * split_of c) (m - 2 * split_of c) (n - 2 * split_of c) r z (q ++ p ∷ [])
+    (omega arith)
     split (omega arith) (omega arith)
     ∙ ap (option_map (λ x. pair_hash h z x))
-    (eval-step h r p up q (m - 2 * split_of c) (n - 2 * split_of c) (a - split_of c) (c - split_of c) i j
+    (eval-step h r p up q (m - 2 * split_of c) (n - 2 * split_of c) (a - split_of c)
+    (c - split_of c) i j
     (omega arith) (omega arith) i_bit j_bit (omega arith) left right)
-    ∙ sym (eval-right h a c (split_of c) (a - split_of c) (c - split_of c) up z q some refl (omega arith)
+    ∙ sym (eval-right h a c (split_of c) (a - split_of c) (c - split_of c) up z q some refl
+    (omega arith)
     (omega arith)))
     (cases_lt a (split_of c)))
     (λ (one : c ≤ 1). eval-long_step h r p up z q m n a c i j m_is n_is i_bit j_bit sibling one)
@@ -170,7 +186,8 @@ eval-promoted h r [] m n a c m_is n_is c_is some =
 eval-promoted h r (z ∷ q) m n a c m_is n_is c_is some =
     let split = split_half n c 0 (omega arith) (omega arith) (omega arith) in
     let bounds = split_bounds c in
-    eval-right h m n (2 * split_of c) (m - 2 * split_of c) (n - 2 * split_of c) r z q (omega arith) split
+    eval-right h m n (2 * split_of c) (m - 2 * split_of c) (n - 2 * split_of c) r z q
+    (omega arith) split
     (omega arith) (omega arith)
     ∙ ap (option_map (λ x. pair_hash h z x))
     (⊎_elim
@@ -188,7 +205,8 @@ eval-promoted h r (z ∷ q) m n a c m_is n_is c_is some =
 
 -- The same for a path, from the hash that comes next.
 
-pub eval_of-step : (h : List ℕ → List ℕ) (r p up : List ℕ) (path : List (List ℕ)) (used m n a c i j : ℕ)
+pub eval_of-step : (h : List ℕ → List ℕ) (r p up : List ℕ) (path : List (List ℕ))
+    (used m n a c i j : ℕ)
     → used < length path → p ≡ get_or path used []
     → m ≡ 2 * a + i → n + 1 ≡ 2 * c + j → i ≤ 1 → j ≤ 1 → m + 1 < n + i
     → (i ≡ 0 → pair_hash h r p ≡ up) → (1 ≤ i → pair_hash h p r ≡ up)
@@ -198,12 +216,14 @@ eval_of-step h r p up path used m n a c i j here p_is m_is n_is i_bit j_bit sibl
     ap (λ s. eval_from_root h m n r (reverse s)) (drop_more path used [] here)
     ∙ ap (λ x. eval_from_root h m n r (reverse (x ∷ drop (used + 1) path))) (sym p_is)
     ∙ ap (eval_from_root h m n r) (reverse-append (p ∷ []) (drop (used + 1) path))
-    ∙ eval-step h r p up (reverse (drop (used + 1) path)) m n a c i j m_is n_is i_bit j_bit sibling left right
+    ∙ eval-step h r p up (reverse (drop (used + 1) path)) m n a c i j m_is n_is i_bit j_bit
+    sibling left right
 
 pub eval_of-promoted : (h : List ℕ → List ℕ) (r : List ℕ) (path : List (List ℕ)) (m n a c : ℕ)
     → m ≡ 2 * a → n ≡ m + 1 → c ≡ a + 1 → 1 ≤ a → eval_of h m n r path ≡ eval_of h a c r path
 unfolding eval_of
-eval_of-promoted h r path m n a c m_is n_is c_is some = eval-promoted h r (reverse path) m n a c m_is n_is c_is some
+eval_of-promoted h r path m n a c m_is n_is c_is some =
+    eval-promoted h r (reverse path) m n a c m_is n_is c_is some
 
 -- no hash is left, and there are more leaves than one
 pub eval_of-short : (h : List ℕ → List ℕ) (m n : ℕ) (r : List ℕ) (path : List (List ℕ)) (used : ℕ)
@@ -217,7 +237,8 @@ pub eval_of-leaf : (h : List ℕ → List ℕ) (m n : ℕ) (r : List ℕ) (path 
     → length path ≤ used → m ≡ 0 → n ≡ 1 → eval_of h m n r (drop used path) ≡ Some r
 unfolding eval_of
 eval_of-leaf h m n r path used end first only =
-    ap (λ s. eval_from_root h m n r (reverse s)) (drop_all used path end) ∙ eval-leaf h m n r first only
+    ap (λ s. eval_from_root h m n r (reverse s)) (drop_all used path end)
+    ∙ eval-leaf h m n r first only
 
 -- the root is reached, and a hash is left
 pub eval_of-long : (h : List ℕ → List ℕ) (m n : ℕ) (r : List ℕ) (path : List (List ℕ)) (used : ℕ)
@@ -244,14 +265,16 @@ pub EvaluatesFrom-step : (h : List ℕ → List ℕ) (leaf : List ℕ) (m n : �
     → used < length path → p ≡ get_or path used [] → place < last + place % 2
     → up ≡ parent_hash h place node p → more ≡ used + 1
     → EvaluatesFrom h leaf m n path (place / 2) (last / 2) more up
-EvaluatesFrom-step h leaf m n path place last used more node p up before here p_is sibling up_is more_is =
+EvaluatesFrom-step h leaf m n path place last used more node p up before here p_is sibling
+    up_is more_is =
     let inside = before.inside in
     record {
       inside = omega arith;
       within = omega arith;
       same =
           ap (λ u. eval_of h (place / 2) (last / 2 + 1) up (drop u path)) more_is
-          ∙ sym (eval_of-step h node p up path used place (last + 1) (place / 2) (last / 2 + 1) (place % 2)
+          ∙ sym (eval_of-step h node p up path used place (last + 1) (place / 2) (last / 2 + 1)
+          (place % 2)
           (last % 2) here p_is
           (omega arith) (omega arith) (omega arith) (omega arith) (omega arith)
           (λ even. sym (up_is ∙ cond-true _ _ _ (eq-eqb (place % 2) 0 even)))
@@ -265,7 +288,8 @@ pub EvaluatesFrom-promoted : (h : List ℕ → List ℕ) (leaf : List ℕ) (m n 
     → EvaluatesFrom h leaf m n path place last used node
     → 0 < last → place % 2 ≡ 0 → last ≤ place → up ≡ node → more ≡ used
     → EvaluatesFrom h leaf m n path (place / 2) (last / 2) more up
-EvaluatesFrom-promoted h leaf m n path place last used more node up before some even end up_is more_is =
+EvaluatesFrom-promoted h leaf m n path place last used more node up before some even end
+    up_is more_is =
     let inside = before.inside in
     let within = before.within in
     record {
@@ -274,33 +298,39 @@ EvaluatesFrom-promoted h leaf m n path place last used more node up before some 
       same =
           ap (λ u. eval_of h (place / 2) (last / 2 + 1) up (drop u path)) more_is
           ∙ ap (λ r. eval_of h (place / 2) (last / 2 + 1) r (drop used path)) up_is
-          ∙ sym (eval_of-promoted h node (drop used path) place (last + 1) (place / 2) (last / 2 + 1)
+          ∙ sym (eval_of-promoted h node (drop used path) place (last + 1) (place / 2)
+          (last / 2 + 1)
           (omega arith) (omega arith) (omega arith) (omega arith))
           ∙ before.same;
     }
 
 -- The whole answer.
 
-pub evaluation-no_subtree : (h : List ℕ → List ℕ) (leaf : List ℕ) (index start end : ℕ) (path : List (List ℕ))
+pub evaluation-no_subtree : (h : List ℕ
+    → List ℕ) (leaf : List ℕ) (index start end : ℕ) (path : List (List ℕ))
     → is_subtree start end ≡ false → evaluation h leaf index start end path ≡ Err BadSubtree
 unfolding evaluation
 evaluation-no_subtree h leaf index start end path bad = cond-true _ _ _ (not_from_false _ bad)
 
-pub evaluation-outside : (h : List ℕ → List ℕ) (leaf : List ℕ) (index start end : ℕ) (path : List (List ℕ))
+pub evaluation-outside : (h : List ℕ
+    → List ℕ) (leaf : List ℕ) (index start end : ℕ) (path : List (List ℕ))
     → is_subtree start end ≡ true → (index < start) ⊎ (end ≤ index)
     → evaluation h leaf index start end path ≡ Err Outside
 unfolding evaluation
 evaluation-outside h leaf index start end path ok outside =
     let out : (leb start index && ltb index end) ≡ false =
     ⊎_elim
-    (λ (below : index < start). and_left (leb start index) (ltb index end) (lt-leb start index below))
+    (λ (below : index < start). and_left (leb start index) (ltb index end)
+    (lt-leb start index below))
     (λ (above : end ≤ index). and_right (leb start index) (ltb index end) (le-ltb index end above))
     outside in
     cond-false _ _ _ (not_from_true _ ok) ∙ cond-true _ _ _ (not_from_false _ out)
 
-pub evaluation-value : (h : List ℕ → List ℕ) (leaf : List ℕ) (index start end : ℕ) (path : List (List ℕ))
+pub evaluation-value : (h : List ℕ → List ℕ) (leaf : List ℕ) (index start end : ℕ)
+    (path : List (List ℕ))
     → is_subtree start end ≡ true → start ≤ index → index < end
-    → evaluation h leaf index start end path ≡ ok_or (eval_of h (index - start) (end - start) leaf path) WrongLength
+    → evaluation h leaf index start end path
+    ≡ ok_or (eval_of h (index - start) (end - start) leaf path) WrongLength
 unfolding evaluation
 evaluation-value h leaf index start end path ok from below =
     let inside : (leb start index && ltb index end) ≡ true = and_from _ _ (le-leb start index from)
@@ -308,21 +338,24 @@ evaluation-value h leaf index start end path ok from below =
     cond-false _ _ _ (not_from_true _ ok) ∙ cond-false _ _ _ (not_from_true _ inside)
 
 -- a value is answered exactly for an index in a subtree, where the definition has it
-pub record HasValue (h : List ℕ → List ℕ) (leaf : List ℕ) (index start end : ℕ) (path : List (List ℕ))
+pub record HasValue (h : List ℕ → List ℕ) (leaf : List ℕ) (index start end : ℕ)
+    (path : List (List ℕ))
     (value : List ℕ) : Type 0 where
   pub valid : is_subtree start end ≡ true
   pub from : start ≤ index
   pub below : index < end
   pub gives : eval_of h (index - start) (end - start) leaf path ≡ Some value
 
-pub evaluation-ok : (h : List ℕ → List ℕ) (leaf : List ℕ) (index start end : ℕ) (path : List (List ℕ))
+pub evaluation-ok : (h : List ℕ → List ℕ) (leaf : List ℕ) (index start end : ℕ)
+    (path : List (List ℕ))
     (value : List ℕ) → HasValue h leaf index start end path value
     → evaluation h leaf index start end path ≡ Ok value
 evaluation-ok h leaf index start end path value has =
     evaluation-value h leaf index start end path has.valid has.from has.below
     ∙ ap (λ o. ok_or o WrongLength) has.gives
 
-pub ok-evaluation : (h : List ℕ → List ℕ) (leaf : List ℕ) (index start end : ℕ) (path : List (List ℕ))
+pub ok-evaluation : (h : List ℕ → List ℕ) (leaf : List ℕ) (index start end : ℕ)
+    (path : List (List ℕ))
     (value : List ℕ) → evaluation h leaf index start end path ≡ Ok value
     → HasValue h leaf index start end path value
 unfolding evaluation
@@ -338,7 +371,8 @@ ok-evaluation h leaf index start end path value answer =
     }
   where
     passed : (valid inside : Bool) (o : Option (List ℕ))
-        → cond (not valid) (Err BadSubtree) (cond (not inside) (Err Outside) (ok_or o WrongLength)) ≡ Ok value
+        → cond (not valid) (Err BadSubtree) (cond (not inside) (Err Outside) (ok_or o WrongLength))
+        ≡ Ok value
         → (valid ≡ true) × ((inside ≡ true) × (o ≡ Some value))
     passed true true (Some x) answer = let same : Some x ≡ Some value = cc in (refl, (refl, same))
     passed true true None answer = cc

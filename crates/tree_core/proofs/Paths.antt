@@ -1,11 +1,17 @@
 -- The inclusion path evaluates to the root, and only paths of its length have a value.
-use Rattle.std.proofs.Common.{◌≡◌, ℕ, zero, suc, ◌+◌, ◌-◌, ◌^◌, ◌<◌, ◌≤◌, ⊎_elim, Bool, true, false, ◌&&◌, cond, eqb, List, [], ◌∷◌, ◌++◌, length, take, drop, get_or, Some, None, Err, sym, ◌∙◌, ap, refl, arith}
+use Rattle.std.proofs.Common.{◌≡◌, ℕ, zero, suc, ◌+◌, ◌-◌, ◌^◌, ◌<◌, ◌≤◌, ⊎_elim, Bool, true, false}
+use Rattle.std.proofs.Common.{◌&&◌, cond, eqb, List, [], ◌∷◌, ◌++◌, length, take, drop, get_or}
+use Rattle.std.proofs.Common.{Some, None, Err, sym, ◌∙◌, ap, refl, arith}
 use Rattle.std.specs.Prelude.{Option, is_some, map, option_map, reverse}
 use Rattle.std.specs.Option.{ok_or}
-use Rattle.std.proofs.lemmas.Bool.{and_parts, eqb-true, false≢true, cases_lt, cond-false, cond-true, le-leb, le-ltb, lt-leb, lt-ltb}
-use Rattle.std.proofs.lemmas.List.{drop-map, get_or-drop, get_or-map, get_or-take, length-drop, length-map, length-reverse, length-take, reverse-append, take-map}
+use Rattle.std.proofs.lemmas.Bool.{and_parts, eqb-true, false≢true, cases_lt, cond-false, cond-true}
+use Rattle.std.proofs.lemmas.Bool.{le-leb, le-ltb, lt-leb, lt-ltb}
+use Rattle.std.proofs.lemmas.List.{drop-map, get_or-drop, get_or-map, get_or-take, length-drop}
+use Rattle.std.proofs.lemmas.List.{length-map, length-reverse, length-take, reverse-append}
+use Rattle.std.proofs.lemmas.List.{take-map}
 use Rattle.std.proofs.lemmas.Nat.{pow_pos}
-use Rattle.tree_core.proofs.Evaluates.{eval-leaf, eval-left, eval-long, eval-right, evaluation-value}
+use Rattle.tree_core.proofs.Evaluates.{eval-leaf, eval-left, eval-long, eval-right}
+use Rattle.tree_core.proofs.Evaluates.{evaluation-value}
 use Rattle.tree_core.proofs.Powers.{half_within, largest_unique, split_bounds}
 use Rattle.tree_core.proofs.Roots.{part_sizes, root_of-one, root_of-split}
 use Rattle.tree_core.proofs.Subtrees.{is_subtree-from}
@@ -13,7 +19,8 @@ use Rattle.tree_core.specs.declared.error.EvalError.TheVariants.{WrongLength}
 use Rattle.tree_core.specs.Evaluation.{eval_from_root, eval_of}
 use Rattle.tree_core.specs.Path.{inclusion_path, part_of, path_of, path_within}
 use Rattle.tree_core.specs.Laws.{IsLargestPowerBelow}
-use Rattle.tree_core.specs.PathLaws.{IsInclusionPath, PathsByLength, PathsEvaluate, SubtreePathsEvaluate, WrongLengthByPath}
+use Rattle.tree_core.specs.PathLaws.{IsInclusionPath, PathsByLength, PathsEvaluate}
+use Rattle.tree_core.specs.PathLaws.{SubtreePathsEvaluate, WrongLengthByPath}
 use Rattle.tree_core.specs.Split.{split_of}
 use Rattle.tree_core.specs.Tree.{leaf_hash, pair_hash, root_of}
 
@@ -32,23 +39,27 @@ path_within-left : (depth : ℕ) (h : List ℕ → List ℕ) (m : ℕ) (leaves :
     (drop (split_of (length leaves)) leaves) ∷ []
 unfolding path_within
 path_within-left depth h m leaves more left =
-    cond-false _ _ _ (lt-leb (length leaves) 1 more) ∙ cond-true _ _ _ (lt-ltb m (split_of (length leaves)) left)
+    cond-false _ _ _ (lt-leb (length leaves) 1 more)
+    ∙ cond-true _ _ _ (lt-ltb m (split_of (length leaves)) left)
 
 path_within-right : (depth : ℕ) (h : List ℕ → List ℕ) (m : ℕ) (leaves : List (List ℕ))
     → 1 < length leaves → split_of (length leaves) ≤ m
     → path_within (suc depth) h m leaves
-    ≡ path_within depth h (m - split_of (length leaves)) (drop (split_of (length leaves)) leaves) ++ root_of h
+    ≡ path_within depth h (m - split_of (length leaves)) (drop (split_of (length leaves)) leaves)
+    ++ root_of h
     (take (split_of (length leaves)) leaves) ∷ []
 unfolding path_within
 path_within-right depth h m leaves more right =
-    cond-false _ _ _ (lt-leb (length leaves) 1 more) ∙ cond-false _ _ _ (le-ltb m (split_of (length leaves)) right)
+    cond-false _ _ _ (lt-leb (length leaves) 1 more)
+    ∙ cond-false _ _ _ (le-ltb m (split_of (length leaves)) right)
 
 -- a bound on the depth that is not below the number of leaves changes nothing
 path_within_more : (d e : ℕ) (h : List ℕ → List ℕ) (m : ℕ) (leaves : List (List ℕ))
     → length leaves ≤ d → length leaves ≤ e → path_within d h m leaves ≡ path_within e h m leaves
 unfolding path_within
 path_within_more zero zero h m leaves small same = refl
-path_within_more zero (suc e) h m leaves small same = sym (path_within-one e h m leaves (omega arith))
+path_within_more zero (suc e) h m leaves small same =
+    sym (path_within-one e h m leaves (omega arith))
 path_within_more (suc d) zero h m leaves small same = path_within-one d h m leaves (omega arith)
 path_within_more (suc d) (suc e) h m leaves small same =
     let k = split_of (length leaves) in
@@ -64,7 +75,8 @@ path_within_more (suc d) (suc e) h m leaves small same =
     (λ (right : split_of (length leaves) ≤ m).
     path_within-right d h m leaves more right
     ∙ ap (λ p. p ++ root_of h (take k leaves) ∷ [])
-    (path_within_more d e h (m - k) (drop (split_of (length leaves)) leaves) (omega arith) (omega arith))
+    (path_within_more d e h (m - k) (drop (split_of (length leaves)) leaves) (omega arith)
+    (omega arith))
     ∙ sym (path_within-right e h m leaves more right))
     (cases_lt m (split_of (length leaves))))
     (λ (one : length leaves ≤ 1).
@@ -106,7 +118,8 @@ path_of-right h m k (x ∷ rest) more is right =
     path_within-right (length rest) h m (x ∷ rest) more (omega arith)
     ∙ ap (λ p. p ++ root_of h (take (split_of (length leaves)) leaves) ∷ [])
     (path_within_more (length rest) (length (drop (split_of (length leaves)) leaves)) h
-    (m - split_of (length leaves)) (drop (split_of (length leaves)) leaves) (omega arith) (omega arith))
+    (m - split_of (length leaves)) (drop (split_of (length leaves)) leaves) (omega arith)
+    (omega arith))
     ∙ ap (λ k. path_of h (m - k) (drop k leaves) ++ root_of h (take k leaves) ∷ []) is
 
 -- the leaves of entries are split where the standard splits the entries
@@ -127,13 +140,17 @@ IsInclusionPath_always h = record {
   left = λ entries m k is left.
       let split = split_of-entries h entries k is in
       path_of-left h m k (map (leaf_hash h) entries) split.0 split.1 left
-      ∙ ap (λ l. path_of h m l ++ root_of h (drop k (map (leaf_hash h) entries)) ∷ []) (take-map (leaf_hash h) k entries)
-      ∙ ap (λ r. inclusion_path h m (take k entries) ++ root_of h r ∷ []) (drop-map (leaf_hash h) k entries);
+      ∙ ap (λ l. path_of h m l ++ root_of h (drop k (map (leaf_hash h) entries)) ∷ [])
+      (take-map (leaf_hash h) k entries)
+      ∙ ap (λ r. inclusion_path h m (take k entries) ++ root_of h r ∷ [])
+      (drop-map (leaf_hash h) k entries);
   right = λ entries m k is right within.
       let split = split_of-entries h entries k is in
       path_of-right h m k (map (leaf_hash h) entries) split.0 split.1 right
-      ∙ ap (λ l. path_of h (m - k) l ++ root_of h (take k (map (leaf_hash h) entries)) ∷ []) (drop-map (leaf_hash h) k entries)
-      ∙ ap (λ r. inclusion_path h (m - k) (drop k entries) ++ root_of h r ∷ []) (take-map (leaf_hash h) k entries);
+      ∙ ap (λ l. path_of h (m - k) l ++ root_of h (take k (map (leaf_hash h) entries)) ∷ [])
+      (drop-map (leaf_hash h) k entries)
+      ∙ ap (λ r. inclusion_path h (m - k) (drop k entries) ++ root_of h r ∷ [])
+      (take-map (leaf_hash h) k entries);
 }
 
 -- the path of one leaf
@@ -141,14 +158,16 @@ path_evaluates-one : (h : List ℕ → List ℕ) (m : ℕ) (leaves : List (List 
     → m < length leaves
     → eval_from_root h m (length leaves) (get_or leaves m []) [] ≡ Some (root_of h leaves)
 path_evaluates-one h m [] one here = let none : ⊥ = omega arith in absurd none
-path_evaluates-one h zero (x ∷ []) one here = eval-leaf h 0 1 x refl refl ∙ ap Some (sym (root_of-one h x))
+path_evaluates-one h zero (x ∷ []) one here = eval-leaf h 0 1 x refl refl
+    ∙ ap Some (sym (root_of-one h x))
 path_evaluates-one h (suc m) (x ∷ []) one here = let none : ⊥ = omega arith in absurd none
 path_evaluates-one h m (x ∷ y ∷ rest) one here = let none : ⊥ = omega arith in absurd none
 
 -- the inclusion path, turned round, evaluates to the root from the root down
 path_evaluates : (depth : ℕ) (h : List ℕ → List ℕ) (m : ℕ) (leaves : List (List ℕ))
     → length leaves ≤ depth → m < length leaves
-    → eval_from_root h m (length leaves) (get_or leaves m []) (reverse (path_within depth h m leaves)) ≡ Some
+    → eval_from_root h m (length leaves) (get_or leaves m [])
+    (reverse (path_within depth h m leaves)) ≡ Some
     (root_of h leaves)
 path_evaluates zero h m leaves bound here = let none : ⊥ = omega arith in absurd none
 path_evaluates (suc depth) h m leaves bound here =
@@ -163,22 +182,27 @@ path_evaluates (suc depth) h m leaves bound here =
     (λ (left : m < split_of (length leaves)).
     let p = path_within depth h m (take k leaves) in
     let z = root_of h (drop k leaves) in
-    let size : length (take (split_of (length leaves)) leaves) ≡ split_of (length leaves) = omega arith in
-    let rest = path_evaluates depth h m (take (split_of (length leaves)) leaves) (omega arith) (omega arith) in
+    let size : length (take (split_of (length leaves)) leaves) ≡ split_of (length leaves) =
+    omega arith in
+    let rest = path_evaluates depth h m (take (split_of (length leaves)) leaves) (omega arith)
+    (omega arith) in
     ap (λ q. eval_from_root h m n leaf (reverse q)) (path_within-left depth h m leaves more left)
     ∙ ap (eval_from_root h m n leaf) (reverse-append p (z ∷ []))
     ∙ eval-left h m n k leaf z (reverse p) more refl left
     ∙ ap (option_map (λ a. pair_hash h a z))
     (ap (λ s. eval_from_root h m s leaf (reverse p)) (sym size)
-    ∙ ap (λ x. eval_from_root h m (length (take k leaves)) x (reverse p)) (sym (get_or-take k leaves m [] left))
+    ∙ ap (λ x. eval_from_root h m (length (take k leaves)) x (reverse p))
+    (sym (get_or-take k leaves m [] left))
     ∙ rest)
     ∙ ap Some (sym (root_of-split h leaves more)))
     (λ (right : split_of (length leaves) ≤ m).
     let p = path_within depth h (m - k) (drop k leaves) in
     let z = root_of h (take k leaves) in
-    let size : length (drop (split_of (length leaves)) leaves) ≡ length leaves - split_of (length leaves) = back in
+    let size : length (drop (split_of (length leaves)) leaves)
+    ≡ length leaves - split_of (length leaves) = back in
     let place : split_of (length leaves) + (m - split_of (length leaves)) ≡ m = omega arith in
-    let rest = path_evaluates depth h (m - split_of (length leaves)) (drop (split_of (length leaves)) leaves)
+    let rest = path_evaluates depth h (m - split_of (length leaves))
+    (drop (split_of (length leaves)) leaves)
     (omega arith) (omega arith) in
     ap (λ q. eval_from_root h m n leaf (reverse q)) (path_within-right depth h m leaves more right)
     ∙ ap (eval_from_root h m n leaf) (reverse-append p (z ∷ []))
@@ -237,7 +261,8 @@ value-right h m n leaf z q more right =
     let bounds = split_bounds n in
     ap is_some (eval-right h m n (split_of n) (m - split_of n) (n - split_of n) leaf z q more refl
     (omega arith) (omega arith))
-    ∙ is_some-option_map (λ a. pair_hash h z a) (eval_from_root h (m - split_of n) (n - split_of n) leaf q)
+    ∙ is_some-option_map (λ a. pair_hash h z a) (eval_from_root h (m - split_of n)
+    (n - split_of n) leaf q)
 
 -- A path that has a value has no more hashes than the tree has levels.
 
@@ -254,7 +279,8 @@ eval-height h (z ∷ q) m n height leaf near some =
     let near_right = bounds.half in
     ⊎_elim
     (λ (left : m < split_of n).
-    let rest = eval-height h q m (split_of n) (height - 1) leaf near_left (sym (value-left h m n leaf z q more left) ∙ some) in
+    let rest = eval-height h q m (split_of n) (height - 1) leaf near_left
+    (sym (value-left h m n leaf z q more left) ∙ some) in
     omega arith)
     (λ (right : split_of n ≤ m).
     let rest = eval-height h q (m - split_of n) (n - split_of n) (height - 1) leaf (omega arith)
@@ -264,7 +290,8 @@ eval-height h (z ∷ q) m n height leaf near some =
     (λ (one : n ≤ 1). absurd (false≢true (sym (value-long h m n leaf z q one) ∙ some)))
     (cases_lt 1 n)
 
-pub eval_of-height : (h : List ℕ → List ℕ) (m n height : ℕ) (leaf value : List ℕ) (path : List (List ℕ))
+pub eval_of-height : (h : List ℕ → List ℕ) (m n height : ℕ) (leaf value : List ℕ)
+    (path : List (List ℕ))
     → n ≤ 2 ^ height → eval_of h m n leaf path ≡ Some value → length path ≤ height
 unfolding eval_of
 eval_of-height h m n height leaf value path near is =
@@ -307,18 +334,22 @@ length_by_value : (h : List ℕ → List ℕ) (q r : List (List ℕ)) (m n : ℕ
     → is_some (eval_from_root h m n leaf q) ≡ true → is_some (eval_from_root h m n other r) ≡ true
     → length q ≡ length r
 length_by_value h [] [] m n leaf other one two = refl
-length_by_value h [] (y ∷ r) m n leaf other one two = absurd (value-one h m n leaf other y r one two)
-length_by_value h (x ∷ q) [] m n leaf other one two = absurd (value-one h m n other leaf x q two one)
+length_by_value h [] (y ∷ r) m n leaf other one two =
+    absurd (value-one h m n leaf other y r one two)
+length_by_value h (x ∷ q) [] m n leaf other one two =
+    absurd (value-one h m n other leaf x q two one)
 length_by_value h (x ∷ q) (y ∷ r) m n leaf other one two =
     ⊎_elim
     (λ (more : 1 < n).
     ap suc (⊎_elim
     (λ (left : m < split_of n).
     length_by_value h q r m (split_of n) leaf other
-    (sym (value-left h m n leaf x q more left) ∙ one) (sym (value-left h m n other y r more left) ∙ two))
+    (sym (value-left h m n leaf x q more left) ∙ one) (sym (value-left h m n other y r more left)
+    ∙ two))
     (λ (right : split_of n ≤ m).
     length_by_value h q r (m - split_of n) (n - split_of n) leaf other
-    (sym (value-right h m n leaf x q more right) ∙ one) (sym (value-right h m n other y r more right) ∙ two))
+    (sym (value-right h m n leaf x q more right)
+    ∙ one) (sym (value-right h m n other y r more right) ∙ two))
     (cases_lt m (split_of n))))
     (λ (only : n ≤ 1). absurd (false≢true (sym (value-long h m n leaf x q only) ∙ one)))
     (cases_lt 1 n)
@@ -326,14 +357,17 @@ length_by_value h (x ∷ q) (y ∷ r) m n leaf other one two =
 pub PathsByLength_always : (h : List ℕ → List ℕ) → PathsByLength h
 unfolding eval_of
 PathsByLength_always h leaves path m leaf here =
-    let made : is_some (eval_from_root h m (length leaves) (get_or leaves m []) (reverse (path_of h m leaves)))
+    let made : is_some (eval_from_root h m (length leaves) (get_or leaves m [])
+    (reverse (path_of h m leaves)))
     ≡ true =
     ap is_some (PathsEvaluate_always h leaves m here) in
     let size = length-reverse path in
     let made_size = length-reverse (path_of h m leaves) in (
-      (λ value. sym size ∙ length_by_value h (reverse path) (reverse (path_of h m leaves)) m (length leaves)
+      (λ value. sym size ∙ length_by_value h (reverse path) (reverse (path_of h m leaves)) m
+          (length leaves)
           leaf (get_or leaves m []) value made ∙ made_size),
-      (λ same. value_by_length h (reverse path) (reverse (path_of h m leaves)) m (length leaves) leaf
+      (λ same. value_by_length h (reverse path) (reverse (path_of h m leaves)) m
+          (length leaves) leaf
           (get_or leaves m []) (size ∙ same ∙ sym made_size) ∙ made),
     )
 
@@ -355,12 +389,14 @@ SubtreePathsEvaluate_always h entries index start end is within from below =
     ∙ get_or-drop start entries (index - start) []
     ∙ ap (λ i. get_or entries i []) place in
     let leaf : get_or leaves (index - start) [] ≡ leaf_hash h (get_or entries index []) =
-    get_or-map (leaf_hash h) (part_of entries start end) (index - start) [] [] here ∙ ap (leaf_hash h) entry in
+    get_or-map (leaf_hash h) (part_of entries start end) (index - start) [] [] here
+    ∙ ap (leaf_hash h) entry in
     let path = path_of h (index - start) leaves in
     evaluation-value h (leaf_hash h (get_or entries index [])) index start end path
     (is_subtree-from start end is) from below
     ∙ ap (λ x. ok_or (eval_of h (index - start) (end - start) x path) WrongLength) (sym leaf)
-    ∙ ap (λ n. ok_or (eval_of h (index - start) n (get_or leaves (index - start) []) path) WrongLength) (sym size)
+    ∙ ap (λ n. ok_or (eval_of h (index - start) n (get_or leaves (index - start) []) path)
+    WrongLength) (sym size)
     ∙ ap (λ o. ok_or o WrongLength) (PathsEvaluate_always h leaves (index - start) (omega arith))
 
 -- the answer of a value or none
@@ -376,12 +412,16 @@ none-wrong_length (Some x) none = absurd (none refl)
 
 pub WrongLengthByPath_always : (h : List ℕ → List ℕ) → WrongLengthByPath h
 WrongLengthByPath_always h leaves path index start end leaf is from below size =
-    let value = evaluation-value h leaf index start end path (is_subtree-from start end is) from below in
+    let value = evaluation-value h leaf index start end path (is_subtree-from start end is)
+    from below in
     let o = eval_of h (index - start) (end - start) leaf path in
     let by_length = PathsByLength_always h leaves path (index - start) leaf (omega arith) in
-    let at_size : eval_of h (index - start) (length leaves) leaf path ≡ eval_of h (index - start) (end - start)
+    let at_size : eval_of h (index - start) (length leaves) leaf path
+    ≡ eval_of h (index - start) (end - start)
     leaf path =
     ap (λ n. eval_of h (index - start) n leaf path) size in (
-      (λ wrong same. wrong_length-none o (sym value ∙ wrong) (ap is_some (sym at_size) ∙ by_length.1 same)),
-      (λ other. value ∙ none-wrong_length o (λ some. other (by_length.0 (ap is_some at_size ∙ some)))),
+      (λ wrong same. wrong_length-none o (sym value ∙ wrong) (ap is_some (sym at_size)
+          ∙ by_length.1 same)),
+      (λ other. value ∙ none-wrong_length o (λ some. other (by_length.0 (ap is_some at_size
+          ∙ some)))),
     )

@@ -1,9 +1,11 @@
 -- The split of a number and the power of two over it: bounds, and that these bounds determine
 -- them.
-use Rattle.std.proofs.Common.{◌≡◌, ℕ, zero, suc, ◌+◌, ◌*◌, ◌-◌, ◌/◌, ◌^◌, ◌<◌, ◌≤◌, ⊎_elim, ltb, leb, max, sym, ◌∙◌, ap, refl, subst, arith}
+use Rattle.std.proofs.Common.{◌≡◌, ℕ, zero, suc, ◌+◌, ◌*◌, ◌-◌, ◌/◌, ◌^◌, ◌<◌, ◌≤◌, ⊎_elim, ltb}
+use Rattle.std.proofs.Common.{leb, max, sym, ◌∙◌, ap, refl, subst, arith}
 use Rattle.std.proofs.Math.Nat.{pow-succ'}
 use Rattle.std.proofs.Math.Pow.{pow_mono}
-use Rattle.std.proofs.lemmas.Bool.{cond_both, cond-true, cond-false, ltb-true, ltb-false, le-leb, lt-leb, cases_lt}
+use Rattle.std.proofs.lemmas.Bool.{cond_both, cond-true, cond-false, ltb-true, ltb-false, le-leb}
+use Rattle.std.proofs.lemmas.Bool.{lt-leb, cases_lt}
 use Rattle.std.proofs.lemmas.Nat.{pow_pos}
 use Rattle.std.specs.Int.{IsPowerOfTwo, IsNextPowerOfTwo}
 use Rattle.tree_core.specs.Laws.{IsLargestPowerBelow, IsLeastPowerFrom}
@@ -24,8 +26,18 @@ split_bounds (suc n) =
     let half = before.half in
     let below = before.below in
     cond_both (ltb (2 * split_of n) (suc n)) (2 * split_of n) (split_of n) (IsSplit (suc n))
-    (λ e. let lt = ltb-true _ _ e in record { positive = omega arith; half = omega arith; below = omega arith })
-    (λ e. let le = ltb-false _ _ e in record { positive = omega arith; half = omega arith; below = omega arith })
+    (λ e. let lt = ltb-true _ _ e in record {
+      positive = omega arith;
+      half = omega arith;
+      below =
+          omega arith;
+    })
+    (λ e. let le = ltb-false _ _ e in record {
+      positive = omega arith;
+      half = omega arith;
+      below =
+          omega arith;
+    })
 
 pub split_power : (n : ℕ) → IsPowerOfTwo (split_of n)
 unfolding split_of
@@ -76,7 +88,8 @@ pub power_over_unique : (n p : ℕ) → IsNextPowerOfTwo n p → p ≡ power_ove
 power_over_unique n p next = of_exponent n p next.0.0 next.0.1 next.1 next.2
   where
     of_exponent : (n p e : ℕ) → p ≡ 2 ^ e → n ≤ p → p / 2 < max 1 n → p ≡ power_over n
-    of_exponent n p zero is from half = let small : n ≤ 1 = omega arith in is ∙ sym (power_over-one n small)
+    of_exponent n p zero is from half = let small : n ≤ 1 = omega arith in is
+        ∙ sym (power_over-one n small)
     of_exponent n p (suc e) is from half =
         let double = pow-succ' 2 e in
         let positive = pow_pos e in
@@ -86,7 +99,8 @@ power_over_unique n p next = of_exponent n p next.0.0 next.0.1 next.1 next.2
 
 -- the power over a number that no power of 64 bits reaches
 pub power_over_large : (n : ℕ) → 2 ^ 63 < n → n ≤ 2 ^ 64 → power_over n ≡ 2 ^ 64
-power_over_large n large fits = power_over-more n (omega arith) ∙ ap (λ k. 2 * k) (split_unique n 63 large fits)
+power_over_large n large fits = power_over-more n (omega arith)
+    ∙ ap (λ k. 2 * k) (split_unique n 63 large fits)
 
 -- the split of a number above 1 is the largest power of two below it
 pub split_largest : (n : ℕ) → 1 < n → IsLargestPowerBelow n (split_of n)
@@ -121,7 +135,8 @@ pub exponent_below : (e f : ℕ) → 2 ^ e < 2 ^ f → e < f
 exponent_below e f lt =
     ⊎_elim
     (λ (less : e < f). less)
-    (λ (le : f ≤ e). let more : 2 ^ f ≤ 2 ^ e = pow_mono {i = f} {j = e} le in let no : ⊥ = omega arith in absurd no)
+    (λ (le : f ≤ e). let more : 2 ^ f ≤ 2 ^ e = pow_mono {i = f} {j = e} le in let no : ⊥ =
+    omega arith in absurd no)
     (cases_lt e f)
 
 -- each half of what a power of two bounds is bounded by the power below it
@@ -145,9 +160,11 @@ reach e f h = let lt = exponent_below e f h in pow_mono {i = suc e} {j = f} (ome
 pub power_over_least : (n : ℕ) → IsLeastPowerFrom n (power_over n)
 power_over_least n =
     ⊎_elim
-    (λ (large : 1 < n). let P : ℕ → Type 0 = IsLeastPowerFrom n in subst P (sym (power_over-more n large))
+    (λ (large : 1 < n). let P : ℕ → Type 0 =
+    IsLeastPowerFrom n in subst P (sym (power_over-more n large))
     (more n large))
-    (λ (small : n ≤ 1). let P : ℕ → Type 0 = IsLeastPowerFrom n in subst P (sym (power_over-one n small))
+    (λ (small : n ≤ 1). let P : ℕ → Type 0 =
+    IsLeastPowerFrom n in subst P (sym (power_over-one n small))
     (one n small))
     (cases_lt 1 n)
   where

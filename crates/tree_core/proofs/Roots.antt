@@ -1,5 +1,6 @@
 -- The tree hash by the clauses of the standard.
-use Rattle.std.proofs.Common.{◌≡◌, ℕ, zero, suc, ◌-◌, ◌<◌, ◌≤◌, max, min, List, [], ◌∷◌, length, take, drop, sym, ◌∙◌, ap, refl, arith}
+use Rattle.std.proofs.Common.{◌≡◌, ℕ, zero, suc, ◌-◌, ◌<◌, ◌≤◌, max, min, List, [], ◌∷◌, length}
+use Rattle.std.proofs.Common.{take, drop, sym, ◌∙◌, ap, refl, arith}
 use Rattle.std.specs.Prelude.{map}
 use Rattle.std.proofs.lemmas.List.{drop-map, length-drop, length-map, length-take, take-map}
 use Rattle.std.proofs.lemmas.Nat.{pow_pos}
@@ -13,8 +14,10 @@ use Rattle.tree_core.specs.Tree.{leaf_hash, pair_hash, root_of, root_within, tre
 pub record HasSizes (leaves : List Hash) : Type 0 where
   pub positive : 1 ≤ split_of (length leaves)
   pub below : split_of (length leaves) < max (length leaves) 2
-  pub front : length (take (split_of (length leaves)) leaves) ≡ min (split_of (length leaves)) (length leaves)
-  pub back : length (drop (split_of (length leaves)) leaves) ≡ length leaves - split_of (length leaves)
+  pub front : length (take (split_of (length leaves)) leaves)
+      ≡ min (split_of (length leaves)) (length leaves)
+  pub back : length (drop (split_of (length leaves)) leaves)
+      ≡ length leaves - split_of (length leaves)
 
 pub part_sizes : (leaves : List Hash) → HasSizes leaves
 part_sizes leaves =
@@ -60,7 +63,8 @@ root_of-split h (x ∷ y ∷ rest) more =
     let k : ℕ = split_of (length leaves) in
     let front = length-take (split_of (length leaves)) leaves in
     let back = length-drop (split_of (length leaves)) leaves in
-    ap (λ l. pair_hash h l (root_within (length (y ∷ rest)) h (drop (split_of (length leaves)) leaves)))
+    ap (λ l. pair_hash h l (root_within (length (y ∷ rest)) h
+    (drop (split_of (length leaves)) leaves)))
     (root_within_more (length (y ∷ rest)) (length (take (split_of (length leaves)) leaves)) h
     (take (split_of (length leaves)) leaves) (omega arith) (omega arith))
     ∙ ap (λ r. pair_hash h (root_within (length (take (split_of (length leaves)) leaves)) h
@@ -82,7 +86,8 @@ pub tree_hash-split : (h : List ℕ → List ℕ) (entries : List (List ℕ)) �
 tree_hash-split h entries more =
     let leaves : List (List ℕ) = map (leaf_hash h) entries in
     let size = length-map entries (leaf_hash h) in
-    let split : split_of (length (map (leaf_hash h) entries)) ≡ split_of (length entries) = ap split_of size in
+    let split : split_of (length (map (leaf_hash h) entries)) ≡ split_of (length entries) =
+    ap split_of size in
     root_of-split h leaves (omega arith)
     ∙ ap (λ k. pair_hash h (root_of h (take k leaves)) (root_of h (drop k leaves))) split
     ∙ ap (λ l. pair_hash h (root_of h l) (root_of h (drop (split_of (length entries)) leaves)))
@@ -92,7 +97,8 @@ tree_hash-split h entries more =
 
 pub tree_hash-more : (h : List ℕ → List ℕ) (entries : List (List ℕ)) (k : ℕ)
     → IsLargestPowerBelow (length entries) k
-    → tree_hash h entries ≡ pair_hash h (tree_hash h (take k entries)) (tree_hash h (drop k entries))
+    → tree_hash h entries ≡ pair_hash h (tree_hash h (take k entries))
+    (tree_hash h (drop k entries))
 tree_hash-more h entries k is =
     let power = is.power in
     let e = power.1 in

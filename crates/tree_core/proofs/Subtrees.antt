@@ -1,6 +1,7 @@
 -- The test of a subtree: at the power of two over its length, and against the words of the
 -- standard.
-use Rattle.std.proofs.Common.{◌≡◌, ℕ, ◌-◌, ◌%◌, ◌^◌, ◌<◌, ◌≤◌, ◌↔◌, true, false, eqb, sym, ◌∙◌, ap, refl, arith}
+use Rattle.std.proofs.Common.{◌≡◌, ℕ, ◌-◌, ◌%◌, ◌^◌, ◌<◌, ◌≤◌, ◌↔◌, true, false, eqb, sym, ◌∙◌, ap}
+use Rattle.std.proofs.Common.{refl, arith}
 use Rattle.std.proofs.lemmas.Bool.{and_left, and_parts, eq-eqb, eqb-true, le-ltb, lt-ltb, ltb-true}
 use Rattle.std.specs.Prelude.{IsTrue}
 use Rattle.tree_core.proofs.Powers.{least_unique, power_over_large, power_over_least}
@@ -22,7 +23,8 @@ is_subtree-over start end power some is =
 pub is_subtree-large : (start end : ℕ) → start < end → end < 2 ^ 64 → 2 ^ 63 < end - start
     → is_subtree start end ≡ eqb start 0
 is_subtree-large start end some fits large =
-    let over : power_over (end - start) ≡ 2 ^ 64 = power_over_large (end - start) large (omega arith) in
+    let over : power_over (end - start) ≡ 2 ^ 64 =
+    power_over_large (end - start) large (omega arith) in
     let rest : start % (2 ^ 64) ≡ start = omega arith in
     is_subtree-over start end (2 ^ 64) some (sym over) ∙ ap (λ s. eqb s 0) rest
 

@@ -1,6 +1,7 @@
 -- The subtrees that cover an interval (the draft on Merkle Tree Certificates, where it covers
 -- arbitrary intervals).
-use Rattle.std.specs.Prelude.{◌≡◌, ℕ, zero, suc, ◌+◌, ◌-◌, ◌*◌, ◌/◌, ◌^◌, ◌<◌, ◌≤◌, ◌==◌, nat_lt, if◌then◌else◌, Some, None, MatchOption, bit_and, bit_xor}
+use Rattle.std.specs.Prelude.{◌≡◌, ℕ, zero, suc, ◌+◌, ◌-◌, ◌*◌, ◌/◌, ◌^◌, ◌<◌, ◌≤◌, ◌==◌, nat_lt}
+use Rattle.std.specs.Prelude.{if◌then◌else◌, Some, None, MatchOption, bit_and, bit_xor}
 use Rattle.tree_core.specs.declared.spans.Cover.{Cover}
 use Rattle.tree_core.specs.Laws.{IsSubtree}
 

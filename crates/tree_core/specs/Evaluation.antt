@@ -1,6 +1,7 @@
 -- What an inclusion path evaluates to: the inverse of the standard's PATH (RFC 9162, section
 -- 2.1.3.1), from the root down.
-use Rattle.std.specs.Prelude.{ℕ, ◌-◌, ◌%◌, ◌&&◌, ◌==◌, nat_lt, nat_le, not, if◌then◌else◌, List, [], ◌∷◌, reverse, Option, Some, None, option_map, Result, Err, ok_or}
+use Rattle.std.specs.Prelude.{ℕ, ◌-◌, ◌%◌, ◌&&◌, ◌==◌, nat_lt, nat_le, not, if◌then◌else◌, List, []}
+use Rattle.std.specs.Prelude.{◌∷◌, reverse, Option, Some, None, option_map, Result, Err, ok_or}
 use Rattle.byte_forms.specs.Types.{Hash, HashFunction}
 use Rattle.tree_core.specs.declared.error.EvalError.{EvalError}
 use Rattle.tree_core.specs.declared.error.EvalError.TheVariants.{BadSubtree, Outside, WrongLength}

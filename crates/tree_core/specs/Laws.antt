@@ -1,6 +1,7 @@
 -- The tree hash and subtrees in the standard's own words, with powers of two as such and numbers
 -- without a bound.
-use Rattle.std.specs.Prelude.{◌≡◌, ℕ, ◌-◌, ◌%◌, ◌<◌, ◌≤◌, ◌↔◌, List, [], ◌∷◌, ◌++◌, length, take, drop, IsTrue}
+use Rattle.std.specs.Prelude.{◌≡◌, ℕ, ◌-◌, ◌%◌, ◌<◌, ◌≤◌, ◌↔◌, List, [], ◌∷◌, ◌++◌, length, take}
+use Rattle.std.specs.Prelude.{drop, IsTrue}
 use Rattle.std.specs.Int.{IsPowerOfTwo}
 use Rattle.byte_forms.specs.Types.{HashFunction, Text}
 use Rattle.tree_core.specs.Split.{split_of}

@@ -1,6 +1,7 @@
 -- Intervals that begin at a multiple of a power of two and are not longer than it: they are the
 -- subtrees, and their halves are subtrees again.
-use Rattle.std.proofs.Common.{◌≡◌, ℕ, zero, suc, ◌+◌, ◌*◌, ◌-◌, ◌/◌, ◌%◌, ◌^◌, ◌<◌, ◌≤◌, ⊎_elim, true, sym, ◌∙◌, ap, arith}
+use Rattle.std.proofs.Common.{◌≡◌, ℕ, zero, suc, ◌+◌, ◌*◌, ◌-◌, ◌/◌, ◌%◌, ◌^◌, ◌<◌, ◌≤◌, ⊎_elim}
+use Rattle.std.proofs.Common.{true, sym, ◌∙◌, ap, arith}
 use Rattle.std.proofs.Math.Nat.{mul-le-mul_right, mul_assoc, pow-succ', div-add-mod'}
 use Rattle.std.proofs.Math.Pow.{pow_mono}
 use Rattle.std.proofs.lemmas.Bool.{cases_lt}
@@ -30,7 +31,8 @@ IsAligned-from_words start end is =
     let from : end - start ≤ is.aligned.0 = least.from in
     let some = is.inhabited in
     let rest : start % is.aligned.0 ≡ 0 = is.aligned.1.1 in
-    let parts : start / is.aligned.0 * is.aligned.0 + start % is.aligned.0 ≡ start = div-add-mod' start is.aligned.0 in
+    let parts : start / is.aligned.0 * is.aligned.0 + start % is.aligned.0 ≡ start =
+    div-add-mod' start is.aligned.0 in
     let whole : start ≡ start / is.aligned.0 * is.aligned.0 = omega arith in
     record {
       inhabited = some;
@@ -85,10 +87,12 @@ IsAligned-halves low high is more =
     let within = is.within in
     let smaller : 2 ^ power.0 < 2 ^ is.exponent = omega arith in
     let less : power.0 < is.exponent = exponent_below power.0 is.exponent smaller in
-    let parts : 2 ^ is.exponent ≡ 2 ^ (is.exponent - power.0) * 2 ^ power.0 = power_parts power.0 is.exponent (omega arith) in
+    let parts : 2 ^ is.exponent ≡ 2 ^ (is.exponent - power.0) * 2 ^ power.0 =
+    power_parts power.0 is.exponent (omega arith) in
     let q = is.multiple * 2 ^ (is.exponent - power.0) in
     let here : low ≡ is.multiple * 2 ^ (is.exponent - power.0) * 2 ^ power.0 =
-    begins ∙ ap (λ p. is.multiple * p) parts ∙ sym (mul_assoc is.multiple (2 ^ (is.exponent - power.0)) (2 ^ power.0)) in
+    begins ∙ ap (λ p. is.multiple * p) parts
+    ∙ sym (mul_assoc is.multiple (2 ^ (is.exponent - power.0)) (2 ^ power.0)) in
     record {
       left = record {
         inhabited = omega arith;

@@ -1,8 +1,13 @@
 -- Made consistency proofs check, and only proofs of their length have a value.
-use Rattle.std.proofs.Common.{◌≡◌, ℕ, zero, suc, ◌+◌, ◌-◌, ◌^◌, ◌<◌, ◌≤◌, ⊎_elim, inl, inr, Bool, true, false, cond, eqb, leb, List, [], ◌∷◌, ◌++◌, length, take, drop, Some, None, Ok, Err, sym, ◌∙◌, ap, refl, subst, arith}
+use Rattle.std.proofs.Common.{◌≡◌, ℕ, zero, suc, ◌+◌, ◌-◌, ◌^◌, ◌<◌, ◌≤◌, ⊎_elim, inl, inr, Bool}
+use Rattle.std.proofs.Common.{true, false, cond, eqb, leb, List, [], ◌∷◌, ◌++◌, length, take, drop}
+use Rattle.std.proofs.Common.{Some, None, Ok, Err, sym, ◌∙◌, ap, refl, subst, arith}
 use Rattle.std.specs.Prelude.{Option, Result, is_some, map, not, option_map, reverse, bytes_eq}
-use Rattle.std.proofs.lemmas.Bool.{cases_eq, eq-eqb, eqb-true, ne_eqb, cond-false, cond-true, false≢true, le-leb, leb-true, lt-leb, not_from_false, not_from_true}
-use Rattle.std.proofs.lemmas.List.{drop-map, length-map, length-reverse, length_push, reverse-append, take-map}
+use Rattle.std.proofs.lemmas.Bool.{cases_eq, eq-eqb, eqb-true, ne_eqb, cond-false, cond-true}
+use Rattle.std.proofs.lemmas.Bool.{false≢true, le-leb, leb-true, lt-leb, not_from_false}
+use Rattle.std.proofs.lemmas.Bool.{not_from_true}
+use Rattle.std.proofs.lemmas.List.{drop-map, length-map, length-reverse, length_push}
+use Rattle.std.proofs.lemmas.List.{reverse-append, take-map}
 use Rattle.std.proofs.lemmas.Slice.Eq.{bytes_eq-Decides}
 use Rattle.tree_core.proofs.Powers.{split_bounds, split_power, split_unique}
 use Rattle.tree_core.proofs.Roots.{part_sizes, root_of-split}
@@ -11,15 +16,22 @@ use Rattle.tree_core.specs.Path.{part_of}
 use Rattle.tree_core.specs.Split.{split_of}
 use Rattle.tree_core.specs.Subtree.{is_subtree}
 use Rattle.tree_core.specs.Tree.{leaf_hash, pair_hash, root_of, tree_hash}
-use Rattle.tree_proofs.proofs.Aligned.{IsAligned, IsAligned-first, IsAligned-from_words, IsAligned-over, IsAligned-right}
-use Rattle.tree_proofs.proofs.Made.{cases_place, proof_of-left, proof_of-over, proof_of-right, proof_of-whole}
-use Rattle.tree_proofs.proofs.Opens.{is_some-map, open-left, open-over, open-right, open-short, open-whole}
-use Rattle.tree_proofs.proofs.Parts.{part-root, part-whole, part_of-drop, part_of-take, part_of-zero}
+use Rattle.tree_proofs.proofs.Aligned.{IsAligned, IsAligned-first, IsAligned-from_words}
+use Rattle.tree_proofs.proofs.Aligned.{IsAligned-over, IsAligned-right}
+use Rattle.tree_proofs.proofs.Made.{cases_place, proof_of-left, proof_of-over, proof_of-right}
+use Rattle.tree_proofs.proofs.Made.{proof_of-whole}
+use Rattle.tree_proofs.proofs.Opens.{is_some-map, open-left, open-over, open-right, open-short}
+use Rattle.tree_proofs.proofs.Opens.{open-whole}
+use Rattle.tree_proofs.proofs.Parts.{part-root, part-whole, part_of-drop, part_of-take}
+use Rattle.tree_proofs.proofs.Parts.{part_of-zero}
 use Rattle.tree_proofs.specs.Consistency.{compared, consistency}
 use Rattle.tree_proofs.specs.declared.error.ConsistError.{ConsistError}
-use Rattle.tree_proofs.specs.declared.error.ConsistError.TheVariants.{BadSubtree, Beyond, WrongLength, WrongNode, WrongRoot}
+use Rattle.tree_proofs.specs.declared.error.ConsistError.TheVariants.{BadSubtree, Beyond}
+use Rattle.tree_proofs.specs.declared.error.ConsistError.TheVariants.{WrongLength, WrongNode}
+use Rattle.tree_proofs.specs.declared.error.ConsistError.TheVariants.{WrongRoot}
 use Rattle.tree_proofs.specs.declared.outcome.Opened.{Opened}
-use Rattle.tree_proofs.specs.Open.{both_right_of, open_from_root, open_of, open_whole, opened_at, root_left_of, root_right_of}
+use Rattle.tree_proofs.specs.Open.{both_right_of, open_from_root, open_of, open_whole, opened_at}
+use Rattle.tree_proofs.specs.Open.{root_left_of, root_right_of}
 use Rattle.tree_proofs.specs.Proof.{proof_of}
 use Rattle.tree_proofs.specs.ProofLaws.{PassesWhereChecks, ProofsCheck, WrongLengthByProof}
 
@@ -54,7 +66,8 @@ whole_opens : (known : Bool) (node root : List ℕ) → (known ≡ true → node
 whole_opens true node root is = ap (λ x. Some (opened_at x x)) (is refl)
 whole_opens false node root is = refl
 
-proof_opens : (depth : ℕ) (h : List ℕ → List ℕ) (s e : ℕ) (known : Bool) (node : List ℕ) (leaves : List (List ℕ))
+proof_opens : (depth : ℕ) (h : List ℕ → List ℕ) (s e : ℕ) (known : Bool) (node : List ℕ)
+    (leaves : List (List ℕ))
     → length leaves ≤ depth → IsAligned s e → e ≤ length leaves
     → (known ≡ true → node ≡ root_of h (part_of leaves s e))
     → open_from_root h s e (length leaves) known node (reverse (proof_of h s e known leaves))
@@ -74,39 +87,49 @@ proof_opens (suc depth) h s e known node leaves bound aligned within is =
     ∙ ap (λ i. root_of h (part_of leaves 0 i)) last
     ∙ ap (root_of h) (part-whole leaves) in
     open-whole h s e n known node (reverse (proof_of h s e known leaves)) first last
-    ∙ ap (λ p. open_whole known node (reverse p)) (proof_of-whole h s e known leaves first last (omega arith))
+    ∙ ap (λ p. open_whole known node (reverse p)) (proof_of-whole h s e known leaves first last
+    (omega arith))
     ∙ whole_opens known node (root_of h leaves) (λ yes_known. is yes_known ∙ all)
     ∙ ap (λ x. Some (opened_at x (root_of h leaves))) (sym all))
     (λ more le.
     let p = proof_of h s e known (take k leaves) in
     let z = root_of h (drop k leaves) in
-    let size : length (take (split_of (length leaves)) leaves) ≡ split_of (length leaves) = omega arith in
+    let size : length (take (split_of (length leaves)) leaves) ≡ split_of (length leaves) =
+    omega arith in
     let part = part_of-take leaves s e (split_of (length leaves)) (omega arith) le in
-    let rest = proof_opens depth h s e known node (take (split_of (length leaves)) leaves) (omega arith) aligned
+    let rest = proof_opens depth h s e known node (take (split_of (length leaves)) leaves)
+    (omega arith) aligned
     (omega arith) (λ yes_known. is yes_known ∙ ap (root_of h) (sym part)) in
-    ap (λ q. open_from_root h s e n known node (reverse q)) (proof_of-left h s e k known leaves more refl some le)
+    ap (λ q. open_from_root h s e n known node (reverse q))
+    (proof_of-left h s e k known leaves more refl some le)
     ∙ ap (open_from_root h s e n known node) (reverse-append p (z ∷ []))
     ∙ open-left h s e n k known node z (reverse p) more refl le
-    ∙ ap (λ i. option_map (root_left_of h z) (open_from_root h s e i known node (reverse p))) (sym size)
+    ∙ ap (λ i. option_map (root_left_of h z) (open_from_root h s e i known node (reverse p)))
+    (sym size)
     ∙ ap (option_map (root_left_of h z)) rest
     ∙ ap (λ u. Some (opened_at u (pair_hash h (root_of h (take k leaves)) z))) (ap (root_of h) part)
-    ∙ ap (λ r. Some (opened_at (root_of h (part_of leaves s e)) r)) (sym (root_of-split h leaves more)))
+    ∙ ap (λ r. Some (opened_at (root_of h (part_of leaves s e)) r))
+    (sym (root_of-split h leaves more)))
     (λ more le.
     let p = proof_of h (s - k) (e - k) known (drop k leaves) in
     let z = root_of h (take k leaves) in
     let part = part_of-drop leaves s e (split_of (length leaves)) le in
-    let rest = proof_opens depth h (s - split_of (length leaves)) (e - split_of (length leaves)) known node
+    let rest = proof_opens depth h (s - split_of (length leaves))
+    (e - split_of (length leaves)) known node
     (drop (split_of (length leaves)) leaves) (omega arith)
     (aligned_right s e (length leaves) aligned within le)
     (omega arith) (λ yes_known. is yes_known ∙ ap (root_of h) (sym part)) in
-    ap (λ q. open_from_root h s e n known node (reverse q)) (proof_of-right h s e k known leaves refl some within le)
+    ap (λ q. open_from_root h s e n known node (reverse q))
+    (proof_of-right h s e k known leaves refl some within le)
     ∙ ap (open_from_root h s e n known node) (reverse-append p (z ∷ []))
     ∙ open-right h s e n k (s - k) (e - k) (n - k) known node z (reverse p) more refl
     (omega arith) (omega arith) (omega arith) (omega arith)
-    ∙ ap (λ i. option_map (root_right_of h z) (open_from_root h (s - k) (e - k) i known node (reverse p))) (sym sizes.back)
+    ∙ ap (λ i. option_map (root_right_of h z) (open_from_root h (s - k) (e - k) i known node
+    (reverse p))) (sym sizes.back)
     ∙ ap (option_map (root_right_of h z)) rest
     ∙ ap (λ u. Some (opened_at u (pair_hash h z (root_of h (drop k leaves))))) (ap (root_of h) part)
-    ∙ ap (λ r. Some (opened_at (root_of h (part_of leaves s e)) r)) (sym (root_of-split h leaves more)))
+    ∙ ap (λ r. Some (opened_at (root_of h (part_of leaves s e)) r))
+    (sym (root_of-split h leaves more)))
     (λ more inner before behind.
     let p = proof_of h 0 (e - k) false (drop k leaves) in
     let z = root_of h (take k leaves) in
@@ -124,43 +147,54 @@ proof_opens (suc depth) h s e known node leaves bound aligned within is =
     (drop (split_of (length leaves)) leaves) (omega arith)
     (IsAligned-first (e - split_of (length leaves)) (omega arith))
     (omega arith) (λ known. absurd (false≢true known)) in
-    let joined : pair_hash h z (root_of h (part_of (drop k leaves) 0 (e - k))) ≡ root_of h (part_of leaves s e) =
+    let joined : pair_hash h z (root_of h (part_of (drop k leaves) 0 (e - k)))
+    ≡ root_of h (part_of leaves s e) =
     ap (λ x. pair_hash h z (root_of h x)) (part_of-zero (drop k leaves) (e - k))
-    ∙ ap (λ x. pair_hash h (root_of h x) (root_of h (part_of leaves k e))) (sym (part_of-zero leaves k))
+    ∙ ap (λ x. pair_hash h (root_of h x) (root_of h (part_of leaves k e)))
+    (sym (part_of-zero leaves k))
     ∙ sym (part-root h leaves 0 k e within (omega arith) split)
     ∙ ap (λ i. root_of h (part_of leaves i e)) (sym zeroth) in
-    ap (λ q. open_from_root h s e n known node (reverse q)) (proof_of-over h s e k known leaves refl within inner before behind)
+    ap (λ q. open_from_root h s e n known node (reverse q))
+    (proof_of-over h s e k known leaves refl within inner before behind)
     ∙ ap (open_from_root h s e n known node) (reverse-append p (z ∷ []))
     ∙ open-over h s e n k (e - k) (n - k) known node z (reverse p) more refl zeroth
     (omega arith) (omega arith) (omega arith) part_is
-    ∙ ap (λ i. option_map (both_right_of h z) (open_from_root h 0 (e - k) i false node (reverse p))) (sym sizes.back)
+    ∙ ap (λ i. option_map (both_right_of h z) (open_from_root h 0 (e - k) i false node (reverse p)))
+    (sym sizes.back)
     ∙ ap (option_map (both_right_of h z)) rest
     ∙ ap (λ u. Some (opened_at u (pair_hash h z (root_of h (drop k leaves))))) joined
-    ∙ ap (λ r. Some (opened_at (root_of h (part_of leaves s e)) r)) (sym (root_of-split h leaves more)))
+    ∙ ap (λ r. Some (opened_at (root_of h (part_of leaves s e)) r))
+    (sym (root_of-split h leaves more)))
 
 pub ProofsCheck_always : (h : List ℕ → List ℕ) → ProofsCheck h
 unfolding open_of
 ProofsCheck_always h entries start end is within =
     let leaves = map (leaf_hash h) entries in
-    let size : length (map (leaf_hash h) entries) ≡ length entries = length-map entries (leaf_hash h) in
-    let part : part_of (map (leaf_hash h) entries) start end ≡ map (leaf_hash h) (part_of entries start end) =
+    let size : length (map (leaf_hash h) entries) ≡ length entries =
+    length-map entries (leaf_hash h) in
+    let part : part_of (map (leaf_hash h) entries) start end
+    ≡ map (leaf_hash h) (part_of entries start end) =
     ap (take (end - start)) (drop-map (leaf_hash h) start entries)
     ∙ take-map (leaf_hash h) (end - start) (drop start entries) in
     record {
       valid = is_subtree-from start end is;
       within = within;
       opens =
-          opens leaves start end (length entries) (IsAligned-from_words start end is) (omega arith) size
+          opens leaves start end (length entries) (IsAligned-from_words start end is)
+          (omega arith) size
           (tree_hash h (part_of entries start end)) (ap (root_of h) (sym part));
     }
   where
-    opens : (leaves : List (List ℕ)) (start end size : ℕ) → IsAligned start end → end ≤ length leaves
+    opens : (leaves : List (List ℕ)) (start end size : ℕ) → IsAligned start end
+        → end ≤ length leaves
         → length leaves ≡ size → (node : List ℕ) → node ≡ root_of h (part_of leaves start end)
         → open_of h start end size true node (proof_of h start end true leaves)
         ≡ Some (opened_at node (root_of h leaves))
     opens leaves start end size aligned within size_is node node_is =
-        ap (λ n. open_from_root h start end n true node (reverse (proof_of h start end true leaves))) (sym size_is)
-        ∙ proof_opens (length leaves) h start end true node leaves (omega arith) aligned within (λ known. node_is)
+        ap (λ n. open_from_root h start end n true node
+        (reverse (proof_of h start end true leaves))) (sym size_is)
+        ∙ proof_opens (length leaves) h start end true node leaves (omega arith) aligned within
+        (λ known. node_is)
         ∙ ap (λ u. Some (opened_at u (root_of h leaves))) (sym node_is)
 
 -- The whole answer.
@@ -210,7 +244,8 @@ compared_passes node root (Some o) passes =
     ∙ ap (λ r. Some (opened_at node r)) (top.0 both.1)
 
 tests_pass : (node root : List ℕ) (valid within : Bool) (o : Option Opened)
-    → cond (not valid) (Err BadSubtree) (cond (not within) (Err Beyond) (compared node root o)) ≡ Ok tt
+    → cond (not valid) (Err BadSubtree) (cond (not within) (Err Beyond) (compared node root o))
+    ≡ Ok tt
     → (valid ≡ true) × ((within ≡ true) × (o ≡ Some (opened_at node root)))
 tests_pass node root true true o passes = (refl, (refl, compared_passes node root o passes))
 tests_pass node root true false o passes = cc
@@ -250,7 +285,8 @@ eqb_suc : (a b : ℕ) → eqb a b ≡ eqb (suc a) (suc b)
 eqb_suc a b =
     ⊎_elim
     (λ (same : a ≡ b). eq-eqb a b same ∙ sym (eq-eqb (suc a) (suc b) (ap suc same)))
-    (λ (other : a ≡ b → ⊥). ne_eqb a b other ∙ sym (ne_eqb (suc a) (suc b) (λ same. other (omega arith))))
+    (λ (other : a ≡ b → ⊥). ne_eqb a b other
+    ∙ sym (ne_eqb (suc a) (suc b) (λ same. other (omega arith))))
     (cases_eq a b)
 
 -- with one hash behind the made ones, a proof of no hash is too short, and one more is as long
@@ -262,7 +298,8 @@ one_more made rest z o is q has =
     let size : length made ≡ suc (length rest) = ap length is ∙ length_push rest z ∙ omega arith in
     has ∙ eqb_suc (length q) (length rest) ∙ ap (eqb (suc (length q))) (sym size)
 
-none_more : (made rest : List (List ℕ)) (z : List ℕ) → made ≡ rest ++ z ∷ [] → false ≡ eqb 0 (length made)
+none_more : (made rest : List (List ℕ)) (z : List ℕ) → made ≡ rest ++ z ∷ []
+    → false ≡ eqb 0 (length made)
 none_more made rest z is =
     let size : length made ≡ suc (length rest) = ap length is ∙ length_push rest z ∙ omega arith in
     sym (ne_eqb 0 (length made) (λ none. omega arith))
@@ -284,14 +321,17 @@ has_value (suc depth) h s e known node leaves [] bound aligned within =
     (λ more le.
     let bounds = split_bounds (length leaves) in
     ap is_some (open-short h s e (length leaves) known node (inr (omega arith)))
-    ∙ none_more _ _ _ (proof_of-left h s e (split_of (length leaves)) known leaves more refl some le))
+    ∙ none_more _ _ _ (proof_of-left h s e (split_of (length leaves)) known leaves more
+    refl some le))
     (λ more le.
     let bounds = split_bounds (length leaves) in
     ap is_some (open-short h s e (length leaves) known node (inl (omega arith)))
-    ∙ none_more _ _ _ (proof_of-right h s e (split_of (length leaves)) known leaves refl some within le))
+    ∙ none_more _ _ _ (proof_of-right h s e (split_of (length leaves)) known leaves refl some
+    within le))
     (λ more inner before behind.
     ap is_some (open-short h s e (length leaves) known node inner)
-    ∙ none_more _ _ _ (proof_of-over h s e (split_of (length leaves)) known leaves refl within inner before behind))
+    ∙ none_more _ _ _ (proof_of-over h s e (split_of (length leaves)) known leaves refl within inner
+    before behind))
 has_value (suc depth) h s e known node leaves (z ∷ q) bound aligned within =
     let n = length leaves in
     let k = split_of (length leaves) in
@@ -301,16 +341,21 @@ has_value (suc depth) h s e known node leaves (z ∷ q) bound aligned within =
     (λ first last.
     ap is_some (open-whole h s e n known node (z ∷ q) first last)
     ∙ whole_has known node (root_of h leaves) (z ∷ q)
-    ∙ ap (λ p. eqb (suc (length q)) (length p)) (sym (proof_of-whole h s e known leaves first last (omega arith))))
+    ∙ ap (λ p. eqb (suc (length q)) (length p))
+    (sym (proof_of-whole h s e known leaves first last (omega arith))))
     (λ more le.
-    let size : length (take (split_of (length leaves)) leaves) ≡ split_of (length leaves) = omega arith in
-    let rest = has_value depth h s e known node (take (split_of (length leaves)) leaves) q (omega arith) aligned (omega arith) in
+    let size : length (take (split_of (length leaves)) leaves) ≡ split_of (length leaves) =
+    omega arith in
+    let rest = has_value depth h s e known node (take (split_of (length leaves)) leaves) q
+    (omega arith) aligned (omega arith) in
     ap is_some (open-left h s e n k known node z q more refl le)
     ∙ is_some-map (root_left_of h z) (open_from_root h s e k known node q)
-    ∙ one_more _ _ _ (open_from_root h s e k known node q) (proof_of-left h s e k known leaves more refl some le) q
+    ∙ one_more _ _ _ (open_from_root h s e k known node q)
+    (proof_of-left h s e k known leaves more refl some le) q
     (ap (λ i. is_some (open_from_root h s e i known node q)) (sym size) ∙ rest))
     (λ more le.
-    let rest = has_value depth h (s - k) (e - k) known node (drop (split_of (length leaves)) leaves) q (omega arith)
+    let rest = has_value depth h (s - k) (e - k) known node (drop (split_of (length leaves)) leaves)
+    q (omega arith)
     (aligned_right s e (length leaves) aligned within le) (omega arith) in
     ap is_some (open-right h s e n k (s - k) (e - k) (n - k) known node z q more refl
     (omega arith) (omega arith) (omega arith) (omega arith))
@@ -325,7 +370,8 @@ has_value (suc depth) h s e known node leaves (z ∷ q) bound aligned within =
     (λ (later : 0 < s). let none : ⊥ = omega arith in absurd none)
     (λ (less : e < length leaves). less)
     inner in
-    let rest = has_value depth h 0 (e - k) false node (drop (split_of (length leaves)) leaves) q (omega arith)
+    let rest = has_value depth h 0 (e - k) false node (drop (split_of (length leaves)) leaves) q
+    (omega arith)
     (IsAligned-first (e - split_of (length leaves)) (omega arith)) (omega arith) in
     ap is_some (open-over h s e n k (e - k) (n - k) known node z q more refl zeroth
     (omega arith) (omega arith) (omega arith) part)
@@ -343,7 +389,8 @@ not_length node root o wrong = tests (bytes_eq o.subtree node) (bytes_eq o.root 
     tests true false wrong = cc
     tests false b wrong = cc
 
-wrong_length-none : (node root : List ℕ) (o : Option Opened) → compared node root o ≡ Err WrongLength
+wrong_length-none : (node root : List ℕ) (o : Option Opened)
+    → compared node root o ≡ Err WrongLength
     → is_some o ≡ true → ⊥
 wrong_length-none node root None wrong some = false≢true some
 wrong_length-none node root (Some x) wrong some = not_length node root x wrong
@@ -358,12 +405,15 @@ unfolding open_of
 WrongLengthByProof_always h leaves proof start end node root is within =
     let made = proof_of h start end true leaves in
     let size = length-reverse proof in
-    let answer = consistency-opened h start end (length leaves) node root proof (is_subtree-from start end is) within in
+    let answer = consistency-opened h start end (length leaves) node root proof
+    (is_subtree-from start end is) within in
     let o = open_from_root h start end (length leaves) true node (reverse proof) in
     let has : is_some o ≡ eqb (length proof) (length made) =
     has_value (length leaves) h start end true node leaves (reverse proof) (omega arith)
     (IsAligned-from_words start end is) within ∙ ap (λ l. eqb l (length made)) size in (
-      λ wrong same. wrong_length-none node root o (sym answer ∙ wrong) (has ∙ eq-eqb (length proof) (length made) same),
+      λ wrong same. wrong_length-none node root o (sym answer ∙ wrong) (has
+          ∙ eq-eqb (length proof) (length made) same),
       λ other.
-          answer ∙ none-wrong_length node root o (λ some. other (eqb-true (length proof) (length made) (sym has ∙ some))),
+          answer ∙ none-wrong_length node root o
+          (λ some. other (eqb-true (length proof) (length made) (sym has ∙ some))),
     )

@@ -1,5 +1,6 @@
 -- The largest full subtree that a subtree begins with.
-use Rattle.std.proofs.Common.{◌≡◌, ℕ, ◌+◌, ◌*◌, ◌-◌, ◌/◌, ◌^◌, ◌<◌, ◌≤◌, ⊎_elim, true, List, length, Some, None, sym, ◌∙◌, add-one, ap, subst, arith}
+use Rattle.std.proofs.Common.{◌≡◌, ℕ, ◌+◌, ◌*◌, ◌-◌, ◌/◌, ◌^◌, ◌<◌, ◌≤◌, ⊎_elim, true, List, length}
+use Rattle.std.proofs.Common.{Some, None, sym, ◌∙◌, add-one, ap, subst, arith}
 use Rattle.std.specs.Prelude.{IfSome, Option}
 use Rattle.std.proofs.Math.Nat.{div-eq_of_lt-le, mul_assoc, pow-succ'}
 use Rattle.std.proofs.Math.Pow.{pow_mono}
@@ -10,7 +11,8 @@ use Rattle.tree_core.specs.Path.{part_of}
 use Rattle.tree_core.specs.Split.{split_of}
 use Rattle.tree_core.specs.Subtree.{is_subtree}
 use Rattle.tree_core.specs.Tree.{pair_hash, root_of}
-use Rattle.tree_proofs.proofs.Aligned.{IsAligned, IsAligned-from, IsAligned-halves, IsAligned-is, power_parts}
+use Rattle.tree_proofs.proofs.Aligned.{IsAligned, IsAligned-from, IsAligned-halves, IsAligned-is}
+use Rattle.tree_proofs.proofs.Aligned.{power_parts}
 use Rattle.tree_proofs.proofs.Parts.{part-root}
 use Rattle.tree_proofs.specs.Full.{BeginsFull}
 use Rattle.tree_proofs.specs.Told.{IsRootOf}
@@ -49,7 +51,8 @@ begins_full start end level middle is fits low high middle_is =
     let within = aligned.within in
     let begins = aligned.begins in
     let positive = pow_pos level in
-    let exponent : level ≤ aligned.exponent = exponent_within level aligned.exponent (omega arith) in
+    let exponent : level ≤ aligned.exponent =
+    exponent_within level aligned.exponent (omega arith) in
     let parts : 2 ^ aligned.exponent ≡ 2 ^ (aligned.exponent - level) * 2 ^ level =
     power_parts level aligned.exponent exponent in
     let here : start ≡ (aligned.multiple * 2 ^ (aligned.exponent - level)) * 2 ^ level =
@@ -60,7 +63,8 @@ begins_full start end level middle is fits low high middle_is =
     (omega arith) (omega arith) in
     let back : start / 2 ^ level * 2 ^ level ≡ start = ap (λ p. p * 2 ^ level) place ∙ sym here in
     let split : middle < end → middle ≡ start + split_of (end - start) =
-    λ more. middle_is ∙ ap (λ k. start + k) (sym (split_unique (end - start) level (omega arith) (omega arith))) in
+    λ more. middle_is ∙ ap (λ k. start + k)
+    (sym (split_unique (end - start) level (omega arith) (omega arith))) in
     record {
       low = fits;
       inside = omega arith;
@@ -74,18 +78,21 @@ begins_full start end level middle is fits low high middle_is =
     }
 
 -- the hash of the full part is that of the subtree, where there is no rest
-pub root_at : (h : List ℕ → List ℕ) (told : Option (List (List ℕ))) (a b start end : ℕ) (node : List ℕ)
+pub root_at : (h : List ℕ → List ℕ) (told : Option (List (List ℕ))) (a b start end : ℕ)
+    (node : List ℕ)
     → a ≡ start → b ≡ end → IsRootOf h told a b node → IsRootOf h told start end node
 root_at h told a b start end node a_is b_is is =
     subst (λ e. IsRootOf h told start e node) b_is (subst (λ s. IsRootOf h told s b node) a_is is)
 
 pub joined : (h : List ℕ → List ℕ) (told seen : Option (List (List ℕ))) (start middle end : ℕ)
-    (left right node : List ℕ) → start < middle → middle < end → middle ≡ start + split_of (end - start)
+    (left right node : List ℕ) → start < middle → middle < end
+    → middle ≡ start + split_of (end - start)
     → IfSome told (λ xs. end ≤ length xs) → seen ≡ told
     → IsRootOf h told start middle left → IsRootOf h seen middle end right
     → node ≡ pair_hash h left right
     → IsRootOf h told start end node
-joined h told seen start middle end left right node some more is within seen_is left_is right_is node_is =
+joined h told seen start middle end left right node some more is within seen_is left_is
+    right_is node_is =
     same told within left_is (subst (λ t. IsRootOf h t middle end right) seen_is right_is)
   where
     same : (told : Option (List (List ℕ))) → IfSome told (λ xs. end ≤ length xs)
@@ -99,7 +106,8 @@ joined h told seen start middle end left right node some more is within seen_is 
         ∙ sym (part-root h xs start middle end within (omega arith) is)
 
 -- what is within the number of leaves is within the list, where it is told
-pub told_within : (told : Option (List (List ℕ))) (count end : ℕ) → IfSome told (λ xs. count ≡ length xs)
+pub told_within : (told : Option (List (List ℕ))) (count end : ℕ)
+    → IfSome told (λ xs. count ≡ length xs)
     → end ≤ count → IfSome told (λ xs. end ≤ length xs)
 told_within None count end counted within = tt
 told_within (Some xs) count end counted within = omega arith

@@ -1,5 +1,7 @@
 -- A path or a proof in a list, by the one in a half of it and the root of the other half.
-use Rattle.std.proofs.Common.{◌≡◌, ℕ, ◌+◌, ◌-◌, ◌^◌, ◌<◌, ◌≤◌, ◌⊎◌, ⊎_elim, inl, inr, Bool, true, false, cond, List, [], ◌∷◌, ◌++◌, length, take, Some, None, sym, ◌∙◌, ap, subst, arith}
+use Rattle.std.proofs.Common.{◌≡◌, ℕ, ◌+◌, ◌-◌, ◌^◌, ◌<◌, ◌≤◌, ◌⊎◌, ⊎_elim, inl, inr, Bool, true}
+use Rattle.std.proofs.Common.{false, cond, List, [], ◌∷◌, ◌++◌, length, take, Some, None, sym, ◌∙◌}
+use Rattle.std.proofs.Common.{ap, subst, arith}
 use Rattle.std.specs.Prelude.{IfSome, Option}
 use Rattle.std.proofs.lemmas.List.{length_push}
 use Rattle.tree_core.proofs.Powers.{half_within, split_bounds}
@@ -18,10 +20,12 @@ split_left start middle end is = omega arith
 
 pub split_right : (start middle end : ℕ) → middle ≡ start + split_of (end - start)
     → end - middle ≤ split_of (end - start)
-split_right start middle end is = let bounds = split_bounds (end - start) in let half = bounds.half in omega arith
+split_right start middle end is = let bounds = split_bounds (end - start) in let half =
+    bounds.half in omega arith
 
 -- one hash more than for a half
-pub one_higher : (low high count more : ℕ) (out next : List (List ℕ)) (node : List ℕ) → low + 1 < high
+pub one_higher : (low high count more : ℕ) (out next : List (List ℕ)) (node : List ℕ)
+    → low + 1 < high
     → count ≤ split_of (high - low) → next ≡ out ++ node ∷ []
     → ((height : ℕ) → count ≤ 2 ^ height → length out ≤ height + more)
     → (height : ℕ) → high - low ≤ 2 ^ height → length next ≤ height + more
@@ -38,7 +42,8 @@ pub made_by : (told seen : Option (List (List ℕ))) (half all : List (List ℕ)
     (root : List (List ℕ) → List ℕ) (end : ℕ) (out made : List (List ℕ)) (node : List ℕ)
     → ((xs : List (List ℕ)) → end ≤ length xs → all xs ≡ half xs ++ root xs ∷ [])
     → IfSome told (λ xs. end ≤ length xs) → seen ≡ told
-    → IfSome told (λ xs. out ≡ half xs) → IfSome seen (λ xs. node ≡ root xs) → made ≡ out ++ node ∷ []
+    → IfSome told (λ xs. out ≡ half xs) → IfSome seen (λ xs. node ≡ root xs)
+    → made ≡ out ++ node ∷ []
     → IfSome told (λ xs. made ≡ all xs)
 made_by told seen half all root end out made node split within seen_is out_is node_is made_is =
     same told within out_is (subst (λ t. IfSome t (λ xs. node ≡ root xs)) seen_is node_is)
@@ -48,7 +53,8 @@ made_by told seen half all root end out made node split within seen_is out_is no
         → IfSome told (λ xs. made ≡ all xs)
     same None within out_is node_is = tt
     same (Some xs) within out_is node_is =
-        made_is ∙ ap (λ p. p ++ node ∷ []) out_is ∙ ap (λ r. half xs ++ r ∷ []) node_is ∙ sym (split xs within)
+        made_is ∙ ap (λ p. p ++ node ∷ []) out_is ∙ ap (λ r. half xs ++ r ∷ []) node_is
+        ∙ sym (split xs within)
 
 -- the path of the only entry
 pub path_of_one : (h : List ℕ → List ℕ) (told : Option (List (List ℕ))) (index start end : ℕ)
@@ -72,10 +78,13 @@ proof_of_known h (Some xs) low high start end known made some first last within 
 -- or isn't
 pub proof_of_root : (h : List ℕ → List ℕ) (told : Option (List (List ℕ))) (low high start end : ℕ)
     (known : Bool) (made : List (List ℕ)) (node : List ℕ) → low < high → low ≡ start → high ≡ end
-    → IfSome told (λ xs. high ≤ length xs) → known ≡ false → IsRootOf h told low high node → made ≡ [] ++ node ∷ []
+    → IfSome told (λ xs. high ≤ length xs) → known ≡ false → IsRootOf h told low high node
+    → made ≡ [] ++ node ∷ []
     → IsProofIn h told low high start end known made
-proof_of_root h None low high start end known made node some first last within is_new node_is made_is = tt
-proof_of_root h (Some xs) low high start end known made node some first last within is_new node_is made_is =
+proof_of_root h None low high start end known made node some first last within is_new node_is
+    made_is = tt
+proof_of_root h (Some xs) low high start end known made node some first last within is_new
+    node_is made_is =
     made_is
     ∙ ap (λ r. r ∷ []) node_is
     ∙ ap (λ k. cond k [] (root_of h (part_of xs low high) ∷ [])) (sym is_new)
@@ -92,7 +101,8 @@ part_from low high start end from inside other =
 
 -- the proof in the first leaves of a list
 pub proof_of_first : (h : List ℕ → List ℕ) (told : Option (List (List ℕ))) (start end size : ℕ)
-    (made : List (List ℕ)) → IsProofIn h told 0 size start end true made → IsProofOf h told start end size made
+    (made : List (List ℕ)) → IsProofIn h told 0 size start end true made
+    → IsProofOf h told start end size made
 proof_of_first h None start end size made is = tt
 proof_of_first h (Some xs) start end size made is =
     let begin : start - 0 ≡ start = omega arith in

@@ -1,17 +1,22 @@
 -- What a consistency proof gives, case by case.
-use Rattle.std.proofs.Common.{◌≡◌, ℕ, ◌+◌, ◌-◌, ◌^◌, ◌<◌, ◌≤◌, ◌⊎◌, ⊎_elim, inl, inr, Bool, true, false, eqb, List, [], ◌∷◌, ◌++◌, length, Some, None, sym, ◌∙◌, ap, refl, arith}
+use Rattle.std.proofs.Common.{◌≡◌, ℕ, ◌+◌, ◌-◌, ◌^◌, ◌<◌, ◌≤◌, ◌⊎◌, ⊎_elim, inl, inr, Bool, true}
+use Rattle.std.proofs.Common.{false, eqb, List, [], ◌∷◌, ◌++◌, length, Some, None, sym, ◌∙◌, ap}
+use Rattle.std.proofs.Common.{refl, arith}
 use Rattle.std.specs.Prelude.{Option, is_some, option_map, reverse}
-use Rattle.std.proofs.lemmas.Bool.{and_from, cond-true, cond-false, eq-eqb, false≢true, ne_eqb, le-leb, lt-leb, cases_lt}
+use Rattle.std.proofs.lemmas.Bool.{and_from, cond-true, cond-false, eq-eqb, false≢true, ne_eqb}
+use Rattle.std.proofs.lemmas.Bool.{le-leb, lt-leb, cases_lt}
 use Rattle.std.proofs.lemmas.List.{length-reverse, reverse-append}
 use Rattle.tree_core.proofs.Powers.{half_within, split_bounds}
 use Rattle.tree_core.specs.Split.{split_of}
 use Rattle.tree_proofs.proofs.Made.{cases_place, other-whole}
-use Rattle.tree_proofs.specs.Open.{both_right_of, open_from_root, open_of, open_whole, root_left_of, root_right_of}
+use Rattle.tree_proofs.specs.Open.{both_right_of, open_from_root, open_of, open_whole, root_left_of}
+use Rattle.tree_proofs.specs.Open.{root_right_of}
 use Rattle.tree_proofs.specs.declared.outcome.Opened.{Opened}
 
 -- The cases of the definition, with the numbers of the recursion as variables.
 
-pub open-whole : (h : List ℕ → List ℕ) (s e n : ℕ) (known : Bool) (node : List ℕ) (w : List (List ℕ))
+pub open-whole : (h : List ℕ → List ℕ) (s e n : ℕ) (known : Bool) (node : List ℕ)
+    (w : List (List ℕ))
     → s ≡ 0 → e ≡ n → open_from_root h s e n known node w ≡ open_whole known node w
 unfolding open_from_root
 open-whole h s e n known node [] first last =
@@ -25,7 +30,8 @@ pub open-short : (h : List ℕ → List ℕ) (s e n : ℕ) (known : Bool) (node 
 unfolding open_from_root
 open-short h s e n known node part = cond-false _ _ _ (other-whole s e n part)
 
-pub open-left : (h : List ℕ → List ℕ) (s e n k : ℕ) (known : Bool) (node z : List ℕ) (q : List (List ℕ))
+pub open-left : (h : List ℕ → List ℕ) (s e n k : ℕ) (known : Bool) (node z : List ℕ)
+    (q : List (List ℕ))
     → 1 < n → split_of n ≡ k → e ≤ k
     → open_from_root h s e n known node (z ∷ q)
     ≡ option_map (root_left_of h z) (open_from_root h s e k known node q)
@@ -52,8 +58,10 @@ open-right h s e n k a b c known node z q more is s_is e_is n_is some =
     ∙ cond-false _ _ _ (lt-leb n 1 more)
     ∙ cond-false _ _ _ (lt-leb e (split_of n) (omega arith))
     ∙ cond-true _ _ _ (le-leb (split_of n) s (omega arith))
-    ∙ ap (λ i. option_map (root_right_of h z) (open_from_root h i (e - split_of n) (n - split_of n) known node q)) first
-    ∙ ap (λ i. option_map (root_right_of h z) (open_from_root h a i (n - split_of n) known node q)) last
+    ∙ ap (λ i. option_map (root_right_of h z) (open_from_root h i (e - split_of n)
+    (n - split_of n) known node q)) first
+    ∙ ap (λ i. option_map (root_right_of h z) (open_from_root h a i (n - split_of n) known node q))
+    last
     ∙ ap (λ i. option_map (root_right_of h z) (open_from_root h a b i known node q)) size
 
 pub open-over : (h : List ℕ → List ℕ) (s e n k b c : ℕ) (known : Bool) (node z : List ℕ)
@@ -70,7 +78,8 @@ open-over h s e n k b c known node z q more is s_is e_is n_is some part =
     ∙ cond-false _ _ _ (lt-leb e (split_of n) (omega arith))
     ∙ cond-false _ _ _ (lt-leb (split_of n) s (omega arith))
     ∙ cond-true _ _ _ (eq-eqb s 0 s_is)
-    ∙ ap (λ i. option_map (both_right_of h z) (open_from_root h 0 i (n - split_of n) false node q)) last
+    ∙ ap (λ i. option_map (both_right_of h z) (open_from_root h 0 i (n - split_of n) false node q))
+    last
     ∙ ap (λ i. option_map (both_right_of h z) (open_from_root h 0 b i false node q)) size
 
 pub open-none : (h : List ℕ → List ℕ) (s e n k : ℕ) (known : Bool) (node z : List ℕ)
@@ -99,7 +108,8 @@ pub part_more : (s e n : ℕ) → s < e → e ≤ n → (0 < s) ⊎ (e < n) → 
 part_more s e n some within part =
     ⊎_elim (λ (later : 0 < s). omega arith) (λ (before : e < n). omega arith) part
 
-pub open_of-whole : (h : List ℕ → List ℕ) (s e n : ℕ) (known : Bool) (node : List ℕ) (proof : List (List ℕ))
+pub open_of-whole : (h : List ℕ → List ℕ) (s e n : ℕ) (known : Bool) (node : List ℕ)
+    (proof : List (List ℕ))
     → s ≡ 0 → e ≡ n → open_of h s e n known node proof ≡ open_whole known node proof
 unfolding open_of
 open_of-whole h s e n known node proof first last =
@@ -111,18 +121,23 @@ open_of-whole h s e n known node proof first last =
     many true (x ∷ y ∷ rest) more = refl
     many false (x ∷ y ∷ rest) more = refl
 
-    turned : (known : Bool) (w : List (List ℕ)) → open_whole known node (reverse w) ≡ open_whole known node w
+    turned : (known : Bool) (w : List (List ℕ))
+        → open_whole known node (reverse w) ≡ open_whole known node w
     turned known [] = refl
     turned known (x ∷ []) = refl
-    turned known (x ∷ y ∷ rest) = many known (reverse (x ∷ y ∷ rest)) (let size = length-reverse (x ∷ y ∷ rest) in omega arith) ∙ sym (many known (x ∷ y ∷ rest) (omega arith))
+    turned known (x ∷ y ∷ rest) = many known (reverse (x ∷ y ∷ rest)) (let size =
+        length-reverse (x ∷ y ∷ rest) in omega arith)
+        ∙ sym (many known (x ∷ y ∷ rest) (omega arith))
 
-pub open_of-short : (h : List ℕ → List ℕ) (s e n : ℕ) (known : Bool) (node : List ℕ) (proof : List (List ℕ))
+pub open_of-short : (h : List ℕ → List ℕ) (s e n : ℕ) (known : Bool) (node : List ℕ)
+    (proof : List (List ℕ))
     → (0 < s) ⊎ (e < n) → length proof ≡ 0 → open_of h s e n known node proof ≡ None
 unfolding open_of
 open_of-short h s e n known node [] part none = open-short h s e n known node part
 open_of-short h s e n known node (x ∷ rest) part none = let no : ⊥ = omega arith in absurd no
 
-pub open_of-left : (h : List ℕ → List ℕ) (s e n k : ℕ) (known : Bool) (node z : List ℕ) (p : List (List ℕ))
+pub open_of-left : (h : List ℕ → List ℕ) (s e n k : ℕ) (known : Bool) (node z : List ℕ)
+    (p : List (List ℕ))
     → 1 < n → split_of n ≡ k → e ≤ k
     → open_of h s e n known node (p ++ z ∷ [])
     ≡ option_map (root_left_of h z) (open_of h s e k known node p)
@@ -163,7 +178,8 @@ pub is_some-map : (f : Opened → Opened) (o : Option Opened) → is_some (optio
 is_some-map f None = refl
 is_some-map f (Some x) = refl
 
-open-height : (h : List ℕ → List ℕ) (q : List (List ℕ)) (s e n height : ℕ) (known : Bool) (node : List ℕ)
+open-height : (h : List ℕ → List ℕ) (q : List (List ℕ)) (s e n height : ℕ) (known : Bool)
+    (node : List ℕ)
     → s < e → e ≤ n → n ≤ 2 ^ height
     → is_some (open_from_root h s e n known node q) ≡ true → length q ≤ height + 1
 open-height h [] s e n height known node some within near gives = omega arith
@@ -172,19 +188,23 @@ open-height h (z ∷ q) s e n height known node some within near gives =
     let bounds = split_bounds n in
     let rest_near = bounds.half in
     cases_place s e n some within
-    (λ first last. whole known q (ap is_some (sym (open-whole h s e n known node (z ∷ q) first last)) ∙ gives))
+    (λ first last. whole known q (ap is_some
+    (sym (open-whole h s e n known node (z ∷ q) first last)) ∙ gives))
     (λ more le.
     let half = half_within n height more near in
     let high = half.some in
     let short = open-height h q s e (split_of n) (height - 1) known node some le half.half
-    (sym (is_some-map (root_left_of h z) _) ∙ ap is_some (sym (open-left h s e n k known node z q more refl le)) ∙ gives) in
+    (sym (is_some-map (root_left_of h z) _)
+    ∙ ap is_some (sym (open-left h s e n k known node z q more refl le)) ∙ gives) in
     omega arith)
     (λ more le.
     let half = half_within n height more near in
     let high = half.some in
     let near_half = half.half in
-    let short = open-height h q (s - k) (e - k) (n - split_of n) (height - 1) known node (omega arith) (omega arith) (omega arith)
-    (sym (is_some-map (root_right_of h z) _) ∙ ap is_some (sym (open-right h s e n k (s - k) (e - k) (n - k) known node z q more refl
+    let short = open-height h q (s - k) (e - k) (n - split_of n) (height - 1) known node
+    (omega arith) (omega arith) (omega arith)
+    (sym (is_some-map (root_right_of h z) _)
+    ∙ ap is_some (sym (open-right h s e n k (s - k) (e - k) (n - k) known node z q more refl
     (omega arith) (omega arith) (omega arith) (omega arith))) ∙ gives) in
     omega arith)
     (λ more inner before behind.
@@ -193,12 +213,16 @@ open-height h (z ∷ q) s e n height known node some within near gives =
     let near_half = half.half in
     ⊎_elim
     (λ (later : 0 < s).
-    absurd (false≢true (ap is_some (sym (open-none h s e n k known node z q more refl later before behind)) ∙ gives)))
+    absurd (false≢true (ap is_some (sym (open-none h s e n k known node z q more refl later before
+    behind)) ∙ gives)))
     (λ (first : s ≤ 0).
     let inside : e < n =
-    ⊎_elim (λ (later : 0 < s). let none : ⊥ = omega arith in absurd none) (λ (lt : e < n). lt) inner in
-    let short = open-height h q 0 (e - k) (n - split_of n) (height - 1) false node (omega arith) (omega arith) (omega arith)
-    (sym (is_some-map (both_right_of h z) _) ∙ ap is_some (sym (open-over h s e n k (e - k) (n - k) known node z q more refl
+    ⊎_elim (λ (later : 0 < s). let none : ⊥ =
+    omega arith in absurd none) (λ (lt : e < n). lt) inner in
+    let short = open-height h q 0 (e - k) (n - split_of n) (height - 1) false node (omega arith)
+    (omega arith) (omega arith)
+    (sym (is_some-map (both_right_of h z) _)
+    ∙ ap is_some (sym (open-over h s e n k (e - k) (n - k) known node z q more refl
     (omega arith) (omega arith) (omega arith) (omega arith) inside)) ∙ gives) in
     omega arith)
     (cases_lt 0 s))
@@ -215,5 +239,6 @@ pub open_of-height : (h : List ℕ → List ℕ) (s e n height : ℕ) (known : B
 unfolding open_of
 open_of-height h s e n height known node proof o some within near gives =
     let size = length-reverse proof in
-    let short = open-height h (reverse proof) s e n height known node some within near (ap is_some gives) in
+    let short = open-height h (reverse proof) s e n height known node some within near
+    (ap is_some gives) in
     omega arith

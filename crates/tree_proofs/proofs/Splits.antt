@@ -1,5 +1,6 @@
 -- Where code splits a list, and the roots of what it splits.
-use Rattle.std.proofs.Common.{◌≡◌, ℕ, ◌-◌, ◌*◌, ◌%◌, ◌^◌, ◌<◌, ◌≤◌, List, [], ◌∷◌, length, take, drop, get_or, sym, ◌∙◌, ap, arith}
+use Rattle.std.proofs.Common.{◌≡◌, ℕ, ◌-◌, ◌*◌, ◌%◌, ◌^◌, ◌<◌, ◌≤◌, List, [], ◌∷◌, length, take}
+use Rattle.std.proofs.Common.{drop, get_or, sym, ◌∙◌, ap, arith}
 use Rattle.std.proofs.lemmas.Nat.{one_shl}
 use Rattle.tree_core.proofs.Powers.{split_bounds, split_unique}
 use Rattle.tree_core.proofs.Roots.{root_of-none, root_of-one, root_of-split, tree_hash-split}
@@ -34,11 +35,13 @@ tree-one h [] x some one is = let no : ⊥ = omega arith in absurd no
 tree-one h (y ∷ []) x some one is = ap (leaf_hash h) is ∙ sym (root_of-one h (leaf_hash h y))
 tree-one h (y ∷ z ∷ rest) x some one is = let no : ⊥ = omega arith in absurd no
 
-pub tree-more : (h : List ℕ → List ℕ) (entries left right : List (List ℕ)) (k : ℕ) → 2 ≤ length entries
+pub tree-more : (h : List ℕ → List ℕ) (entries left right : List (List ℕ)) (k : ℕ)
+    → 2 ≤ length entries
     → k ≡ split_of (length entries) → left ≡ take k entries → right ≡ drop k entries
     → pair_hash h (tree_hash h left) (tree_hash h right) ≡ tree_hash h entries
 tree-more h entries left right k more is left_is right_is =
-    ap (λ l. pair_hash h (tree_hash h l) (tree_hash h right)) (left_is ∙ ap (λ k. take k entries) is)
+    ap (λ l. pair_hash h (tree_hash h l) (tree_hash h right)) (left_is
+    ∙ ap (λ k. take k entries) is)
     ∙ ap (λ r. pair_hash h (tree_hash h (take (split_of (length entries)) entries)) (tree_hash h r))
     (right_is ∙ ap (λ k. drop k entries) is)
     ∙ sym (tree_hash-split h entries more)
@@ -54,7 +57,8 @@ root-one h [] some one = let no : ⊥ = omega arith in absurd no
 root-one h (y ∷ []) some one = sym (root_of-one h y)
 root-one h (y ∷ z ∷ rest) some one = let no : ⊥ = omega arith in absurd no
 
-pub root-more : (h : List ℕ → List ℕ) (leaves left right : List (List ℕ)) (k : ℕ) → 2 ≤ length leaves
+pub root-more : (h : List ℕ → List ℕ) (leaves left right : List (List ℕ)) (k : ℕ)
+    → 2 ≤ length leaves
     → k ≡ split_of (length leaves) → left ≡ take k leaves → right ≡ drop k leaves
     → pair_hash h (root_of h left) (root_of h right) ≡ root_of h leaves
 root-more h leaves left right k more is left_is right_is =

@@ -1,6 +1,7 @@
 -- What a consistency proof of a subtree gives: the inverse of the proof that the draft on Merkle
 -- Tree Certificates makes, from the root down.
-use Rattle.std.specs.Prelude.{ℕ, ◌-◌, ◌&&◌, ◌==◌, Bool, true, false, nat_le, if◌then◌else◌, List, [], ◌∷◌, reverse, Option, Some, None, option_map}
+use Rattle.std.specs.Prelude.{ℕ, ◌-◌, ◌&&◌, ◌==◌, Bool, true, false, nat_le, if◌then◌else◌, List}
+use Rattle.std.specs.Prelude.{[], ◌∷◌, reverse, Option, Some, None, option_map}
 use Rattle.byte_forms.specs.Types.{Hash, HashFunction}
 use Rattle.tree_core.specs.Split.{split_of}
 use Rattle.tree_core.specs.Tree.{pair_hash}

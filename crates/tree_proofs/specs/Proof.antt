@@ -1,6 +1,7 @@
 -- The consistency proof of a subtree (the draft on Merkle Tree Certificates, where it makes subtree
 -- consistency proofs).
-use Rattle.std.specs.Prelude.{ℕ, zero, suc, ◌-◌, ◌&&◌, ◌==◌, Bool, false, nat_le, if◌then◌else◌, List, [], ◌∷◌, ◌++◌, length, take, drop, map}
+use Rattle.std.specs.Prelude.{ℕ, zero, suc, ◌-◌, ◌&&◌, ◌==◌, Bool, false, nat_le, if◌then◌else◌}
+use Rattle.std.specs.Prelude.{List, [], ◌∷◌, ◌++◌, length, take, drop, map}
 use Rattle.byte_forms.specs.Types.{Hash, HashFunction, Text}
 use Rattle.tree_core.specs.Split.{split_of}
 use Rattle.tree_core.specs.Tree.{leaf_hash, root_of}

@@ -7,7 +7,8 @@ use Rattle.cert_fields.proofs.alt_names.general_name_list.Given as goal
 
 -- Reading on from here ends as reading all of them does.
 abbrev pub invariant-loop-reader : goal.invariant-loop-reader
-invariant-loop-reader l = Walks general_name_at (discarded (up_to_end general_name_at l.fn.reader)) l.reader
+invariant-loop-reader l = Walks general_name_at (discarded (up_to_end general_name_at l.fn.reader))
+    l.reader
 
 abbrev pub decreases-loop-reader : goal.decreases-loop-reader
 decreases-loop-reader l = length l.reader.rest

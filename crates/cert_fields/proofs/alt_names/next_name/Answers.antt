@@ -6,11 +6,13 @@ use Rattle.cert_fields.proofs.alt_names.next_name.Goals as goal
 
 pub returns-then-element : goal.returns-then-element
 returns-then-element c =
-    names_found _ c.loop-element.reader (item c.in-Ok.element) c.element.new.self c.in-Ok.ensures.exact c.if-element.true c.loop-element.invariant
+    names_found _ c.loop-element.reader (item c.in-Ok.element) c.element.new.self
+    c.in-Ok.ensures.exact c.if-element.true c.loop-element.invariant
 
 pub loop-element-preserved : goal.loop-element-preserved
 loop-element-preserved c =
-    names_more _ c.loop-element.reader (item c.in-Ok.element) c.element.new.self c.in-Ok.ensures.exact c.if-element.false c.loop-element.invariant
+    names_more _ c.loop-element.reader (item c.in-Ok.element) c.element.new.self
+    c.in-Ok.ensures.exact c.if-element.false c.loop-element.invariant
 
 pub returns : goal.returns
 returns c =

@@ -7,5 +7,7 @@ use Rattle.cert_fields.proofs.checks.check_algorithm.Goals as goal
 
 pub returns-clause-within : goal.returns-clause-within
 returns-clause-within c =
-    read_within itself IsAlgorithm Anything algorithm_at algorithm_form c.args.input.now c.args.place (λ i. (c.type_inv.input i).fits) c.requires
-    c.at-reader.result c.in_ok-algorithm.field-0.now c.algorithm.new.reader c.place.result c.at-reader.ensures c.in_ok-algorithm.ensures c.place.ensures
+    read_within itself IsAlgorithm Anything algorithm_at algorithm_form c.args.input.now
+    c.args.place (λ i. (c.type_inv.input i).fits) c.requires
+    c.at-reader.result c.in_ok-algorithm.field-0.now c.algorithm.new.reader c.place.result
+    c.at-reader.ensures c.in_ok-algorithm.ensures c.place.ensures

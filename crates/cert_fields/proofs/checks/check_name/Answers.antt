@@ -7,5 +7,7 @@ use Rattle.cert_fields.proofs.checks.check_name.Goals as goal
 
 pub returns-clause-within : goal.returns-clause-within
 returns-clause-within c =
-    read_within itself IsName Anything name_at name_form c.args.input.now c.args.place (λ i. (c.type_inv.input i).fits) c.requires
-    c.at-reader.result c.in_ok-read_name.field-0.now c.read_name.new.reader c.place.result c.at-reader.ensures c.in_ok-read_name.ensures c.place.ensures
+    read_within itself IsName Anything name_at name_form c.args.input.now c.args.place
+    (λ i. (c.type_inv.input i).fits) c.requires
+    c.at-reader.result c.in_ok-read_name.field-0.now c.read_name.new.reader c.place.result
+    c.at-reader.ensures c.in_ok-read_name.ensures c.place.ensures

@@ -9,13 +9,18 @@ loop-extension-init c = seeks_from alt_name_octets _
 
 pub returns-then-is_subject_alt_name : goal.returns-then-is_subject_alt_name
 returns-then-is_subject_alt_name c =
-    seeks_found alt_name_octets _ c.loop-extension.reader (extension_fields c.in-Ok.extension) c.next_extension.new.reader _
-    c.in-Ok.ensures.exact c.in-Ok.ensures.forward (λ xs. rw (← c.if-is_subject_alt_name.ensures) refl) c.loop-extension.invariant
+    seeks_found alt_name_octets _ c.loop-extension.reader (extension_fields c.in-Ok.extension)
+    c.next_extension.new.reader _
+    c.in-Ok.ensures.exact c.in-Ok.ensures.forward
+    (λ xs. rw (← c.if-is_subject_alt_name.ensures) refl) c.loop-extension.invariant
 
 pub loop-extension-preserved : goal.loop-extension-preserved
 loop-extension-preserved c =
-    seeks_more alt_name_octets _ c.loop-extension.reader (extension_fields c.in-Ok.extension) c.next_extension.new.reader
-    c.in-Ok.ensures.exact c.in-Ok.ensures.forward (λ xs. rw (← c.if-is_subject_alt_name.ensures) refl) c.loop-extension.invariant
+    seeks_more alt_name_octets _ c.loop-extension.reader (extension_fields c.in-Ok.extension)
+    c.next_extension.new.reader
+    c.in-Ok.ensures.exact c.in-Ok.ensures.forward
+    (λ xs. rw (← c.if-is_subject_alt_name.ensures) refl) c.loop-extension.invariant
 
 pub returns : goal.returns
-returns c = seeks_end alt_name_octets _ c.loop-extension.reader _ c.in_default.ensures.exact c.loop-extension.invariant
+returns c = seeks_end alt_name_octets _ c.loop-extension.reader _ c.in_default.ensures.exact
+    c.loop-extension.invariant

@@ -10,13 +10,18 @@ loop-extension-init c = seeks_from (list_any is_unknown_critical) _
 
 pub returns-then-is_unknown_critical : goal.returns-then-is_unknown_critical
 returns-then-is_unknown_critical c =
-    seeks_found (list_any is_unknown_critical) _ c.loop-extension.reader (extension_fields c.in-Ok.extension) c.next_extension.new.reader _
-    c.in-Ok.ensures.exact c.in-Ok.ensures.forward (λ xs. rw (← c.if-is_unknown_critical.ensures) refl) c.loop-extension.invariant
+    seeks_found (list_any is_unknown_critical) _ c.loop-extension.reader
+    (extension_fields c.in-Ok.extension) c.next_extension.new.reader _
+    c.in-Ok.ensures.exact c.in-Ok.ensures.forward
+    (λ xs. rw (← c.if-is_unknown_critical.ensures) refl) c.loop-extension.invariant
 
 pub loop-extension-preserved : goal.loop-extension-preserved
 loop-extension-preserved c =
-    seeks_more (list_any is_unknown_critical) _ c.loop-extension.reader (extension_fields c.in-Ok.extension) c.next_extension.new.reader
-    c.in-Ok.ensures.exact c.in-Ok.ensures.forward (λ xs. rw (← c.if-is_unknown_critical.ensures) refl) c.loop-extension.invariant
+    seeks_more (list_any is_unknown_critical) _ c.loop-extension.reader
+    (extension_fields c.in-Ok.extension) c.next_extension.new.reader
+    c.in-Ok.ensures.exact c.in-Ok.ensures.forward
+    (λ xs. rw (← c.if-is_unknown_critical.ensures) refl) c.loop-extension.invariant
 
 pub returns : goal.returns
-returns c = seeks_end (list_any is_unknown_critical) _ c.loop-extension.reader _ c.in_default.ensures.exact c.loop-extension.invariant
+returns c = seeks_end (list_any is_unknown_critical) _ c.loop-extension.reader _
+    c.in_default.ensures.exact c.loop-extension.invariant

@@ -1,5 +1,13 @@
-use Rattle.cert_fields.proofs.FieldForms.{algorithm_form, spki_form, name_form, validity_form, signature_form}
+use Rattle.cert_fields.proofs.FieldForms.{algorithm_form, spki_form, name_form, validity_form}
+use Rattle.cert_fields.proofs.FieldForms.{signature_form}
 use Rattle.cert_fields.proofs.laws.fields_are_read_as_spelled.Goals as goal
 
 pub returns : goal.returns
-returns c = record { algorithms = algorithm_form; public_keys = spki_form; names = name_form; validities = validity_form; signatures = signature_form }
+returns c = record {
+  algorithms = algorithm_form;
+  public_keys = spki_form;
+  names =
+      name_form;
+  validities = validity_form;
+  signatures = signature_form;
+}

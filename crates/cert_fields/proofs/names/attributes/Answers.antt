@@ -9,13 +9,17 @@ loop-reader-init c = walks_from attribute_at _
 
 pub loop-reader-preserved : goal.loop-reader-preserved
 loop-reader-preserved c =
-    walks_more attribute_at _ c.loop-reader.reader _ c.attribute.new.reader c.in_ok-attribute.ensures.exact c.in_ok-attribute.ensures.forward c.loop-reader.invariant
+    walks_more attribute_at _ c.loop-reader.reader _ c.attribute.new.reader
+    c.in_ok-attribute.ensures.exact c.in_ok-attribute.ensures.forward c.loop-reader.invariant
 
 pub returns-in_err-attribute-clause-err : goal.returns-in_err-attribute-clause-err
 returns-in_err-attribute-clause-err c =
     let p = err_from_is_err_and c.from_residual.result c.from_residual.ensures.1 in
-    rw (p.1, p.2) (walks_fails attribute_at _ c.loop-reader.reader _ c.in_err-attribute.ensures.exact (sym c.is_at_end.ensures ∙ c.loop-reader-test.true) c.loop-reader.invariant)
+    rw (p.1, p.2) (walks_fails attribute_at _ c.loop-reader.reader _
+    c.in_err-attribute.ensures.exact (sym c.is_at_end.ensures
+    ∙ c.loop-reader-test.true) c.loop-reader.invariant)
 
 pub returns-clause-ok : goal.returns-clause-ok
 returns-clause-ok c =
-    walks_end attribute_at _ c.loop-reader.reader (sym c.is_at_end.ensures ∙ c.loop-reader-test.false) c.loop-reader.invariant
+    walks_end attribute_at _ c.loop-reader.reader (sym c.is_at_end.ensures
+    ∙ c.loop-reader-test.false) c.loop-reader.invariant

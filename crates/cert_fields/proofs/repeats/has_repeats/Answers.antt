@@ -3,7 +3,8 @@ use Rattle.cert_fields.specs.Extensions.{are_repeated, identifiers}
 use Rattle.cert_fields.specs.Views.{texts}
 use Rattle.cert_fields.proofs.Walks.{taken_of, identifiers_none}
 use Rattle.cert_fields.proofs.Twice.{repeated_front, repeated_across, repeated_behind, among_front}
-use Rattle.cert_fields.proofs.repeats.has_repeats.Goals.{then-sort_block-via-then-sort_block, then-sort_block-via-else-sort_block+then-is_met}
+use Rattle.cert_fields.proofs.repeats.has_repeats.Goals.{then-sort_block-via-then-sort_block}
+use Rattle.cert_fields.proofs.repeats.has_repeats.Goals.{then-sort_block-via-else-sort_block+then-is_met}
 use Rattle.cert_fields.proofs.repeats.has_repeats.Goals as goal
 
 pub returns-then-sort_block : goal.returns-then-sort_block
@@ -11,14 +12,19 @@ returns-then-sort_block c =
     let taken = c.take_block-taken.result in
     let block = c.take_block-taken.new.block in
     let ids = identifiers (c.loop-left.left - taken) c.take_block-taken.new.reader in
-    let split = taken_of c.loop-left.reader taken (texts (take taken block)) c.take_block-taken.new.reader c.loop-left.left c.take_block-taken.ensures.within.0 c.take_block-taken.ensures.read in
+    let split = taken_of c.loop-left.reader taken (texts (take taken block))
+    c.take_block-taken.new.reader c.loop-left.left c.take_block-taken.ensures.within.0
+    c.take_block-taken.ensures.read in
     let total = sym c.loop-left.invariant ∙ ap are_repeated split in
     elim c.then-sort_block.branch [
       | then-sort_block-via-then-sort_block w ↦
-          sym (total ∙ repeated_front (texts (take taken block)) ids (sym c.sort_block.ensures.repeats ∙ w.if-sort_block.true))
+          sym (total ∙ repeated_front (texts (take taken block)) ids
+          (sym c.sort_block.ensures.repeats ∙ w.if-sort_block.true))
       | then-sort_block-via-else-sort_block+then-is_met w ↦
-          let among = among_front block c.sort_block.new.block taken ids c.take_block-taken.ensures.within.1 c.sort_block.ensures.permutation in
-          sym (total ∙ repeated_across (texts (take taken block)) ids (sym among ∙ (sym w.is_met.ensures ∙ w.if-is_met.true)))
+          let among = among_front block c.sort_block.new.block taken ids
+          c.take_block-taken.ensures.within.1 c.sort_block.ensures.permutation in
+          sym (total ∙ repeated_across (texts (take taken block)) ids (sym among
+          ∙ (sym w.is_met.ensures ∙ w.if-is_met.true)))
     ]
 
 pub loop-left-preserved : goal.loop-left-preserved
@@ -26,11 +32,16 @@ loop-left-preserved c =
     let taken = c.take_block-taken.result in
     let block = c.take_block-taken.new.block in
     let ids = identifiers (c.loop-left.left - taken) c.take_block-taken.new.reader in
-    let split = taken_of c.loop-left.reader taken (texts (take taken block)) c.take_block-taken.new.reader c.loop-left.left c.take_block-taken.ensures.within.0 c.take_block-taken.ensures.read in
-    let among = among_front block c.sort_block.new.block taken ids c.take_block-taken.ensures.within.1 c.sort_block.ensures.permutation in
+    let split = taken_of c.loop-left.reader taken (texts (take taken block))
+    c.take_block-taken.new.reader c.loop-left.left c.take_block-taken.ensures.within.0
+    c.take_block-taken.ensures.read in
+    let among = among_front block c.sort_block.new.block taken ids
+    c.take_block-taken.ensures.within.1 c.sort_block.ensures.permutation in
     let none = sym c.sort_block.ensures.repeats ∙ c.if-sort_block.false in
     let apart = sym among ∙ (sym c.is_met.ensures ∙ c.if-is_met.false) in
-    sym (repeated_behind (texts (take taken block)) ids none apart) ∙ (ap are_repeated (sym split) ∙ c.loop-left.invariant)
+    sym (repeated_behind (texts (take taken block)) ids none apart)
+    ∙ (ap are_repeated (sym split) ∙ c.loop-left.invariant)
 
 pub returns : goal.returns
-returns c = sym (ap are_repeated (identifiers_none c.loop-left.left c.loop-left.reader c.loop-left-test.false)) ∙ c.loop-left.invariant
+returns c = sym (ap are_repeated (identifiers_none c.loop-left.left c.loop-left.reader
+    c.loop-left-test.false)) ∙ c.loop-left.invariant

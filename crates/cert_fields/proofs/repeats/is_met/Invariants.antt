@@ -3,10 +3,12 @@ use Rattle.cert_fields.specs.Views.{texts}
 use Rattle.cert_fields.proofs.Walks.{StillAny}
 use Rattle.cert_fields.proofs.repeats.is_met.Given as goal
 
--- The extensions that are left to look at have an identifier of the block where all of them have one.
+-- The extensions that are left to look at have an identifier of the block where all of them have
+-- one.
 abbrev pub invariant-loop-left : goal.invariant-loop-left
 invariant-loop-left l =
-    StillAny (any_among (texts l.fn.block) (identifiers l.fn.count l.fn.list)) (λ identifier. is_among identifier (texts l.fn.block)) l.left l.reader
+    StillAny (any_among (texts l.fn.block) (identifiers l.fn.count l.fn.list))
+    (λ identifier. is_among identifier (texts l.fn.block)) l.left l.reader
 
 abbrev pub decreases-loop-left : goal.decreases-loop-left
 decreases-loop-left l = l.left

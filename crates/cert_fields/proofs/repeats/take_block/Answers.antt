@@ -14,12 +14,16 @@ loop-taken-preserved c =
       omega (arith, c.loop-taken-test.true),
       omega (arith, same, c.if-taken-block.true),
       λ n.
-          taken_more c.args.reader.now c.loop-taken.taken _ c.loop-taken.reader c.in-Ok.identifier.now c.head.new.reader step taken n
-          ∙ ap (λ ids. ids ++ identifiers n c.head.new.reader) (sym (texts_more c.loop-taken.block c.loop-taken.taken c.in-Ok.identifier c.if-taken-block.true)),
+          taken_more c.args.reader.now c.loop-taken.taken _ c.loop-taken.reader
+          c.in-Ok.identifier.now c.head.new.reader step taken n
+          ∙ ap (λ ids. ids ++ identifiers n c.head.new.reader)
+          (sym (texts_more c.loop-taken.block c.loop-taken.taken c.in-Ok.identifier
+          c.if-taken-block.true)),
     )
 
 pub returns-in-Err-clause-none : goal.returns-in-Err-clause-none
 returns-in-Err-clause-none c =
     λ none some room.
-    taken_ends c.args.reader.now c.loop-taken.taken c.loop-taken.block c.loop-taken.reader _ c.loop-taken.invariant.3
+    taken_ends c.args.reader.now c.loop-taken.taken c.loop-taken.block c.loop-taken.reader _
+    c.loop-taken.invariant.3
     (ap head_at (sym c.fork-ahead.ensures) ∙ c.in-Err.ensures.exact) none c.args.most

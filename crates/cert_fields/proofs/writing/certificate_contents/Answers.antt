@@ -5,4 +5,9 @@ use Rattle.cert_fields.proofs.writing.certificate_contents.Goals as goal
 pub put-requires-clause-short : goal.put-requires-clause-short
 put-requires-clause-short c =
     let short = given-short c.args.parts.now c.in_ok-signed.ensures.serial c.requires.short in
-    omega (arith, ap length c.as_slice.ensures, ap length c.in_ok-signed.ensures.exact, short.signed)
+    omega (
+      arith,
+      ap length c.as_slice.ensures,
+      ap length c.in_ok-signed.ensures.exact,
+      short.signed,
+    )

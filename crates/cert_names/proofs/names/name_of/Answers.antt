@@ -5,7 +5,12 @@ use Rattle.cert_names.proofs.names.name_of.Goals as goal
 
 pub element_of-requires-clause-short : goal.element_of-requires-clause-short
 element_of-requires-clause-short c =
-    omega (arith, ap length (c.as_slice.ensures ∙ c.in_ok-inner.ensures), attribute-size c.args.identifier.now c.args.text.now, c.requires)
+    omega (
+      arith,
+      ap length (c.as_slice.ensures ∙ c.in_ok-inner.ensures),
+      attribute-size c.args.identifier.now c.args.text.now,
+      c.requires,
+    )
 
 pub element_of-requires-2-clause-short : goal.element_of-requires-2-clause-short
 element_of-requires-2-clause-short c =

@@ -1,4 +1,5 @@
-use Rattle.std.proofs.Common.{arith, refl, sym, ap, ◌∙◌, subst, w64, ℤ, FitsSigned, to_z-of_z, Option, Some, IfSome}
+use Rattle.std.proofs.Common.{arith, refl, sym, ap, ◌∙◌, subst, w64, ℤ, FitsSigned, to_z-of_z}
+use Rattle.std.proofs.Common.{Option, Some, IfSome}
 use Rattle.jiff_core.proofs.SignedLemmas.{signed_arith, signed_casts}
 use Rattle.cert_time.specs.Calendar.{IsMoment}
 use Rattle.cert_time.proofs.Moments.{moment_from-parts}
@@ -7,7 +8,8 @@ use Rattle.cert_time.proofs.calendar.moment_of.Goals as goal
 
 pub returns-clause-value : goal.returns-clause-value
 returns-clause-value c =
-    let fits : FitsSigned w64 c.to_second.result = omega (arith, signed_arith, c.to_second.ensures.bound) in
+    let fits : FitsSigned w64 c.to_second.result =
+    omega (arith, signed_arith, c.to_second.ensures.bound) in
     ap Some (to_z-of_z fits ∙ c.to_second.ensures.value)
     ∙ sym (moment_from-parts c.args.first_year _ c.args.civil (record {
       year = omega (arith, signed_casts, c.in-Ok.ensures.value);

@@ -8,9 +8,12 @@ use Rattle.cosigner_core.proofs.writing.write_advance.Goals as goal
 
 pub returns-clause-text : goal.returns-clause-text
 returns-clause-text c =
-    four_pieces c.new-out.result c.put_vec8.new.out c.put_u64.new.out c.put_bytes.new.out c.put_proof.new.out
-    (vector w8 c.args.log.now) (number w64 c.args.size) c.args.root.now c.as_slice.result.now c.args.proof.now
-    c.new-out.ensures c.in_ok-put_vec8.ensures.ok c.in_ok-put_u64.ensures.ok c.in_ok-put_bytes.ensures.ok
+    four_pieces c.new-out.result c.put_vec8.new.out c.put_u64.new.out c.put_bytes.new.out
+    c.put_proof.new.out
+    (vector w8 c.args.log.now) (number w64 c.args.size) c.args.root.now c.as_slice.result.now
+    c.args.proof.now
+    c.new-out.ensures c.in_ok-put_vec8.ensures.ok c.in_ok-put_u64.ensures.ok
+    c.in_ok-put_bytes.ensures.ok
     c.in_ok-put_proof.ensures.text c.as_slice.ensures.value
 
 pub returns-clause-read : goal.returns-clause-read

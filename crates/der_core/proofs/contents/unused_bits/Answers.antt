@@ -1,4 +1,5 @@
-use Rattle.std.proofs.Common.{◌≢◌, ◌*◌, ◌^◌, ◌<◌, ◌≤◌, length, refl, arith, mod-eq_of_lt, ne_eqb, one-mul}
+use Rattle.std.proofs.Common.{◌≢◌, ◌*◌, ◌^◌, ◌<◌, ◌≤◌, length, refl, arith, mod-eq_of_lt, ne_eqb}
+use Rattle.std.proofs.Common.{one-mul}
 use Rattle.std.proofs.Math.Pow.{pow_mono}
 use Rattle.der_core.proofs.contents.unused_bits.Goals as goal
 

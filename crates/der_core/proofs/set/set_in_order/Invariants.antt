@@ -7,7 +7,8 @@ use Rattle.der_core.proofs.set.set_in_order.Given as goal
 
 -- What is left is in order behind the encodings seen so far as the whole is.
 abbrev pub invariant-loop-reader : goal.invariant-loop-reader
-invariant-loop-reader l = Rises l.fn.e.place (discarded (rising_at l.fn.e.place (inside (item l.fn.e)))) l.before l.reader
+invariant-loop-reader l = Rises l.fn.e.place
+    (discarded (rising_at l.fn.e.place (inside (item l.fn.e)))) l.before l.reader
 
 abbrev pub decreases-loop-reader : goal.decreases-loop-reader
 decreases-loop-reader l = length l.reader.rest

@@ -6,4 +6,5 @@ use Rattle.hss_core.proofs.laws.signed_key_verifies.Goals as goal
 
 pub returns : goal.returns
 returns c l t secret public message parts q below size index few =
-    signed_key_verifies (private_key l t secret) q below public message parts (length-take-le 16 secret (omega arith)) index few
+    signed_key_verifies (private_key l t secret) q below public message parts
+    (length-take-le 16 secret (omega arith)) index few

@@ -2,22 +2,32 @@ use Rattle.std.proofs.Common.{◌≡◌, ◌∙◌, suc, ◌+◌, ◌-◌, take,
 use Rattle.std.proofs.lemmas.List.{drop-drop}
 use Rattle.lms_core.specs.Refusals.{answer_of, check_refusal}
 use Rattle.hss_core.specs.Hss.{behind_key, key_behind}
-use Rattle.hss_core.proofs.Parts.{answer_of-err, answer_of-ok, levels_refusal-passed, levels_refusal-refused, parts_fit-more}
+use Rattle.hss_core.proofs.Parts.{answer_of-err, answer_of-ok, levels_refusal-passed}
+use Rattle.hss_core.proofs.Parts.{levels_refusal-refused, parts_fit-more}
 use Rattle.hss_core.proofs.levels.check_levels.Goals as goal
 
 pub split_at-requires-in-loop-done : goal.split_at-requires-in-loop-done
 split_at-requires-in-loop-done c =
-    let more : c.args.count - c.loop-done.done ≡ suc (c.args.count - (c.loop-done.done + 1)) = omega arith in
-    let fit = parts_fit-more _ _ c.in-Some.length c.loop-done.rest.now more (sym c.in-Some.ensures.value) c.loop-done.invariant.1 in
+    let more : c.args.count - c.loop-done.done ≡ suc (c.args.count - (c.loop-done.done + 1)) =
+    omega arith in
+    let fit = parts_fit-more _ _ c.in-Some.length c.loop-done.rest.now more
+    (sym c.in-Some.ensures.value) c.loop-done.invariant.1 in
     omega (arith, fit.0, c.split_at.ensures.back_len)
 
 pub returns-in-Err : goal.returns-in-Err
 returns-in-Err c =
     let rest = c.loop-done.rest.now in
     let size = c.in-Some.length in
-    let more : c.args.count - c.loop-done.done ≡ suc (c.args.count - (c.loop-done.done + 1)) = omega arith in
-    let told : answer_of (check_refusal c.loop-done.key.now (key_behind size rest) (take size rest)) ≡ Err c.in-Err.refusal =
-    rw (← c.split_at.ensures.front, ← c.split_at.ensures.back, ← c.split_at-in-loop-done.ensures.front, ← c.check.ensures)
+    let more : c.args.count - c.loop-done.done ≡ suc (c.args.count - (c.loop-done.done + 1)) =
+    omega arith in
+    let told : answer_of (check_refusal c.loop-done.key.now (key_behind size rest) (take size rest))
+    ≡ Err c.in-Err.refusal =
+    rw (
+      ← c.split_at.ensures.front,
+      ← c.split_at.ensures.back,
+      ← c.split_at-in-loop-done.ensures.front,
+      ← c.check.ensures,
+    )
     c.in-Err.is in
     let refused = levels_refusal-refused _ _ size c.loop-done.key.now c.args.message.now rest _ more
     (sym c.in-Some.ensures.value) (answer_of-err _ _ told) in
@@ -28,16 +38,24 @@ loop-done-preserved c =
     let rest = c.loop-done.rest.now in
     let size = c.in-Some.length in
     let found = sym c.in-Some.ensures.value in
-    let more : c.args.count - c.loop-done.done ≡ suc (c.args.count - (c.loop-done.done + 1)) = omega arith in
+    let more : c.args.count - c.loop-done.done ≡ suc (c.args.count - (c.loop-done.done + 1)) =
+    omega arith in
     let fit = parts_fit-more _ _ size rest more found c.loop-done.invariant.1 in
     let next : c.split_at-in-loop-done.result.0.now ≡ key_behind size rest =
     rw (c.split_at-in-loop-done.ensures.front, c.split_at.ensures.back) refl in
     let behind : c.split_at-in-loop-done.result.1.now ≡ behind_key size rest =
     rw (c.split_at-in-loop-done.ensures.back, c.split_at.ensures.back) (drop-drop 56 size rest) in
-    let told : answer_of (check_refusal c.loop-done.key.now (key_behind size rest) (take size rest)) ≡ Ok tt =
-    rw (← c.split_at.ensures.front, ← c.split_at.ensures.back, ← c.split_at-in-loop-done.ensures.front, ← c.check.ensures)
+    let told : answer_of (check_refusal c.loop-done.key.now (key_behind size rest) (take size rest))
+    ≡ Ok tt =
+    rw (
+      ← c.split_at.ensures.front,
+      ← c.split_at.ensures.back,
+      ← c.split_at-in-loop-done.ensures.front,
+      ← c.check.ensures,
+    )
     c.in-Ok.is in
-    let passed = levels_refusal-passed _ _ size c.loop-done.key.now c.args.message.now rest more found (answer_of-ok _ told) in (
+    let passed = levels_refusal-passed _ _ size c.loop-done.key.now c.args.message.now rest more
+    found (answer_of-ok _ told) in (
       omega (arith, c.split_at-in-loop-done.ensures.front_len),
       rw behind fit.1,
       rw (next, behind) (c.loop-done.invariant.2 ∙ passed),

@@ -10,42 +10,52 @@ pub returns-in-Ok-clause-more : goal.returns-in-Ok-clause-more
 returns-in-Ok-clause-more g c =
     let old = c.args.opening.now in
     let new = c.next.follows.lender-at-none in
-    let read = subst (Nexts old new) (c.in-Ok-Some.is ∙ ap Ok c.in-Ok-Some.field-0-is) c.next.follows.holds-at-none in
-    folded_next (log_fold g.H.TreeHash.hash) old new c.in-Ok-Some.body.now read.0 read.1 c.args.contents.now.state c.take.new.self.state c.requires c.in-Ok.ensures
+    let read = subst (Nexts old new) (c.in-Ok-Some.is
+    ∙ ap Ok c.in-Ok-Some.field-0-is) c.next.follows.holds-at-none in
+    folded_next (log_fold g.H.TreeHash.hash) old new c.in-Ok-Some.body.now read.0 read.1
+    c.args.contents.now.state c.take.new.self.state c.requires c.in-Ok.ensures
 
 pub returns-in-Err-take-clause-err : goal.returns-in-Err-take-clause-err
 returns-in-Err-take-clause-err g c =
     let old = c.args.opening.now in
     let new = c.next.follows.lender-at-none in
-    let read = subst (Nexts old new) (c.in-Ok-Some.is ∙ ap Ok c.in-Ok-Some.field-0-is) c.next.follows.holds-at-none in
-    subst (HasCauseOf g.D.Disk g.H.TreeHash.hash (opening_disk old) (opening_disk new)) (sym c.refusal_at.ensures)
-    (cause_taken g.H.TreeHash.hash old new c.in-Ok-Some.body.now read.0 read.1 read.2.looks c.args.contents.now.state c.take.new.self.state c.read_count-number.result c.in-Err-take.why
+    let read = subst (Nexts old new) (c.in-Ok-Some.is
+    ∙ ap Ok c.in-Ok-Some.field-0-is) c.next.follows.holds-at-none in
+    subst (HasCauseOf g.D.Disk g.H.TreeHash.hash (opening_disk old) (opening_disk new))
+    (sym c.refusal_at.ensures)
+    (cause_taken g.H.TreeHash.hash old new c.in-Ok-Some.body.now read.0 read.1 read.2.looks
+    c.args.contents.now.state c.take.new.self.state c.read_count-number.result c.in-Err-take.why
     c.read_count-number.ensures c.requires (c.in-Err-take.ensures))
 
 pub returns-in-Ok-None-clause-more : goal.returns-in-Ok-None-clause-more
 returns-in-Ok-None-clause-more g c =
     let old = c.args.opening.now in
     let new = c.next.follows.lender-at-none in
-    let ended = subst (Nexts old new) (c.in-Ok-None.is ∙ ap Ok c.in-Ok-None.field-0-is) c.next.follows.holds-at-none in
-    found_last (log_fold g.H.TreeHash.hash) old new ended.0 ended.1.looks c.args.contents.now.state c.requires
+    let ended = subst (Nexts old new) (c.in-Ok-None.is
+    ∙ ap Ok c.in-Ok-None.field-0-is) c.next.follows.holds-at-none in
+    found_last (log_fold g.H.TreeHash.hash) old new ended.0 ended.1.looks c.args.contents.now.state
+    c.requires
 
 pub returns-in-Err-clause-err : goal.returns-in-Err-clause-err
 returns-in-Err-clause-err g c =
     let old = c.args.opening.now in
     let new = c.next.follows.lender-at-none in
     let refused = subst (Nexts old new) c.in-Err.is c.next.follows.holds-at-none in
-    cause_next (log_fold g.H.TreeHash.hash) old new c.args.contents.now.state c.in-Err.why c.requires refused.1
+    cause_next (log_fold g.H.TreeHash.hash) old new c.args.contents.now.state c.in-Err.why
+    c.requires refused.1
 
 pub returns-in-Ok-clause-fine : goal.returns-in-Ok-clause-fine
 returns-in-Ok-clause-fine g c =
     let old = c.args.opening.now in
     let new = c.next.follows.lender-at-none in
-    let read = subst (Nexts old new) (c.in-Ok-Some.is ∙ ap Ok c.in-Ok-Some.field-0-is) c.next.follows.holds-at-none in
+    let read = subst (Nexts old new) (c.in-Ok-Some.is
+    ∙ ap Ok c.in-Ok-Some.field-0-is) c.next.follows.holds-at-none in
     read.2.fine tt
 
 pub returns-in-Ok-None-clause-fine : goal.returns-in-Ok-None-clause-fine
 returns-in-Ok-None-clause-fine g c =
     let old = c.args.opening.now in
     let new = c.next.follows.lender-at-none in
-    let ended = subst (Nexts old new) (c.in-Ok-None.is ∙ ap Ok c.in-Ok-None.field-0-is) c.next.follows.holds-at-none in
+    let ended = subst (Nexts old new) (c.in-Ok-None.is
+    ∙ ap Ok c.in-Ok-None.field-0-is) c.next.follows.holds-at-none in
     ended.1.fine tt

@@ -9,7 +9,8 @@ abbrev pub invariant-records : goal.invariant-records
 invariant-records g l = record {
   folded : HasFolded (log_fold g.H.TreeHash.hash) l.contents.state l.opening;
   looks : Looks g.D.Disk (opening_disk l.initial.opening) (opening_disk l.opening);
-  fine : g.D.Disk.faults (opening_disk l.opening) ≡ g.D.Disk.faults (opening_disk l.initial.opening);
+  fine : g.D.Disk.faults (opening_disk l.opening)
+      ≡ g.D.Disk.faults (opening_disk l.initial.opening);
 }
 
 abbrev pub decreases-records : goal.decreases-records

@@ -17,12 +17,15 @@ returns-clause-body g c =
     let window = c.hold.new.window in
     let at = c.in_ok-gate.ensures.at in
     let all = c.in_ok-gate.ensures.all in
-    if_told (λ (b : List ℕ). IsRecordAt b place (part (gate + 5) count window.buffer.items)) told (λ b is.
-    let size : c.args.size ≡ length b = at_told (λ (b : List ℕ). c.args.size ≡ length b) told b is c.requires.exact in
+    if_told (λ (b : List ℕ). IsRecordAt b place (part (gate + 5) count window.buffer.items)) told
+    (λ b is.
+    let size : c.args.size ≡ length b =
+    at_told (λ (b : List ℕ). c.args.size ≡ length b) told b is c.requires.exact in
     let holds : Holds window b = at_told (Holds window) (g.D.Disk.told c.hold.new.disk) b
     (c.hold.ensures.looks.told ∙ (c.read_size.ensures.looks.told ∙ is)) c.hold.ensures.holds in
     record_read b place count (drop (gate + 5) window.buffer.items)
     (at_told (λ (b : List ℕ). slice_index b place ≢ 0) told b is c.requires.open_gate)
-    (at_told (λ (b : List ℕ). part (place + 1) 4 b ≡ to_be_bytes w32 count) told b is c.in_ok-length.ensures.size)
+    (at_told (λ (b : List ℕ). part (place + 1) 4 b ≡ to_be_bytes w32 count) told b is
+    c.in_ok-length.ensures.size)
     (held_part window b (gate + 5) (place + 5) count holds (omega arith) (omega arith))
     (omega arith) (omega arith) (omega arith))

@@ -17,6 +17,8 @@ returns-clause-size g c =
     ∙ ap (λ (items : List ℕ). take 4 (drop (gate + 1) items)) c.deref.ensures.value in
     let at = c.in_ok-gate.ensures.at in
     let all = c.in_ok-gate.ensures.all in
-    if_told (λ (b : List ℕ). part (place + 1) 4 b ≡ to_be_bytes w32 c.number.result) (g.D.Disk.told c.args.disk.now) (λ b is.
-    let holds : Holds window b = at_told (Holds window) (g.D.Disk.told c.hold.new.disk) b (c.hold.ensures.looks.told ∙ is) c.hold.ensures.holds in
+    if_told (λ (b : List ℕ). part (place + 1) 4 b ≡ to_be_bytes w32 c.number.result)
+    (g.D.Disk.told c.args.disk.now) (λ b is.
+    let holds : Holds window b = at_told (Holds window) (g.D.Disk.told c.hold.new.disk) b
+    (c.hold.ensures.looks.told ∙ is) c.hold.ensures.holds in
     sym (spelled ∙ held_part window b (gate + 1) (place + 1) 4 holds (omega arith) (omega arith)))

@@ -4,4 +4,5 @@ use Rattle.lms_core.proofs.climbing.climb.Given as goal
 
 abbrev pub invariant-loop-i : goal.invariant-loop-i
 invariant-loop-i l =
-    (l.value ≡ climbed l.id l.initial.place l.path l.initial.value l.i) × (l.place ≡ l.initial.place / 2 ^ l.i)
+    (l.value ≡ climbed l.id l.initial.place l.path l.initial.value l.i)
+    × (l.place ≡ l.initial.place / 2 ^ l.i)

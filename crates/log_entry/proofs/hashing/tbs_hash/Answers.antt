@@ -5,12 +5,16 @@ use Rattle.log_entry.proofs.hashing.tbs_hash.Goals as goal
 
 -- The pieces that are added, one behind the other, are the byte before a leaf and the entry.
 pieces : (p : TbsParts)
-    → ((((((([] ++ 0 ∷ []) ++ 0 ∷ 1 ∷ 160 ∷ 3 ∷ 2 ∷ 1 ∷ 2 ∷ []) ++ p.issuer) ++ p.validity_der) ++ p.subject) ++ 4 ∷ 32 ∷ []) ++ p.key_hash) ++ p.extensions
+    → ((((((([] ++ 0 ∷ []) ++ 0 ∷ 1 ∷ 160 ∷ 3 ∷ 2 ∷ 1 ∷ 2 ∷ []) ++ p.issuer) ++ p.validity_der)
+    ++ p.subject) ++ 4 ∷ 32 ∷ []) ++ p.key_hash) ++ p.extensions
     ≡ 0 ∷ tbs_text p
 unfolding tbs_text
 pieces p = simp append_assoc
 
 pub returns : goal.returns
 returns g c =
-    c.end.ensures _ (c.add-8.ensures _ (c.add-7.ensures _ (c.add-6.ensures _ (c.add-5.ensures _ (c.add-4.ensures _ (c.add-3.ensures _ (c.add-2.ensures _ (c.add.ensures _ c.begin-running.ensures))))))))
+    c.end.ensures _ (c.add-8.ensures _
+    (c.add-7.ensures _ (c.add-6.ensures _
+    (c.add-5.ensures _ (c.add-4.ensures _
+    (c.add-3.ensures _ (c.add-2.ensures _ (c.add.ensures _ c.begin-running.ensures))))))))
     ∙ ap g.H.TreeHash.hash (pieces (tbs_parts c.args.tbs.now))

@@ -40,7 +40,8 @@ returns-in-Ok-clause-left g c =
     rw c.into_disk.ensures
     (if_err c.carry_out-answer.result
     (λ stop. IfSome (d.told old) (λ bytes.
-    Leaves d (LeftBy stop (bytes_say h c.args.command.now c.args.journal.now c.args.work bytes).journal)
+    Leaves d (LeftBy stop (bytes_say h c.args.command.now c.args.journal.now c.args.work
+    bytes).journal)
     (Some old) (Some new)))
     c.carry_out-answer.ensures.fallen
     (λ stop fallen. opened d (λ o. Leaves d (LeftBy stop o.journal) (Some old) (Some new))

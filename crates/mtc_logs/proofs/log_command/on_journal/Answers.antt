@@ -11,7 +11,8 @@ unfolding Rattle.mtc_logs.specs.Works.journal_outcome
 returns g c =
     let d = g.R.Dsk.Disk in
     let file = g.R.Room.file c.args.room.now c.args.journal.now in
-    let wanted = journal_outcome g.H.TreeHash.hash c.args.command.now c.args.journal.now file c.args.work in
+    let wanted = journal_outcome g.H.TreeHash.hash c.args.command.now c.args.journal.now file
+    c.args.work in
     record {
       lent = search rules;
       faults = search rules;
@@ -24,7 +25,8 @@ returns g c =
       not_words = search rules;
       fault = search rules;
       made = λ ok t.
-          (let worked : Leaves d (HasMade wanted.journal) (Some c.in-Ok.disk) (Some c.on_device-disk.result.0)
+          (let worked : Leaves d (HasMade wanted.journal) (Some c.in-Ok.disk)
+          (Some c.on_device-disk.result.0)
           = search rules in
           (made_lent d _ _ _ _ _ (search rules) (search rules) worked, tt));
       left = search rules;

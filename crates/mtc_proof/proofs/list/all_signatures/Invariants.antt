@@ -7,7 +7,8 @@ use Rattle.mtc_proof.proofs.list.all_signatures.Given as goal
 
 -- Reading on from here ends as reading all of them does.
 abbrev pub invariant-loop-cursor : goal.invariant-loop-cursor
-invariant-loop-cursor l = Walks mtc_signature_at (discarded (up_to_end mtc_signature_at l.fn.cursor)) l.cursor
+invariant-loop-cursor l = Walks mtc_signature_at
+    (discarded (up_to_end mtc_signature_at l.fn.cursor)) l.cursor
 
 abbrev pub decreases-loop-cursor : goal.decreases-loop-cursor
 decreases-loop-cursor l = length l.cursor.rest

@@ -5,4 +5,5 @@ use Rattle.mtc_reads.proofs.show.put_names.Given as goal
 
 -- what was written and what is left make the whole
 abbrev pub invariant-loop-name : goal.invariant-loop-name
-invariant-loop-name l = l.out ++ flat_map name_line l.name-iterator ≡ l.initial.out ++ flat_map name_line l.initial.name-iterator
+invariant-loop-name l = l.out ++ flat_map name_line l.name-iterator ≡ l.initial.out
+    ++ flat_map name_line l.initial.name-iterator

@@ -5,4 +5,5 @@ use Rattle.mtc_reads.proofs.show.put_signatures.Given as goal
 
 -- what was written and what is left make the whole
 abbrev pub invariant-loop-signature : goal.invariant-loop-signature
-invariant-loop-signature l = l.out ++ flat_map signature_line l.signature-iterator ≡ l.initial.out ++ flat_map signature_line l.initial.signature-iterator
+invariant-loop-signature l = l.out ++ flat_map signature_line l.signature-iterator ≡ l.initial.out
+    ++ flat_map signature_line l.initial.signature-iterator

@@ -3,9 +3,11 @@ use Rattle.policy_core.specs.Files.{has_repeat}
 use Rattle.policy_core.proofs.Repeats.{Holds, repeats_behind}
 use Rattle.policy_core.proofs.whole.repeats.Given as goal
 
--- the set has the intervals so far, and what is left repeats one of these or of its own where the whole does
+-- the set has the intervals so far, and what is left repeats one of these or of its own where the
+-- whole does
 abbrev pub invariant-loop-one : goal.invariant-loop-one
 invariant-loop-one l = record {
   seen : Holds l.seen (take l.one-index l.subtrees);
-  whole : repeats_behind (take l.one-index l.subtrees) (drop l.one-index l.subtrees) ≡ has_repeat l.subtrees;
+  whole : repeats_behind (take l.one-index l.subtrees) (drop l.one-index l.subtrees)
+      ≡ has_repeat l.subtrees;
 }

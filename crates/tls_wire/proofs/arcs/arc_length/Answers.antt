@@ -9,10 +9,12 @@ pub overflow_add-count : goal.overflow_add-count
 overflow_add-count c = omega (arith, c.loop-high.invariant.small, c.loop-high-test.true)
 
 pub loop-high-preserved : goal.loop-high-preserved
-loop-high-preserved c = counted_more _ c.loop-high.count c.loop-high.high c.loop-high-test.true c.loop-high.invariant
+loop-high-preserved c = counted_more _ c.loop-high.count c.loop-high.high c.loop-high-test.true
+    c.loop-high.invariant
 
 pub returns-clause-exact : goal.returns-clause-exact
-returns-clause-exact c = counted_end _ c.loop-high.count c.loop-high.high c.loop-high-test.false c.loop-high.invariant
+returns-clause-exact c = counted_end _ c.loop-high.count c.loop-high.high c.loop-high-test.false
+    c.loop-high.invariant
 
 pub returns-clause-small : goal.returns-clause-small
 returns-clause-small c = omega (arith, c.loop-high.invariant.small)

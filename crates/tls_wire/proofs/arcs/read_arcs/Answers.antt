@@ -10,14 +10,20 @@ returns-in_err-place c =
     let p = err_from_is_err_and c.from_residual.result c.from_residual.ensures.1 in
     rw (p.1, p.2)
     (arcs_fail c.args.bytes.now _
-    (walks_fails arc_at _ (at c.args.bytes.now c.loop-place.place) _ c.in_err-place.ensures.exact (some_left c.args.bytes.now c.loop-place.place c.loop-place-test.true) c.loop-place.invariant))
+    (walks_fails arc_at _ (at c.args.bytes.now c.loop-place.place) _ c.in_err-place.ensures.exact
+    (some_left c.args.bytes.now c.loop-place.place c.loop-place-test.true)
+    c.loop-place.invariant))
 
 pub loop-place-preserved : goal.loop-place-preserved
 loop-place-preserved c =
-    walks_more arc_at _ (at c.args.bytes.now c.loop-place.place) _ (at c.args.bytes.now c.in_ok-place.field-0.1) c.in_ok-place.ensures.exact
-    (less_left c.args.bytes.now c.loop-place.place c.in_ok-place.field-0.1 c.in_ok-place.ensures.forward.0 c.in_ok-place.ensures.forward.1) c.loop-place.invariant
+    walks_more arc_at _ (at c.args.bytes.now c.loop-place.place) _
+    (at c.args.bytes.now c.in_ok-place.field-0.1) c.in_ok-place.ensures.exact
+    (less_left c.args.bytes.now c.loop-place.place c.in_ok-place.field-0.1
+    c.in_ok-place.ensures.forward.0 c.in_ok-place.ensures.forward.1) c.loop-place.invariant
 
 pub returns : goal.returns
 returns c =
     arcs_end c.args.bytes.now (at c.args.bytes.now c.loop-place.place)
-    (walks_end arc_at _ (at c.args.bytes.now c.loop-place.place) (none_left c.args.bytes.now c.loop-place.place c.loop-place-test.false) c.loop-place.invariant)
+    (walks_end arc_at _ (at c.args.bytes.now c.loop-place.place)
+    (none_left c.args.bytes.now c.loop-place.place c.loop-place-test.false)
+    c.loop-place.invariant)

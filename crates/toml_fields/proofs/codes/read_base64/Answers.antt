@@ -5,7 +5,8 @@ use Rattle.toml_fields.proofs.codes.read_base64.Goals as goal
 pub returns-in-Ok-clause-value : goal.returns-in-Ok-clause-value
 returns-in-Ok-clause-value c =
     ap Some c.from_vec.ensures
-    ∙ sym (bytes_of_base64-some c.args.text.now c.in-Ok.bytes.items (rw c.as_bytes.ensures.value at c.in-Ok.ensures.ok))
+    ∙ sym (bytes_of_base64-some c.args.text.now c.in-Ok.bytes.items
+    (rw c.as_bytes.ensures.value at c.in-Ok.ensures.ok))
 
 pub returns-in-Err-DecodeError-clause-value : goal.returns-in-Err-DecodeError-clause-value
 returns-in-Err-DecodeError-clause-value c =

@@ -1,4 +1,6 @@
-use Rattle.tree_core.proofs.Paths.{IsInclusionPath_always, PathsByLength_always, PathsEvaluate_always, SubtreePathsEvaluate_always, WrongLengthByPath_always}
+use Rattle.tree_core.proofs.Paths.{IsInclusionPath_always, PathsByLength_always}
+use Rattle.tree_core.proofs.Paths.{PathsEvaluate_always, SubtreePathsEvaluate_always}
+use Rattle.tree_core.proofs.Paths.{WrongLengthByPath_always}
 use Rattle.tree_core.proofs.laws.inclusion_paths_evaluate.Goals as goal
 
 pub returns-clause-path : goal.returns-clause-path

@@ -1,4 +1,5 @@
-use Rattle.tree_proofs.proofs.Checked.{PassesWhereChecks_always, ProofsCheck_always, WrongLengthByProof_always}
+use Rattle.tree_proofs.proofs.Checked.{PassesWhereChecks_always, ProofsCheck_always}
+use Rattle.tree_proofs.proofs.Checked.{WrongLengthByProof_always}
 use Rattle.tree_proofs.proofs.Made.{IsConsistencyProof_always}
 use Rattle.tree_proofs.proofs.laws.consistency_proofs_check.Goals as goal
 

@@ -5,7 +5,8 @@ use Rattle.tree_proofs.proofs.tree.+root_over.Goals as goal
 
 pub returns-in-empty : goal.returns-in-empty
 returns-in-empty g t c =
-    c.end.ensures [] c.begin.ensures ∙ root-none g.H.TreeHash.hash c.args.leaves.now c.in-empty.len_below
+    c.end.ensures [] c.begin.ensures ∙ root-none g.H.TreeHash.hash c.args.leaves.now
+    c.in-empty.len_below
 
 pub returns-in-len1 : goal.returns-in-len1
 returns-in-len1 g t c =
@@ -15,6 +16,8 @@ pub returns-in_default : goal.returns-in_default
 returns-in_default g t c =
     c.pair.ensures
     ∙ ap (λ l. pair_hash g.H.TreeHash.hash l c.root_over-in_default.result) c.root_over.ensures
-    ∙ ap (pair_hash g.H.TreeHash.hash (root_of g.H.TreeHash.hash c.split_at.result.0.now)) c.root_over-in_default.ensures
-    ∙ root-more g.H.TreeHash.hash c.args.leaves.now _ _ _ c.in_default.len_at_least c.split.ensures.value
+    ∙ ap (pair_hash g.H.TreeHash.hash (root_of g.H.TreeHash.hash c.split_at.result.0.now))
+    c.root_over-in_default.ensures
+    ∙ root-more g.H.TreeHash.hash c.args.leaves.now _ _ _ c.in_default.len_at_least
+    c.split.ensures.value
     c.split_at.ensures.front c.split_at.ensures.back

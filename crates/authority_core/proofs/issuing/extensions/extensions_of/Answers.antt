@@ -5,7 +5,11 @@ use Rattle.authority_core.proofs.issuing.extensions.extensions_of.Goals as goal
 
 pub element_of-requires-clause-short : goal.element_of-requires-clause-short
 element_of-requires-clause-short c =
-    omega (arith, ap length (c.as_slice.ensures ∙ c.in_ok-contents.ensures.value), contents-short c.args.request.now c.alt_name.ensures.valid)
+    omega (
+      arith,
+      ap length (c.as_slice.ensures ∙ c.in_ok-contents.ensures.value),
+      contents-short c.args.request.now c.alt_name.ensures.valid,
+    )
 
 pub element_of-requires-2-clause-short : goal.element_of-requires-2-clause-short
 element_of-requires-2-clause-short c =

@@ -9,7 +9,8 @@ rest n xs = take_all (length xs - n) (drop n xs) (omega (arith, length-drop n xs
 
 pub returns-in-Some-clause-parts : goal.returns-in-Some-clause-parts
 returns-in-Some-clause-parts c =
-    rw (rest (c.in-Some.end + 1) c.args.text.now) (labels_of-dot c.args.text.now c.in-Some.end (sym c.in-Some.ensures.value))
+    rw (rest (c.in-Some.end + 1) c.args.text.now) (labels_of-dot c.args.text.now c.in-Some.end
+    (sym c.in-Some.ensures.value))
 
 pub returns-in-None-clause-last : goal.returns-in-None-clause-last
 returns-in-None-clause-last c = labels_of-last c.args.text.now (sym c.in-None.ensures.value)

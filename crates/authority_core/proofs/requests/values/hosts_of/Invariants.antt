@@ -8,7 +8,8 @@ use Rattle.authority_core.proofs.requests.values.hosts_of.Given as goal
 -- the names so far are host names, and with those that the rest says they make the whole
 abbrev pub invariant-loop-value : goal.invariant-loop-value
 invariant-loop-value l = record {
-  whole : option_map (λ names. l.items.items ++ names) (hosts_in (items_view (drop l.value-index l.values))) ≡ hosts_in (items_view l.values);
+  whole : option_map (λ names. l.items.items ++ names)
+      (hosts_in (items_view (drop l.value-index l.values))) ≡ hosts_in (items_view l.values);
   hosts : AllByRecursion IsHostName l.items.items;
   count : length l.items.items ≡ l.value-index;
 }

@@ -11,4 +11,5 @@ returns-clause-verifies c =
     let made : c.sign.new.out ≡ one_level_signature key next c.args.message.now =
     rw (c.sign.ensures.bytes, c.append.ensures, c.to_be_bytes.ensures, c.clear.ensures) refl in
     let index = rw (← c.self.view_is) at c.requires in
-    rw (← c.self.view_is, made) (hss_refusal-one_level_signature key next c.args.message.now c.sign.ensures.id index)
+    rw (← c.self.view_is, made) (hss_refusal-one_level_signature key next c.args.message.now
+    c.sign.ensures.id index)

@@ -5,6 +5,8 @@ use Rattle.issuance_log.proofs.contents.Contents.push.Goals as goal
 
 pub invariant_of-self : goal.invariant_of-self
 invariant_of-self g c =
-    let few = subst (λ (held : LogContents). length held.state.entries < held.state.settings.limit) (sym c.self.view_is) c.requires.few in
+    let few = subst (λ (held : LogContents). length held.state.entries < held.state.settings.limit)
+    (sym c.self.view_is) c.requires.few in
     rw (c.push-2.ensures.entries, c.push-2.ensures.keys)
-    (sound_with g.H.TreeHash.hash _ c.args.item.entry c.args.item.key c.self.invariant few c.requires.item)
+    (sound_with g.H.TreeHash.hash _ c.args.item.entry c.args.item.key c.self.invariant few
+    c.requires.item)

@@ -9,8 +9,11 @@ pub returns-in-Ok : goal.returns-in-Ok
 returns-in-Ok g c =
     let h = g.H.TreeHash.hash in
     let old = c.args.self.now.state in
-    let is = next_item h old c.args.body.now ∙ ap (option_and_then (with_entry h old)) c.in-Ok.ensures.found in
-    subst (λ (wanted : Option LogState). Takes wanted old c.take_item.result c.take_item.new.self.state) (sym is) c.take_item.ensures
+    let is = next_item h old c.args.body.now
+    ∙ ap (option_and_then (with_entry h old)) c.in-Ok.ensures.found in
+    subst (λ (wanted : Option LogState). Takes wanted old c.take_item.result
+    c.take_item.new.self.state) (sym is) c.take_item.ensures
 
 pub returns-in-Err : goal.returns-in-Err
-returns-in-Err g c = refused_item g.H.TreeHash.hash c.args.self.now.state c.args.body.now c.in-Err.why c.in-Err.ensures.found
+returns-in-Err g c = refused_item g.H.TreeHash.hash c.args.self.now.state c.args.body.now
+    c.in-Err.why c.in-Err.ensures.found

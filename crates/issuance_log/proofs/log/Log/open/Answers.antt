@@ -5,4 +5,5 @@ use Rattle.issuance_log.proofs.log.Log.open.Goals as goal
 pub returns-in-Err-clause-cause : goal.returns-in-Err-clause-cause
 returns-in-Err-clause-cause g c =
     rw (c.hand_back.ensures.disk, c.hand_back.ensures.why)
-    (cause_begin g.D.Disk (log_fold g.H.TreeHash.hash) c.args.disk c.in-Err.field-0.disk c.in-Err.field-0.why c.in-Err.ensures.reason c.in-Err.ensures.kind)
+    (cause_begin g.D.Disk (log_fold g.H.TreeHash.hash) c.args.disk c.in-Err.field-0.disk
+    c.in-Err.field-0.why c.in-Err.ensures.reason c.in-Err.ensures.kind)

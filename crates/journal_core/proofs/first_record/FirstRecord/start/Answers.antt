@@ -1,4 +1,5 @@
-use Rattle.std.proofs.Common.{◌≡◌, ◌+◌, ◌≤◌, ℕ, List, [], ◌∷◌, length, take, IfSome, Option, option_map, is_some, ap, sym, subst, ◌∙◌, add_comm, arith, refl}
+use Rattle.std.proofs.Common.{◌≡◌, ◌+◌, ◌≤◌, ℕ, List, [], ◌∷◌, length, take, IfSome, Option}
+use Rattle.std.proofs.Common.{option_map, is_some, ap, sym, subst, ◌∙◌, add_comm, arith, refl}
 use Rattle.std.proofs.lemmas.List.{nil_from_length, length-take, length-drop}
 use Rattle.journal_core.specs.Format.{new_file_of}
 use Rattle.journal_core.specs.Packed.{first_body}
@@ -10,16 +11,21 @@ use Rattle.journal_core.proofs.first_record.FirstRecord.start.Goals as goal
 
 -- the length of its body
 sized : (packed : FirstRecord) → length (first_body packed) ≡ packed.size
-sized packed = let room = packed.room in let few = packed.few in simp (length-take, length-drop) (omega arith)
+sized packed = let room = packed.room in let few =
+    packed.few in simp (length-take, length-drop) (omega arith)
 
 -- the piece that was written
-piece_is : (packed : FirstRecord) (buffer : List ℕ) → buffer ≡ packed.buffer.items → take (packed.size + 22) buffer ≡ new_file_of (first_body packed)
+piece_is : (packed : FirstRecord) (buffer : List ℕ) → buffer ≡ packed.buffer.items
+    → take (packed.size + 22) buffer ≡ new_file_of (first_body packed)
 piece_is packed buffer same =
-    ap (λ (b : List ℕ). take (packed.size + 22) b) same ∙ ap (λ (n : ℕ). take n packed.buffer.items) (add_comm packed.size 22) ∙ packed.packed
+    ap (λ (b : List ℕ). take (packed.size + 22) b) same
+    ∙ ap (λ (n : ℕ). take n packed.buffer.items) (add_comm packed.size 22) ∙ packed.packed
 
 -- a file of no bytes
-empty : (told : Option (List ℕ)) (n : ℕ) → n ≡ 0 → IfSome told (λ b. n ≡ length b) → IfSome told (λ b. b ≡ [])
-empty told n none lengths = if_some (λ b. n ≡ length b) (λ b. b ≡ []) told (λ b is. nil_from_length b (sym is ∙ none)) lengths
+empty : (told : Option (List ℕ)) (n : ℕ) → n ≡ 0 → IfSome told (λ b. n ≡ length b)
+    → IfSome told (λ b. b ≡ [])
+empty told n none lengths = if_some (λ b. n ≡ length b) (λ b. b ≡ []) told
+    (λ b is. nil_from_length b (sym is ∙ none)) lengths
 
 some_body : (packed : FirstRecord) → 1 ≤ length (first_body packed)
 some_body packed = let some = packed.some in let size = sized packed in omega arith
@@ -29,41 +35,52 @@ few_body packed = let few = packed.few in let size = sized packed in omega arith
 
 pub invariant_of-result-clause-settled : goal.invariant_of-result-clause-settled
 invariant_of-result-clause-settled g c = λ sound b told.
-    subst (λ (n : ℕ). IsSettled b (g.D.Disk.may_leave c.write_first.new.disk) (n + 22)) (sized c.args.self)
+    subst (λ (n : ℕ). IsSettled b (g.D.Disk.may_leave c.write_first.new.disk) (n + 22))
+    (sized c.args.self)
     (started_settled g.D.Disk c.look_len.new.disk c.write_first.new.disk (first_body c.args.self)
     (take (c.args.self.size + 22) c.deref.result.now)
-    (subst (λ (told : Option (List ℕ)). IfSome told (λ b. b ≡ [])) (sym c.look_len.ensures.looks.told)
+    (subst (λ (told : Option (List ℕ)). IfSome told (λ b. b ≡ []))
+    (sym c.look_len.ensures.looks.told)
     (empty (g.D.Disk.told c.args.disk) c.in-Ok.length c.if-length-ne0.false c.in-Ok.ensures.length))
-    (piece_is c.args.self c.deref.result.now c.deref.ensures.value) (some_body c.args.self) (few_body c.args.self)
+    (piece_is c.args.self c.deref.result.now c.deref.ensures.value) (some_body c.args.self)
+    (few_body c.args.self)
     c.in-Ok-write_first.ensures.written c.in-Ok-write_first.ensures.durable b told)
 
 pub invariant_of-result-clause-stands : goal.invariant_of-result-clause-stands
 invariant_of-result-clause-stands g c = λ b told.
     (started_settled g.D.Disk c.look_len.new.disk c.write_first.new.disk (first_body c.args.self)
     (take (c.args.self.size + 22) c.deref.result.now)
-    (subst (λ (told : Option (List ℕ)). IfSome told (λ b. b ≡ [])) (sym c.look_len.ensures.looks.told)
+    (subst (λ (told : Option (List ℕ)). IfSome told (λ b. b ≡ []))
+    (sym c.look_len.ensures.looks.told)
     (empty (g.D.Disk.told c.args.disk) c.in-Ok.length c.if-length-ne0.false c.in-Ok.ensures.length))
-    (piece_is c.args.self c.deref.result.now c.deref.ensures.value) (some_body c.args.self) (few_body c.args.self)
+    (piece_is c.args.self c.deref.result.now c.deref.ensures.value) (some_body c.args.self)
+    (few_body c.args.self)
     c.in-Ok-write_first.ensures.written c.in-Ok-write_first.ensures.durable b told).stands
 
 pub returns-in-Ok-write_first-clause-ok : goal.returns-in-Ok-write_first-clause-ok
 returns-in-Ok-write_first-clause-ok g c =
-    let none = subst (λ (told : Option (List ℕ)). IfSome told (λ b. b ≡ [])) (sym c.look_len.ensures.looks.told)
-    (empty (g.D.Disk.told c.args.disk) c.in-Ok.length c.if-length-ne0.false c.in-Ok.ensures.length) in
+    let none = subst (λ (told : Option (List ℕ)). IfSome told (λ b. b ≡ []))
+    (sym c.look_len.ensures.looks.told)
+    (empty (g.D.Disk.told c.args.disk) c.in-Ok.length c.if-length-ne0.false
+    c.in-Ok.ensures.length) in
     let size = sized c.args.self in
     record {
-      empty = empty (g.D.Disk.told c.args.disk) c.in-Ok.length c.if-length-ne0.false c.in-Ok.ensures.length;
+      empty = empty (g.D.Disk.told c.args.disk) c.in-Ok.length c.if-length-ne0.false
+          c.in-Ok.ensures.length;
       told = c.write_first.ensures.told ∙ ap is_some c.look_len.ensures.looks.told;
-      list = started_records g.D.Disk c.look_len.new.disk c.write_first.new.disk (first_body c.args.self)
+      list = started_records g.D.Disk c.look_len.new.disk c.write_first.new.disk
+          (first_body c.args.self)
           (take (c.args.self.size + 22) c.deref.result.now) none
-          (piece_is c.args.self c.deref.result.now c.deref.ensures.value) (some_body c.args.self) (few_body c.args.self)
+          (piece_is c.args.self c.deref.result.now c.deref.ensures.value) (some_body c.args.self)
+          (few_body c.args.self)
           c.in-Ok-write_first.ensures.written c.in-Ok-write_first.ensures.durable
           ∙ ap (option_map (λ _. first_body c.args.self ∷ [])) c.look_len.ensures.looks.told;
       sound = refl;
       end = omega arith;
       all = started_all g.D.Disk c.look_len.new.disk c.write_first.new.disk (first_body c.args.self)
           (take (c.args.self.size + 22) c.deref.result.now) none
-          (piece_is c.args.self c.deref.result.now c.deref.ensures.value) (some_body c.args.self) (few_body c.args.self)
+          (piece_is c.args.self c.deref.result.now c.deref.ensures.value) (some_body c.args.self)
+          (few_body c.args.self)
           c.in-Ok-write_first.ensures.written c.in-Ok-write_first.ensures.durable;
       fine = c.in-Ok-write_first.ensures.cause.fine ∙ c.in-Ok.ensures.cause.fine;
     }

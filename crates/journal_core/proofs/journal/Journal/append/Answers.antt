@@ -7,11 +7,16 @@ use Rattle.journal_core.proofs.journal.Journal.append.Goals as goal
 
 pub returns-clause-afterwards : goal.returns-clause-afterwards
 returns-clause-afterwards g c = λ sound.
-    if_some (λ list. LeavesOnly g.D.Disk (disk_of c.args.self.now) (disk_of c.put.new.self) (StandsForEither list c.args.body.now)) _ (records c.args.self.now)
-    (λ list run. left_now g.D.Disk _ _ _ (g.met.D.Disk.counts_now _) run) (c.put.ensures.any_moment sound)
+    if_some (λ list. LeavesOnly g.D.Disk (disk_of c.args.self.now) (disk_of c.put.new.self)
+    (StandsForEither list c.args.body.now)) _ (records c.args.self.now)
+    (λ list run. left_now g.D.Disk _ _ _ (g.met.D.Disk.counts_now _) run)
+    (c.put.ensures.any_moment sound)
 
 pub returns-clause-as_read : goal.returns-clause-as_read
 returns-clause-as_read g c = λ sound.
-    if_some (λ list. LeavesOnly g.D.Disk (disk_of c.args.self.now) (disk_of c.put.new.self) (StandsForEither list c.args.body.now)) _ (records c.args.self.now)
-    (λ list run. if_told (StandsForEither list c.args.body.now) (g.D.Disk.told (disk_of c.put.new.self))
-    (λ b told. left_now g.D.Disk _ _ _ (g.met.D.Disk.counts_now _) run b (g.met.D.Disk.reads_image _ b told))) (c.put.ensures.any_moment sound)
+    if_some (λ list. LeavesOnly g.D.Disk (disk_of c.args.self.now) (disk_of c.put.new.self)
+    (StandsForEither list c.args.body.now)) _ (records c.args.self.now)
+    (λ list run. if_told (StandsForEither list c.args.body.now)
+    (g.D.Disk.told (disk_of c.put.new.self))
+    (λ b told. left_now g.D.Disk _ _ _ (g.met.D.Disk.counts_now _) run b
+    (g.met.D.Disk.reads_image _ b told))) (c.put.ensures.any_moment sound)

@@ -1,99 +1,140 @@
-use Rattle.std.proofs.Common.{◌≡◌, ◌+◌, ℕ, List, length, take, ap, ◌∙◌, add_comm, true, false, arith, rules, refl}
+use Rattle.std.proofs.Common.{◌≡◌, ◌+◌, ℕ, List, length, take, ap, ◌∙◌, add_comm, true, false}
+use Rattle.std.proofs.Common.{arith, rules, refl}
 use Rattle.journal_core.specs.Format.{tail_of}
-use Rattle.journal_core.proofs.Steps.{done_settled, done_all, done_records, no_step, one_step, both_steps, still_stands}
+use Rattle.journal_core.proofs.Steps.{done_settled, done_all, done_records, no_step, one_step}
+use Rattle.journal_core.proofs.Steps.{both_steps, still_stands}
 use Rattle.journal_core.proofs.journal.Journal.put.Goals as goal
 
 -- the piece that was written
-piece_is : (buffer room : List ℕ) (body : List ℕ) → buffer ≡ room → take (5 + length body) room ≡ tail_of body → take (length body + 5) buffer ≡ tail_of body
+piece_is : (buffer room : List ℕ) (body : List ℕ) → buffer ≡ room
+    → take (5 + length body) room ≡ tail_of body → take (length body + 5) buffer ≡ tail_of body
 piece_is buffer room body same is =
-    ap (λ (b : List ℕ). take (length body + 5) b) same ∙ ap (λ (n : ℕ). take n room) (add_comm (length body) 5) ∙ is
+    ap (λ (b : List ℕ). take (length body + 5) b) same
+    ∙ ap (λ (n : ℕ). take n room) (add_comm (length body) 5) ∙ is
 
 pub invariant_of-self : goal.invariant_of-self
 invariant_of-self g c = record {
   room = search rules;
-  there = let kept = c.write_synced.ensures.known_kept in let was = c.args.self.now.there in omega arith;
+  there = let kept = c.write_synced.ensures.known_kept in let was =
+      c.args.self.now.there in omega arith;
   begun = c.args.self.now.begun;
   stands =
-      still_stands g.D.Disk c.args.self.now.disk c.write_synced.new.disk c.args.body.now c.write_synced.ensures.told
+      still_stands g.D.Disk c.args.self.now.disk c.write_synced.new.disk c.args.body.now
+      c.write_synced.ensures.told
       (g.met.D.Disk.reads_image _) (g.met.D.Disk.counts_now _)
-      (one_step g.D.Disk c.args.self.now.disk c.write_synced.new.disk c.write_synced.new.disk c.args.body.now
-      (take (length c.args.body.now + 5) c.deref.result.now) c.args.self.now.end (c.args.self.now.settled c.if-self.false)
+      (one_step g.D.Disk c.args.self.now.disk c.write_synced.new.disk c.write_synced.new.disk
+      c.args.body.now
+      (take (length c.args.body.now + 5) c.deref.result.now) c.args.self.now.end
+      (c.args.self.now.settled c.if-self.false)
       (piece_is _ _ _ c.deref.ensures.value c.pack.ensures.tail) c.requires.some c.requires.few
-      (length (take (length c.args.body.now + 5) c.deref.result.now)) c.write_synced.ensures.any_moment);
+      (length (take (length c.args.body.now + 5) c.deref.result.now))
+      c.write_synced.ensures.any_moment);
   settled = λ sound. let wrong : true ≡ false = sound in cc;
 }
 
 pub invariant_of-self-in-Break-branch-2 : goal.invariant_of-self-in-Break-branch-2
 invariant_of-self-in-Break-branch-2 g c = record {
   room = search rules;
-  there = let kept = c.write_synced.ensures.known_kept in let later = c.write_synced-2.ensures.known_kept in let was = c.args.self.now.there in omega arith;
+  there = let kept = c.write_synced.ensures.known_kept in let later =
+      c.write_synced-2.ensures.known_kept in let was = c.args.self.now.there in omega arith;
   begun = c.args.self.now.begun;
   stands =
       still_stands g.D.Disk c.args.self.now.disk c.write_synced-2.new.disk c.args.body.now
       (c.write_synced-2.ensures.told ∙ c.write_synced.ensures.told)
       (g.met.D.Disk.reads_image _) (g.met.D.Disk.counts_now _)
-      (both_steps g.D.Disk c.args.self.now.disk c.write_synced.new.disk c.write_synced-2.new.disk c.args.body.now
-      (take (length c.args.body.now + 5) c.deref.result.now) c.args.self.now.end (c.args.self.now.settled c.if-self.false)
+      (both_steps g.D.Disk c.args.self.now.disk c.write_synced.new.disk c.write_synced-2.new.disk
+      c.args.body.now
+      (take (length c.args.body.now + 5) c.deref.result.now) c.args.self.now.end
+      (c.args.self.now.settled c.if-self.false)
       (piece_is _ _ _ c.deref.ensures.value c.pack.ensures.tail) c.requires.some c.requires.few
-      (length (take (length c.args.body.now + 5) c.deref.result.now)) c.write_synced.ensures.any_moment
-      c.in_ok-write_synced.ensures.written c.in_ok-write_synced.ensures.durable c.write_synced-2.ensures.any_moment);
+      (length (take (length c.args.body.now + 5) c.deref.result.now))
+      c.write_synced.ensures.any_moment
+      c.in_ok-write_synced.ensures.written c.in_ok-write_synced.ensures.durable
+      c.write_synced-2.ensures.any_moment);
   settled = λ sound. let wrong : true ≡ false = sound in cc;
 }
 
 pub invariant_of-self-2-clause-stands : goal.invariant_of-self-2-clause-stands
 invariant_of-self-2-clause-stands g c = λ b told.
-    (done_settled g.D.Disk c.args.self.now.disk c.write_synced.new.disk c.write_synced-2.new.disk c.args.body.now
-    (take (length c.args.body.now + 5) c.deref.result.now) c.args.self.now.end (c.args.self.now.settled c.if-self.false)
+    (done_settled g.D.Disk c.args.self.now.disk c.write_synced.new.disk c.write_synced-2.new.disk
+    c.args.body.now
+    (take (length c.args.body.now + 5) c.deref.result.now) c.args.self.now.end
+    (c.args.self.now.settled c.if-self.false)
     (piece_is _ _ _ c.deref.ensures.value c.pack.ensures.tail) c.requires.some c.requires.few
-    c.in_ok-write_synced.ensures.written c.in_ok-write_synced-2.ensures.written c.in_ok-write_synced-2.ensures.durable b told).stands
+    c.in_ok-write_synced.ensures.written c.in_ok-write_synced-2.ensures.written
+    c.in_ok-write_synced-2.ensures.durable b told).stands
 
 pub returns-then-self-size-clause-any_moment : goal.returns-then-self-size-clause-any_moment
 returns-then-self-size-clause-any_moment g c = λ sound.
-    no_step g.D.Disk c.args.self.now.disk c.args.self.now.disk c.args.self.now.disk c.args.body.now (tail_of c.args.body.now)
-    c.args.self.now.end (c.args.self.now.settled sound) refl c.requires.some c.requires.few (g.met.D.Disk.only_now _)
+    no_step g.D.Disk c.args.self.now.disk c.args.self.now.disk c.args.self.now.disk c.args.body.now
+    (tail_of c.args.body.now)
+    c.args.self.now.end (c.args.self.now.settled sound) refl c.requires.some c.requires.few
+    (g.met.D.Disk.only_now _)
 
 pub invariant_of-self-2-clause-settled : goal.invariant_of-self-2-clause-settled
 invariant_of-self-2-clause-settled g c = λ sound b told.
-    done_settled g.D.Disk c.args.self.now.disk c.write_synced.new.disk c.write_synced-2.new.disk c.args.body.now
-    (take (length c.args.body.now + 5) c.deref.result.now) c.args.self.now.end (c.args.self.now.settled c.if-self.false)
+    done_settled g.D.Disk c.args.self.now.disk c.write_synced.new.disk c.write_synced-2.new.disk
+    c.args.body.now
+    (take (length c.args.body.now + 5) c.deref.result.now) c.args.self.now.end
+    (c.args.self.now.settled c.if-self.false)
     (piece_is _ _ _ c.deref.ensures.value c.pack.ensures.tail) c.requires.some c.requires.few
-    c.in_ok-write_synced.ensures.written c.in_ok-write_synced-2.ensures.written c.in_ok-write_synced-2.ensures.durable b told
+    c.in_ok-write_synced.ensures.written c.in_ok-write_synced-2.ensures.written
+    c.in_ok-write_synced-2.ensures.durable b told
 
 pub returns-clause-leaves : goal.returns-clause-leaves
 returns-clause-leaves g c = record {
-  records = done_records g.D.Disk c.args.self.now.disk c.write_synced.new.disk c.write_synced-2.new.disk c.args.body.now
-      (take (length c.args.body.now + 5) c.deref.result.now) c.args.self.now.end (c.args.self.now.settled c.if-self.false)
+  records = done_records g.D.Disk c.args.self.now.disk c.write_synced.new.disk
+      c.write_synced-2.new.disk c.args.body.now
+      (take (length c.args.body.now + 5) c.deref.result.now) c.args.self.now.end
+      (c.args.self.now.settled c.if-self.false)
       (piece_is _ _ _ c.deref.ensures.value c.pack.ensures.tail) c.requires.some c.requires.few
-      c.in_ok-write_synced.ensures.written c.in_ok-write_synced-2.ensures.written c.in_ok-write_synced-2.ensures.durable;
+      c.in_ok-write_synced.ensures.written c.in_ok-write_synced-2.ensures.written
+      c.in_ok-write_synced-2.ensures.durable;
   end = omega arith;
   was_sound = c.if-self.false;
   sound = refl;
-  all = done_all g.D.Disk c.args.self.now.disk c.write_synced.new.disk c.write_synced-2.new.disk c.args.body.now
-      (take (length c.args.body.now + 5) c.deref.result.now) c.args.self.now.end (c.args.self.now.settled c.if-self.false)
+  all = done_all g.D.Disk c.args.self.now.disk c.write_synced.new.disk c.write_synced-2.new.disk
+      c.args.body.now
+      (take (length c.args.body.now + 5) c.deref.result.now) c.args.self.now.end
+      (c.args.self.now.settled c.if-self.false)
       (piece_is _ _ _ c.deref.ensures.value c.pack.ensures.tail) c.requires.some c.requires.few
-      c.in_ok-write_synced.ensures.written c.in_ok-write_synced-2.ensures.written c.in_ok-write_synced-2.ensures.durable;
+      c.in_ok-write_synced.ensures.written c.in_ok-write_synced-2.ensures.written
+      c.in_ok-write_synced-2.ensures.durable;
   fine = c.in_ok-write_synced-2.ensures.cause.fine ∙ c.in_ok-write_synced.ensures.cause.fine;
 }
 
-pub returns-in_err-write_synced-clause-any_moment : goal.returns-in_err-write_synced-clause-any_moment
+pub returns-in_err-write_synced-clause-any_moment
+    : goal.returns-in_err-write_synced-clause-any_moment
 returns-in_err-write_synced-clause-any_moment g c = λ sound.
-    one_step g.D.Disk c.args.self.now.disk c.write_synced.new.disk c.write_synced.new.disk c.args.body.now
-    (take (length c.args.body.now + 5) c.deref.result.now) c.args.self.now.end (c.args.self.now.settled c.if-self.false)
+    one_step g.D.Disk c.args.self.now.disk c.write_synced.new.disk c.write_synced.new.disk
+    c.args.body.now
+    (take (length c.args.body.now + 5) c.deref.result.now) c.args.self.now.end
+    (c.args.self.now.settled c.if-self.false)
     (piece_is _ _ _ c.deref.ensures.value c.pack.ensures.tail) c.requires.some c.requires.few
-    (length (take (length c.args.body.now + 5) c.deref.result.now)) c.write_synced.ensures.any_moment
+    (length (take (length c.args.body.now + 5) c.deref.result.now))
+    c.write_synced.ensures.any_moment
 
-pub returns-in_err-write_synced-2-clause-any_moment : goal.returns-in_err-write_synced-2-clause-any_moment
+pub returns-in_err-write_synced-2-clause-any_moment
+    : goal.returns-in_err-write_synced-2-clause-any_moment
 returns-in_err-write_synced-2-clause-any_moment g c = λ sound.
-    both_steps g.D.Disk c.args.self.now.disk c.write_synced.new.disk c.write_synced-2.new.disk c.args.body.now
-    (take (length c.args.body.now + 5) c.deref.result.now) c.args.self.now.end (c.args.self.now.settled c.if-self.false)
+    both_steps g.D.Disk c.args.self.now.disk c.write_synced.new.disk c.write_synced-2.new.disk
+    c.args.body.now
+    (take (length c.args.body.now + 5) c.deref.result.now) c.args.self.now.end
+    (c.args.self.now.settled c.if-self.false)
     (piece_is _ _ _ c.deref.ensures.value c.pack.ensures.tail) c.requires.some c.requires.few
-    (length (take (length c.args.body.now + 5) c.deref.result.now)) c.write_synced.ensures.any_moment
-    c.in_ok-write_synced.ensures.written c.in_ok-write_synced.ensures.durable c.write_synced-2.ensures.any_moment
+    (length (take (length c.args.body.now + 5) c.deref.result.now))
+    c.write_synced.ensures.any_moment
+    c.in_ok-write_synced.ensures.written c.in_ok-write_synced.ensures.durable
+    c.write_synced-2.ensures.any_moment
 
 pub returns-clause-any_moment : goal.returns-clause-any_moment
 returns-clause-any_moment g c = λ sound.
-    both_steps g.D.Disk c.args.self.now.disk c.write_synced.new.disk c.write_synced-2.new.disk c.args.body.now
-    (take (length c.args.body.now + 5) c.deref.result.now) c.args.self.now.end (c.args.self.now.settled c.if-self.false)
+    both_steps g.D.Disk c.args.self.now.disk c.write_synced.new.disk c.write_synced-2.new.disk
+    c.args.body.now
+    (take (length c.args.body.now + 5) c.deref.result.now) c.args.self.now.end
+    (c.args.self.now.settled c.if-self.false)
     (piece_is _ _ _ c.deref.ensures.value c.pack.ensures.tail) c.requires.some c.requires.few
-    (length (take (length c.args.body.now + 5) c.deref.result.now)) c.write_synced.ensures.any_moment
-    c.in_ok-write_synced.ensures.written c.in_ok-write_synced.ensures.durable c.write_synced-2.ensures.any_moment
+    (length (take (length c.args.body.now + 5) c.deref.result.now))
+    c.write_synced.ensures.any_moment
+    c.in_ok-write_synced.ensures.written c.in_ok-write_synced.ensures.durable
+    c.write_synced-2.ensures.any_moment

@@ -3,17 +3,22 @@ use Rattle.journal_core.proofs.opening.Opening.ready.Goals as goal
 
 pub invariant_of-result-clause-settled : goal.invariant_of-result-clause-settled
 invariant_of-result-clause-settled g c = λ sound b told.
-    ended_settled g.D.Disk c.args.self.disk c.args.self.place c.args.self.reading (c.args.self.closed c.requires) b told
+    ended_settled g.D.Disk c.args.self.disk c.args.self.place c.args.self.reading
+    (c.args.self.closed c.requires) b told
 
 pub invariant_of-result-clause-stands : goal.invariant_of-result-clause-stands
 invariant_of-result-clause-stands g c = λ b told.
-    (ended_settled g.D.Disk c.args.self.disk c.args.self.place c.args.self.reading (c.args.self.closed c.requires) b told).stands
+    (ended_settled g.D.Disk c.args.self.disk c.args.self.place c.args.self.reading
+    (c.args.self.closed c.requires) b told).stands
 
 pub returns-clause-list : goal.returns-clause-list
-returns-clause-list g c = ended_records g.D.Disk c.args.self.disk c.args.self.place c.args.self.reading (c.args.self.closed c.requires)
+returns-clause-list g c = ended_records g.D.Disk c.args.self.disk c.args.self.place
+    c.args.self.reading (c.args.self.closed c.requires)
 
 pub returns-clause-all : goal.returns-clause-all
-returns-clause-all g c = ended_all g.D.Disk c.args.self.disk c.args.self.place c.args.self.reading (c.args.self.closed c.requires)
+returns-clause-all g c = ended_all g.D.Disk c.args.self.disk c.args.self.place c.args.self.reading
+    (c.args.self.closed c.requires)
 
 pub returns-clause-end : goal.returns-clause-end
-returns-clause-end g c = ended_place g.D.Disk c.args.self.disk c.args.self.place c.args.self.reading (c.args.self.closed c.requires)
+returns-clause-end g c = ended_place g.D.Disk c.args.self.disk c.args.self.place c.args.self.reading
+    (c.args.self.closed c.requires)

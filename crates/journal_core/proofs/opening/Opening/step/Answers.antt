@@ -1,8 +1,11 @@
-use Rattle.std.proofs.Common.{◌≡◌, ◌+◌, ◌≤◌, IfSome, Some, ℕ, List, length, true, false, sym, ◌∙◌, refl, arith}
+use Rattle.std.proofs.Common.{◌≡◌, ◌+◌, ◌≤◌, IfSome, Some, ℕ, List, length, true, false, sym, ◌∙◌}
+use Rattle.std.proofs.Common.{refl, arith}
 use Rattle.std.proofs.lemmas.List.{length-take, length-drop}
 use Rattle.disk_core.specs.Disk.{part}
 use Rattle.journal_core.specs.Format.{IsClosedAt}
-use Rattle.journal_core.proofs.OpeningSteps.{step_reading, step_list, step_count, same_reading, same_list, only_fails, refused_walk, ended_stands, ended_walk}
+use Rattle.journal_core.proofs.OpeningSteps.{step_reading, step_list, step_count, same_reading}
+use Rattle.journal_core.proofs.OpeningSteps.{same_list, only_fails, refused_walk, ended_stands}
+use Rattle.journal_core.proofs.OpeningSteps.{ended_walk}
 use Rattle.disk_core.proofs.Moments.{no_look}
 use Rattle.journal_core.proofs.Told.{at_told}
 use Rattle.journal_core.proofs.opening.Opening.step.Goals as goal
@@ -11,7 +14,8 @@ length_is : (start n : ℕ) (buffer : List ℕ) → length buffer ≡ 131094 →
     → length (part start n buffer) ≡ n
 length_is start n buffer room few = simp (length-take, length-drop) (omega arith)
 
-next_is : (place n : ℕ) (body : List ℕ) → length body ≡ n → place + (5 + n) ≡ place + 5 + length body
+next_is : (place n : ℕ) (body : List ℕ) → length body ≡ n
+    → place + (5 + n) ≡ place + 5 + length body
 next_is place n body size = omega arith
 
 pub invariant_of-self-clause-reading : goal.invariant_of-self-clause-reading
@@ -20,11 +24,14 @@ invariant_of-self-clause-reading g c =
     let lies = c.in-Ok-Some.body in
     let buffer = c.read_record.new.window.buffer.items in
     let body : List ℕ = part lies.start lies.size buffer in
-    let within : (1 ≤ lies.size) × (lies.size ≤ 131072) × (place + 5 + lies.size ≤ c.args.self.now.size) × (lies.start + lies.size ≤ 131094)
+    let within : (1 ≤ lies.size) × (lies.size ≤ 131072)
+    × (place + 5 + lies.size ≤ c.args.self.now.size) × (lies.start + lies.size ≤ 131094)
     = rw c.in-Ok-Some.field-0-is at c.in-Ok-Some.ensures.within in
-    step_reading g.D.Disk c.args.self.now.disk c.read_record.new.disk c.read_record.ensures.looks place c.args.self.now.reading
+    step_reading g.D.Disk c.args.self.now.disk c.read_record.new.disk c.read_record.ensures.looks
+    place c.args.self.now.reading
     body (rw c.in-Ok-Some.field-0-is at c.in-Ok-Some.ensures.found) (place + (5 + lies.size))
-    (next_is place lies.size body (length_is lies.start lies.size buffer c.read_record.new.window.room within.3))
+    (next_is place lies.size body (length_is lies.start lies.size buffer
+    c.read_record.new.window.room within.3))
 
 pub invariant_of-self-clause-counted : goal.invariant_of-self-clause-counted
 invariant_of-self-clause-counted g c =
@@ -32,11 +39,14 @@ invariant_of-self-clause-counted g c =
     let lies = c.in-Ok-Some.body in
     let buffer = c.read_record.new.window.buffer.items in
     let body : List ℕ = part lies.start lies.size buffer in
-    let within : (1 ≤ lies.size) × (lies.size ≤ 131072) × (place + 5 + lies.size ≤ c.args.self.now.size) × (lies.start + lies.size ≤ 131094)
+    let within : (1 ≤ lies.size) × (lies.size ≤ 131072)
+    × (place + 5 + lies.size ≤ c.args.self.now.size) × (lies.start + lies.size ≤ 131094)
     = rw c.in-Ok-Some.field-0-is at c.in-Ok-Some.ensures.within in
-    step_count g.D.Disk c.args.self.now.disk c.read_record.new.disk c.read_record.ensures.looks place c.args.self.now.reading
+    step_count g.D.Disk c.args.self.now.disk c.read_record.new.disk c.read_record.ensures.looks
+    place c.args.self.now.reading
     body (rw c.in-Ok-Some.field-0-is at c.in-Ok-Some.ensures.found) (place + (5 + lies.size))
-    (next_is place lies.size body (length_is lies.start lies.size buffer c.read_record.new.window.room within.3))
+    (next_is place lies.size body (length_is lies.start lies.size buffer
+    c.read_record.new.window.room within.3))
     c.args.self.now.count c.args.self.now.counted
 
 pub returns-in-Ok-Some : goal.returns-in-Ok-Some
@@ -46,15 +56,19 @@ returns-in-Ok-Some g c =
     let n = lies.size in
     let buffer = c.read_record.new.window.buffer.items in
     let body : List ℕ = part lies.start n buffer in
-    let within : (1 ≤ n) × (n ≤ 131072) × (place + 5 + n ≤ c.args.self.now.size) × (lies.start + n ≤ 131094)
+    let within : (1 ≤ n) × (n ≤ 131072) × (place + 5 + n ≤ c.args.self.now.size)
+    × (lies.start + n ≤ 131094)
     = rw c.in-Ok-Some.field-0-is at c.in-Ok-Some.ensures.within in
-    let size : length body ≡ n = length_is lies.start n buffer c.read_record.new.window.room within.3 in
+    let size : length body ≡ n = length_is lies.start n buffer c.read_record.new.window.room
+    within.3 in
     let some = within.0 in
     let few = within.1 in
     let ends = within.2 in (
       record {
-        list = step_list g.D.Disk c.args.self.now.disk c.read_record.new.disk c.read_record.ensures.looks place c.args.self.now.reading
-            body (rw c.in-Ok-Some.field-0-is at c.in-Ok-Some.ensures.found) (place + (5 + n)) (next_is place n body size);
+        list = step_list g.D.Disk c.args.self.now.disk c.read_record.new.disk
+            c.read_record.ensures.looks place c.args.self.now.reading
+            body (rw c.in-Ok-Some.field-0-is at c.in-Ok-Some.ensures.found) (place + (5 + n))
+            (next_is place n body size);
         some = omega arith;
         few = omega arith;
         place = omega arith;
@@ -76,7 +90,8 @@ returns-in-Ok-Some g c =
 pub returns-in-Err : goal.returns-in-Err
 returns-in-Err g c = (
   record {
-    list = same_list g.D.Disk c.args.self.now.disk c.read_record.new.disk c.read_record.ensures.looks c.args.self.now.place c.args.self.now.reading;
+    list = same_list g.D.Disk c.args.self.now.disk c.read_record.new.disk
+        c.read_record.ensures.looks c.args.self.now.place c.args.self.now.reading;
     kept = refl;
     goes_on = refl;
   },
@@ -85,9 +100,11 @@ returns-in-Err g c = (
     rests = λ ended none. let wrong : true ≡ false = sym ended ∙ c.if-self.false in cc;
     reason = λ none. c.in-Err.ensures.reason;
     kind = λ none. c.in-Err.ensures.kind;
-    whole = λ none. only_fails g.D.Disk c.args.self.now.disk c.read_record.new.disk c.read_record.ensures.looks c.args.self.now.place c.args.self.now.reading
+    whole = λ none. only_fails g.D.Disk c.args.self.now.disk c.read_record.new.disk
+        c.read_record.ensures.looks c.args.self.now.place c.args.self.now.reading
         _ c.in-Err.ensures.reason c.in-Err.ensures.kind;
-    walk = λ none. refused_walk g.D.Disk c.args.self.now.disk c.read_record.new.disk c.read_record.ensures.looks c.args.self.now.place c.args.self.now.reading
+    walk = λ none. refused_walk g.D.Disk c.args.self.now.disk c.read_record.new.disk
+        c.read_record.ensures.looks c.args.self.now.place c.args.self.now.reading
         _ c.in-Err.ensures.reason;
     looks = c.read_record.ensures.looks;
     fine = c.in-Err.ensures.fine;
@@ -101,8 +118,10 @@ returns-then-self g c =
         list = refl;
         ended = c.if-self.true;
         goes_on = c.in-None.is;
-        stands = ended_stands g.D.Disk c.args.self.now.disk c.args.self.now.place c.args.self.now.reading closed;
-        walk = ended_walk g.D.Disk c.args.self.now.disk c.args.self.now.place c.args.self.now.reading closed;
+        stands = ended_stands g.D.Disk c.args.self.now.disk c.args.self.now.place
+            c.args.self.now.reading closed;
+        walk = ended_walk g.D.Disk c.args.self.now.disk c.args.self.now.place
+            c.args.self.now.reading closed;
       },
       record {
         again = rw c.in-None.is tt;
@@ -120,12 +139,16 @@ pub returns-in-Ok-None : goal.returns-in-Ok-None
 returns-in-Ok-None g c =
     let place = c.args.self.now.place in
     let looks = c.read_record.ensures.looks in
-    let reading = same_reading g.D.Disk c.args.self.now.disk c.read_record.new.disk looks place c.args.self.now.reading in
-    let found : IfSome (g.D.Disk.told c.args.self.now.disk) (λ b. IsClosedAt b place) = rw c.in-Ok-None.field-0-is at c.in-Ok-None.ensures.found in
+    let reading = same_reading g.D.Disk c.args.self.now.disk c.read_record.new.disk looks place
+    c.args.self.now.reading in
+    let found : IfSome (g.D.Disk.told c.args.self.now.disk) (λ b. IsClosedAt b place) =
+    rw c.in-Ok-None.field-0-is at c.in-Ok-None.ensures.found in
     let closed : (b : List ℕ) → g.D.Disk.told c.read_record.new.disk ≡ Some b → IsClosedAt b place
-    = λ b told. at_told (λ (bytes : List ℕ). IsClosedAt bytes place) (g.D.Disk.told c.args.self.now.disk) b (sym looks.told ∙ told) found in (
+    = λ b told. at_told (λ (bytes : List ℕ). IsClosedAt bytes place)
+    (g.D.Disk.told c.args.self.now.disk) b (sym looks.told ∙ told) found in (
       record {
-        list = same_list g.D.Disk c.args.self.now.disk c.read_record.new.disk looks place c.args.self.now.reading;
+        list = same_list g.D.Disk c.args.self.now.disk c.read_record.new.disk looks place
+            c.args.self.now.reading;
         ended = refl;
         goes_on = c.in-None.is;
         stands = ended_stands g.D.Disk c.read_record.new.disk place reading closed;

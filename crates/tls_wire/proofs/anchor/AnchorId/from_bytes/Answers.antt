@@ -4,5 +4,8 @@ use Rattle.tls_wire.proofs.anchor.AnchorId.from_bytes.Goals as goal
 
 pub invariant_of-result : goal.invariant_of-result
 invariant_of-result c =
-    let some = length_some (length c.args.bytes.now) (sym c.is_empty.ensures ∙ c.if-is_empty.false) in
-    rw c.in_ok-copy.ensures (arcs_only_takes c.args.bytes.now c.in_ok-read_arcs.field-0 (λ i. omega (arith, c.type_inv.bytes i)) some c.if-bytes-gt255.false c.in_ok-read_arcs.ensures)
+    let some = length_some (length c.args.bytes.now) (sym c.is_empty.ensures
+    ∙ c.if-is_empty.false) in
+    rw c.in_ok-copy.ensures (arcs_only_takes c.args.bytes.now c.in_ok-read_arcs.field-0
+    (λ i. omega (arith, c.type_inv.bytes i)) some c.if-bytes-gt255.false
+    c.in_ok-read_arcs.ensures)

@@ -6,7 +6,8 @@ pub overflow_shl-from : goal.overflow_shl-from
 overflow_shl-from g c =
     let same : length c.as_slice-leaves.result.now ≡ length c.args.self.now.leaves =
     ap length c.as_slice-leaves.ensures.value ∙ ap (λ v. length v.leaves) c.self.view_is in
-    let fits : length c.args.self.now.leaves < 2 ^ 64 = omega (arith, c.as_slice-leaves.type_inv.0) in
+    let fits : length c.args.self.now.leaves < 2 ^ 64 =
+    omega (arith, c.as_slice-leaves.type_inv.0) in
     level_fits c.args.place c.args.level (length c.args.self.now.leaves) c.requires fits
 
 pub overflow_shl-to : goal.overflow_shl-to

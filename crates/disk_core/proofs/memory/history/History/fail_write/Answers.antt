@@ -9,7 +9,8 @@ use Rattle.disk_core.proofs.memory.history.History.fail_write.Goals as goal
 
 pub invariant_of-self : goal.invariant_of-self
 invariant_of-self c =
-    let kept = seen_kept c.args.self.now.first c.args.self.now.calls.items c.push.new.self.items (record { call = Write c.args.place c.in_ok-piece.piece; ok = false })
+    let kept = seen_kept c.args.self.now.first c.args.self.now.calls.items c.push.new.self.items
+    (record { call = Write c.args.place c.in_ok-piece.piece; ok = false })
     (is_ok c.push.result) (λ s. refl) c.push.ensures.items in
     record {
       are_bytes = subst IsBytes (sym kept) c.args.self.now.are_bytes;
@@ -21,7 +22,8 @@ returns-in_err-push-clause-crash c = torn_same _ _ _ _ _ c.in_err-push.ensures.i
 
 pub returns-clause-crash : goal.returns-clause-crash
 returns-clause-crash c =
-    subst (λ (piece : List ℕ). Follows (Torn c.args.place (length piece)) (left_of c.args.self.now) (IsImage (state_now c.args.self.now.first c.push.new.self.items)))
+    subst (λ (piece : List ℕ). Follows (Torn c.args.place (length piece)) (left_of c.args.self.now)
+    (IsImage (state_now c.args.self.now.first c.push.new.self.items)))
     c.in_ok-piece.ensures (torn_pushed _ _ _ _ _ _ c.in_ok-push.ensures.items)
 
 pub returns-clause-time : goal.returns-clause-time

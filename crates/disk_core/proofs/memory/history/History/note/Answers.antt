@@ -6,7 +6,8 @@ use Rattle.disk_core.proofs.memory.history.History.note.Goals as goal
 
 pub invariant_of-self : goal.invariant_of-self
 invariant_of-self c =
-    let kept = seen_kept c.args.self.now.first c.args.self.now.calls.items c.push.new.self.items (record { call = c.args.call; ok = c.args.ok })
+    let kept = seen_kept c.args.self.now.first c.args.self.now.calls.items c.push.new.self.items
+    (record { call = c.args.call; ok = c.args.ok })
     (is_ok c.push.result) (λ s. ap (λ (t : State). t.seen) (c.requires s)) c.push.ensures.items in
     record {
       are_bytes = subst IsBytes (sym kept) c.args.self.now.are_bytes;

@@ -8,7 +8,8 @@ use Rattle.disk_core.proofs.memory.history.History.settle.Goals as goal
 
 pub invariant_of-self : goal.invariant_of-self
 invariant_of-self c =
-    let kept = seen_kept c.args.self.now.first c.args.self.now.calls.items c.push.new.self.items (record { call = Sync; ok = true })
+    let kept = seen_kept c.args.self.now.first c.args.self.now.calls.items c.push.new.self.items
+    (record { call = Sync; ok = true })
     (is_ok c.push.result) (λ s. refl) c.push.ensures.items in
     record {
       are_bytes = subst IsBytes (sym kept) c.args.self.now.are_bytes;
