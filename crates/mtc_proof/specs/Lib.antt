@@ -1,3 +1,4 @@
+pub mod Inputs
 pub mod Proofs
 pub mod Reading
 pub mod Views

@@ -1,4 +1,4 @@
-//! Laws of proofs: the clauses are the laws, and the functions do nothing.
+//! Laws of proofs and of what is signed: the clauses are the laws, and the functions do nothing.
 
 ghost use Rattle.std.specs.Prelude.{◌≡◌, List, Ok};
 ghost use Rattle.byte_forms.specs.Types.{Text};
@@ -6,6 +6,7 @@ ghost use Rattle.std.specs.List.{flat_map, AllByRecursion};
 ghost use Rattle.byte_forms.specs.Places.{IsBytes, at};
 ghost use Rattle.byte_forms.specs.Lists.{up_to_end};
 ghost use Rattle.byte_forms.specs.Forms.{IsForm, Anything, Nothing};
+ghost use Rattle.mtc_proof.specs.Inputs.{InputParts, IsInput, input_text};
 ghost use Rattle.mtc_proof.specs.Proofs.{SigParts, ProofParts, signature_text, IsMtcSignature, proof_text, IsProof};
 ghost use Rattle.mtc_proof.specs.Reading.{mtc_signature_at, signatures_left, proof_in};
 
@@ -30,4 +31,9 @@ pub fn proofs_are_read_as_spelled()
         → (bytes ≡ proof_text p) × IsProof p }
     ensures again { (p : ProofParts) → IsProof p → proof_in (proof_text p) ≡ Ok p }
     ensures one { (p q : ProofParts) → IsProof p → IsProof q → proof_text p ≡ proof_text q → p ≡ q }
+{}
+
+/// What a cosigner signs has one meaning: equal bytes are of equal parts.
+pub fn signature_inputs_have_one_meaning()
+    ensures { (p q : InputParts) → IsInput p → IsInput q → input_text p ≡ input_text q → p ≡ q }
 {}

@@ -1,19 +1,27 @@
 //! The proof in a certificate of a Merkle tree (the draft on Merkle Tree Certificates, where it
 //! defines `MTCProof`): an interval of the log, the inclusion path of the certificate's entry in
 //! it, and signatures of cosigners over the interval's hash. It is read without taking memory, and
-//! what is read lies in the bytes of the proof.
+//! what is read lies in the bytes of the proof; it is written from its parts. Beside it what a
+//! cosigner signs, made without taking memory.
 #![tactic(auto)]
 
 mod fault;
 mod found;
+mod input;
 mod laws;
 mod list;
 mod proof;
 mod reading;
+mod writing;
 
 pub use fault::ProofError;
 pub use found::Signatures;
-pub use laws::{proofs_are_read_as_spelled, signatures_are_found, signatures_are_read_as_spelled};
+pub use input::{InputBuf, signature_input};
+pub use laws::{
+    proofs_are_read_as_spelled, signature_inputs_have_one_meaning, signatures_are_found,
+    signatures_are_read_as_spelled,
+};
 pub use list::{check_signatures, signatures};
 pub use proof::{Proof, SigRef};
 pub use reading::read_proof;
+pub use writing::write_proof;

@@ -11,3 +11,5 @@ mod proving;
 mod requesting;
 #[cfg(test)]
 mod signing;
+#[cfg(test)]
+mod writing;

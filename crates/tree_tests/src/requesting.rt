@@ -11,7 +11,7 @@ const LOG: [u8; 4] = [0x81, 0xfd, 0x59, 0x01];
 
 // The consistency proof of [1, 2) in two entries, which is the hash of the first one. None where
 // the nodes do not make it.
-fn proof_of_second(alloc: Global) -> Result<Option<Path>, Memory> {
+pub(crate) fn proof_of_second(alloc: Global) -> Result<Option<Path>, Memory> {
     let mut nodes: Listed<Toy> = Listed::new(alloc);
     nodes.push(&leaf::<Toy>(b"\x07"))?;
     nodes.push(&leaf::<Toy>(b"\x08"))?;

@@ -1,0 +1,53 @@
+//! Writing a proof.
+
+ghost use Rattle.std.specs.Prelude.{◌≡◌, ◌++◌, ◌<◌, ◌≤◌, ◌^◌, length, Ok, IfOk, OnOk};
+ghost use Rattle.tls_wire.specs.Spelling.{AreHashes, hashes};
+ghost use Rattle.mtc_proof.specs.Proofs.{AreSignatures, proof_text};
+ghost use Rattle.mtc_proof.specs.Reading.{proof_in};
+
+use mtc_io::{Bytes, Memory};
+use std::alloc::Global;
+use tls_wire::{put_hashes, put_u64, put_vec16};
+use tree_proofs::Path;
+
+// Puts the hashes of a path, which their type makes as long as hashes are, behind their length.
+fn put_path(out: &mut Bytes, path: &[[u8; 32]]) -> Result<(), Memory>
+    requires { length path.now ≤ 128 }
+    ensures text { OnOk result (out.new ≡ out.old ++ hashes path.now) }
+    ensures sized { AreHashes path.now }
+{
+    put_hashes(out, path)
+}
+
+/// The bytes of a proof: what `read_proof` reads as these parts. The signatures stand one behind
+/// the other as `check_signatures` wants them, and have at most 65,535 bytes. Whether the interval
+/// is a subtree, and the path one in it, isn't looked at.
+pub fn write_proof(
+    alloc: Global,
+    start: u64,
+    end: u64,
+    path: &Path,
+    signatures: &[u8],
+) -> Result<Bytes, Memory>
+    requires signed { AreSignatures signatures.now }
+    requires short { length signatures.now < 2 ^ 16 }
+    ensures text { IfOk result (λ bytes. bytes ≡ proof_text (record {
+      start = start;
+      end = end;
+      path = path.now;
+      signatures = signatures.now;
+    })) }
+    ensures read { IfOk result (λ bytes. proof_in bytes ≡ Ok (record {
+      start = start;
+      end = end;
+      path = path.now;
+      signatures = signatures.now;
+    })) }
+{
+    let mut out = Bytes::new(alloc);
+    put_u64(&mut out, start)?;
+    put_u64(&mut out, end)?;
+    put_path(&mut out, path.as_slice())?;
+    put_vec16(&mut out, signatures)?;
+    Ok(out)
+}
