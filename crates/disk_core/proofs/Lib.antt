@@ -1,4 +1,3 @@
-pub mod Bytes
 pub mod Moments
 pub mod Replay
 pub mod Torn

@@ -7,8 +7,10 @@ use Rattle.std.proofs.lemmas.Bool.{cases_lt}
 use Rattle.disk_core.specs.Disk.{overwritten, Torn, Follows, NoNew, Only, Elapses}
 use Rattle.disk_core.specs.Writes.{torn_none}
 use Rattle.disk_core.specs.Replay.{State, settled, step, run, state_now, state_at, IsImage}
-use Rattle.disk_core.specs.Replay.{LeftSince}
-use Rattle.disk_core.specs.declared.memory.call.Call.TheVariants.{Write, Sync}
+use Rattle.disk_core.specs.Replay.{LeftSince, after_call, noted, WritesBytes, AllWriteBytes}
+use Rattle.disk_core.specs.Replay.{HoldsBytes}
+use Rattle.disk_core.specs.declared.memory.call.Call.{Call}
+use Rattle.disk_core.specs.declared.memory.call.Call.TheVariants.{Len, Read, Write, Sync}
 use Rattle.disk_core.specs.declared.memory.call.Made.{Made}
 
 run-append : (s : State) (calls : List Made) (made : Made)
@@ -80,11 +82,11 @@ pub torn_pushed : (first : List ℕ) (calls next : List Made) (place : ℕ) (pie
     → Follows (Torn place (length piece)) (IsImage (state_now first calls))
     (IsImage (state_now first next))
 torn_pushed first calls next place piece ok is =
-    λ c now. subst (λ (s : State). IsImage s c) (state_pushed first calls next (record {
-      call =
-          Write place piece;
-      ok = ok;
-    }) is) now
+    λ c now.
+    let made : Made = record { call = Write place piece; ok = ok } in
+    let (are, d, was, torn) = subst (λ (s : State). IsImage s c)
+    (state_pushed first calls next made is) now in
+    (d, was, torn)
 
 pub torn_same : (first : List ℕ) (calls next : List Made) (place count : ℕ) → next ≡ calls
     → Follows (Torn place count) (IsImage (state_now first calls)) (IsImage (state_now first next))
@@ -133,6 +135,34 @@ written_pushed first calls next place piece live after is was wrote =
           Write place piece;
       ok = true;
     }) is))
+
+all_write : (calls : List Made) (made : Made) → AllWriteBytes calls → WritesBytes made.call
+    → AllWriteBytes (calls ++ made ∷ [])
+all_write [] made write writes = (writes, tt)
+all_write (first ∷ calls) made write writes = (write.0, all_write calls made write.1 writes)
+
+-- A call more that writes bytes if it writes, or is not even noted.
+pub bytes_noted : (first : List ℕ) (calls next : List Made) (call : Call) (ok found : Bool)
+    → next ≡ noted found call ok calls → WritesBytes call → HoldsBytes first calls
+    → HoldsBytes first next
+bytes_noted first calls next call ok true is writes holds = rw is (record {
+  first_are = holds.first_are;
+  written_are = all_write calls (record { call = call; ok = ok }) holds.written_are writes;
+})
+bytes_noted first calls next call ok false is writes holds = rw is holds
+
+is_some_write : (write : ℕ × ℕ) → write ∷ [] ≡ [] → ⊥
+is_some_write write is = cc
+
+-- a call that leaves each state alone writes nothing
+pub quiet_writes : (call : Call) (ok : Bool) → ((s : State) → after_call s call ok ≡ s)
+    → WritesBytes call
+quiet_writes Len ok quiet = tt
+quiet_writes (Read place size) ok quiet = tt
+quiet_writes (Write place piece) ok quiet =
+    absurd (is_some_write (place, length piece)
+    (ap (λ (s : State). s.writes) (quiet (settled []))))
+quiet_writes Sync ok quiet = tt
 
 -- the state behind one of the calls, from the one before it
 pub state_more : (first : List ℕ) (calls : List Made) (index : ℕ) (made : Made)

@@ -4,8 +4,8 @@ use Rattle.disk_core.specs.declared.file.FileDisk.{FileDisk}
 
 module _ {F : Type 0} where
   -- the open file
-  abbrev pub file_of : FileDisk F → F
-  file_of d = d.file
+  abbrev pub open_file : FileDisk F → F
+  open_file d = d.file
 
   -- its known length
   abbrev pub file_known : FileDisk F → ℕ

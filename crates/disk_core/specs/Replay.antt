@@ -1,5 +1,7 @@
 -- A disk in memory, as the replay of its calls over what it held at first.
 use Rattle.std.specs.Prelude.{◌≡◌, ℕ, ◌≤◌, Bool, if◌then◌else◌, List, [], ◌∷◌, ◌++◌, length, take}
+use Rattle.std.proofs.Props.{props}
+use Rattle.byte_forms.specs.Places.{IsBytes}
 use Rattle.disk_core.specs.Disk.{overwritten, Torn}
 use Rattle.disk_core.specs.declared.memory.call.Call.{Call}
 use Rattle.disk_core.specs.declared.memory.call.Call.TheVariants.{Len, Read, Write, Sync}
@@ -46,10 +48,11 @@ abbrev pub state_at : List ℕ → List Made → ℕ → State
 state_at first calls count = run (settled first) (take count calls)
 
 -- what a crash may leave: what was there at the last sync, with each write since torn in some way
+-- that leaves bytes
 abbrev pub IsImageOf : List ℕ → List (ℕ × ℕ) → List ℕ → Type 0
 IsImageOf base [] c = c ≡ base
 IsImageOf base (write ∷ writes) c =
-    (d : List ℕ) × IsImageOf base writes d × Torn write.0 write.1 d c
+    IsBytes c × (d : List ℕ) × IsImageOf base writes d × Torn write.0 write.1 d c
 
 abbrev pub IsImage : State → List ℕ → Type 0
 IsImage s c = IsImageOf s.base s.writes c
@@ -62,3 +65,35 @@ LeftSince first calls t c =
 -- a record with one call more, unless no memory was found for it
 abbrev pub noted : Bool → Call → Bool → List Made → List Made
 noted found call ok calls = if found then calls ++ record { call = call; ok = ok } ∷ [] else calls
+
+-- what a call writes are bytes
+abbrev pub WritesBytes : Call → Type 0
+WritesBytes Len = Unit {0}
+WritesBytes (Read place size) = Unit {0}
+WritesBytes (Write place piece) = IsBytes piece
+WritesBytes Sync = Unit {0}
+
+-- what each of these calls writes are bytes
+abbrev pub AllWriteBytes : List Made → Type 0
+AllWriteBytes [] = Unit {0}
+AllWriteBytes (made ∷ calls) = WritesBytes made.call × AllWriteBytes calls
+
+-- what was held at first are bytes, and so is what the calls write
+pub record HoldsBytes (first : List ℕ) (calls : List Made) : Type 0 where
+  pub first_are : IsBytes first
+  pub written_are : AllWriteBytes calls
+
+-- each has one proof at most
+WritesBytes-prop : (call : Call) → IsProp (WritesBytes call)
+WritesBytes-prop Len = hlevel props
+WritesBytes-prop (Read place size) = hlevel props
+WritesBytes-prop (Write place piece) = hlevel props
+WritesBytes-prop Sync = hlevel props
+
+AllWriteBytes-prop : (calls : List Made) → IsProp (AllWriteBytes calls)
+AllWriteBytes-prop [] = hlevel props
+AllWriteBytes-prop (made ∷ calls) =
+    hlevel (props, WritesBytes-prop made.call, AllWriteBytes-prop calls)
+
+pub HoldsBytes-prop : (first : List ℕ) (calls : List Made) → IsProp (HoldsBytes first calls)
+HoldsBytes-prop first calls = hlevel (props, AllWriteBytes-prop calls)

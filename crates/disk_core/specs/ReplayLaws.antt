@@ -1,35 +1,83 @@
--- Laws of the replay: what a read gives is an image, and an image of now is one of those since an
--- earlier moment.
-use Rattle.std.specs.Prelude.{◌≡◌, ℕ, ◌≤◌, Bool, true, false, List, [], ◌∷◌, length, take, refl}
-use Rattle.std.specs.Prelude.{Some}
+-- Laws of the replay, where bytes are written: what a read gives is an image, each image is bytes,
+-- and an image of now is one of those since an earlier moment.
+use Rattle.std.specs.Prelude.{◌≡◌, ℕ, zero, suc, ◌≤◌, Bool, true, false, List, [], ◌∷◌, length}
+use Rattle.std.specs.Prelude.{take, Some, refl}
 use Rattle.std.proofs.Common.{arith, sym, subst}
 use Rattle.std.proofs.lemmas.List.{take_all}
 use Rattle.byte_forms.specs.Places.{IsBytes}
-use Rattle.disk_core.specs.Writes.{torn_none, torn_all}
-use Rattle.disk_core.specs.Replay.{State, settled, after_call, step, run, state_now, IsImage}
-use Rattle.disk_core.specs.Replay.{LeftSince}
+use Rattle.disk_core.specs.Writes.{torn_none, torn_all, IsBytes-overwritten}
+use Rattle.disk_core.specs.Replay.{State, settled, after_call, step, run, state_now, IsImageOf}
+use Rattle.disk_core.specs.Replay.{IsImage, LeftSince, WritesBytes, AllWriteBytes, HoldsBytes}
 use Rattle.disk_core.specs.declared.memory.call.Call.{Call}
 use Rattle.disk_core.specs.declared.memory.call.Call.TheVariants.{Len, Read, Write, Sync}
 use Rattle.disk_core.specs.declared.memory.call.Made.{Made}
 
-call_seen : (s : State) (call : Call) (ok : Bool) → IsImage s s.seen
-    → IsImage (after_call s call ok) (after_call s call ok).seen
-call_seen s Len ok is = is
-call_seen s (Read place size) ok is = is
-call_seen s (Write place piece) true is = (s.seen, is, torn_all place piece s.seen)
-call_seen s (Write place piece) false is = (s.seen, is, torn_none place (length piece) s.seen)
-call_seen s Sync true is = refl
-call_seen s Sync false is = is
+-- what a read gives are bytes, and what was there at the last sync
+record AreBytes (s : State) : Type 0 where
+  seen : IsBytes s.seen
+  base : IsBytes s.base
 
-run_seen : (s : State) (calls : List Made) → IsImage s s.seen
+call_bytes : (s : State) (call : Call) (ok : Bool) → WritesBytes call → AreBytes s
+    → AreBytes (after_call s call ok)
+call_bytes s Len ok writes are = are
+call_bytes s (Read place size) ok writes are = are
+call_bytes s (Write place piece) true writes are =
+    record { seen = IsBytes-overwritten place piece s.seen writes are.seen; base = are.base }
+call_bytes s (Write place piece) false writes are = record { seen = are.seen; base = are.base }
+call_bytes s Sync true writes are = record { seen = are.seen; base = are.seen }
+call_bytes s Sync false writes are = are
+
+run_bytes : (s : State) (calls : List Made) → AllWriteBytes calls → AreBytes s
+    → AreBytes (run s calls)
+run_bytes s [] write are = are
+run_bytes s (made ∷ calls) write are =
+    run_bytes (step s made) calls write.1 (call_bytes s made.call made.ok write.0 are)
+
+first_bytes : (first : List ℕ) → IsBytes first → AreBytes (settled first)
+first_bytes first are = record { seen = are; base = are }
+
+call_seen : (s : State) (call : Call) (ok : Bool) → AreBytes (after_call s call ok)
+    → IsImage s s.seen → IsImage (after_call s call ok) (after_call s call ok).seen
+call_seen s Len ok are is = is
+call_seen s (Read place size) ok are is = is
+call_seen s (Write place piece) true are is = (are.seen, s.seen, is, torn_all place piece s.seen)
+call_seen s (Write place piece) false are is =
+    (are.seen, s.seen, is, torn_none place (length piece) s.seen)
+call_seen s Sync true are is = refl
+call_seen s Sync false are is = is
+
+run_seen : (s : State) (calls : List Made) → AllWriteBytes calls → AreBytes s → IsImage s s.seen
     → IsImage (run s calls) (run s calls).seen
-run_seen s [] is = is
-run_seen s (made ∷ calls) is = run_seen (step s made) calls (call_seen s made.call made.ok is)
+run_seen s [] write are is = is
+run_seen s (made ∷ calls) write are is =
+    let next = call_bytes s made.call made.ok write.0 are in
+    run_seen (step s made) calls write.1 next (call_seen s made.call made.ok next is)
 
 -- what a read gives is one of the images
-pub now_seen : (first : List ℕ) (calls : List Made)
+pub now_seen : (first : List ℕ) (calls : List Made) → HoldsBytes first calls
     → IsImage (state_now first calls) (state_now first calls).seen
-now_seen first calls = run_seen (settled first) calls refl
+now_seen first calls holds =
+    run_seen (settled first) calls holds.written_are (first_bytes first holds.first_are) refl
+
+-- an image is bytes
+image_bytes : (base : List ℕ) (writes : List (ℕ × ℕ)) (c : List ℕ) → IsBytes base
+    → IsImageOf base writes c → IsBytes c
+image_bytes base [] c are is = subst IsBytes (sym is) are
+image_bytes base (write ∷ writes) c are is = is.0
+
+first_write : (count : ℕ) (calls : List Made) → AllWriteBytes calls
+    → AllWriteBytes (take count calls)
+first_write zero calls write = tt
+first_write (suc count) [] write = tt
+first_write (suc count) (made ∷ calls) write = (write.0, first_write count calls write.1)
+
+pub since_bytes : (first : List ℕ) (calls : List Made) (t : ℕ) (c : List ℕ) → HoldsBytes first calls
+    → LeftSince first calls t c → IsBytes c
+since_bytes first calls t c holds (count, late, there, is) =
+    let s = run (settled first) (take count calls) in
+    let are : AreBytes s = run_bytes (settled first) (take count calls)
+    (first_write count calls holds.written_are) (first_bytes first holds.first_are) in
+    image_bytes s.base s.writes c are.base is
 
 -- an image of now is one since any moment
 pub now_since : (first : List ℕ) (calls : List Made) (t : ℕ) (c : List ℕ) → t ≤ length calls
@@ -49,16 +97,19 @@ since_now first calls c (count, late, there, is) =
     let whole : take count calls ≡ calls = take_all count calls late in
     subst (λ (kept : List Made). IsImage (run (settled first) kept) c) whole is
 
-pub told_seen : (first : List ℕ) (calls : List Made) (bytes : List ℕ)
+pub told_seen : (first : List ℕ) (calls : List Made) (bytes : List ℕ) → HoldsBytes first calls
     → Some (state_now first calls).seen ≡ Some bytes → IsImage (state_now first calls) bytes
-told_seen first calls bytes is =
+told_seen first calls bytes holds is =
     let same : (state_now first calls).seen ≡ bytes = cc in
-    subst (λ (c : List ℕ). IsImage (state_now first calls) c) same (now_seen first calls)
+    subst (λ (c : List ℕ). IsImage (state_now first calls) c) same (now_seen first calls holds)
 
-pub told_are : (seen bytes : List ℕ) → IsBytes seen → Some seen ≡ Some bytes → IsBytes bytes
-told_are seen bytes are is =
-    let same : seen ≡ bytes = cc in
-    subst IsBytes same are
+pub told_are : (first : List ℕ) (calls : List Made) (bytes : List ℕ) → HoldsBytes first calls
+    → Some (state_now first calls).seen ≡ Some bytes → IsBytes bytes
+told_are first calls bytes holds is =
+    let same : (state_now first calls).seen ≡ bytes = cc in
+    let now : AreBytes (state_now first calls) = run_bytes (settled first) calls holds.written_are
+    (first_bytes first holds.first_are) in
+    subst IsBytes same now.seen
 
 pub told_length : (known : ℕ) (seen bytes : List ℕ) → known ≤ length seen → Some seen ≡ Some bytes
     → known ≤ length bytes

@@ -1,10 +1,15 @@
--- Laws of a write: what is written whole, not at all, or in part is one of its torn images.
-use Rattle.std.specs.Prelude.{◌≡◌, ℕ, ◌+◌, ◌-◌, ◌≤◌, min, max, List, ◌++◌, length, take, drop, refl}
-use Rattle.std.proofs.Common.{arith, inl, inr}
+-- Laws of a write: what is written whole, not at all, or in part is one of its torn images. Bytes
+-- over bytes are bytes.
+use Rattle.std.specs.Prelude.{◌≡◌, ℕ, ◌+◌, ◌-◌, ◌<◌, ◌≤◌, min, max, List, ◌++◌, length, take, drop}
+use Rattle.std.specs.Prelude.{slice_index, refl}
+use Rattle.std.proofs.Common.{arith, inl, inr, subst}
 use Rattle.std.proofs.lemmas.List.{length-take, length-drop, length-append, take-append-le}
 use Rattle.std.proofs.lemmas.List.{take_all, drop_all, take_at, drop_at, drop-drop, append-nil}
 use Rattle.std.proofs.lemmas.List.{append_assoc, take_min, take_rest}
+use Rattle.std.proofs.lemmas.List.{get_or_append_left, get_or-append-add}
 use Rattle.std.proofs.lemmas.Bool.{cases_lt}
+use Rattle.byte_forms.specs.Places.{IsBytes}
+use Rattle.byte_forms.proofs.Steps.{IsBytes-take, IsBytes-drop}
 use Rattle.disk_core.specs.Disk.{overwritten, Torn}
 
 -- nothing of it
@@ -81,3 +86,20 @@ torn_longer place count old new more reaches torn = record {
   after = let none : length old - (place + count) ≡ 0 = omega arith in
       rw (none, drop_all (place + count) old (omega arith)) refl;
 }
+
+IsBytes-append : (a b : List ℕ) → IsBytes a → IsBytes b → IsBytes (a ++ b)
+IsBytes-append a b front back i =
+    elim (cases_lt i (length a)) [
+      | inl lt ↦ rw (get_or_append_left a b 0 i lt) (front i)
+      | inr le ↦
+          let split : length a + (i - length a) ≡ i = omega arith in
+          subst (λ (n : ℕ). slice_index (a ++ b) n < 256) split
+          (rw (get_or-append-add a b (i - length a) 0) (back (i - length a)))
+    ]
+
+pub IsBytes-overwritten : (place : ℕ) (piece old : List ℕ) → IsBytes piece → IsBytes old
+    → IsBytes (overwritten place piece old)
+IsBytes-overwritten place piece old new are =
+    IsBytes-append (take place old ++ piece) (drop (place + length piece) old)
+    (IsBytes-append (take place old) piece (IsBytes-take place old are) new)
+    (IsBytes-drop (place + length piece) old are)

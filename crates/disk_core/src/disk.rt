@@ -108,4 +108,7 @@ pub trait Disk {
 
     /// Since this moment there is no other.
     ghost only_now: { (d : Self) (c : List ℕ) → left_since d (moment d) c → may_leave d c };
+
+    /// What a crash leaves are bytes, at any moment.
+    ghost left_bytes: { (d : Self) (t : ℕ) (c : List ℕ) → left_since d t c → IsBytes c };
 }

@@ -1,7 +1,8 @@
 //! An open file as a disk.
 ghost use Rattle.std.specs.Prelude.{◌≡◌, ◌≤◌, None, IfOk, OnOk};
+ghost use Rattle.byte_forms.specs.Places.{IsBytes};
 ghost use Rattle.mtc_io.specs.Counts.{Rose, HasCause};
-ghost use Rattle.disk_core.specs.File.{file_of, file_faults, file_known, file_moment};
+ghost use Rattle.disk_core.specs.File.{open_file, file_faults, file_known, file_moment};
 
 use crate::disk::Disk;
 use mtc_io::Failed;
@@ -9,9 +10,9 @@ use std::fs::{File, OpenFile};
 use std::io;
 use std::os::unix::fs::FileExt;
 
-/// An open file. It tells nothing of its bytes, nor of what a crash leaves: that the operating
-/// system keeps the rules of [`Disk`] is taken on trust. It keeps the known length, a clock and a
-/// count of its faults.
+/// An open file. It tells nothing of its bytes, nor of what a crash leaves but that it is bytes:
+/// that the operating system keeps the rules of [`Disk`] is taken on trust. It keeps the known
+/// length, a clock and a count of its faults.
 #[derive(Debug, Drop)]
 pub struct FileDisk<F = File> {
     file: F,
@@ -24,7 +25,7 @@ impl<F: OpenFile + FileExt> FileDisk<F> {
     /// The file as it stands, with a known length of 0, no fault so far, and the clock at its
     /// start.
     pub fn new(file: F) -> FileDisk<F>
-        ensures file { file_of result ≡ file }
+        ensures file { open_file result ≡ file }
         ensures known { file_known result ≡ 0 }
         ensures moment { file_moment result ≡ 0 }
         ensures faults { file_faults result ≡ 0 }
@@ -46,7 +47,7 @@ impl<F: OpenFile + FileExt> FileDisk<F> {
 
     /// The file, for another use.
     pub fn into_inner(self) -> F
-        ensures { result ≡ file_of self }
+        ensures { result ≡ open_file self }
     {
         self.file
     }
@@ -82,9 +83,9 @@ impl<F: OpenFile + FileExt> Disk for FileDisk<F> {
 
     ghost moment = { λ d. d.clock };
 
-    ghost may_leave = { λ _ _. Unit {0} };
+    ghost may_leave = { λ _ c. IsBytes c };
 
-    ghost left_since = { λ _ _ _. Unit {0} };
+    ghost left_since = { λ _ _ c. IsBytes c };
 
     ghost faults = { λ d. d.faults };
 
@@ -111,13 +112,15 @@ impl<F: OpenFile + FileExt> Disk for FileDisk<F> {
         count(&mut self.clock, &mut self.faults, answer)
     }
 
-    ghost reads_image = { λ _ _ _. tt };
+    ghost reads_image = { λ _ _ is. Prim.cc };
 
     ghost told_bytes = { λ _ _ is _. Prim.cc };
 
     ghost known_there = { λ _ _ is. Prim.cc };
 
-    ghost counts_now = { λ _ _ _ _ _. tt };
+    ghost counts_now = { λ _ _ _ _ is. is };
 
-    ghost only_now = { λ _ _ _. tt };
+    ghost only_now = { λ _ _ is. is };
+
+    ghost left_bytes = { λ _ _ _ is. is };
 }

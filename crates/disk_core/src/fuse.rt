@@ -131,4 +131,6 @@ impl<D: Disk> Disk for Fuse<D> {
     ghost counts_now = { λ f t c le is. D.Disk.counts_now f.disk t c le is };
 
     ghost only_now = { λ f c is. D.Disk.only_now f.disk c is };
+
+    ghost left_bytes = { λ f t c is. D.Disk.left_bytes f.disk t c is };
 }

@@ -1,5 +1,6 @@
 //! Laws of what a crash leaves: the clauses are the laws, and the functions do nothing.
 ghost use Rattle.std.specs.Prelude.{◌↔◌, ℕ, List, [], ◌∷◌};
+ghost use Rattle.byte_forms.specs.Places.{IsBytes};
 ghost use Rattle.disk_core.specs.Disk.{Torn};
 ghost use Rattle.disk_core.specs.Replay.{IsImageOf};
 ghost use Rattle.disk_core.specs.Torn.{KeepsOthers};
@@ -12,9 +13,12 @@ pub fn a_torn_write_keeps_others()
         → Torn place count old new ↔ KeepsOthers ((place, count) ∷ []) old new }
 {}
 
-/// The law of several writes since a sync: each image of the disk in memory keeps each byte outside
-/// of all of them and below the end at the sync.
+/// The law of one or more writes since a sync: the images of the disk in memory are exactly the
+/// bytes that keep each byte outside of all of them and below the end at the sync.
 pub fn torn_writes_keep_others()
-    ensures { (base : List ℕ) (writes : List (ℕ × ℕ)) (image : List ℕ) → IsImageOf base writes image
-        → KeepsOthers writes base image }
+    ensures kept { (base : List ℕ) (writes : List (ℕ × ℕ)) (image : List ℕ)
+        → IsImageOf base writes image → KeepsOthers writes base image }
+    ensures all { (base : List ℕ) (write : ℕ × ℕ) (writes : List (ℕ × ℕ)) (image : List ℕ)
+        → IsBytes base → IsBytes image → KeepsOthers (write ∷ writes) base image
+        → IsImageOf base (write ∷ writes) image }
 {}

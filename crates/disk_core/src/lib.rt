@@ -6,8 +6,9 @@
 //! machine does. [`FileDisk`] is an open file, which tells nothing: that the operating system keeps
 //! the rules is taken on trust.
 //!
-//! A user takes two kinds of step: it looks ([`look_len`], [`look_at`], [`look_settled`]), or it
-//! writes and syncs ([`write_synced`]). What these ensure is all that a layer above needs.
+//! A user takes three kinds of step: it looks ([`look_len`], [`look_at`]), it makes certain what is
+//! there ([`settle`]), or it writes and syncs ([`write_synced`]). What these ensure is all that a
+//! layer above needs.
 #![tactic(auto)]
 
 mod disk;
@@ -22,4 +23,4 @@ pub use file::FileDisk;
 pub use fuse::Fuse;
 pub use laws::{a_torn_write_keeps_others, torn_writes_keep_others};
 pub use memory::{Call, Made, MemDisk};
-pub use steps::{look_at, look_len, look_settled, write_synced};
+pub use steps::{look_at, look_len, settle, write_synced};

@@ -1,4 +1,5 @@
-//! The two kinds of step that a user of a disk takes: it looks, or it writes and syncs.
+//! The steps that a user of a disk takes: it looks, it makes certain what is there, or it writes
+//! and syncs.
 ghost use Rattle.std.specs.Prelude.{◌≡◌, ℕ, ◌+◌, ◌^◌, ◌<◌, ◌≤◌, max, List, length, is_some, option_map, IfSome, IfOk, OnOk, MatchResult};
 ghost use Rattle.mtc_io.specs.Counts.{Rose, HasCause};
 ghost use Rattle.disk_core.specs.Disk.{overwritten, part, Torn, Only};
@@ -54,7 +55,7 @@ pub fn look_at<D: Disk>(disk: &mut D, place: u64, out: &mut [u8]) -> Result<(), 
 }
 
 /// Makes certain what was there, as [`Disk::sync`].
-pub fn look_settled<D: Disk>(disk: &mut D) -> Result<(), Failed>
+pub fn settle<D: Disk>(disk: &mut D) -> Result<(), Failed>
     ensures durable { OnOk result (IfSome (D.told disk.new) (λ b. Only b (D.may_leave disk.new))) }
     ensures known { D.known disk.new ≡ D.known disk.old }
     ensures looks { Looks D.Disk disk.old disk.new }

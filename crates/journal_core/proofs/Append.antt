@@ -5,7 +5,7 @@ use Rattle.std.proofs.Common.{arith}
 use Rattle.std.specs.Int.{w32, to_be_bytes}
 use Rattle.std.proofs.lemmas.List.{take-take, drop-take, drop-drop, take_all, take_at, drop_at}
 use Rattle.std.proofs.lemmas.List.{get_or-take, get_or-drop, get_or_at, append_assoc, length-append}
-use Rattle.std.proofs.lemmas.List.{length-take, length-drop}
+use Rattle.std.proofs.lemmas.List.{length-take, length-drop, take-append-le}
 use Rattle.std.proofs.lemmas.Bool.{cases_eq}
 use Rattle.disk_core.specs.Disk.{overwritten, part, Torn}
 use Rattle.disk_core.specs.Writes.{torn_all}
@@ -84,6 +84,28 @@ byte_after from place old new same past within =
     ∙ ap (λ (n : ℕ). get_or bytes n 0) split) in
     shifted new ∙ byte_kept (length old - from) (place - from) (drop from old) (drop from new) kept
     (omega arith) ∙ sym (shifted old)
+
+-- what is written over the closed gate and behind it
+pub opened_before : (gate end : ℕ) (tail bytes : List ℕ) → end ≡ gate + 1 → end ≤ length bytes
+    → overwritten gate (1 ∷ []) (overwritten end tail bytes) ≡ overwritten gate (1 ∷ tail) bytes
+opened_before gate end tail bytes end_is there =
+    let back = drop (end + length tail) bytes in
+    let front : length (take end bytes) ≡ end = simp length-take (omega arith) in
+    let split : overwritten end tail bytes ≡ take end bytes ++ (tail ++ back)
+    = append_assoc (take end bytes) tail back in
+    let before : take gate (overwritten end tail bytes) ≡ take gate bytes
+    = ap (take gate) split
+    ∙ take-append-le gate (take end bytes) (tail ++ back) (omega arith)
+    ∙ take-take gate end bytes (omega arith) in
+    let behind_gate : drop (gate + 1) (overwritten end tail bytes) ≡ tail ++ back
+    = ap (drop (gate + 1)) split
+    ∙ drop_at (take end bytes) (tail ++ back) (gate + 1) (omega arith) in
+    let whole : end + length tail ≡ gate + length (1 ∷ tail) = omega arith in
+    ap (λ (f : List ℕ). f ++ 1 ∷ [] ++ drop (gate + 1) (overwritten end tail bytes)) before
+    ∙ ap (λ (r : List ℕ). take gate bytes ++ 1 ∷ [] ++ r) behind_gate
+    ∙ append_assoc (take gate bytes) (1 ∷ []) (tail ++ back)
+    ∙ sym (append_assoc (take gate bytes) (1 ∷ tail) back)
+    ∙ ap (λ (n : ℕ). take gate bytes ++ (1 ∷ tail) ++ drop n bytes) whole
 
 module _ (bytes : List ℕ) (records : List (List ℕ)) (body : List ℕ)
     (is : IsStaged bytes records body) where

@@ -4,7 +4,8 @@ use Rattle.std.proofs.Common.{IfSome, option_map, refl, ap, sym, ◌∙◌, subs
 use Rattle.std.proofs.lemmas.List.{append-nil, drop_all}
 use Rattle.disk_core.specs.Disk.{overwritten, Only}
 use Rattle.disk_core.specs.declared.disk.Disk.{Ghosts}
-use Rattle.journal_core.specs.Format.{behind, StandsFor, new_file_of, records_of}
+use Rattle.journal_core.specs.Format.{header, behind, StandsFor, record_bytes, new_file_of}
+use Rattle.journal_core.specs.Format.{records_of}
 use Rattle.journal_core.specs.Settled.{IsSettled}
 use Rattle.journal_core.specs.Words.{AllStandFor}
 use Rattle.journal_core.proofs.Records.{records_of-stands}
@@ -21,6 +22,14 @@ first_stands first b some few is =
     ∙ append-nil (new_file_of first) in
     opened (new_file_of first) [] first (first_staged first) b some few (is
     ∙ ap (overwritten 16 (1 ∷ [])) whole)
+
+-- they are the header and the record
+first_written : (first : List ℕ) → overwritten 16 (1 ∷ []) (overwritten 0 (new_file_of first) [])
+    ≡ header ++ record_bytes first
+first_written first =
+    ap (λ (rest : List ℕ). overwritten 16 (1 ∷ []) (new_file_of first ++ rest))
+    (drop_all (0 + length (new_file_of first)) [] (omega arith))
+    ∙ ap (overwritten 16 (1 ∷ [])) (append-nil (new_file_of first))
 
 module _ {D : Type 0} (g : Ghosts D) (old new : D) (first piece : List ℕ)
     (empty : IfSome (g.told old) (λ b. b ≡ []))
@@ -49,6 +58,21 @@ module _ {D : Type 0} (g : Ghosts D) (old new : D) (first piece : List ℕ)
         only = at_told (λ (bytes : List ℕ). Only bytes (g.may_leave new))
             (g.told new) b told durable;
       }
+
+  pub started_written : g.told new ≡ option_map (λ _. header ++ record_bytes first) (g.told old)
+  started_written = go (g.told old) refl
+    where
+      go : (was : Option (List ℕ)) → g.told old ≡ was
+          → g.told new ≡ option_map (λ _. header ++ record_bytes first) was
+      go None is = written
+          ∙ ap (option_map (λ (b : List ℕ). overwritten 16 (1 ∷ []) (overwritten 0 piece b))) is
+      go (Some b) is =
+          let none : b ≡ [] = at_told (λ (b : List ℕ). b ≡ []) (g.told old) b is empty in
+          written
+          ∙ ap (option_map (λ (b : List ℕ). overwritten 16 (1 ∷ []) (overwritten 0 piece b))) is
+          ∙ ap (λ (b : List ℕ). Some (overwritten 16 (1 ∷ []) (overwritten 0 piece b))) none
+          ∙ ap (λ (p : List ℕ). Some (overwritten 16 (1 ∷ []) (overwritten 0 p []))) piece_is
+          ∙ ap Some (first_written first)
 
   pub started_all : IfSome (option_map records_of (g.told new)) (AllStandFor g new)
   started_all = of_records (AllStandFor g new) (g.told new) (λ b told. let is =

@@ -1,4 +1,5 @@
 pub mod Append
+pub mod Appends
 pub mod Begun
 pub mod OpeningSteps
 pub mod ReadOn

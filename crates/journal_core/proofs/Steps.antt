@@ -6,15 +6,16 @@ use Rattle.std.proofs.Common.{◌∙◌, subst, arith}
 use Rattle.disk_core.specs.Disk.{overwritten, part, Torn, Only}
 use Rattle.disk_core.specs.Moments.{LeavesOnly}
 use Rattle.disk_core.specs.declared.disk.Disk.{Ghosts}
-use Rattle.disk_core.proofs.Moments.{started, joined, weaker, left_now}
+use Rattle.disk_core.proofs.Moments.{joined, weaker, left_now}
 use Rattle.journal_core.specs.Format.{AreRecordsAt, behind, StandsFor, StandsForEither, tail_of}
-use Rattle.journal_core.specs.Format.{records_of}
+use Rattle.journal_core.specs.Format.{records_of, record_bytes}
 use Rattle.journal_core.specs.Settled.{IsSettled}
 use Rattle.journal_core.specs.Words.{AllStandFor, HoldsBody, HoldsLength}
 use Rattle.journal_core.proofs.Records.{records_of-stands, behind-append, body_there, length_there}
 use Rattle.journal_core.proofs.Records.{part_there}
 use Rattle.journal_core.proofs.Told.{if_told, at_told, told_before, of_records}
 use Rattle.journal_core.proofs.Append.{IsStaged, staged, torn_behind, torn_gate, opened}
+use Rattle.journal_core.proofs.Append.{opened_before}
 
 module _ {D : Type 0} (g : Ghosts D) (old mid new : D) (bytes : List ℕ) (body : List ℕ)
     (end : ℕ) where
@@ -114,21 +115,31 @@ module _ {D : Type 0} (g : Ghosts D) (old mid new : D) (body piece : List ℕ) (
           rw (told, is) (ap Some (records_of-stands now _ stands
           ∙ ap (λ (b : List ℕ). records_of b ++ body ∷ []) same))
 
+  pub done_written : g.told new
+      ≡ option_map (overwritten (end - 1) (record_bytes body)) (g.told old)
+  done_written = go (g.told old) refl
+    where
+      both : (was : Option (List ℕ)) → g.told old ≡ was → g.told new
+          ≡ option_map (overwritten (end - 1) (1 ∷ [])) (option_map (overwritten end piece) was)
+      both was is = second ∙ ap (option_map (overwritten (end - 1) (1 ∷ []))) (first
+          ∙ ap (option_map (overwritten end piece)) is)
+
+      go : (was : Option (List ℕ)) → g.told old ≡ was
+          → g.told new ≡ option_map (overwritten (end - 1) (record_bytes body)) was
+      go None is = both None is
+      go (Some b) is =
+          let was = settled b is in
+          let there = was.stands.ends.there in
+          let end_is = was.end_is in
+          both (Some b) is
+          ∙ ap (λ (p : List ℕ). Some (overwritten (end - 1) (1 ∷ []) (overwritten end p b)))
+          piece_is
+          ∙ ap Some (opened_before (end - 1) end (tail_of body) b (omega arith) (omega arith))
+
 -- An append at any moment.
 module _ {D : Type 0} (g : Ghosts D) (old mid new : D) (body piece : List ℕ) (end : ℕ)
     (settled : (b : List ℕ) → g.told old ≡ Some b → IsSettled b (g.may_leave old) end)
     (piece_is : piece ≡ tail_of body) (some : 1 ≤ length body) (few : length body ≤ 131072) where
-  -- before the first write
-  pub no_step : ((c : List ℕ) → g.left_since old (g.moment old) c → g.may_leave old c)
-      → IfSome (option_map records_of (g.told old))
-      (λ list. LeavesOnly g old old (StandsForEither list body))
-  no_step only_now = of_records (λ list. LeavesOnly g old old (StandsForEither list body))
-      (g.told old) (λ b told.
-      let was = settled b told in
-      started g old _ only_now (λ c left. inl
-      (subst (λ (bytes : List ℕ). StandsFor bytes (records_of b)) (sym (was.only c left))
-      was.stands)))
-
   -- in the first write
   pub one_step : (count : ℕ) → LeavesOnly g old mid (λ c. (d : List ℕ) × g.may_leave old d
       × Torn end count d c)

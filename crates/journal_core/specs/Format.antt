@@ -107,6 +107,10 @@ IsCutShortAt bytes place = (length bytes ≤ place) ⊎ IsCutRecordAt bytes plac
 abbrev pub tail_of : List ℕ → List ℕ
 tail_of body = to_be_bytes w32 (length body) ++ body ++ 0 ∷ []
 
+-- what an append leaves from the gate on: the gate, open, and what it writes behind it
+abbrev pub record_bytes : List ℕ → List ℕ
+record_bytes body = 1 ∷ tail_of body
+
 -- what the first write of a new file holds
 abbrev pub new_file_of : List ℕ → List ℕ
 new_file_of body = header ++ 0 ∷ tail_of body

@@ -1,9 +1,10 @@
 -- What `start` makes of a disk, and what it leaves of one where it refuses.
-use Rattle.std.specs.Prelude.{◌≡◌, ◌≢◌, ℕ, ◌+◌, ◌≤◌, false, List, [], ◌∷◌, length, is_some}
+use Rattle.std.specs.Prelude.{◌≡◌, ◌≢◌, ℕ, ◌+◌, ◌≤◌, false, List, [], ◌∷◌, ◌++◌, length, is_some}
 use Rattle.std.specs.Prelude.{option_map, IfSome}
 use Rattle.mtc_io.specs.Counts.{Rose}
 use Rattle.disk_core.specs.Moments.{Looks}
 use Rattle.disk_core.specs.declared.disk.Disk.{Ghosts}
+use Rattle.journal_core.specs.Format.{header, record_bytes}
 use Rattle.journal_core.specs.Words.{AllStandFor, disk_of, end_of, is_broken, records}
 use Rattle.journal_core.specs.declared.error.StartError.{StartError}
 use Rattle.journal_core.specs.declared.error.StartError.TheVariants.{Failed, NotEmpty, Memory}
@@ -19,6 +20,8 @@ pub record HasStarted {D : Type 0} {g : Ghosts D} (first : List ℕ) (old : D)
   pub end : end_of new ≡ 22 + length first
   pub all : IfSome (records new) (AllStandFor g (disk_of new))
   pub fine : g.faults (disk_of new) ≡ g.faults old
+  -- the file is the header and the record
+  pub written : g.told (disk_of new) ≡ option_map (λ _. header ++ record_bytes first) (g.told old)
 
 -- a disk that failed
 pub record HasFailed {D : Type 0} (g : Ghosts D) (old new : D) : Type 0 where

@@ -1,11 +1,11 @@
 -- What a journal shows, and what `append` makes of it.
-use Rattle.std.specs.Prelude.{◌≡◌, ℕ, ◌+◌, ◌≤◌, Bool, true, false, List, [], ◌∷◌, ◌++◌, length}
+use Rattle.std.specs.Prelude.{◌≡◌, ℕ, ◌+◌, ◌-◌, ◌≤◌, Bool, true, false, List, [], ◌∷◌, ◌++◌, length}
 use Rattle.std.specs.Prelude.{Option, option_map, IfSome, Result, Ok, Err}
 use Rattle.std.specs.Int.{w32, to_be_bytes}
 use Rattle.mtc_io.specs.Counts.{Rose}
-use Rattle.disk_core.specs.Disk.{part}
+use Rattle.disk_core.specs.Disk.{overwritten, part}
 use Rattle.disk_core.specs.declared.disk.Disk.{Ghosts}
-use Rattle.journal_core.specs.Format.{end_behind, StandsFor, records_of}
+use Rattle.journal_core.specs.Format.{end_behind, StandsFor, records_of, record_bytes}
 use Rattle.journal_core.specs.declared.error.AppendError.{AppendError}
 use Rattle.journal_core.specs.declared.error.AppendError.TheVariants.{Failed, Broken, Full}
 use Rattle.journal_core.specs.declared.journal.Journal.{Journal}
@@ -66,10 +66,14 @@ module _ {D : Type 0} {g : Ghosts D} where
     pub sound : new.broken ≡ false
     pub all : IfSome (g.told new.disk) (λ bytes. AllStandFor g new.disk (records_of bytes))
     pub fine : g.faults new.disk ≡ g.faults old.disk
+    -- the file is as it was, with the record written over it from the closed gate on
+    pub written : g.told new.disk
+        ≡ option_map (overwritten (old.end - 1) (record_bytes body)) (g.told old.disk)
 
   -- what an append leaves, by its answer
-  abbrev pub Leaves : List ℕ → Journal D g → Journal D g → Result (Unit {0}) AppendError → Type 0
-  Leaves body old new (Ok done) = HasAppended body old new
-  Leaves body old new (Err Failed) = HasBroken old new
-  Leaves body old new (Err Broken) = IsUntouched old new
-  Leaves body old new (Err Full) = IsUntouched old new
+  abbrev pub AppendLeaves : List ℕ → Journal D g → Journal D g → Result (Unit {0}) AppendError
+      → Type 0
+  AppendLeaves body old new (Ok done) = HasAppended body old new
+  AppendLeaves body old new (Err Failed) = HasBroken old new
+  AppendLeaves body old new (Err Broken) = IsUntouched old new
+  AppendLeaves body old new (Err Full) = IsUntouched old new

@@ -32,7 +32,7 @@ pub struct Journal<D: Disk> {
 }
 
 impl<D: Disk> Journal<D> {
-    ghost use Rattle.journal_core.specs.Words.{disk_of, end_of, is_broken, records, Leaves, HoldsBody, HoldsLength};
+    ghost use Rattle.journal_core.specs.Words.{disk_of, end_of, is_broken, records, AppendLeaves, HoldsBody, HoldsLength};
 
     /// Adds a record of 1 to 131,072 bytes. At Ok a crash leaves the records with it; at any moment
     /// of the call it leaves the old records, or these and the new one.
@@ -43,7 +43,7 @@ impl<D: Disk> Journal<D> {
     pub fn append(&mut self, body: &[u8]) -> Result<(), AppendError>
         requires some { 1 ≤ length body.now }
         requires few { length body.now ≤ 131072 }
-        ensures leaves { Leaves body.now self.old self.new result }
+        ensures leaves { AppendLeaves body.now self.old self.new result }
         ensures broken { IsErrOf result AppendError.Broken ↔ IsTrue (is_broken self.old) }
         ensures full { IsErrOf result AppendError.Full ↔ (is_broken self.old ≡ false)
             × (most_bytes < end_of self.old + 5 + length body.now) }
@@ -99,7 +99,7 @@ impl<D: Disk> Journal<D> {
     fn put(&mut self, body: &[u8]) -> Result<(), AppendError>
         requires some { 1 ≤ length body.now }
         requires few { length body.now ≤ 131072 }
-        ensures leaves { Leaves body.now self.old self.new result }
+        ensures leaves { AppendLeaves body.now self.old self.new result }
         ensures broken { IsErrOf result AppendError.Broken ↔ IsTrue (is_broken self.old) }
         ensures full { IsErrOf result AppendError.Full ↔ (is_broken self.old ≡ false)
             × (most_bytes < end_of self.old + 5 + length body.now) }

@@ -3,6 +3,9 @@ ghost use Rattle.std.specs.Prelude.{◌≡◌, ℕ, List, Ok};
 ghost use Rattle.byte_forms.specs.Places.{IsBytes};
 ghost use Rattle.journal_core.specs.Folds.{Fold, Found, state_behind, read_by};
 ghost use Rattle.journal_core.specs.Format.{StandsFor};
+ghost use Rattle.journal_core.specs.Words.{AllStandFor};
+
+use disk_core::Disk;
 
 /// A file stands for one list of records at most.
 pub fn a_file_stands_for_one_list_at_most()
@@ -19,4 +22,17 @@ pub fn files_are_read_by_their_records<S, E>()
     ensures only { (fold : Fold S E) (bytes : List ℕ) (found : Found S) → IsBytes bytes
         → read_by fold bytes ≡ Ok found
         → StandsFor bytes found.records × (state_behind fold found.records ≡ Ok found.state) }
+{}
+
+/// Of each kind of journal: where every image of a disk stands for records that make a state, a
+/// crash leaves a file that is read as these; and what a crash at any moment leaves is read as a
+/// journal only where it stands for records that make its state.
+pub fn images_are_read_by_their_records<D: Disk, S, E>()
+    ensures read { (fold : Fold S E) (disk : D) (list : List (List ℕ)) (state : S)
+        → AllStandFor D.Disk disk list → state_behind fold list ≡ Ok state
+        → (image : List ℕ) → D.may_leave disk image
+        → read_by fold image ≡ Ok (record { records = list; state = state }) }
+    ensures only { (fold : Fold S E) (disk : D) (since : ℕ) (image : List ℕ) (found : Found S)
+        → D.left_since disk since image → read_by fold image ≡ Ok found
+        → StandsFor image found.records × (state_behind fold found.records ≡ Ok found.state) }
 {}

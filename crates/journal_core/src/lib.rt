@@ -24,5 +24,8 @@ pub use error::{AppendError, OpenError, Refused, StartError};
 pub use first_record::{FirstRecord, start};
 pub use format::MAX_BODY;
 pub use journal::Journal;
-pub use laws::{a_file_stands_for_one_list_at_most, files_are_read_by_their_records};
+pub use laws::{
+    a_file_stands_for_one_list_at_most, files_are_read_by_their_records,
+    images_are_read_by_their_records,
+};
 pub use opening::Opening;

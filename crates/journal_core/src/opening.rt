@@ -14,7 +14,7 @@ use crate::format::{HEADER, buffer};
 use crate::journal::Journal;
 use crate::record::{Body, read_record};
 use crate::window::Window;
-use disk_core::{Disk, look_at, look_len, look_settled};
+use disk_core::{Disk, look_at, look_len, settle};
 use mtc_io::{Failed, Memory};
 use std::alloc::Global;
 
@@ -68,7 +68,7 @@ fn measure<D: Disk>(disk: &mut D) -> Result<Option<u64>, Failed>
     ensures looks { Looks D.Disk disk.old disk.new }
     ensures cause { HasCause (D.faults disk.old) (D.faults disk.new) result }
 {
-    look_settled(disk)?;
+    settle(disk)?;
     let size = look_len(disk)?;
     if size < 16 {
         return Ok(None);

@@ -4,7 +4,7 @@ ghost use Rattle.disk_core.specs.Disk.{Torn};
 ghost use Rattle.disk_core.specs.Replay.{State, step, state_now, IsImage};
 
 use crate::memory::call::{Call, Made};
-use crate::memory::history::overwrite;
+use crate::memory::history::{known_bytes, overwrite};
 use mtc_io::Memory;
 use std::alloc::{AllocError, Global};
 
@@ -68,6 +68,7 @@ fn replay(seen: &mut Vec<u8>, image: &mut Vec<u8>, made: &Made, choice: u64) -> 
         Call::Read { .. } => Ok(()),
         Call::Write { place, piece } => {
             tear(image, *place, piece.as_slice(), choice)?;
+            known_bytes(image);
             if made.ok {
                 overwrite(seen, *place, piece.as_slice())?;
             }

@@ -1,8 +1,9 @@
 //! What a disk in memory held at first, and its calls since: all that it tells is read off these.
 ghost use Rattle.std.specs.Prelude.{◌≡◌, ◌+◌, ◌<◌, [], ℕ, List, length, true, false, if◌then◌else◌, is_ok, IfOk, OnOk, OnErr};
+ghost use Rattle.std.proofs.Props.{props};
 ghost use Rattle.byte_forms.specs.Places.{IsBytes};
 ghost use Rattle.disk_core.specs.Disk.{overwritten, Torn, Follows, NoNew, Only, Elapses};
-ghost use Rattle.disk_core.specs.Replay.{State, after_call, state_now, IsImage, LeftSince, noted};
+ghost use Rattle.disk_core.specs.Replay.{State, after_call, state_now, IsImage, LeftSince, noted, HoldsBytes, HoldsBytes-prop};
 
 use crate::memory::call::{Call, Made};
 use crate::memory::copies::copies;
@@ -17,7 +18,7 @@ pub(crate) struct History {
     pub(crate) live: Vec<u8>,
     pub(crate) is_live: bool,
     pub(crate) calls: Vec<Made>,
-    ghost are_bytes: { IsBytes (state_now first calls.items).seen },
+    ghost are_bytes: { HoldsBytes first calls.items } by { Prim.hlevel (props, HoldsBytes-prop) },
     ghost shown: { (if is_live then live.items else first) ≡ (state_now first calls.items).seen },
 }
 
@@ -84,7 +85,7 @@ fn write_noted(
 }
 
 // Each item of a slice of bytes is one.
-fn known_bytes(bytes: &[u8])
+pub(crate) fn known_bytes(bytes: &[u8])
     ensures { IsBytes bytes.now }
 {
     let _ = bytes;

@@ -5,7 +5,7 @@ ghost use Rattle.disk_core.specs.Disk.{overwritten, Torn, Follows, NoNew, Only, 
 ghost use Rattle.disk_core.specs.History.{seen_of, left_of, moment_of, since_of};
 ghost use Rattle.disk_core.specs.Plan.{PlanTurn};
 ghost use Rattle.disk_core.specs.Replay.{State, after_call};
-ghost use Rattle.disk_core.specs.ReplayLaws.{told_seen, told_are, told_length, now_since, since_now};
+ghost use Rattle.disk_core.specs.ReplayLaws.{told_seen, told_are, told_length, now_since, since_now, since_bytes};
 
 use crate::disk::Disk;
 use crate::memory::call::{Call, Made};
@@ -233,13 +233,17 @@ impl Disk for MemDisk {
         settle(&mut self.plan, &mut self.past)
     }
 
-    ghost reads_image = { λ m b is. told_seen m.past.first m.past.calls.items b is };
+    ghost reads_image = { λ m b is. told_seen m.past.first m.past.calls.items b m.past.are_bytes
+        is };
 
-    ghost told_bytes = { λ m b is. told_are (seen_of m.past) b m.past.are_bytes is };
+    ghost told_bytes = { λ m b is. told_are m.past.first m.past.calls.items b m.past.are_bytes is };
 
     ghost known_there = { λ m b is. told_length m.known (seen_of m.past) b m.there is };
 
     ghost counts_now = { λ m t c le is. now_since m.past.first m.past.calls.items t c le is };
 
     ghost only_now = { λ m c is. since_now m.past.first m.past.calls.items c is };
+
+    ghost left_bytes = { λ m t c is. since_bytes m.past.first m.past.calls.items t c
+        m.past.are_bytes is };
 }

@@ -1,12 +1,13 @@
-use Rattle.std.proofs.Common.{◌≡◌, ◌+◌, ◌≤◌, ℕ, List, [], ◌∷◌, length, take, IfSome, Option}
+use Rattle.std.proofs.Common.{◌≡◌, ◌+◌, ◌≤◌, ℕ, List, [], ◌∷◌, ◌++◌, length, take, IfSome, Option}
 use Rattle.std.proofs.Common.{option_map, is_some, ap, sym, subst, ◌∙◌, add_comm, arith, refl}
 use Rattle.std.proofs.lemmas.List.{nil_from_length, length-take, length-drop}
-use Rattle.journal_core.specs.Format.{new_file_of}
+use Rattle.journal_core.specs.Format.{header, record_bytes, new_file_of}
 use Rattle.journal_core.specs.Packed.{first_body}
 use Rattle.journal_core.specs.Settled.{IsSettled}
 use Rattle.journal_core.specs.declared.first_record.FirstRecord.{FirstRecord}
 use Rattle.journal_core.proofs.Told.{if_some}
 use Rattle.journal_core.proofs.Begun.{started_settled, started_all, started_records}
+use Rattle.journal_core.proofs.Begun.{started_written}
 use Rattle.journal_core.proofs.first_record.FirstRecord.start.Goals as goal
 
 -- the length of its body
@@ -83,4 +84,11 @@ returns-in-Ok-write_first-clause-ok g c =
           (few_body c.args.self)
           c.in-Ok-write_first.ensures.written c.in-Ok-write_first.ensures.durable;
       fine = c.in-Ok-write_first.ensures.cause.fine ∙ c.in-Ok.ensures.cause.fine;
+      written = started_written g.D.Disk c.look_len.new.disk c.write_first.new.disk
+          (first_body c.args.self) (take (c.args.self.size + 22) c.deref.result.now) none
+          (piece_is c.args.self c.deref.result.now c.deref.ensures.value) (some_body c.args.self)
+          (few_body c.args.self)
+          c.in-Ok-write_first.ensures.written c.in-Ok-write_first.ensures.durable
+          ∙ ap (option_map (λ _. header ++ record_bytes (first_body c.args.self)))
+          c.look_len.ensures.looks.told;
     }

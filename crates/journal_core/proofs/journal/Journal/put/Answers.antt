@@ -1,8 +1,9 @@
 use Rattle.std.proofs.Common.{◌≡◌, ◌+◌, ℕ, List, length, take, ap, ◌∙◌, add_comm, true, false}
 use Rattle.std.proofs.Common.{arith, rules, refl}
 use Rattle.journal_core.specs.Format.{tail_of}
-use Rattle.journal_core.proofs.Steps.{done_settled, done_all, done_records, no_step, one_step}
-use Rattle.journal_core.proofs.Steps.{both_steps, still_stands}
+use Rattle.journal_core.proofs.Steps.{done_settled, done_all, done_records, done_written}
+use Rattle.journal_core.proofs.Steps.{one_step, both_steps, still_stands}
+use Rattle.journal_core.proofs.Appends.{untouched_moment}
 use Rattle.journal_core.proofs.journal.Journal.put.Goals as goal
 
 -- the piece that was written
@@ -66,10 +67,8 @@ invariant_of-self-2-clause-stands g c = λ b told.
 
 pub returns-then-self-size-clause-any_moment : goal.returns-then-self-size-clause-any_moment
 returns-then-self-size-clause-any_moment g c = λ sound.
-    no_step g.D.Disk c.args.self.now.disk c.args.self.now.disk c.args.self.now.disk c.args.body.now
-    (tail_of c.args.body.now)
-    c.args.self.now.end (c.args.self.now.settled sound) refl c.requires.some c.requires.few
-    (g.met.D.Disk.only_now _)
+    untouched_moment g.D.Disk c.args.self.now.disk c.args.self.now.end c.args.body.now
+    (c.args.self.now.settled sound) (g.met.D.Disk.only_now _)
 
 pub invariant_of-self-2-clause-settled : goal.invariant_of-self-2-clause-settled
 invariant_of-self-2-clause-settled g c = λ sound b told.
@@ -101,6 +100,13 @@ returns-clause-leaves g c = record {
       c.in_ok-write_synced.ensures.written c.in_ok-write_synced-2.ensures.written
       c.in_ok-write_synced-2.ensures.durable;
   fine = c.in_ok-write_synced-2.ensures.cause.fine ∙ c.in_ok-write_synced.ensures.cause.fine;
+  written = done_written g.D.Disk c.args.self.now.disk c.write_synced.new.disk
+      c.write_synced-2.new.disk c.args.body.now
+      (take (length c.args.body.now + 5) c.deref.result.now) c.args.self.now.end
+      (c.args.self.now.settled c.if-self.false)
+      (piece_is _ _ _ c.deref.ensures.value c.pack.ensures.tail) c.requires.some c.requires.few
+      c.in_ok-write_synced.ensures.written c.in_ok-write_synced-2.ensures.written
+      c.in_ok-write_synced-2.ensures.durable;
 }
 
 pub returns-in_err-write_synced-clause-any_moment

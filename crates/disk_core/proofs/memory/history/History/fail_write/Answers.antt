@@ -4,7 +4,7 @@ use Rattle.disk_core.specs.Disk.{Torn, Follows}
 use Rattle.disk_core.specs.History.{left_of}
 use Rattle.disk_core.specs.Replay.{IsImage, state_now}
 use Rattle.disk_core.specs.declared.memory.call.Call.TheVariants.{Write}
-use Rattle.disk_core.proofs.Replay.{torn_pushed, torn_same, seen_kept, time_pushed}
+use Rattle.disk_core.proofs.Replay.{torn_pushed, torn_same, bytes_noted, seen_kept, time_pushed}
 use Rattle.disk_core.proofs.memory.history.History.fail_write.Goals as goal
 
 pub invariant_of-self : goal.invariant_of-self
@@ -13,7 +13,10 @@ invariant_of-self c =
     (record { call = Write c.args.place c.in_ok-piece.piece; ok = false })
     (is_ok c.push.result) (λ s. refl) c.push.ensures.items in
     record {
-      are_bytes = subst IsBytes (sym kept) c.args.self.now.are_bytes;
+      are_bytes = bytes_noted _ _ _ (Write c.args.place c.in_ok-piece.piece) false
+          (is_ok c.push.result) c.push.ensures.items
+          (subst IsBytes (sym c.in_ok-piece.ensures) (λ i. (c.type_inv.piece i).fits))
+          c.args.self.now.are_bytes;
       shown = c.args.self.now.shown ∙ sym kept;
     }
 

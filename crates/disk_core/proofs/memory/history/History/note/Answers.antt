@@ -1,7 +1,6 @@
-use Rattle.std.proofs.Common.{ap, subst, sym, ◌∙◌, is_ok}
-use Rattle.byte_forms.specs.Places.{IsBytes}
+use Rattle.std.proofs.Common.{ap, sym, ◌∙◌, is_ok}
 use Rattle.disk_core.specs.Replay.{State}
-use Rattle.disk_core.proofs.Replay.{quiet_pushed, seen_kept, time_pushed}
+use Rattle.disk_core.proofs.Replay.{quiet_pushed, quiet_writes, bytes_noted, seen_kept, time_pushed}
 use Rattle.disk_core.proofs.memory.history.History.note.Goals as goal
 
 pub invariant_of-self : goal.invariant_of-self
@@ -10,7 +9,9 @@ invariant_of-self c =
     (record { call = c.args.call; ok = c.args.ok })
     (is_ok c.push.result) (λ s. ap (λ (t : State). t.seen) (c.requires s)) c.push.ensures.items in
     record {
-      are_bytes = subst IsBytes (sym kept) c.args.self.now.are_bytes;
+      are_bytes = bytes_noted _ _ _ c.args.call c.args.ok (is_ok c.push.result)
+          c.push.ensures.items
+          (quiet_writes c.args.call c.args.ok c.requires) c.args.self.now.are_bytes;
       shown = c.args.self.now.shown ∙ sym kept;
     }
 

@@ -1,9 +1,8 @@
 use Rattle.std.proofs.Common.{refl, sym, subst, true, is_ok, ◌∙◌, List, ℕ}
-use Rattle.byte_forms.specs.Places.{IsBytes}
 use Rattle.disk_core.specs.Replay.{IsImage, state_now}
 use Rattle.disk_core.specs.ReplayLaws.{now_seen}
 use Rattle.disk_core.specs.declared.memory.call.Call.TheVariants.{Sync}
-use Rattle.disk_core.proofs.Replay.{sync_pushed, seen_kept, time_pushed}
+use Rattle.disk_core.proofs.Replay.{sync_pushed, bytes_noted, seen_kept, time_pushed}
 use Rattle.disk_core.proofs.memory.history.History.settle.Goals as goal
 
 pub invariant_of-self : goal.invariant_of-self
@@ -12,7 +11,8 @@ invariant_of-self c =
     (record { call = Sync; ok = true })
     (is_ok c.push.result) (λ s. refl) c.push.ensures.items in
     record {
-      are_bytes = subst IsBytes (sym kept) c.args.self.now.are_bytes;
+      are_bytes = bytes_noted _ _ _ Sync true (is_ok c.push.result) c.push.ensures.items tt
+          c.args.self.now.are_bytes;
       shown = c.args.self.now.shown ∙ sym kept;
     }
 
@@ -24,7 +24,8 @@ returns-clause-crash c = λ image now.
     let first = c.args.self.now.first in
     let calls = c.args.self.now.calls.items in
     subst (λ (bytes : List ℕ). IsImage (state_now first calls) bytes)
-    (sym (sync_pushed first calls _ c.in_ok-push.ensures.items image now)) (now_seen first calls)
+    (sym (sync_pushed first calls _ c.in_ok-push.ensures.items image now))
+    (now_seen first calls c.args.self.now.are_bytes)
 
 pub returns-clause-time : goal.returns-clause-time
 returns-clause-time c = time_pushed _ _ _ _ c.in_ok-push.ensures.items
