@@ -21,7 +21,8 @@ for crate in $(sed 's/#.*//; s/:.*//' "$root/crates.txt"); do
 done
 
 # It notes the crate, and each crate of this repository that it names and that isn't proved yet. A crate with a file src/broken
-# isn't proved. `rt run` makes a program that prints its words and ends with status 3.
+# isn't proved. Of one that is proved it prints the prover's line, but nothing where it was proved before. `rt run` makes a
+# program that prints its words and ends with status 3.
 cat >"$folder/bin/rt" <<'END'
 #!/bin/bash
 name=${PWD##*/} root=${PWD%/crates/*}
@@ -31,6 +32,7 @@ done
 echo "asked $name" >>"$root/asked"
 sleep 0.0$((RANDOM % 9))
 [ ! -e src/broken ] || { echo "a goal is open"; exit 1; }
+[ -e proved ] || echo "crate $name: modules loaded=2 checked=10"
 touch proved
 [ "$1" != run ] || { mkdir -p out && printf '#!/bin/bash\necho "$@"\nexit 3\n' >out/mtc_main && chmod +x out/mtc_main; }
 END
@@ -54,6 +56,7 @@ is_built || complain "the program isn't built and run with its words"
 grep -q '^early' "$folder/asked" && complain "a crate is proved before one that it names"
 grep -q "^asked cert_table" "$folder/asked" && complain "a crate is proved that the program doesn't stand on"
 [ "$(grep -c "of $asked: .* is proved" "$folder/said")" -eq "$asked" ] || complain "there isn't a line for each crate"
+grep -q "proved now: $asked of $asked crates" "$folder/said" || complain "the crates that were proved aren't counted"
 grep -q "log is $folder/crates/mtc_main/out/build.log" "$folder/said" || complain "nothing says where the log is"
 
 run_mtc
@@ -65,8 +68,12 @@ run_mtc
 is_built && [ "$asked" -eq 0 ] || complain "a crate that the program doesn't stand on makes it stale"
 
 touch "$folder/crates/mtc_words/specs"
+rm "$folder/crates/mtc_words/proved"
 run_mtc
 is_built && [ "$asked" -gt 0 ] || complain "a program isn't built again whose definitions were changed"
+grep -q "mtc_words is proved, after" "$folder/said" && [ "$(grep -c "was proved before, and is kept" "$folder/said")" -eq $((asked - 1)) ] ||
+    complain "a crate that was proved before is told as proved now, or the other way round"
+grep -q "proved now: 1 of $asked crates" "$folder/said" || complain "a crate that was proved before is counted as proved now"
 
 sed -i 's/^mtc_words: /&mtc_io /' "$folder/crates.txt"
 run_mtc
