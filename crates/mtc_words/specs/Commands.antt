@@ -45,15 +45,24 @@ abbrev pub is_width : ℕ → Bool
 is_width n = (n == 1) || ((n == 2) || ((n == 4) || (n == 8)))
 
 -- The moments up to the end of the year 9999, in seconds since 1970-01-01T00:00:00Z.
+abbrev pub last_moment : ℕ
+last_moment = 253402300799
+
 abbrev pub is_time : ℕ → Bool
-is_time n = nat_le n 253402300799
+is_time n = nat_le n last_moment
 
 -- The numbers of active landmarks that a log may have, and of entries.
+abbrev pub most_active : ℕ
+most_active = 10000
+
+abbrev pub most_entries : ℕ
+most_entries = 1048576
+
 abbrev pub is_active : ℕ → Bool
-is_active n = nat_le 1 n && nat_le n 10000
+is_active n = nat_le 1 n && nat_le n most_active
 
 abbrev pub is_limit : ℕ → Bool
-is_limit n = nat_le 2 n && nat_le n 1048576
+is_limit n = nat_le 2 n && nat_le n most_entries
 
 -- Every number.
 abbrev pub is_any : ℕ → Bool

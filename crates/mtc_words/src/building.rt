@@ -12,6 +12,14 @@ use crate::number::read_number;
 use std::alloc::Global;
 use tls_wire::{AnchorError, AnchorId};
 
+// The last second of the year 9999.
+const LAST_MOMENT: u64 = 253_402_300_799;
+
+// The most active landmarks, and the most entries, that `init-log` may be asked for.
+const MOST_ACTIVE: u64 = 10_000;
+
+const MOST_ENTRIES: u64 = 1_048_576;
+
 // A height of keys that are made.
 fn height(place: usize, word: &str) -> Result<u64, WordError>
     ensures { result ≡ number_word place is_height word.now }
@@ -37,7 +45,7 @@ fn time(place: usize, word: &str) -> Result<u64, WordError>
     ensures { result ≡ number_word place is_time word.now }
 {
     match read_number(word) {
-        Some(seconds) if seconds <= 253_402_300_799 => Ok(seconds),
+        Some(seconds) if seconds <= LAST_MOMENT => Ok(seconds),
         _ => Err(WordError::BadNumber(place)),
     }
 }
@@ -47,7 +55,7 @@ fn active(place: usize, word: &str) -> Result<u64, WordError>
     ensures { result ≡ number_word place is_active word.now }
 {
     match read_number(word) {
-        Some(count) if 1 <= count && count <= 10_000 => Ok(count),
+        Some(count) if 1 <= count && count <= MOST_ACTIVE => Ok(count),
         _ => Err(WordError::BadNumber(place)),
     }
 }
@@ -57,7 +65,7 @@ fn limit(place: usize, word: &str) -> Result<u64, WordError>
     ensures { result ≡ number_word place is_limit word.now }
 {
     match read_number(word) {
-        Some(count) if 2 <= count && count <= 1_048_576 => Ok(count),
+        Some(count) if 2 <= count && count <= MOST_ENTRIES => Ok(count),
         _ => Err(WordError::BadNumber(place)),
     }
 }
