@@ -3,6 +3,7 @@ pub mod Vectors
 pub mod AnchorLoops
 pub mod ArcForm
 pub mod DecimalForm
+pub mod Decimals
 pub mod AnchorForm
 pub mod TextLoops
 pub mod AnchorTexts

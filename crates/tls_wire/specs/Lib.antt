@@ -2,3 +2,4 @@ pub mod Reading
 pub mod Spelling
 pub mod Arcs
 pub mod Anchors
+pub mod Decimal

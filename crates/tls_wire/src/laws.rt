@@ -1,6 +1,6 @@
 //! Laws of the forms: the clauses are the laws, and the functions do nothing.
 
-ghost use Rattle.std.specs.Prelude.{◌≡◌, ◌<◌, ◌^◌, ℕ, flat_map, Ok};
+ghost use Rattle.std.specs.Prelude.{◌≡◌, ◌<◌, ◌^◌, ℕ, decimal, flat_map, Ok, Some};
 ghost use Rattle.std.specs.List.{AllByRecursion};
 ghost use Rattle.std.specs.Int.{w8, w16, w32, w64};
 ghost use Rattle.byte_forms.specs.Types.{Text};
@@ -11,6 +11,7 @@ ghost use Rattle.tls_wire.specs.Reading.{bytes_at, number_at, vector_at, hashes_
 ghost use Rattle.tls_wire.specs.Spelling.{number, vector, HasLength, IsShorter, hashes, AreHashes};
 ghost use Rattle.tls_wire.specs.Arcs.{arc, IsArc, IsAnchorId};
 ghost use Rattle.tls_wire.specs.Anchors.{arc_at, anchor_of, anchor_text, text_of};
+ghost use Rattle.tls_wire.specs.Decimal.{number_of};
 
 /// A number that is read is spelled so, and a number that is spelled so is read again, whatever
 /// follows it.
@@ -48,4 +49,12 @@ pub fn anchor_texts_are_read_as_written()
     ensures again { (id : Text) → IsAnchorId id → anchor_text (text_of id) ≡ Ok id }
     ensures read { (text id : Text) → IsBytes text → anchor_text text ≡ Ok id
         → IsAnchorId id × (text_of id ≡ text) }
+{}
+
+/// A number below 2^63 in decimal is read as that number, and a text that is read is the number in
+/// decimal.
+pub fn numbers_in_decimal_are_read_as_written()
+    ensures again { (n : ℕ) → n < 2 ^ 63 → number_of (decimal n) ≡ Some n }
+    ensures read { (text : Text) (n : ℕ) → number_of text ≡ Some n
+        → (decimal n ≡ text) × (n < 2 ^ 63) }
 {}

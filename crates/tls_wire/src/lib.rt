@@ -1,11 +1,12 @@
 //! Bytes in the presentation language of TLS (RFC 8446, section 3): a cursor that reads numbers,
 //! strings of bytes and vectors from a slice, and calls that write them. Beside them anchor ids,
-//! the names of trust anchors, as bytes and as text.
+//! the names of trust anchors, as bytes and as text, and numbers in decimal.
 #![tactic(auto)]
 
 mod anchor;
 mod arcs;
 mod cursor;
+mod decimal;
 mod dotted;
 mod fault;
 mod laws;
@@ -13,9 +14,11 @@ mod writing;
 
 pub use anchor::AnchorId;
 pub use cursor::{Cursor, HashesError, Short};
+pub use decimal::read_number;
 pub use fault::{AnchorBytesError, AnchorError};
 pub use laws::{
     anchor_ids_are_read_as_spelled, anchor_texts_are_read_as_written, hashes_are_read_as_spelled,
-    numbers_are_read_as_spelled, vectors_are_read_as_spelled,
+    numbers_are_read_as_spelled, numbers_in_decimal_are_read_as_written,
+    vectors_are_read_as_spelled,
 };
 pub use writing::{put_bytes, put_hashes, put_u8, put_u16, put_u32, put_u64, put_vec8, put_vec16};
