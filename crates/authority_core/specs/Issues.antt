@@ -35,5 +35,6 @@ KeepsToOrMemory wanted (Ok index) = KeepsTo wanted (Ok index)
 KeepsToOrMemory wanted (Err log_error.Full) = KeepsTo wanted (Err log_error.Full)
 KeepsToOrMemory wanted (Err log_error.TooLarge) = KeepsTo wanted (Err log_error.TooLarge)
 KeepsToOrMemory wanted (Err log_error.NoSuchEntry) = KeepsTo wanted (Err log_error.NoSuchEntry)
+KeepsToOrMemory wanted (Err log_error.NothingNew) = KeepsTo wanted (Err log_error.NothingNew)
 KeepsToOrMemory wanted (Err (log_error.Append why)) = KeepsTo wanted (Err (log_error.Append why))
 KeepsToOrMemory wanted (Err log_error.Memory) = Unit {0}

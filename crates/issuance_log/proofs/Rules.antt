@@ -1,26 +1,30 @@
 -- What the records of a log spell.
-use Rattle.std.proofs.Common.{◌≡◌, ℕ, ◌&&◌, ◌==◌, nat_lt, nat_le, if◌then◌else◌, Bool, true, false}
-use Rattle.std.proofs.Common.{List, ◌++◌, length, Option, Some, None, option_map, option_and_then}
-use Rattle.std.proofs.Common.{Result, Ok, Err, refl, subst, ap, sym, ◌∙◌, arith}
+use Rattle.std.proofs.Common.{◌≡◌, inl, inr, ℕ, ◌^◌, ◌<◌, ◌&&◌, ◌==◌, nat_lt, nat_le}
+use Rattle.std.proofs.Common.{if◌then◌else◌, Bool, true, false, List, ◌++◌, length, Option, Some}
+use Rattle.std.proofs.Common.{None, option_map, option_and_then, Result, Ok, Err, refl, subst, ap}
+use Rattle.std.proofs.Common.{sym, ◌∙◌, arith}
 use Rattle.std.specs.Int.{w8, w32}
-use Rattle.std.proofs.lemmas.Bool.{leb-true, ltb-true}
-use Rattle.byte_forms.specs.Places.{At, at, IsBytes}
+use Rattle.std.proofs.lemmas.Bool.{eqb-true, leb-true, ltb-true}
+use Rattle.byte_forms.specs.Places.{at, IsBytes}
 use Rattle.byte_forms.proofs.Steps.{IsBytes-front, IsBytes-back}
 use Rattle.tls_wire.specs.Anchors.{anchor_of}
 use Rattle.tls_wire.specs.Reading.{number_at}
 use Rattle.tls_wire.specs.Spelling.{number, vector}
-use Rattle.tls_wire.specs.declared.cursor.Short.{Short}
 use Rattle.tls_wire.specs.declared.fault.AnchorBytesError.{AnchorBytesError}
 use Rattle.tls_wire.proofs.AnchorForm.{anchor_takes}
-use Rattle.issuance_log.specs.Folds.{LogState, new_log, with_item, with_entry, by_tag, begun}
-use Rattle.issuance_log.specs.Folds.{next_log}
 use Rattle.log_entry.specs.Matching.{matches}
-use Rattle.issuance_log.specs.Records.{settings_at, entry_at, whole_of, with_id, settings_with}
-use Rattle.issuance_log.specs.Records.{tagged, settings_in, item_in, settings_record}
+use Rattle.issuance_log.specs.Folds.{LogState, new_log, with_item, with_mark, with_landmark}
+use Rattle.issuance_log.specs.Folds.{changed, begun, next_log}
+use Rattle.issuance_log.specs.Marks.{last_mark}
+use Rattle.issuance_log.specs.Records.{log_tag, settings_at, with_id, settings_with, tagged}
+use Rattle.issuance_log.specs.Records.{settings_in, item_in, mark_in, settings_record}
+use Rattle.issuance_log.specs.Records.{landmark_record}
 use Rattle.issuance_log.specs.Rules.{IsFirst, IsNext}
-use Rattle.issuance_log.specs.Settings.{Settings, are_allowed, AreAllowed}
+use Rattle.issuance_log.specs.Settings.{Settings, most_active, most_entries, are_allowed}
+use Rattle.issuance_log.specs.Settings.{AreAllowed}
 use Rattle.issuance_log.proofs.Spelled.{some_value, FitSettings, settings_text, settings_form}
-use Rattle.issuance_log.proofs.Spelled.{settings_again, item_takes, tagged_takes, next_added}
+use Rattle.issuance_log.proofs.Spelled.{settings_again, item_takes, mark_takes, tagged_takes}
+use Rattle.issuance_log.proofs.Spelled.{next_added, next_marked}
 
 option_from : {X : Type 0} (f : X → Option LogState) (o : Option X) (t : LogState)
     → option_and_then f o ≡ Some t → (x : X) × (o ≡ Some x) × (f x ≡ Some t)
@@ -38,33 +42,28 @@ both_true false b is = let wrong : false ≡ true = is in cc
 
 pub is_next : (h : List ℕ → List ℕ) (s : LogState) (body : List ℕ) (t : LogState)
     → IsNext h s body t → next_log h s body ≡ Some t
-is_next h s body t is =
+is_next h s body t (inl is) =
     ap (next_log h s) is.spelled ∙ next_added h s is.entry is.key is.room is.short_entry
     is.short_key is.belongs ∙ ap Some (sym is.made)
+is_next h s body t (inr is) =
+    ap (next_log h s) is.spelled ∙ next_marked h s is.fits is.above ∙ ap Some (sym is.made)
 
 pub next_is : (h : List ℕ → List ℕ) (s : LogState) (body : List ℕ) (t : LogState) → IsBytes body
     → next_log h s body ≡ Some t → IsNext h s body t
-unfolding next_log item_in
-next_is h s body t bytes is = go (number_at w8 (at body 0)) refl is
+unfolding next_log
+next_is h s body t bytes is = go (item_in body) refl is
   where
-    go : (r : Result (ℕ × At) Short) → number_at w8 (at body 0) ≡ r → by_tag h s r ≡ Some t
-        → IsNext h s body t
-    go (Err short) was is = let wrong : None ≡ Some t = is in cc
-    go (Ok tag) was is =
-        let test = test_from (tag.0 == 2) (option_and_then (with_entry h s)
-        (whole_of (entry_at tag.1))) t is in
-        let item = option_from (with_entry h s) (whole_of (entry_at tag.1)) t test.1 in
-        let entry = item.0.0 in
-        let key = item.0.1 in
-        let found : item_in body ≡ Some (entry, key)
-        = ap (tagged 2 entry_at) was ∙ ap (λ (b : Bool). if b then whole_of (entry_at tag.1)
-        else None) test.0 ∙ item.1 in
-        let spelled = item_takes body entry key bytes found in
+    go : (o : Option (List ℕ × List ℕ)) → item_in body ≡ o
+        → changed h s o (mark_in body) ≡ Some t → IsNext h s body t
+    go (Some item) was is =
+        let entry = item.0 in
+        let key = item.1 in
+        let spelled = item_takes body entry key bytes was in
         let made = test_from (nat_lt (length s.entries) s.settings.limit && matches h entry key)
-        (Some (with_item entry key s)) t item.2 in
+        (Some (with_item entry key s)) t is in
         let tests = both_true (nat_lt (length s.entries) s.settings.limit)
         (matches h entry key) made.0 in
-        record {
+        inl (record {
           entry = entry;
           key = key;
           spelled = spelled.0;
@@ -73,7 +72,22 @@ next_is h s body t bytes is = go (number_at w8 (at body 0)) refl is
           belongs = tests.1;
           room = ltb-true (length s.entries) s.settings.limit tests.0;
           made = sym (some_value _ _ made.1);
-        }
+        })
+    go None was is =
+        let mark = option_from (with_landmark s) (mark_in body) t is in
+        let size = mark.0 in
+        let spelled = mark_takes body size bytes mark.1 in
+        let made = test_from (size == length s.entries && nat_lt (last_mark s.marks) size)
+        (Some (with_mark s)) t mark.2 in
+        let tests = both_true (size == length s.entries) (nat_lt (last_mark s.marks) size)
+        made.0 in
+        let same : size ≡ length s.entries = eqb-true size (length s.entries) tests.0 in
+        inr (record {
+          spelled = spelled.0 ∙ ap landmark_record same;
+          fits = subst (λ (n : ℕ). n < 2 ^ 64) same spelled.1;
+          above = subst (λ (n : ℕ). last_mark s.marks < n) same (ltb-true _ _ tests.1);
+          made = sym (some_value _ _ made.1);
+        })
 
 pub is_first : (body : List ℕ) (s : LogState) → IsFirst body s → begun body ≡ Some s
 unfolding begun
@@ -86,9 +100,9 @@ pub first_is : (body : List ℕ) (s : LogState) → IsBytes body → begun body 
 unfolding begun settings_in settings_record
 first_is body s bytes is =
     let found = map_from (settings_in body) is in
-    let read = option_from_settings (tagged 1 settings_at (number_at w8 (at body 0)))
+    let read = option_from_settings (tagged log_tag settings_at (number_at w8 (at body 0)))
     found.0 found.1 in
-    let spelled = tagged_takes 1 (omega arith) settings_text FitSettings settings_at settings_form
+    let spelled = tagged_takes log_tag (omega arith) settings_text FitSettings settings_at settings_form
     body read.0 bytes read.1 in
     let tests = test_from (are_allowed read.0.1.0 read.0.1.1)
     (with_id read.0.1.0 read.0.1.1 (anchor_of read.0.0)) found.0 read.2 in
@@ -133,23 +147,23 @@ first_is body s bytes is =
     id_from active limit (Err fault) x is = let wrong : None ≡ Some x = is in cc
 
     id_bytes : (body : List ℕ) (v : List ℕ × (ℕ × ℕ)) → IsBytes body
-        → body ≡ number w8 1 ++ settings_text v → IsBytes v.0
+        → body ≡ number w8 log_tag ++ settings_text v → IsBytes v.0
     id_bytes body v bytes is =
-        let behind = IsBytes-back (number w8 1) (settings_text v) (subst IsBytes is bytes) in
+        let behind = IsBytes-back (number w8 log_tag) (settings_text v) (subst IsBytes is bytes) in
         IsBytes-back (number w8 (length v.0)) v.0 (IsBytes-front (vector w8 v.0) (number w32 v.1.0
         ++ number w32 v.1.1) behind)
 
     allowed_tests : (active limit : ℕ) → are_allowed active limit ≡ true → AreAllowed active limit
     allowed_tests active limit is =
-        let sides = both_true (nat_le 1 active && nat_le active 10000)
-        (nat_le 2 limit && nat_le limit 1048576) is in
-        let left = both_true (nat_le 1 active) (nat_le active 10000) sides.0 in
-        let right = both_true (nat_le 2 limit) (nat_le limit 1048576) sides.1 in
+        let sides = both_true (nat_le 1 active && nat_le active most_active)
+        (nat_le 2 limit && nat_le limit most_entries) is in
+        let left = both_true (nat_le 1 active) (nat_le active most_active) sides.0 in
+        let right = both_true (nat_le 2 limit) (nat_le limit most_entries) sides.1 in
         record {
           some_active = leb-true 1 active left.0;
           few_active =
-              leb-true active 10000 left.1;
+              leb-true active most_active left.1;
           some = leb-true 2 limit right.0;
           few =
-              leb-true limit 1048576 right.1;
+              leb-true limit most_entries right.1;
         }

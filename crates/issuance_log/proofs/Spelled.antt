@@ -4,7 +4,7 @@ use Rattle.std.proofs.Common.{true, false, List, [], ◌∷◌, ◌++◌, length
 use Rattle.std.proofs.Common.{option_map, option_and_then, Result, Ok, Err, refl, ap, sym, ◌∙◌}
 use Rattle.std.proofs.Common.{arith}
 use Rattle.std.specs.Borrow.{Bor}
-use Rattle.std.specs.Int.{w8, w16, w32}
+use Rattle.std.specs.Int.{w8, w16, w32, w64}
 use Rattle.std.proofs.lemmas.Bool.{eq-eqb, le-leb, lt-ltb, eqb-true}
 use Rattle.std.proofs.lemmas.List.{length-append, append-nil, nil_from_length}
 use Rattle.byte_forms.specs.Places.{At, at, IsBytes}
@@ -17,18 +17,22 @@ use Rattle.tls_wire.specs.Anchors.{anchor_of}
 use Rattle.tls_wire.specs.Reading.{number_at, vector_at}
 use Rattle.tls_wire.specs.Spelling.{number, vector}
 use Rattle.tls_wire.specs.declared.cursor.Short.{Short}
-use Rattle.tls_wire.proofs.Numbers.{wide8, wide16, wide32, number_form}
+use Rattle.tls_wire.proofs.Numbers.{wide8, wide16, wide32, wide64, number_form}
 use Rattle.tls_wire.proofs.Vectors.{vector_form}
 use Rattle.tls_wire.proofs.AnchorForm.{anchor_again}
-use Rattle.issuance_log.specs.Folds.{LogState, new_log, with_item, with_entry, by_tag, begun}
-use Rattle.issuance_log.specs.Folds.{next_log, log_fold, log_of}
+use Rattle.issuance_log.specs.Folds.{LogState, new_log, with_item, with_mark, with_entry}
+use Rattle.issuance_log.specs.Folds.{with_landmark, changed, begun, next_log, log_fold, log_of}
+use Rattle.issuance_log.specs.Marks.{last_mark}
 use Rattle.log_entry.specs.Matching.{matches}
-use Rattle.issuance_log.specs.Records.{settings_at, entry_at, whole_of, with_id, settings_with}
-use Rattle.issuance_log.specs.Records.{tagged, settings_in, item_in, settings_record, entry_record}
-use Rattle.issuance_log.specs.Results.{Finds, Takes}
+use Rattle.issuance_log.specs.Records.{log_tag, entry_tag, landmark_tag, settings_at, entry_at}
+use Rattle.issuance_log.specs.Records.{whole_of, with_id, settings_with, tagged, settings_in}
+use Rattle.issuance_log.specs.Records.{item_in, mark_in, settings_record, IsShort, entry_record}
+use Rattle.issuance_log.specs.Records.{landmark_record}
+use Rattle.issuance_log.specs.Results.{Finds}
 use Rattle.issuance_log.specs.declared.error.RecordError.{RecordError}
 use Rattle.issuance_log.specs.declared.error.RecordError.TheVariants.{Unfit, Memory}
-use Rattle.issuance_log.specs.Settings.{Settings, are_allowed, AreAllowed}
+use Rattle.issuance_log.specs.Settings.{Settings, most_active, most_entries, most_item}
+use Rattle.issuance_log.specs.Settings.{are_allowed, AreAllowed}
 use Rattle.journal_core.proofs.Folds.{state_begins, state_next}
 
 pub length-settings : (s : Settings) → length (settings_record s) ≡ 10 + length s.id
@@ -39,6 +43,10 @@ pub length-entry : (entry key : List ℕ)
     → length (entry_record entry key) ≡ 5 + length entry + length key
 unfolding entry_record
 length-entry entry key = simp length-append (omega arith)
+
+pub length-landmark : (size : ℕ) → length (landmark_record size) ≡ 9
+unfolding landmark_record
+length-landmark size = simp length-append (omega arith)
 
 -- ---- a form behind its tag
 
@@ -108,58 +116,70 @@ module _ {X : Type 0} (wanted : ℕ) (small : wanted < 256) (spell : X → List 
 
 -- ---- an Entry
 
-abbrev ShortVector : List ℕ → Type 0
-ShortVector bytes = length bytes < 2 ^ 16
-
-entry_form : IsForm (both (vector w16) (vector w16)) (FitsBoth ShortVector ShortVector)
+entry_form : IsForm (both (vector w16) (vector w16)) (FitsBoth IsShort IsShort)
     Anything entry_at
 unfolding entry_at
 entry_form =
     let vectors = vector_form w16 (2 ^ 16) wide16 in
-    both_form (vector w16) ShortVector Anything (vector_at w16) (vector w16) ShortVector Anything
+    both_form (vector w16) IsShort Anything (vector_at w16) (vector w16) IsShort Anything
     (vector_at w16) vectors vectors (λ y rest f q. tt)
 
-pub item_again : (entry key : List ℕ) → length entry < 65536 → length key < 65536
+pub item_again : (entry key : List ℕ) → IsShort entry → IsShort key
     → item_in (entry_record entry key) ≡ Some (entry, key)
 unfolding item_in entry_record
 item_again entry key few_entry few_key =
-    tagged_again 2 (omega arith) (both (vector w16) (vector w16)) (FitsBoth ShortVector ShortVector)
+    tagged_again entry_tag (omega arith) (both (vector w16) (vector w16)) (FitsBoth IsShort IsShort)
     entry_at entry_form (entry, key) (few_entry, few_key)
 
 pub item_takes : (body entry key : List ℕ) → IsBytes body → item_in body ≡ Some (entry, key)
-    → (body ≡ entry_record entry key) × (length entry < 65536) × (length key < 65536)
+    → (body ≡ entry_record entry key) × IsShort entry × IsShort key
 unfolding item_in entry_record
 item_takes body entry key bytes is =
-    let taken = tagged_takes 2 (omega arith) (both (vector w16) (vector w16))
-    (FitsBoth ShortVector ShortVector) entry_at entry_form body (entry, key) bytes is in
+    let taken = tagged_takes entry_tag (omega arith) (both (vector w16) (vector w16))
+    (FitsBoth IsShort IsShort) entry_at entry_form body (entry, key) bytes is in
     (taken.0, taken.1.0, taken.1.1)
 
--- one record more, as the item that it says
-pub next_item : (h : List ℕ → List ℕ) (s : LogState) (body : List ℕ)
-    → next_log h s body ≡ option_and_then (with_entry h s) (item_in body)
-unfolding next_log item_in
-next_item h s body = go (number_at w8 (at body 0))
-  where
-    chosen : (b : Bool) (o : Option (List ℕ × List ℕ))
-        → (if b then option_and_then (with_entry h s) o else None)
-        ≡ option_and_then (with_entry h s) (if b then o else None)
-    chosen true o = refl
-    chosen false o = refl
-
-    go : (r : Result (ℕ × At) Short) → by_tag h s r
-        ≡ option_and_then (with_entry h s) (tagged 2 entry_at r)
-    go (Ok tag) = chosen (tag.0 == 2) (whole_of (entry_at tag.1))
-    go (Err short) = refl
-
 -- a record in which no item is found
-pub refused_item : (h : List ℕ → List ℕ) (s : LogState) (body : List ℕ) (why : RecordError)
+pub no_item : (body : List ℕ) (why : RecordError) → why ≡ Unfit
     → Finds {X = Bor (List ℕ) × Bor (List ℕ)} (λ x. (x.0.now, x.1.now)) (item_in body) (Err why)
-    → Takes (next_log h s body) s (Err why) s
-refused_item h s body Unfit none = (
-  next_item h s body ∙ ap (option_and_then (with_entry h s)) none,
-  refl,
-)
-refused_item h s body Memory none = refl
+    → item_in body ≡ None
+no_item body Unfit is none = none
+no_item body Memory is none = let wrong : Memory ≡ Unfit = is in cc
+
+-- the log behind an Entry, and behind any other record
+pub next_item : (h : List ℕ → List ℕ) (s : LogState) (body : List ℕ) (item : List ℕ × List ℕ)
+    → item_in body ≡ Some item → next_log h s body ≡ with_entry h s item
+unfolding next_log
+next_item h s body item is =
+    ap (λ (o : Option (List ℕ × List ℕ)). changed h s o (mark_in body)) is
+
+pub next_other : (h : List ℕ → List ℕ) (s : LogState) (body : List ℕ) → item_in body ≡ None
+    → next_log h s body ≡ option_and_then (with_landmark s) (mark_in body)
+unfolding next_log
+next_other h s body none =
+    ap (λ (o : Option (List ℕ × List ℕ)). changed h s o (mark_in body)) none
+
+-- ---- a Landmark
+
+abbrev pub IsLong : ℕ → Type 0
+IsLong n = n < 2 ^ 64
+
+pub mark_again : (size : ℕ) → size < 2 ^ 64 → mark_in (landmark_record size) ≡ Some size
+unfolding mark_in landmark_record
+mark_again size fits = tagged_again landmark_tag (omega arith) (number w64) IsLong (number_at w64)
+    (number_form w64 (2 ^ 64) wide64) size fits
+
+pub mark_takes : (body : List ℕ) (size : ℕ) → IsBytes body → mark_in body ≡ Some size
+    → (body ≡ landmark_record size) × (size < 2 ^ 64)
+unfolding mark_in landmark_record
+mark_takes body size bytes is = tagged_takes landmark_tag (omega arith) (number w64) IsLong
+    (number_at w64) (number_form w64 (2 ^ 64) wide64) body size bytes is
+
+-- a Landmark is no Entry
+pub mark_alone : (size : ℕ) → item_in (landmark_record size) ≡ None
+unfolding item_in landmark_record
+mark_alone size = ap (tagged entry_tag entry_at)
+    ((number_form w8 (2 ^ 8) wide8).again landmark_tag 0 (number w64 size) (omega arith) tt)
 
 -- ---- a Log
 
@@ -189,9 +209,9 @@ tests_allowed : (active limit : ℕ) → AreAllowed active limit → are_allowed
 tests_allowed active limit is =
     rw (
       le-leb 1 active is.some_active,
-      le-leb active 10000 is.few_active,
+      le-leb active most_active is.few_active,
       le-leb 2 limit is.some,
-      le-leb limit 1048576 is.few,
+      le-leb limit most_entries is.few,
     ) refl
 
 pub settings_again : (s : Settings) → IsAnchorId s.id → AreAllowed s.max_active s.limit
@@ -203,7 +223,7 @@ settings_again s id allowed =
     let short = id.short in
     let fits : FitSettings (s.id, (s.max_active, s.limit)) =
     (omega arith, (omega arith, omega arith)) in
-    ap (option_and_then settings_with) (tagged_again 1 (omega arith) settings_text FitSettings
+    ap (option_and_then settings_with) (tagged_again log_tag (omega arith) settings_text FitSettings
     settings_at settings_form (s.id, (s.max_active, s.limit)) fits)
     ∙ ap (λ (b : Bool). if b then with_id s.max_active s.limit (anchor_of s.id) else None)
     (tests_allowed s.max_active s.limit allowed)
@@ -220,24 +240,38 @@ log_created h s id allowed = state_begins (log_fold h) (settings_record s) (new_
 
 -- of one Entry more
 pub next_added : (h : List ℕ → List ℕ) (s : LogState) (entry key : List ℕ)
-    → length s.entries < s.settings.limit → length entry < 65536 → length key < 65536
+    → length s.entries < s.settings.limit → IsShort entry → IsShort key
     → matches h entry key ≡ true → next_log h s (entry_record entry key)
     ≡ Some (with_item entry key s)
-unfolding next_log entry_record
 next_added h s entry key room few_entry few_key belongs =
     let test : (nat_lt (length s.entries) s.settings.limit && matches h entry key) ≡ true =
     rw (lt-ltb (length s.entries) s.settings.limit room, belongs) refl in
-    ap (by_tag h s) ((number_form w8 (2 ^ 8) wide8).again 2 0 (vector w16 entry ++ vector w16 key)
-    (omega arith) tt)
-    ∙ ap (option_and_then (with_entry h s))
-    (read_again 2 (omega arith) (both (vector w16) (vector w16)) (FitsBoth ShortVector ShortVector)
-    entry_at entry_form (entry, key) (few_entry, few_key))
+    next_item h s (entry_record entry key) (entry, key) (item_again entry key few_entry few_key)
     ∙ ap (λ (b : Bool). if b then Some (with_item entry key s) else None) test
+
+-- of one Landmark more
+pub next_marked : (h : List ℕ → List ℕ) (s : LogState) → length s.entries < 2 ^ 64
+    → last_mark s.marks < length s.entries
+    → next_log h s (landmark_record (length s.entries)) ≡ Some (with_mark s)
+next_marked h s fits above =
+    let size = length s.entries in
+    let test : (size == size && nat_lt (last_mark s.marks) size) ≡ true =
+    rw (eq-eqb size size refl, lt-ltb (last_mark s.marks) size above) refl in
+    next_other h s (landmark_record size) (mark_alone size)
+    ∙ ap (option_and_then (with_landmark s)) (mark_again size fits)
+    ∙ ap (λ (b : Bool). if b then Some (with_mark s) else None) test
 
 pub log_added : (h : List ℕ → List ℕ) (list : List (List ℕ)) (s : LogState) (entry key : List ℕ)
     → log_of h list ≡ Ok s → length s.entries < s.settings.limit
-    → length entry + length key ≤ 65535 → matches h entry key ≡ true
+    → length entry + length key ≤ most_item → matches h entry key ≡ true
     → log_of h (list ++ entry_record entry key ∷ []) ≡ Ok (with_item entry key s)
 log_added h list s entry key is room few belongs =
     state_next (log_fold h) list s (entry_record entry key) (with_item entry key s) is
     (next_added h s entry key room (omega arith) (omega arith) belongs)
+
+pub log_marked : (h : List ℕ → List ℕ) (list : List (List ℕ)) (s : LogState) → log_of h list ≡ Ok s
+    → length s.entries < 2 ^ 64 → last_mark s.marks < length s.entries
+    → log_of h (list ++ landmark_record (length s.entries) ∷ []) ≡ Ok (with_mark s)
+log_marked h list s is fits above =
+    state_next (log_fold h) list s (landmark_record (length s.entries)) (with_mark s) is
+    (next_marked h s fits above)

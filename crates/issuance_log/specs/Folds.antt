@@ -1,29 +1,37 @@
 -- What the records of a journal make of a log. The first one begins it, and each later one changes
--- it by its tag.
+-- it by what it says.
 use Rattle.std.specs.Prelude.{ℕ, ◌==◌, ◌&&◌, nat_lt, List, [], ◌∷◌, ◌++◌, length, Option, Some}
-use Rattle.std.specs.Prelude.{None, option_map, option_and_then, Result, Ok, Err, if◌then◌else◌}
-use Rattle.std.specs.Int.{w8}
-use Rattle.byte_forms.specs.Places.{At, at}
+use Rattle.std.specs.Prelude.{None, option_map, option_and_then, Result, if◌then◌else◌}
 use Rattle.byte_forms.specs.Types.{Text, HashFunction}
 use Rattle.journal_core.specs.Folds.{Fold, state_behind}
-use Rattle.tls_wire.specs.Reading.{number_at}
-use Rattle.tls_wire.specs.declared.cursor.Short.{Short}
 use Rattle.log_entry.specs.Matching.{matches}
-use Rattle.issuance_log.specs.Records.{settings_in, entry_at, whole_of}
+use Rattle.issuance_log.specs.Marks.{last_mark}
+use Rattle.issuance_log.specs.Records.{settings_in, item_in, mark_in}
 use Rattle.issuance_log.specs.Settings.{Settings}
 use Rattle.issuance_log.specs.declared.error.LogOpenError.{LogOpenError}
 use Rattle.issuance_log.specs.declared.error.LogOpenError.TheVariants.{BadRecord, Open}
 
--- A log: its settings, its entries by their index, and the key of each.
+-- A log: its settings, its entries by their index, the key of each, and the sizes at its landmarks.
 pub record LogState : Type 0 where
   pub settings : Settings
   pub entries : List Text
   pub keys : List Text
+  pub marks : List ℕ
 
--- what is kept of a log: the log, and how many items more need no memory
+-- What its refusals look at: the settings, how many entries there are, and the landmarks.
+pub record LogView : Type 0 where
+  pub settings : Settings
+  pub size : ℕ
+  pub marks : List ℕ
+
+abbrev pub view_in : LogState → LogView
+view_in s = record { settings = s.settings; size = length s.entries; marks = s.marks }
+
+-- what is kept of a log: the log, and how many items and landmarks more need no memory
 pub record LogContents : Type 0 where
   pub state : LogState
   pub spare : ℕ
+  pub mark_spare : ℕ
 
 -- the null entry
 abbrev pub null_entry : Text
@@ -31,12 +39,16 @@ null_entry = 0 ∷ 0 ∷ []
 
 -- a new log has the null entry, without a key
 abbrev pub new_log : Settings → LogState
-new_log settings = record { settings = settings; entries = null_entry ∷ []; keys = [] ∷ [] }
+new_log settings =
+    record { settings = settings; entries = null_entry ∷ []; keys = [] ∷ []; marks = [] }
 
 -- one item more
 abbrev pub with_item : Text → Text → LogState → LogState
-with_item entry key s =
-    record { settings = s.settings; entries = s.entries ++ entry ∷ []; keys = s.keys ++ key ∷ [] }
+with_item entry key s = record s { entries = s.entries ++ entry ∷ []; keys = s.keys ++ key ∷ [] }
+
+-- a landmark more, at the size
+abbrev pub with_mark : LogState → LogState
+with_mark s = record s { marks = s.marks ++ length s.entries ∷ [] }
 
 -- the log that a first record begins
 unfoldable pub begun : Text → Option LogState
@@ -48,15 +60,19 @@ with_entry h s x =
     if nat_lt (length s.entries) s.settings.limit && matches h x.0 x.1
     then Some (with_item x.0 x.1 s) else None
 
--- by the tag of the record; any other breaks the rules
-abbrev pub by_tag : HashFunction → LogState → Result (ℕ × At) Short → Option LogState
-by_tag h s (Ok tag) =
-    if tag.0 == 2 then option_and_then (with_entry h s) (whole_of (entry_at tag.1)) else None
-by_tag h s (Err short) = None
+-- a Landmark: it is the size, and above the last one
+abbrev pub with_landmark : LogState → ℕ → Option LogState
+with_landmark s size =
+    if size == length s.entries && nat_lt (last_mark s.marks) size then Some (with_mark s) else None
+
+-- by the item of an Entry, or else the size of a Landmark; any other record breaks the rules
+abbrev pub changed : HashFunction → LogState → Option (Text × Text) → Option ℕ → Option LogState
+changed h s (Some item) mark = with_entry h s item
+changed h s None mark = option_and_then (with_landmark s) mark
 
 -- the log behind one record more, or none where the record breaks the rules
 unfoldable pub next_log : HashFunction → LogState → Text → Option LogState
-next_log h s body = by_tag h s (number_at w8 (at body 0))
+next_log h s body = changed h s (item_in body) (mark_in body)
 
 -- A log as a kind of journal.
 abbrev pub log_fold : HashFunction → Fold LogState LogOpenError

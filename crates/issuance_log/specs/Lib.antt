@@ -1,5 +1,6 @@
 pub mod Faults
 pub mod Folds
+pub mod Marks
 pub mod Openings
 pub mod Records
 pub mod Refusals

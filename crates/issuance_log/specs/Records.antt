@@ -1,8 +1,8 @@
 -- The records of a log's journal: a tag of one byte, and what it says. Numbers have their highest
 -- byte first.
-use Rattle.std.specs.Prelude.{ℕ, ◌++◌, length, ◌==◌, Option, Some, None, option_and_then, Result}
-use Rattle.std.specs.Prelude.{Ok, Err, if◌then◌else◌}
-use Rattle.std.specs.Int.{w8, w16, w32}
+use Rattle.std.specs.Prelude.{ℕ, ◌<◌, ◌++◌, length, ◌==◌, Option, Some, None, option_and_then}
+use Rattle.std.specs.Prelude.{Result, Ok, Err, if◌then◌else◌}
+use Rattle.std.specs.Int.{w8, w16, w32, w64}
 use Rattle.byte_forms.specs.Types.{Text}
 use Rattle.byte_forms.specs.Places.{At, at}
 use Rattle.byte_forms.specs.Readings.{both_at}
@@ -13,17 +13,36 @@ use Rattle.tls_wire.specs.declared.cursor.Short.{Short}
 use Rattle.tls_wire.specs.declared.fault.AnchorBytesError.{AnchorBytesError}
 use Rattle.issuance_log.specs.Settings.{Settings, are_allowed}
 
+-- ---- tags
+
+abbrev pub log_tag : ℕ
+log_tag = 1
+
+abbrev pub entry_tag : ℕ
+entry_tag = 2
+
+abbrev pub landmark_tag : ℕ
+landmark_tag = 3
+
 -- ---- spelled
 
--- Log, with tag 1: the id behind its length of one byte, the most active landmarks and the limit in
+-- Log: the id behind its length of one byte, the most active landmarks and the limit in
 -- four bytes each
 unfoldable pub settings_record : Settings → Text
 settings_record s =
-    number w8 1 ++ (vector w8 s.id ++ (number w32 s.max_active ++ number w32 s.limit))
+    number w8 log_tag ++ (vector w8 s.id ++ (number w32 s.max_active ++ number w32 s.limit))
 
--- Entry, with tag 2: the entry and its key, each behind its length of two bytes
+-- its length is told in two bytes
+abbrev pub IsShort : Text → Type 0
+IsShort text = length text < 65536
+
+-- Entry: the entry and its key, each behind its length of two bytes
 unfoldable pub entry_record : Text → Text → Text
-entry_record entry key = number w8 2 ++ (vector w16 entry ++ vector w16 key)
+entry_record entry key = number w8 entry_tag ++ (vector w16 entry ++ vector w16 key)
+
+-- Landmark: the size in eight bytes
+unfoldable pub landmark_record : ℕ → Text
+landmark_record size = number w8 landmark_tag ++ number w64 size
 
 -- ---- read
 
@@ -57,8 +76,12 @@ settings_with x = if are_allowed x.1.0 x.1.1 then with_id x.1.0 x.1.1 (anchor_of
 
 -- the settings in a Log, which is the first record and nowhere else
 unfoldable pub settings_in : Text → Option Settings
-settings_in body = option_and_then settings_with (tagged 1 settings_at (number_at w8 (at body 0)))
+settings_in body = option_and_then settings_with (tagged log_tag settings_at (number_at w8 (at body 0)))
 
 -- the entry and the key in an Entry
 unfoldable pub item_in : Text → Option (Text × Text)
-item_in body = tagged 2 entry_at (number_at w8 (at body 0))
+item_in body = tagged entry_tag entry_at (number_at w8 (at body 0))
+
+-- the size in a Landmark
+unfoldable pub mark_in : Text → Option ℕ
+mark_in body = tagged landmark_tag (number_at w64) (number_at w8 (at body 0))

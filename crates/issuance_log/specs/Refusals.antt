@@ -5,11 +5,13 @@ use Rattle.byte_forms.specs.Types.{Text}
 use Rattle.journal_core.specs.Format.{most_bytes}
 use Rattle.journal_core.specs.declared.error.AppendError.{AppendError}
 use Rattle.journal_core.specs.declared.error.AppendError.TheVariants as append_error
-use Rattle.issuance_log.specs.Folds.{LogState}
-use Rattle.issuance_log.specs.Records.{entry_record}
+use Rattle.issuance_log.specs.Folds.{LogState, LogView}
+use Rattle.issuance_log.specs.Marks.{last_mark}
+use Rattle.issuance_log.specs.Records.{entry_record, landmark_record}
+use Rattle.issuance_log.specs.Settings.{most_item}
 use Rattle.issuance_log.specs.declared.error.LogError.{LogError}
 use Rattle.issuance_log.specs.declared.error.LogError.TheVariants.{Full, TooLarge, NoSuchEntry}
-use Rattle.issuance_log.specs.declared.error.LogError.TheVariants.{Append, Memory}
+use Rattle.issuance_log.specs.declared.error.LogError.TheVariants.{NothingNew, Append, Memory}
 
 -- The refusal of a record that the journal settles, the first that holds: of a journal that an
 -- append has broken, and of one whose file would pass 2^31 bytes.
@@ -18,25 +20,44 @@ append_refusal broken end body =
     if broken then Some append_error.Broken
     else (if nat_lt most_bytes (end + 5 + length body) then Some append_error.Full else None)
 
--- The refusal of an item that the log's state and journal settle, the first that holds: of a full
--- log, of an entry and key that are too large together, and what the journal refuses.
-unfoldable pub add_refusal : LogState → Bool → ℕ → Text → Text → Option LogError
-add_refusal s broken end entry key =
-    if length s.entries == s.settings.limit then Some Full
-    else (if nat_lt 65535 (length entry + length key) then Some TooLarge
+-- The refusal of an item that the log and its journal settle, the first that holds: of a full log,
+-- of an entry and key that are too large together, and what the journal refuses.
+unfoldable pub add_refusal : LogView → Bool → ℕ → Text → Text → Option LogError
+add_refusal v broken end entry key =
+    if v.size == v.settings.limit then Some Full
+    else (if nat_lt most_item (length entry + length key) then Some TooLarge
     else option_map Append (append_refusal broken end (entry_record entry key)))
 
--- The answer keeps to that refusal. Memory may be refused behind the first two tests, and a fault
--- told where there is no refusal.
+-- The refusal of a landmark: of one at the size of the last one, and what the journal refuses.
+unfoldable pub mark_refusal : LogView → Bool → ℕ → Option LogError
+mark_refusal v broken end =
+    if last_mark v.marks == v.size then Some NothingNew
+    else option_map Append (append_refusal broken end (landmark_record v.size))
+
+-- The answer to an item keeps to its refusal. Memory may be refused behind the first two tests, and
+-- a fault told where there is no refusal.
 abbrev pub KeepsTo : Option LogError → Result ℕ LogError → Type 0
 KeepsTo wanted (Ok index) = wanted ≡ None
 KeepsTo wanted (Err Full) = wanted ≡ Some Full
 KeepsTo wanted (Err TooLarge) = wanted ≡ Some TooLarge
 KeepsTo wanted (Err NoSuchEntry) = ⊥
+KeepsTo wanted (Err NothingNew) = ⊥
 KeepsTo wanted (Err (Append append_error.Failed)) = wanted ≡ None
 KeepsTo wanted (Err (Append append_error.Broken)) = wanted ≡ Some (Append append_error.Broken)
 KeepsTo wanted (Err (Append append_error.Full)) = wanted ≡ Some (Append append_error.Full)
 KeepsTo wanted (Err Memory) = (wanted ≢ Some Full) × (wanted ≢ Some TooLarge)
+
+-- So does the answer to a landmark, where memory may be refused behind the first test.
+abbrev pub MarkKeepsTo : Option LogError → Result (ℕ × ℕ) LogError → Type 0
+MarkKeepsTo wanted (Ok landmark) = wanted ≡ None
+MarkKeepsTo wanted (Err Full) = ⊥
+MarkKeepsTo wanted (Err TooLarge) = ⊥
+MarkKeepsTo wanted (Err NoSuchEntry) = ⊥
+MarkKeepsTo wanted (Err NothingNew) = wanted ≡ Some NothingNew
+MarkKeepsTo wanted (Err (Append append_error.Failed)) = wanted ≡ None
+MarkKeepsTo wanted (Err (Append append_error.Broken)) = wanted ≡ Some (Append append_error.Broken)
+MarkKeepsTo wanted (Err (Append append_error.Full)) = wanted ≡ Some (Append append_error.Full)
+MarkKeepsTo wanted (Err Memory) = wanted ≢ Some NothingNew
 
 -- the entry and the key at an index
 unfoldable pub item_at : LogState → ℕ → Result (Text × Text) LogError

@@ -1,10 +1,11 @@
 -- The rules of a log's records, each for itself.
-use Rattle.std.specs.Prelude.{◌≡◌, ◌<◌, true, length}
+use Rattle.std.specs.Prelude.{◌≡◌, ◌⊎◌, ◌^◌, ◌<◌, true, length}
 use Rattle.byte_forms.specs.Types.{Text, HashFunction}
 use Rattle.log_entry.specs.Matching.{matches}
 use Rattle.tls_wire.specs.Arcs.{IsAnchorId}
-use Rattle.issuance_log.specs.Folds.{LogState, new_log, with_item}
-use Rattle.issuance_log.specs.Records.{settings_record, entry_record}
+use Rattle.issuance_log.specs.Folds.{LogState, new_log, with_item, with_mark}
+use Rattle.issuance_log.specs.Marks.{last_mark}
+use Rattle.issuance_log.specs.Records.{settings_record, IsShort, entry_record, landmark_record}
 use Rattle.issuance_log.specs.Settings.{Settings, AreAllowed}
 
 -- The first record is a Log with an anchor id and allowed numbers. It makes a log of the null
@@ -16,14 +17,24 @@ pub record IsFirst (body : Text) (s : LogState) : Type 0 where
   pub allowed : AreAllowed settings.max_active settings.limit
   pub made : s ≡ new_log settings
 
--- Each later record is an Entry whose key matches, where the log isn't full. It makes the log with
--- that item.
-pub record IsNext (h : HashFunction) (s : LogState) (body : Text) (t : LogState) : Type 0 where
+-- An Entry has a key that matches, and the log isn't full. It makes the log with that item.
+pub record IsEntry (h : HashFunction) (s : LogState) (body : Text) (t : LogState) : Type 0 where
   pub entry : Text
   pub key : Text
   pub spelled : body ≡ entry_record entry key
-  pub short_entry : length entry < 65536
-  pub short_key : length key < 65536
+  pub short_entry : IsShort entry
+  pub short_key : IsShort key
   pub belongs : matches h entry key ≡ true
   pub room : length s.entries < s.settings.limit
   pub made : t ≡ with_item entry key s
+
+-- A Landmark is the size, and above the last one. It makes the log with that landmark.
+pub record IsLandmark (s : LogState) (body : Text) (t : LogState) : Type 0 where
+  pub spelled : body ≡ landmark_record (length s.entries)
+  pub fits : length s.entries < 2 ^ 64
+  pub above : last_mark s.marks < length s.entries
+  pub made : t ≡ with_mark s
+
+-- Each later record is one or the other.
+abbrev pub IsNext : HashFunction → LogState → Text → LogState → Type 0
+IsNext h s body t = IsEntry h s body t ⊎ IsLandmark s body t

@@ -16,6 +16,10 @@ most_active = 10000
 abbrev pub most_entries : ℕ
 most_entries = 1048576
 
+-- an entry and its key have at most so many bytes together
+abbrev pub most_item : ℕ
+most_item = 65535
+
 -- the numbers that a log may have
 abbrev pub are_allowed : ℕ → ℕ → Bool
 are_allowed active limit =

@@ -1,17 +1,19 @@
 -- What a log shows, and what a call that appends a record makes of it.
-use Rattle.std.specs.Prelude.{◌≡◌, ℕ, ◌+◌, Bool, true, false, List, [], ◌∷◌, ◌++◌, length, Option}
-use Rattle.std.specs.Prelude.{option_map, Result, Ok, Err}
+use Rattle.std.specs.Prelude.{◌≡◌, ℕ, ◌+◌, ◌≤◌, Bool, true, false, List, [], ◌∷◌, ◌++◌, length}
+use Rattle.std.specs.Prelude.{Option, option_map, IfSome, Result, Ok, Err, OnOk}
 use Rattle.byte_forms.specs.Types.{Text}
 use Rattle.mtc_io.specs.Counts.{Rose}
+use Rattle.disk_core.specs.Moments.{LeavesOnly}
 use Rattle.disk_core.specs.declared.disk.Disk.{Ghosts}
 use Rattle.tree_core.specs.declared.hashing.TreeHash.{Ghosts as Hashes}
-use Rattle.journal_core.specs.Words.{disk_of, end_of, is_broken, records}
+use Rattle.journal_core.specs.Format.{StandsForEither}
+use Rattle.journal_core.specs.Words.{disk_of, end_of, is_broken, records, AllStandFor}
 use Rattle.journal_core.specs.declared.journal.Journal.{Journal}
 use Rattle.journal_core.specs.declared.error.AppendError.TheVariants as append_error
-use Rattle.issuance_log.specs.Folds.{LogState}
+use Rattle.issuance_log.specs.Folds.{LogState, LogView, view_in}
 use Rattle.issuance_log.specs.declared.error.LogError.{LogError}
 use Rattle.issuance_log.specs.declared.error.LogError.TheVariants.{Full, TooLarge, NoSuchEntry}
-use Rattle.issuance_log.specs.declared.error.LogError.TheVariants.{Append, Memory}
+use Rattle.issuance_log.specs.declared.error.LogError.TheVariants.{NothingNew, Append, Memory}
 use Rattle.issuance_log.specs.declared.log.Log.{Log}
 
 module _ {H D : Type 0} {hashes : Hashes H} {g : Ghosts D} where
@@ -33,9 +35,13 @@ module _ {H D : Type 0} {hashes : Hashes H} {g : Ghosts D} where
   abbrev pub log_broken : Log H D hashes g → Bool
   log_broken log = is_broken log.journal
 
-  -- the settings and the items
+  -- the settings, the items and the landmarks
   abbrev pub state_of : Log H D hashes g → LogState
   state_of log = log.contents.state
+
+  -- what its refusals look at
+  abbrev pub view_of : Log H D hashes g → LogView
+  view_of log = view_in (state_of log)
 
   -- no call of the disk, and the log is as it was
   pub record LogIsUntouched (old new : Log H D hashes g) : Type 0 where
@@ -68,7 +74,23 @@ module _ {H D : Type 0} {hashes : Hashes H} {g : Ghosts D} where
   LogLeaves body next old new (Err Full) = LogIsUntouched old new
   LogLeaves body next old new (Err TooLarge) = LogIsUntouched old new
   LogLeaves body next old new (Err NoSuchEntry) = LogIsUntouched old new
+  LogLeaves body next old new (Err NothingNew) = LogIsUntouched old new
   LogLeaves body next old new (Err (Append append_error.Failed)) = LogHasBroken old new
   LogLeaves body next old new (Err (Append append_error.Broken)) = LogIsUntouched old new
   LogLeaves body next old new (Err (Append append_error.Full)) = LogIsUntouched old new
   LogLeaves body next old new (Err Memory) = LogIsUntouched old new
+
+  -- What a call does that appends this record, which makes this log of the old one. By its answer
+  -- it leaves the log so, and at Ok a crash leaves the records with this one. At any moment of the
+  -- call, and behind it, a crash leaves the old records, or these and this one, unless an append
+  -- had failed before.
+  pub record LogAppends {X : Type 0} (body : Text) (next : LogState) (old new : Log H D hashes g)
+      (result : Result X LogError) : Type 0 where
+    pub leaves : LogLeaves body next old new result
+    pub kept : OnOk result (IfSome (log_records old)
+        (λ list. AllStandFor g (log_disk new) (list ++ body ∷ [])))
+    pub count : g.faults (log_disk old) ≤ g.faults (log_disk new)
+    pub any_moment : log_broken old ≡ false → IfSome (log_records old)
+        (λ list. LeavesOnly g (log_disk old) (log_disk new) (StandsForEither list body))
+    pub afterwards : log_broken old ≡ false → IfSome (log_records old)
+        (λ list. (c : Text) → g.may_leave (log_disk new) c → StandsForEither list body c)

@@ -1,6 +1,8 @@
 //! What the records of a journal make of a log, with the leaf hashes of its entries.
-ghost use Rattle.std.specs.Prelude.{◌≡◌, ◌<◌, ◌≤◌, length, map, nat_lt, not, IfOk, OnOk};
-ghost use Rattle.issuance_log.specs.Folds.{begun, next_log, with_entry, with_item};
+ghost use Rattle.std.specs.Prelude.{◌≡◌, ◌<◌, ◌≤◌, [], ◌∷◌, ◌++◌, length, map, nat_lt, not, option_and_then, vec_len, vec_capacity, IfOk, OnOk};
+ghost use Rattle.issuance_log.specs.Folds.{begun, next_log, with_entry, with_item, with_landmark, with_mark};
+ghost use Rattle.issuance_log.specs.Marks.{last_mark, AreRising};
+ghost use Rattle.issuance_log.specs.Records.{IsShort, mark_in};
 ghost use Rattle.issuance_log.specs.Settings.{AreAllowed};
 ghost use Rattle.issuance_log.specs.Results.{Finds, Takes};
 ghost use Rattle.issuance_log.specs.Sound.{IsItem, IsSound};
@@ -8,7 +10,7 @@ ghost use Rattle.tree_core.specs.Tree.{leaf_hash};
 
 use crate::error::RecordError;
 use crate::items::{Items, NULL_ENTRY};
-use crate::record::{read_item, read_settings};
+use crate::record::{read_item, read_mark, read_settings};
 use crate::settings::LogSettings;
 use log_entry::key_matches;
 use mtc_io::{Bytes, Memory};
@@ -24,13 +26,14 @@ pub(crate) struct Item {
     key: Bytes,
 }
 
-/// The settings and the items of a log, and the leaf hashes of its entries. Contracts see the log
-/// and how many items more need no memory.
+/// The settings, the items and the landmarks of a log, and the leaf hashes of its entries.
+/// Contracts see the log, and how many items and landmarks more need no memory.
 #[derive(Drop)]
 pub(crate) struct Contents<H: TreeHash> {
     alloc: Global,
     settings: LogSettings,
     items: Items,
+    marks: Vec<u64>,
     leaves: Listed<H>,
     ghost hashed: { leaves.leaves ≡ map (leaf_hash H.TreeHash.hash) items.entries.items },
 }
@@ -47,17 +50,31 @@ impl<H: TreeHash> Model for Contents<H> {
         settings = c.settings;
         entries = c.items.entries.items;
         keys = c.items.keys.items;
+        marks = c.marks.items;
       };
       spare = min c.leaves.spare
           (min (vec_capacity c.items.entries - vec_len c.items.entries)
           (vec_capacity c.items.keys - vec_len c.items.keys));
+      mark_spare = vec_capacity c.marks - vec_len c.marks;
     } };
 
     ghost invariant = { λ c. IsSound H.TreeHash.hash (record {
       settings = c.settings;
       entries = c.items.entries.items;
       keys = c.items.keys.items;
+      marks = c.marks.items;
     }) };
+}
+
+// Puts a number behind the others, where there is room.
+fn put(list: &mut Vec<u64>, number: u64)
+    requires { vec_len list.old < vec_capacity list.old }
+    ensures { list.new.items ≡ list.old.items ++ number ∷ [] }
+{
+    match list.push(number) {
+        Ok(()) => {}
+        Err(_full) => unreachable!(),
+    }
 }
 
 impl<H: TreeHash> Contents<H> {
@@ -74,6 +91,7 @@ impl<H: TreeHash> Contents<H> {
             alloc,
             settings,
             items,
+            marks: Vec::new(alloc),
             leaves,
         })
     }
@@ -86,13 +104,14 @@ impl<H: TreeHash> Contents<H> {
     {
         match read_item(body) {
             Ok((entry, key)) => self.take_item(entry, key),
-            Err(why) => Err(why),
+            Err(RecordError::Unfit) => self.take_mark(body),
+            Err(RecordError::Memory) => Err(RecordError::Memory),
         }
     }
 
     fn take_item(&mut self, entry: &[u8], key: &[u8]) -> Result<(), RecordError>
-        requires short_entry { length entry.now < 65536 }
-        requires short_key { length key.now < 65536 }
+        requires short_entry { IsShort entry.now }
+        requires short_key { IsShort key.now }
         ensures { Takes (with_entry H.hash self.old.state (entry.now, key.now))
             self.old.state result self.new.state }
     {
@@ -101,6 +120,20 @@ impl<H: TreeHash> Contents<H> {
         }
         let item = self.prepare(entry, key)?;
         self.push(item);
+        Ok(())
+    }
+
+    // Takes a record that is no Entry.
+    fn take_mark(&mut self, body: &[u8]) -> Result<(), RecordError>
+        ensures { Takes (option_and_then (with_landmark self.old.state) (mark_in body.now))
+            self.old.state result self.new.state }
+    {
+        let size = read_mark(body)?;
+        if size != self.len() as u64 || size <= self.last_mark() {
+            return Err(RecordError::Unfit);
+        }
+        self.prepare_mark()?;
+        self.push_mark();
         Ok(())
     }
 
@@ -118,6 +151,26 @@ impl<H: TreeHash> Contents<H> {
         ensures sound { IsSound H.hash self.now.state }
     {
         self.items.len()
+    }
+
+    /// The sizes at the landmarks.
+    pub(crate) fn marks(&self) -> &[u64]
+        ensures value { result.now ≡ self.now.state.marks }
+        ensures rising { AreRising 0 (length self.now.state.entries) result.now }
+    {
+        self.marks.as_slice()
+    }
+
+    /// The size of the last landmark, 0 where there is none.
+    pub(crate) fn last_mark(&self) -> u64
+        ensures value { result ≡ last_mark self.now.state.marks }
+        ensures sound { IsSound H.hash self.now.state }
+    {
+        if self.marks.is_empty() {
+            0
+        } else {
+            self.marks[self.marks.len() - 1]
+        }
     }
 
     pub(crate) fn allocator(&self) -> Global {
@@ -179,5 +232,24 @@ impl<H: TreeHash> Contents<H> {
             Err(Memory) => unreachable!(),
         }
         self.items.push(item.entry, item.key);
+    }
+
+    /// Makes room for a landmark. The log stays as it was.
+    pub(crate) fn prepare_mark(&mut self) -> Result<(), Memory>
+        ensures spare { OnOk result (1 ≤ self.new.mark_spare) }
+        ensures same { self.new.state ≡ self.old.state }
+    {
+        self.marks.reserve(1)?;
+        Ok(())
+    }
+
+    /// Puts a landmark at the size behind the others, where there is room.
+    pub(crate) fn push_mark(&mut self)
+        requires spare { 1 ≤ self.old.mark_spare }
+        requires above { last_mark self.old.state.marks < length self.old.state.entries }
+        ensures { self.new.state ≡ with_mark self.old.state }
+    {
+        let size = self.len() as u64;
+        put(&mut self.marks, size);
     }
 }

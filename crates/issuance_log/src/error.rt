@@ -42,7 +42,9 @@ pub enum LogError {
     TooLarge,
     /// The log has no entry at this index.
     NoSuchEntry,
-    /// The record of the entry was not appended.
+    /// The last landmark has the size of the log.
+    NothingNew,
+    /// The record was not appended.
     Append(AppendError),
     /// Memory was refused.
     Memory,

@@ -1,20 +1,27 @@
 //! Laws of a log's records: the clauses are the laws, and the functions do nothing.
-ghost use Rattle.std.specs.Prelude.{◌≡◌, ◌<◌, List, length, Some, Ok};
+ghost use Rattle.std.specs.Prelude.{◌≡◌, ◌<◌, ◌^◌, ℕ, List, Some, Ok};
 ghost use Rattle.byte_forms.specs.Types.{Text, HashFunction};
 ghost use Rattle.byte_forms.specs.Places.{IsBytes};
 ghost use Rattle.journal_core.specs.Format.{StandsFor};
 ghost use Rattle.issuance_log.specs.Folds.{LogState, begun, next_log, log_of};
 ghost use Rattle.issuance_log.specs.Openings.{FoundLog, log_read};
-ghost use Rattle.issuance_log.specs.Records.{entry_record, item_in};
+ghost use Rattle.issuance_log.specs.Records.{IsShort, entry_record, item_in, landmark_record, mark_in};
 ghost use Rattle.issuance_log.specs.Rules.{IsFirst, IsNext};
 
 /// The body of an Entry is read as the entry and the key that it spells, and only what is spelled
 /// so is read.
 pub fn items_are_read_as_spelled()
-    ensures again { (entry key : Text) → length entry < 65536 → length key < 65536
+    ensures again { (entry key : Text) → IsShort entry → IsShort key
         → item_in (entry_record entry key) ≡ Some (entry, key) }
     ensures only { (body entry key : Text) → IsBytes body → item_in body ≡ Some (entry, key)
-        → (body ≡ entry_record entry key) × (length entry < 65536) × (length key < 65536) }
+        → (body ≡ entry_record entry key) × IsShort entry × IsShort key }
+{}
+
+/// The body of a Landmark is read as the size that it spells, and only what is spelled so is read.
+pub fn landmarks_are_read_as_spelled()
+    ensures again { (size : ℕ) → size < 2 ^ 64 → mark_in (landmark_record size) ≡ Some size }
+    ensures only { (body : Text) (size : ℕ) → IsBytes body → mark_in body ≡ Some size
+        → (body ≡ landmark_record size) × (size < 2 ^ 64) }
 {}
 
 /// A record begins a log, or makes a log of another one, exactly where it keeps to the rules.

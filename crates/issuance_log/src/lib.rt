@@ -4,10 +4,10 @@
 //! [`create`] begins the journal of a new log, which has the null entry at index 0; [`pack`] takes
 //! the memory for it before there is a disk. [`Log::open`] reads and tests the records of a journal
 //! one by one, and [`Log::add`] adds an entry: once it has answered Ok, a crash of the machine
-//! leaves the entry.
+//! leaves the entry. [`Log::mark`] sets a landmark at the size of the log in the same way.
 //!
 //! What the records of a journal make of a log is one function of them. A log keeps to it: unless
-//! an append has failed, its settings and items are what the records on its disk make.
+//! an append has failed, its settings, items and landmarks are what the records on its disk make.
 //!
 //! A log is the [`Nodes`](tree_proofs::Nodes) of the tree over its entries: it keeps their leaf
 //! hashes.
@@ -27,7 +27,8 @@ mod settings;
 pub use creation::{create, pack};
 pub use error::{LogError, LogOpenError, LogRefused};
 pub use laws::{
-    items_are_read_as_spelled, logs_are_read_from_their_journals, records_keep_to_the_rules,
+    items_are_read_as_spelled, landmarks_are_read_as_spelled, logs_are_read_from_their_journals,
+    records_keep_to_the_rules,
 };
 pub use log::Log;
 pub use settings::{LogSettings, MOST_ACTIVE, MOST_ENTRIES};

@@ -1,23 +1,23 @@
 //! A log that is open for more entries.
 ghost use Rattle.std.specs.Prelude.{◌≡◌, ◌≤◌, ◌<◌, ◌+◌, ◌++◌, [], ◌∷◌, length, map, true, false, None, Ok, IfSome, IfOk, IfErr, OnOk, OnErr};
 ghost use Rattle.std.proofs.Props.{props};
-ghost use Rattle.byte_forms.specs.Types.{Text};
-ghost use Rattle.disk_core.specs.Moments.{LeavesOnly, Looks};
-ghost use Rattle.journal_core.specs.Format.{StandsFor, StandsForEither, end_behind};
+ghost use Rattle.disk_core.specs.Moments.{Looks};
+ghost use Rattle.journal_core.specs.Format.{StandsFor, end_behind};
 ghost use Rattle.journal_core.specs.Words.{is_broken, records, AllStandFor};
-ghost use Rattle.issuance_log.specs.Folds.{log_of, with_item};
+ghost use Rattle.issuance_log.specs.Folds.{log_of, with_item, with_mark};
 ghost use Rattle.log_entry.specs.Matching.{matches};
 ghost use Rattle.tree_core.specs.Tree.{leaf_hash};
-ghost use Rattle.issuance_log.specs.Openings.{HasCauseOf, log_read};
-ghost use Rattle.issuance_log.specs.Records.{entry_record};
+ghost use Rattle.issuance_log.specs.Openings.{CountsNoOther, HasCauseOf, log_read};
+ghost use Rattle.issuance_log.specs.Marks.{AreRising};
+ghost use Rattle.issuance_log.specs.Records.{entry_record, landmark_record};
 ghost use Rattle.issuance_log.specs.Settings.{AreAllowed};
-ghost use Rattle.issuance_log.specs.Refusals.{add_refusal, KeepsTo, item_at, GivesItem};
+ghost use Rattle.issuance_log.specs.Refusals.{add_refusal, KeepsTo, mark_refusal, MarkKeepsTo, item_at, GivesItem};
 ghost use Rattle.issuance_log.specs.Sound.{IsSound};
 
 use crate::contents::Contents;
 use crate::error::{LogError, LogOpenError, LogRefused, hand_back};
 use crate::reading::read_log;
-use crate::record::entry_record;
+use crate::record::{entry_record, landmark_record};
 use crate::settings::LogSettings;
 use disk_core::Disk;
 use journal_core::{Journal, Opening, Refused};
@@ -29,8 +29,8 @@ use tree_proofs::Listed;
 // An entry and its key have at most so many bytes together.
 const MAX_ITEM: usize = 65_535;
 
-/// The entries of a log, each with the key to it, and their leaf hashes, over the journal of their
-/// records. Unless an append has failed, they are what the records on the disk make. `H` is the
+/// The entries of a log, each with the key to it, their leaf hashes, and the sizes at its
+/// landmarks, over the journal of their records. Unless an append has failed, they are what the records on the disk make. `H` is the
 /// hash function by which a key belongs to an entry: it does so for each entry but the first, the
 /// null entry, whatever the disk tells.
 #[derive(Drop)]
@@ -51,7 +51,7 @@ fn copy(bytes: &Bytes, out: &mut Bytes) -> Result<(), Memory>
 }
 
 impl<H: TreeHash, D: Disk> Log<H, D> {
-    ghost use Rattle.issuance_log.specs.Words.{log_disk, log_records, log_end, log_broken, state_of, LogLeaves};
+    ghost use Rattle.issuance_log.specs.Words.{log_disk, log_records, log_end, log_broken, state_of, view_of, LogAppends};
 
     /// Opens the log in a journal. Its records are read and tested one by one.
     ///
@@ -74,6 +74,7 @@ impl<H: TreeHash, D: Disk> Log<H, D> {
             (λ list. log_end it ≡ end_behind list)) }
         ensures err { IfErr result (λ e. Looks D.Disk disk e.disk) }
         ensures cause { IfErr result (λ e. HasCauseOf D.Disk H.hash disk e.disk e.why) }
+        ensures fine_err { IfErr result (λ e. CountsNoOther D.Disk disk e.disk e.why) }
     {
         let mut opening = match Opening::begin(alloc, disk) {
             Ok(opening) => opening,
@@ -100,22 +101,12 @@ impl<H: TreeHash, D: Disk> Log<H, D> {
     #[tactic(auto, unfolding(crate::specs::Refusals::add_refusal))]
     pub fn add(&mut self, entry: &[u8], spki: &[u8]) -> Result<u64, LogError>
         requires { matches H.hash entry.now spki.now ≡ true }
-        ensures leaves { LogLeaves (entry_record entry.now spki.now)
+        ensures appends { LogAppends (entry_record entry.now spki.now)
             (with_item entry.now spki.now (state_of self.old)) self.old self.new result }
         ensures index { IfOk result (λ index. index ≡ length (state_of self.old).entries) }
-        ensures answer { KeepsTo (add_refusal (state_of self.old) (log_broken self.old)
+        ensures answer { KeepsTo (add_refusal (view_of self.old) (log_broken self.old)
             (log_end self.old) entry.now spki.now) result }
-        ensures kept { OnOk result (IfSome (log_records self.old) (λ list. AllStandFor D.Disk
-            (log_disk self.new) (list ++ entry_record entry.now spki.now ∷ []))) }
-        ensures count { D.faults (log_disk self.old) ≤ D.faults (log_disk self.new) }
-        ensures any_moment { log_broken self.old ≡ false → IfSome (log_records self.old) (λ list.
-            LeavesOnly D.Disk (log_disk self.old) (log_disk self.new)
-            (StandsForEither list (entry_record entry.now spki.now))) }
-        ensures afterwards { log_broken self.old ≡ false
-            → IfSome (log_records self.old) (λ list. (c : Text)
-            → D.may_leave (log_disk self.new) c
-            → StandsForEither list (entry_record entry.now spki.now) c) }
-        ensures valid { add_refusal (state_of self.old) (log_broken self.old)
+        ensures valid { add_refusal (view_of self.old) (log_broken self.old)
             (log_end self.old) entry.now spki.now ≡ None
             → IfSome (log_records self.old)
             (λ list. log_of H.hash (list ++ entry_record entry.now spki.now ∷ [])
@@ -135,6 +126,40 @@ impl<H: TreeHash, D: Disk> Log<H, D> {
         Ok(index as u64)
     }
 
+    /// Sets a landmark at the size of the log, and answers its number, counted from 1, and that
+    /// size. At Ok a crash leaves the records with that of the landmark; at any moment of the call
+    /// it leaves the old records, or these and that one.
+    ///
+    /// Errors, in the order of the tests: `NothingNew` where the last landmark has this size;
+    /// `Memory`; and what [`Journal::append`] refuses. A refusal leaves the log as it was. After
+    /// `Append(Failed)` it shows what it showed before, and each further call that passes the first
+    /// test answers `Append(Broken)`.
+    #[tactic(auto, unfolding(crate::specs::Refusals::mark_refusal))]
+    pub fn mark(&mut self) -> Result<(u64, u64), LogError>
+        ensures appends { LogAppends (landmark_record (length (state_of self.old).entries))
+            (with_mark (state_of self.old)) self.old self.new result }
+        ensures number { IfOk result
+            (λ landmark. landmark.0 ≡ length (state_of self.old).marks + 1) }
+        ensures size { IfOk result (λ landmark. landmark.1 ≡ length (state_of self.old).entries) }
+        ensures answer { MarkKeepsTo
+            (mark_refusal (view_of self.old) (log_broken self.old) (log_end self.old)) result }
+        ensures valid { mark_refusal (view_of self.old) (log_broken self.old) (log_end self.old)
+            ≡ None → IfSome (log_records self.old)
+            (λ list. log_of H.hash
+            (list ++ landmark_record (length (state_of self.old).entries) ∷ [])
+            ≡ Ok (with_mark (state_of self.old))) }
+    {
+        let size = self.contents.len() as u64;
+        if self.contents.last_mark() == size {
+            return Err(LogError::NothingNew);
+        }
+        let body = landmark_record(self.contents.allocator(), size)?;
+        self.contents.prepare_mark()?;
+        self.journal.append(body.as_slice())?;
+        self.contents.push_mark();
+        Ok((self.contents.marks().len() as u64, size))
+    }
+
     /// How many entries the log has, the null entry among them.
     pub fn size(&self) -> u64
         ensures value { result ≡ length (state_of self.now).entries }
@@ -145,8 +170,8 @@ impl<H: TreeHash, D: Disk> Log<H, D> {
     }
 
     /// What holds of every log, over any disk: the clause says it, and the call does nothing. Each
-    /// entry but the first reads as one of type 1 to which its key belongs, and both have fewer
-    /// than 2^16 bytes.
+    /// entry but the first reads as one of type 1 to which its key belongs, the lengths of both are
+    /// told in two bytes, and the landmarks rise up to the size at most.
     pub fn sound(&self)
         ensures { IsSound H.hash (state_of self.now) }
     {
@@ -158,6 +183,15 @@ impl<H: TreeHash, D: Disk> Log<H, D> {
         ensures allowed { AreAllowed result.now.max_active result.now.limit }
     {
         self.contents.settings()
+    }
+
+    /// The sizes at the landmarks, from the first to the last. They rise strictly, and none is
+    /// above the size of the log.
+    pub fn marks(&self) -> &[u64]
+        ensures value { result.now ≡ (state_of self.now).marks }
+        ensures rising { AreRising 0 (length (state_of self.now).entries) result.now }
+    {
+        self.contents.marks()
     }
 
     // The leaf hashes of the entries, each at its index.

@@ -3,7 +3,7 @@ ghost use Rattle.std.specs.Prelude.{◌≡◌, ◌<◌, [], false, None, option_
 ghost use Rattle.disk_core.specs.Moments.{Looks};
 ghost use Rattle.journal_core.specs.Openings.{opening_disk, read_list, is_ended, refusal, bytes_left};
 ghost use Rattle.issuance_log.specs.Faults.{refusal_at};
-ghost use Rattle.issuance_log.specs.Openings.{HasCauseOf};
+ghost use Rattle.issuance_log.specs.Openings.{CountsNoOther, HasCauseOf};
 ghost use Rattle.journal_core.specs.Readings.{HasFolded, HasFound};
 ghost use Rattle.issuance_log.specs.Folds.{log_fold};
 
@@ -38,6 +38,8 @@ fn read_first<H: TreeHash, D: Disk>(
     ensures looks { Looks D.Disk (opening_disk opening.old) (opening_disk opening.new) }
     ensures fine { OnOk result (D.faults (opening_disk opening.new)
         ≡ D.faults (opening_disk opening.old)) }
+    ensures fine_err { IfErr result (CountsNoOther D.Disk (opening_disk opening.old)
+        (opening_disk opening.new)) }
 {
     match opening.next() {
         Ok(Some(body)) => match Contents::begin(alloc, body) {
@@ -65,6 +67,8 @@ fn read_next<H: TreeHash, D: Disk>(
     ensures looks { Looks D.Disk (opening_disk opening.old) (opening_disk opening.new) }
     ensures fine { OnOk result (D.faults (opening_disk opening.new)
         ≡ D.faults (opening_disk opening.old)) }
+    ensures fine_err { IfErr result (CountsNoOther D.Disk (opening_disk opening.old)
+        (opening_disk opening.new)) }
 {
     let number = opening.read_count();
     match opening.next() {
@@ -89,6 +93,8 @@ fn read_rest<H: TreeHash, D: Disk>(
     ensures looks { Looks D.Disk (opening_disk opening.old) (opening_disk opening.new) }
     ensures fine { OnOk result (D.faults (opening_disk opening.new)
         ≡ D.faults (opening_disk opening.old)) }
+    ensures fine_err { IfErr result (CountsNoOther D.Disk (opening_disk opening.old)
+        (opening_disk opening.new)) }
 {
     'records: loop {
         if !read_next::<H, D>(opening, contents)? {
@@ -111,6 +117,8 @@ pub(crate) fn read_log<H: TreeHash, D: Disk>(
     ensures looks { Looks D.Disk (opening_disk opening.old) (opening_disk opening.new) }
     ensures fine { OnOk result (D.faults (opening_disk opening.new)
         ≡ D.faults (opening_disk opening.old)) }
+    ensures fine_err { IfErr result (CountsNoOther D.Disk (opening_disk opening.old)
+        (opening_disk opening.new)) }
 {
     let mut contents = read_first::<H, D>(alloc, opening)?;
     read_rest::<H, D>(opening, &mut contents)?;

@@ -1,21 +1,23 @@
 //! The bodies of a log's records.
 ghost use Rattle.std.specs.Prelude.{◌≡◌, ◌+◌, ◌<◌, ◌≤◌, length, true, IfOk};
 ghost use Rattle.byte_forms.specs.Readings.{Moves};
-ghost use Rattle.issuance_log.specs.Records.{settings_at, entry_at, settings_with, settings_in, item_in, settings_record, entry_record};
+ghost use Rattle.issuance_log.specs.Records.{settings_at, entry_at, settings_with, settings_in, item_in, mark_in, settings_record, IsShort, entry_record, landmark_record};
 ghost use Rattle.issuance_log.specs.Results.{Finds};
-ghost use Rattle.issuance_log.specs.Settings.{are_allowed, AreAllowed};
+ghost use Rattle.issuance_log.specs.Settings.{most_item, are_allowed, AreAllowed};
 ghost use Rattle.tls_wire.specs.Arcs.{IsAnchorId};
 
 use crate::error::RecordError;
 use crate::settings::{LogSettings, MOST_ACTIVE, MOST_ENTRIES};
 use mtc_io::{Bytes, Memory};
 use std::alloc::Global;
-use tls_wire::{AnchorId, Cursor, Short, put_u8, put_u32, put_vec8, put_vec16};
+use tls_wire::{AnchorId, Cursor, Short, put_u8, put_u32, put_u64, put_vec8, put_vec16};
 
+// The tags of the records.
 const LOG: u8 = 1;
 
-// The tag of an Entry.
 const ENTRY: u8 = 2;
+
+const LANDMARK: u8 = 3;
 
 // The settings behind the tag, in their order.
 #[tactic(auto, unfolding(crate::specs::Records::settings_at))]
@@ -99,14 +101,30 @@ fn item_in(body: &[u8]) -> Result<(&[u8], &[u8]), RecordError>
     Ok(item)
 }
 
-/// The entry and the key in the body of an Entry. Each has fewer than 2^16 bytes.
+/// The entry and the key in the body of an Entry. The length of each is told in two bytes.
 pub(crate) fn read_item(body: &[u8]) -> Result<(&[u8], &[u8]), RecordError>
     ensures found { Finds (λ x. (x.0.now, x.1.now)) (item_in body.now) result }
-    ensures short_entry { IfOk result (λ x. length x.0.now < 65536) }
-    ensures short_key { IfOk result (λ x. length x.1.now < 65536) }
+    ensures short_entry { IfOk result (λ x. IsShort x.0.now) }
+    ensures short_key { IfOk result (λ x. IsShort x.1.now) }
 {
     let item = item_in(body)?;
     Ok(item)
+}
+
+/// The size in the body of a Landmark.
+#[tactic(auto, unfolding(crate::specs::Records::mark_in))]
+pub(crate) fn read_mark(body: &[u8]) -> Result<u64, RecordError>
+    ensures { Finds (λ size. size) (mark_in body.now) result }
+{
+    let mut cursor = Cursor::new(body);
+    if cursor.u8()? != LANDMARK {
+        return Err(RecordError::Unfit);
+    }
+    let size = cursor.u64()?;
+    if cursor.left() != 0 {
+        return Err(RecordError::Unfit);
+    }
+    Ok(size)
 }
 
 /// The body of a Log.
@@ -125,15 +143,26 @@ pub(crate) fn settings_record(alloc: Global, settings: &LogSettings) -> Result<B
     Ok(body)
 }
 
-/// The body of an Entry. The entry and its key have at most 65,535 bytes together.
+/// The body of an Entry. The entry and its key are within the limit for both together.
 #[tactic(auto, unfolding(crate::specs::Records::entry_record))]
 pub(crate) fn entry_record(alloc: Global, entry: &[u8], key: &[u8]) -> Result<Bytes, Memory>
-    requires { length entry.now + length key.now ≤ 65535 }
+    requires { length entry.now + length key.now ≤ most_item }
     ensures { IfOk result (λ body. body ≡ entry_record entry.now key.now) }
 {
     let mut body = Bytes::new(alloc);
     put_u8(&mut body, ENTRY)?;
     put_vec16(&mut body, entry)?;
     put_vec16(&mut body, key)?;
+    Ok(body)
+}
+
+/// The body of a Landmark at a size.
+#[tactic(auto, unfolding(crate::specs::Records::landmark_record))]
+pub(crate) fn landmark_record(alloc: Global, size: u64) -> Result<Bytes, Memory>
+    ensures { IfOk result (λ body. body ≡ landmark_record size) }
+{
+    let mut body = Bytes::new(alloc);
+    put_u8(&mut body, LANDMARK)?;
+    put_u64(&mut body, size)?;
     Ok(body)
 }

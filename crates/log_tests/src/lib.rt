@@ -6,6 +6,8 @@ mod appends;
 #[cfg(test)]
 mod journals;
 #[cfg(test)]
+mod landmarks;
+#[cfg(test)]
 mod logs;
 #[cfg(test)]
 mod openings;

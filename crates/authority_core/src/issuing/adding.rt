@@ -1,11 +1,8 @@
 //! Issuing: the entry of a request is added to the log.
 
-ghost use Rattle.std.specs.Prelude.{◌≡◌, ◌≤◌, ◌++◌, ℕ, List, [], ◌∷◌, length, IfSome, IfOk, OnOk, false};
-ghost use Rattle.disk_core.specs.Moments.{LeavesOnly};
-ghost use Rattle.journal_core.specs.Format.{StandsForEither};
-ghost use Rattle.journal_core.specs.Words.{AllStandFor};
+ghost use Rattle.std.specs.Prelude.{◌≡◌, length, IfOk};
 ghost use Rattle.issuance_log.specs.Refusals.{add_refusal};
-ghost use Rattle.issuance_log.specs.Words.{log_disk, log_records, log_end, log_broken, state_of, LogLeaves};
+ghost use Rattle.issuance_log.specs.Words.{log_end, log_broken, state_of, view_of, LogAppends};
 ghost use Rattle.authority_core.specs.Issues.{KeepsToOrMemory, issued_entry, issued_log, issued_record, of_log};
 
 use crate::issuing::entry::entry_of_request;
@@ -27,23 +24,13 @@ pub fn issue<H: TreeHash, D: Disk>(
     log: &mut Log<H, D>,
     request: &Request,
 ) -> Result<u64, IssueError>
-    ensures leaves { LogLeaves (issued_record H.hash (state_of log.old) request.now)
+    ensures appends { LogAppends (issued_record H.hash (state_of log.old) request.now)
         (issued_log H.hash (state_of log.old) request.now) log.old log.new (of_log result) }
     ensures index { IfOk result (λ index. index ≡ length (state_of log.old).entries) }
     ensures answer { KeepsToOrMemory
-        (add_refusal (state_of log.old) (log_broken log.old) (log_end log.old)
+        (add_refusal (view_of log.old) (log_broken log.old) (log_end log.old)
         (issued_entry H.hash (state_of log.old) request.now) request.now.key)
         (of_log result) }
-    ensures kept { OnOk result (IfSome (log_records log.old) (λ list.
-        AllStandFor D.Disk (log_disk log.new)
-        (list ++ issued_record H.hash (state_of log.old) request.now ∷ []))) }
-    ensures count { D.faults (log_disk log.old) ≤ D.faults (log_disk log.new) }
-    ensures any_moment { log_broken log.old ≡ false → IfSome (log_records log.old) (λ list.
-        LeavesOnly D.Disk (log_disk log.old) (log_disk log.new)
-        (StandsForEither list (issued_record H.hash (state_of log.old) request.now))) }
-    ensures afterwards { log_broken log.old ≡ false → IfSome (log_records log.old) (λ list.
-        (c : List ℕ) → D.may_leave (log_disk log.new) c
-        → StandsForEither list (issued_record H.hash (state_of log.old) request.now) c) }
 {
     let settings = log.settings();
     let entry = entry_of_request::<H>(alloc, &settings.id, request)?;

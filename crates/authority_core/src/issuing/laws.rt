@@ -9,6 +9,7 @@ ghost use Rattle.cert_fields.specs.Extensions.{dns_names_in, has_unknown_critica
 ghost use Rattle.log_entry.specs.Matching.{matches};
 ghost use Rattle.log_entry.specs.Reading.{entry_in};
 ghost use Rattle.issuance_log.specs.Folds.{LogState, log_of, with_item};
+ghost use Rattle.issuance_log.specs.Settings.{most_item};
 ghost use Rattle.authority_core.specs.Issues.{issued_entry, issued_record};
 ghost use Rattle.authority_core.specs.Issuing.{entry_for, tbs_for};
 ghost use Rattle.authority_core.specs.Requests.{CanBeIssued, RequestParts};
@@ -32,13 +33,13 @@ pub fn entries_say_what_was_asked()
 {}
 
 /// The record of what is issued keeps to the rules of a log's journal. Behind records that make a
-/// log which has room, it makes that log with the entry and its key, where these have at most
-/// 65,535 bytes together.
+/// log which has room, it makes that log with the entry and its key, where these are within the
+/// limit for both together.
 pub fn issued_entries_keep_to_the_rules()
     ensures { (h : HashFunction) (list : List Text) (s : LogState) (r : RequestParts)
         → ((bytes : Text) → length (h bytes) ≡ 32) → IsAnchorId s.settings.id → CanBeIssued r
         → log_of h list ≡ Ok s → length s.entries < s.settings.limit
-        → length (issued_entry h s r) + length r.key ≤ 65535
+        → length (issued_entry h s r) + length r.key ≤ most_item
         → log_of h (list ++ issued_record h s r ∷ [])
         ≡ Ok (with_item (issued_entry h s r) r.key s) }
 {}

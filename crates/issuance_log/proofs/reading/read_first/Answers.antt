@@ -3,6 +3,7 @@ use Rattle.journal_core.specs.Openings.{opening_disk, Nexts}
 use Rattle.issuance_log.specs.Openings.{HasCauseOf}
 use Rattle.journal_core.proofs.FoldSteps.{folded_first, missing_first, cause_first}
 use Rattle.issuance_log.specs.Folds.{log_fold}
+use Rattle.issuance_log.specs.declared.error.LogOpenError.TheVariants.{Open}
 use Rattle.issuance_log.proofs.Readings.{cause_begun}
 use Rattle.issuance_log.proofs.reading.read_first.Goals as goal
 
@@ -49,3 +50,26 @@ returns-in-Ok-clause-fine g c =
     let read = subst (Nexts old new) (c.in-Ok-Some.is
     ∙ ap Ok c.in-Ok-Some.field-0-is) c.next.follows.holds-at-none in
     read.2.fine tt
+
+pub returns-in-Err-begin-clause-fine_err : goal.returns-in-Err-begin-clause-fine_err
+returns-in-Err-begin-clause-fine_err g c =
+    let old = c.args.opening.now in
+    let new = c.next.follows.lender-at-none in
+    let read = subst (Nexts old new) (c.in-Ok-Some.is
+    ∙ ap Ok c.in-Ok-Some.field-0-is) c.next.follows.holds-at-none in
+    λ other. read.2.fine tt
+
+pub returns-in-Ok-None-clause-fine_err : goal.returns-in-Ok-None-clause-fine_err
+returns-in-Ok-None-clause-fine_err g c =
+    let old = c.args.opening.now in
+    let new = c.next.follows.lender-at-none in
+    let ended = subst (Nexts old new) (c.in-Ok-None.is
+    ∙ ap Ok c.in-Ok-None.field-0-is) c.next.follows.holds-at-none in
+    λ other. ended.1.fine tt
+
+pub returns-in-Err-clause-fine_err : goal.returns-in-Err-clause-fine_err
+returns-in-Err-clause-fine_err g c =
+    let old = c.args.opening.now in
+    let new = c.next.follows.lender-at-none in
+    let refused = subst (Nexts old new) c.in-Err.is c.next.follows.holds-at-none in
+    λ other. refused.1.fine (λ is. other (ap Open is))
