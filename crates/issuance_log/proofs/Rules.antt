@@ -102,8 +102,8 @@ first_is body s bytes is =
     let found = map_from (settings_in body) is in
     let read = option_from_settings (tagged log_tag settings_at (number_at w8 (at body 0)))
     found.0 found.1 in
-    let spelled = tagged_takes log_tag (omega arith) settings_text FitSettings settings_at settings_form
-    body read.0 bytes read.1 in
+    let spelled = tagged_takes log_tag (omega arith) settings_text FitSettings settings_at
+    settings_form body read.0 bytes read.1 in
     let tests = test_from (are_allowed read.0.1.0 read.0.1.1)
     (with_id read.0.1.0 read.0.1.1 (anchor_of read.0.0)) found.0 read.2 in
     let made = id_from read.0.1.0 read.0.1.1 (anchor_of read.0.0) found.0 tests.1 in

@@ -76,7 +76,8 @@ settings_with x = if are_allowed x.1.0 x.1.1 then with_id x.1.0 x.1.1 (anchor_of
 
 -- the settings in a Log, which is the first record and nowhere else
 unfoldable pub settings_in : Text → Option Settings
-settings_in body = option_and_then settings_with (tagged log_tag settings_at (number_at w8 (at body 0)))
+settings_in body =
+    option_and_then settings_with (tagged log_tag settings_at (number_at w8 (at body 0)))
 
 -- the entry and the key in an Entry
 unfoldable pub item_in : Text → Option (Text × Text)

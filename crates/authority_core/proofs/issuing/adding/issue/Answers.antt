@@ -1,13 +1,11 @@
-use Rattle.std.proofs.Common.{rules, ◌≡◌, refl, ap, subst, ◌∙◌, arith}
+use Rattle.std.proofs.Common.{◌≡◌, Ok, ap, subst, ◌∙◌}
 use Rattle.byte_forms.specs.Types.{Text}
 use Rattle.issuance_log.specs.Folds.{with_item}
 use Rattle.issuance_log.specs.Records.{entry_record}
 use Rattle.issuance_log.specs.Words.{state_of, LogAppends}
 use Rattle.issuance_log.specs.Settings.{Settings}
-use Rattle.issuance_log.specs.declared.error.LogError.TheVariants.{Memory}
-use Rattle.issuance_log.proofs.Adds.{left_alone}
 use Rattle.authority_core.specs.Issuing.{entry_for}
-use Rattle.authority_core.specs.Issues.{issued_entry, of_log}
+use Rattle.authority_core.specs.Issues.{issued_entry}
 use Rattle.authority_core.specs.Requests.{RequestParts}
 use Rattle.authority_core.proofs.issuing.adding.issue.Goals as goal
 
@@ -23,7 +21,7 @@ returns-clause-appends g c =
     let h = g.H.TreeHash.hash in
     let r = c.args.request.now in
     of_same (λ (entry key : Text). LogAppends (entry_record entry key)
-    (with_item entry key (state_of log)) log c.add.new.self (of_log c.add.result)) _ _
+    (with_item entry key (state_of log)) log c.add.new.self (Ok c.in_ok-index.index)) _ _
     (issued_entry h (state_of log) r) r.key
     (c.as_slice.ensures ∙ c.in_ok-entry.ensures.bytes
     ∙ ap (λ (s : Settings). entry_for h s.id r) (c.settings.view_is
