@@ -1,5 +1,5 @@
 -- What an item or a landmark more makes of a log.
-use Rattle.std.proofs.Common.{◌≡◌, ◌≢◌, inl, ℕ, ◌+◌, ◌^◌, ◌<◌, ◌≤◌, ◌==◌, nat_lt, not}
+use Rattle.std.proofs.Common.{◌≡◌, ◌≢◌, ℕ, ◌+◌, ◌^◌, ◌<◌, ◌≤◌, ◌==◌, nat_lt, not}
 use Rattle.std.proofs.Common.{if◌then◌else◌, Bool, true, false, List, [], ◌∷◌, ◌++◌, length}
 use Rattle.std.proofs.Common.{Option, Some, None, IfSome, option_map, Ok, Err, refl, sym, ap}
 use Rattle.std.proofs.Common.{◌∙◌, subst, arith}
@@ -8,11 +8,8 @@ use Rattle.std.proofs.lemmas.Bool.Decides.{nat_tests}
 use Rattle.byte_forms.specs.Types.{Text}
 use Rattle.disk_core.specs.declared.disk.Disk.{Ghosts}
 use Rattle.disk_core.specs.Moments.{LeavesOnly}
-use Rattle.disk_core.proofs.Moments.{started}
-use Rattle.journal_core.specs.Format.{StandsFor, StandsForEither, records_of}
-use Rattle.journal_core.specs.Settled.{IsSettled}
-use Rattle.journal_core.proofs.Told.{of_records}
-use Rattle.journal_core.specs.Words.{AllStandFor}
+use Rattle.journal_core.specs.Format.{StandsForEither}
+use Rattle.journal_core.proofs.Appends.{untouched_moment, untouched_after}
 use Rattle.journal_core.specs.declared.error.AppendError.{AppendError}
 use Rattle.journal_core.specs.declared.error.AppendError.TheVariants.{Broken}
 use Rattle.log_entry.specs.Matching.{matches}
@@ -137,45 +134,7 @@ module _ (h : List ℕ → List ℕ) (s : LogState) (records : Option (List (Lis
       marked_to (agrees (unbroken broken _ first.1)) (size_fits h s sound)
       (below _ _ (last_in h s sound) first.0)
 
-some_records : (x y : List (List ℕ)) → Some x ≡ Some y → x ≡ y
-some_records x y is = cc
-
--- every image stands for the old records and the new one
-pub all_kept : {D : Type 0} (g : Ghosts D) (disk : D) (told : Option (List ℕ))
-    (old : Option (List (List ℕ))) (body record_ : List ℕ)
-    → option_map records_of told ≡ option_map (λ list. list ++ body ∷ []) old → body ≡ record_
-    → IfSome told (λ b. AllStandFor g disk (records_of b))
-    → IfSome old (λ list. AllStandFor g disk (list ++ record_ ∷ []))
-all_kept {D} g disk told None body record_ news is all = tt
-all_kept {D} g disk None (Some list) body record_ news is all =
-    let wrong : None ≡ Some (list ++ body ∷ []) = news in cc
-all_kept {D} g disk (Some b) (Some list) body record_ news is all =
-    subst (AllStandFor g disk) (some_records _ _ news
-    ∙ ap (λ (last : List ℕ). list ++ last ∷ []) is) all
-
--- a log whose disk had no call
-module _ {D : Type 0} (g : Ghosts D) (disk : D) (end : ℕ) (body : List ℕ)
-    (settled : (b : List ℕ) → g.told disk ≡ Some b → IsSettled b (g.may_leave disk) end) where
-  stands_now : (b : List ℕ) → g.told disk ≡ Some b → (c : List ℕ) → g.may_leave disk c
-      → StandsForEither (records_of b) body c
-  stands_now b told c left =
-      let was = settled b told in
-      inl (subst (λ (bytes : List ℕ). StandsFor bytes (records_of b)) (sym (was.only c left))
-      was.stands)
-
-  pub untouched_moment : ((c : List ℕ) → g.left_since disk (g.moment disk) c → g.may_leave disk c)
-      → IfSome (option_map records_of (g.told disk)) (λ list. LeavesOnly g disk disk
-      (StandsForEither list body))
-  untouched_moment only_now = of_records (λ list. LeavesOnly g disk disk
-      (StandsForEither list body)) (g.told disk)
-      (λ b told. started g disk _ only_now (stands_now b told))
-
-  pub untouched_after : IfSome (option_map records_of (g.told disk)) (λ list. (c : List ℕ)
-      → g.may_leave disk c → StandsForEither list body c)
-  untouched_after = of_records (λ list. (c : List ℕ) → g.may_leave disk c
-      → StandsForEither list body c) (g.told disk) stands_now
-
--- the same where the record was written as these bytes
+-- what a crash leaves of a journal, where the record was written as these bytes
 module _ {D : Type 0} (g : Ghosts D) (list : Option (List Text)) (old new : D) (body record_ : Text)
     (is : body ≡ record_) where
   pub moment_is : IfSome list (λ l. LeavesOnly g old new (StandsForEither l body))

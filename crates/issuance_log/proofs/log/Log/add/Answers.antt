@@ -1,12 +1,12 @@
 use Rattle.std.proofs.Common.{rules, refl, sym, ◌∙◌, arith}
 use Rattle.journal_core.specs.Words.{disk_of}
+use Rattle.journal_core.proofs.Appends.{all_kept, untouched_moment, untouched_after}
 use Rattle.issuance_log.specs.Folds.{with_item}
 use Rattle.issuance_log.specs.Records.{entry_record}
 use Rattle.issuance_log.specs.Words.{log_records, log_broken, log_end, state_of}
 use Rattle.issuance_log.specs.declared.error.LogError.TheVariants.{TooLarge}
 use Rattle.issuance_log.proofs.Adds.{room_of, record_some, record_few, added_to, added_unrefused}
-use Rattle.issuance_log.proofs.Adds.{agrees_behind, same_item, all_kept, moment_is, after_is}
-use Rattle.issuance_log.proofs.Adds.{untouched_moment, untouched_after, left_alone}
+use Rattle.issuance_log.proofs.Adds.{agrees_behind, same_item, moment_is, after_is, left_alone}
 use Rattle.issuance_log.proofs.log.Log.add.Goals as goal
 
 pub returns-in_err-record-clause-valid : goal.returns-in_err-record-clause-valid

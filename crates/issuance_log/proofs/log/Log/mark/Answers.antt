@@ -1,11 +1,12 @@
 use Rattle.std.proofs.Common.{rules, ◌≡◌, ◌<◌, length, ap, sym, subst, ◌∙◌, arith}
 use Rattle.journal_core.specs.Words.{disk_of}
+use Rattle.journal_core.proofs.Appends.{all_kept}
 use Rattle.issuance_log.specs.Folds.{LogState, with_mark}
 use Rattle.issuance_log.specs.Marks.{last_mark}
 use Rattle.issuance_log.specs.Records.{landmark_record}
 use Rattle.issuance_log.specs.Words.{log_records, log_broken, log_end, state_of}
 use Rattle.issuance_log.proofs.Adds.{above_last, marked_to, marked_unrefused, agrees_behind}
-use Rattle.issuance_log.proofs.Adds.{all_kept, moment_is, after_is}
+use Rattle.issuance_log.proofs.Adds.{moment_is, after_is}
 use Rattle.issuance_log.proofs.Growth.{size_fits}
 use Rattle.issuance_log.proofs.Spelled.{length-landmark}
 use Rattle.issuance_log.proofs.log.Log.mark.Goals as goal
