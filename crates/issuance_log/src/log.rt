@@ -30,9 +30,9 @@ use tree_proofs::Listed;
 const MAX_ITEM: usize = 65_535;
 
 /// The entries of a log, each with the key to it, their leaf hashes, and the sizes at its
-/// landmarks, over the journal of their records. Unless an append has failed, they are what the records on the disk make. `H` is the
-/// hash function by which a key belongs to an entry: it does so for each entry but the first, the
-/// null entry, whatever the disk tells.
+/// landmarks, over the journal of their records. Unless an append has failed, they are what the
+/// records on the disk make. `H` is the hash function by which a key belongs to an entry: it does
+/// so for each entry but the first, the null entry, whatever the disk tells.
 #[derive(Drop)]
 pub struct Log<H: TreeHash, D: Disk> {
     journal: Journal<D>,

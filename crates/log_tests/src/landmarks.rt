@@ -72,7 +72,10 @@ fn a_changed_landmark_is_told(rt: HostRuntime) -> Result<(), Fail> {
         (234, 0x00, Ok(2)),
     ];
     for (place, byte, wanted) in changes {
-        assert!(rt; size_with(rt.alloc(), place, byte)? == wanted, "byte {place}");
+        assert!(rt;
+            size_with(rt.alloc(), place, byte)? == wanted,
+            "byte {place}"
+        );
     }
     Ok(())
 }
@@ -91,11 +94,18 @@ fn a_landmark_has_eight_bytes(rt: HostRuntime) -> Result<(), Fail> {
     let cases: [(&[u8], Result<u64, LogOpenError>); 4] = [
         (&[3, 0, 0, 0, 0, 0, 0, 0, 1], Ok(1)),
         (&[3, 0, 0, 0, 0, 0, 0, 1], Err(LogOpenError::BadRecord(1))),
-        (&[3, 0, 0, 0, 0, 0, 0, 0, 1, 0], Err(LogOpenError::BadRecord(1))),
+        (
+            &[3, 0, 0, 0, 0, 0, 0, 0, 1, 0],
+            Err(LogOpenError::BadRecord(1)),
+        ),
         (&[3], Err(LogOpenError::BadRecord(1))),
     ];
     for (body, wanted) in cases {
-        assert!(rt; size_behind(rt.alloc(), body)? == wanted, "{} bytes", body.len());
+        assert!(rt;
+            size_behind(rt.alloc(), body)? == wanted,
+            "{} bytes",
+            body.len()
+        );
     }
     Ok(())
 }
