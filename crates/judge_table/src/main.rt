@@ -12,7 +12,7 @@
 
 use anyhow::{Context, Result};
 use cert_names::log_name;
-use policy_core::{Accepted, Refusal, Revoked, Store, Subtrees, Trusted};
+use policy_core::{Accepted, Cosigners, Refusal, Revoked, Rules, Store, Subtrees, Trusted};
 use relying_party::judge;
 use std::alloc::Global;
 use std::io::{BufRead, BufReader};
@@ -103,6 +103,8 @@ fn store(alloc: Global, line: &str) -> Result<Store> {
     Ok(Store {
         log,
         name,
+        cosigners: Cosigners::from_vec(Vec::new(alloc)),
+        rules: Rules::from_vec(Vec::new(alloc)),
         subtrees,
         revoked,
     })

@@ -2,7 +2,7 @@
 //! and of changes to it.
 
 use cert_names::log_name;
-use policy_core::{Accepted, By, Refusal, Revoked, Store, Subtrees, Trusted};
+use policy_core::{Accepted, By, Cosigners, Refusal, Revoked, Rules, Store, Subtrees, Trusted};
 use relying_party::judge;
 use std::alloc::Global;
 use std::test::Fail;
@@ -12,7 +12,7 @@ use tree_core::{Sha, Span};
 // Serial number 1, issuer of log 32473.1, 2026-01-01 to 2026-01-08, no subject, an Ed25519 key of
 // zeros, one critical subjectAltName with `a.example`, and a proof of the interval 0 to 2 with the
 // leaf hash of the null entry.
-const CERTIFICATE: [u8; 231] = [
+pub const CERTIFICATE: [u8; 231] = [
     0x30, 0x81, 0xE4, 0x30, 0x81, 0x9C, 0xA0, 0x03, 0x02, 0x01, 0x02, 0x02, 0x01, 0x01, 0x30, 0x0C,
     0x06, 0x0A, 0x2B, 0x06, 0x01, 0x04, 0x01, 0x82, 0xDA, 0x4B, 0x2F, 0x00, 0x30, 0x19, 0x31, 0x17,
     0x30, 0x15, 0x06, 0x0A, 0x2B, 0x06, 0x01, 0x04, 0x01, 0x82, 0xDA, 0x4B, 0x2F, 0x01, 0x0C, 0x07,
@@ -31,19 +31,19 @@ const CERTIFICATE: [u8; 231] = [
 ];
 
 // The hash of the pair of the null entry's leaf and the certificate's.
-const TRUSTED: [u8; 32] = [
+pub const TRUSTED: [u8; 32] = [
     0x77, 0x56, 0x68, 0x25, 0xCD, 0x25, 0xF2, 0x63, 0x27, 0x1E, 0x3F, 0xA5, 0x34, 0x1D, 0xB2, 0x8E,
     0xD2, 0xC8, 0x79, 0x45, 0xEE, 0x98, 0xF7, 0x31, 0xB2, 0xAA, 0x96, 0xB9, 0xE6, 0xB1, 0x1C, 0xF6,
 ];
 
 // 2026-01-01T00:00:00Z, the first moment of the certificate.
-const FIRST: i64 = 1_767_225_600;
+pub const FIRST: i64 = 1_767_225_600;
 
 // 2026-01-08T00:00:00Z, the last one.
 const LAST: i64 = 1_767_830_400;
 
 // A store for the log with this id.
-fn store_of(
+pub fn store_of(
     alloc: Global,
     id: &str,
     subtrees: &[Trusted],
@@ -54,6 +54,8 @@ fn store_of(
     Ok(Store {
         log,
         name,
+        cosigners: Cosigners::from_vec(Vec::new(alloc)),
+        rules: Rules::from_vec(Vec::new(alloc)),
         subtrees: Subtrees::from_vec(Vec::from_slice(alloc, subtrees)?),
         revoked: Revoked::from_vec(Vec::from_slice(alloc, revoked)?),
     })

@@ -2,6 +2,8 @@
 #![tactic(auto)]
 
 #[cfg(test)]
+mod cosigners;
+#[cfg(test)]
 mod entries;
 #[cfg(test)]
 mod fields;

@@ -46,9 +46,9 @@ name = 1
 id = "1"
 == UnknownKey: the root's keys come before the log
 log = 1
-cosigner = []
+cosigners = []
 == UnknownKey
-rule = []
+rules = []
 == BadValue(Table)
 subtree = 1
 [log]
@@ -166,6 +166,129 @@ hash = "6e340b9cffb37a989ca544e6bb780a2c78901d3fb33738768511a30617afa01d"
 [[revoked]]
 start = 5
 end = 5
+== BadValue(Table)
+cosigner = {}
+[log]
+id = "32473.1"
+== Missing(CosignerId)
+[log]
+id = "32473.1"
+[[cosigner]]
+key = ""
+== BadValue(CosignerId)
+[log]
+id = "32473.1"
+[[cosigner]]
+id = "01"
+== UnknownKey
+[log]
+id = "32473.1"
+[[cosigner]]
+id = "2"
+keys = ""
+== Missing(CosignerKey)
+[log]
+id = "32473.1"
+[[cosigner]]
+id = "2"
+== BadValue(CosignerKey): no HSS key: an unknown typecode
+[log]
+id = "32473.1"
+[[cosigner]]
+id = "2"
+key = "AAAAAQAAAAQAAAADAAAAAAAAAAAAAAAAAAAAAH4U7Q2LRLYZGKVkewVnpJ6WngRUyw8U3ypiscp4ftyw"
+== BadValue(CosignerKey): a byte short
+[log]
+id = "32473.1"
+[[cosigner]]
+id = "2"
+key = "AAAAAQAAAAUAAAADAAAAAAAAAAAAAAAAAAAAAH4U7Q2LRLYZGKVkewVnpJ6WngRUyw8U3ypiscp4ftw="
+== BadValue(CosignerKey): no text
+[log]
+id = "32473.1"
+[[cosigner]]
+id = "2"
+key = 1
+== Missing(Cosigners)
+[log]
+id = "32473.1"
+[[rule]]
+count = 1
+== BadValue(Cosigners): no cosigner has this id
+[log]
+id = "32473.1"
+[[cosigner]]
+id = "2"
+key = "AAAAAQAAAAUAAAADAAAAAAAAAAAAAAAAAAAAAH4U7Q2LRLYZGKVkewVnpJ6WngRUyw8U3ypiscp4ftyw"
+[[rule]]
+cosigners = ["3"]
+count = 1
+== BadValue(Cosigners): one twice
+[log]
+id = "32473.1"
+[[cosigner]]
+id = "2"
+key = "AAAAAQAAAAUAAAADAAAAAAAAAAAAAAAAAAAAAH4U7Q2LRLYZGKVkewVnpJ6WngRUyw8U3ypiscp4ftyw"
+[[rule]]
+cosigners = ["2", "2"]
+count = 1
+== Missing(Count)
+[log]
+id = "32473.1"
+[[cosigner]]
+id = "2"
+key = "AAAAAQAAAAUAAAADAAAAAAAAAAAAAAAAAAAAAH4U7Q2LRLYZGKVkewVnpJ6WngRUyw8U3ypiscp4ftyw"
+[[rule]]
+cosigners = ["2"]
+== BadValue(Count): none of none
+[log]
+id = "32473.1"
+[[rule]]
+cosigners = []
+count = 0
+== BadValue(Count)
+[log]
+id = "32473.1"
+[[cosigner]]
+id = "2"
+key = "AAAAAQAAAAUAAAADAAAAAAAAAAAAAAAAAAAAAH4U7Q2LRLYZGKVkewVnpJ6WngRUyw8U3ypiscp4ftyw"
+[[rule]]
+cosigners = ["2"]
+count = 0
+== BadValue(Count)
+[log]
+id = "32473.1"
+[[cosigner]]
+id = "2"
+key = "AAAAAQAAAAUAAAADAAAAAAAAAAAAAAAAAAAAAH4U7Q2LRLYZGKVkewVnpJ6WngRUyw8U3ypiscp4ftyw"
+[[rule]]
+cosigners = ["2"]
+count = 2
+== BadValue(Count): rules come before equal ids
+[log]
+id = "32473.1"
+[[cosigner]]
+id = "2"
+key = "AAAAAQAAAAUAAAADAAAAAAAAAAAAAAAAAAAAAH4U7Q2LRLYZGKVkewVnpJ6WngRUyw8U3ypiscp4ftyw"
+[[cosigner]]
+id = "2"
+key = "AAAAAQAAAAUAAAADAAAAAAAAAAAAAAAAAAAAAH4U7Q2LRLYZGKVkewVnpJ6WngRUyw8U3ypiscp4ftyw"
+[[rule]]
+cosigners = ["2"]
+count = 2
+== RepeatedId: ids come before intervals
+[log]
+id = "32473.1"
+[[cosigner]]
+id = "2"
+key = "AAAAAQAAAAUAAAADAAAAAAAAAAAAAAAAAAAAAH4U7Q2LRLYZGKVkewVnpJ6WngRUyw8U3ypiscp4ftyw"
+[[cosigner]]
+id = "2"
+key = "AAAAAQAAAAUAAAADAAAAAAAAAAAAAAAAAAAAAH4U7Q2LRLYZGKVkewVnpJ6WngRUyw8U3ypiscp4ftyw"
+[[subtree]]
+start = 1
+end = 3
+hash = "0000000000000000000000000000000000000000000000000000000000000000"
 "#;
 
 // Whether the store of this block is refused as its first line says.
@@ -184,7 +307,7 @@ fn the_first_fault_is_told(rt: HostRuntime) -> Result<(), Fail> {
         assert!(rt; is_refused(rt.alloc(), block)?, "{block}");
         count = count.saturating_add(1);
     }
-    assert!(rt; count == 28);
+    assert!(rt; count == 45);
     Ok(())
 }
 
@@ -237,14 +360,28 @@ fn has_log_alone(alloc: Global, pieces: &[&str], id: &[u8]) -> Result<bool, Fail
     let Store {
         log,
         name: _,
+        cosigners,
+        rules,
         subtrees,
         revoked,
     } = read(alloc, pieces)??;
-    Ok(log.as_bytes() == id && subtrees.into_vec().is_empty() && revoked.into_vec().is_empty())
+    Ok(
+        log.as_bytes() == id
+            && cosigners.into_vec().is_empty()
+            && rules.into_vec().is_empty()
+            && subtrees.into_vec().is_empty()
+            && revoked.into_vec().is_empty(),
+    )
 }
 
 #[test]
 fn a_store_may_have_no_lists(rt: HostRuntime) -> Result<(), Fail> {
-    assert!(rt; has_log_alone(rt.alloc(), &["log = {id = \"1\"}\nsubtree = []\n"], &[1])?);
+    assert!(rt;
+        has_log_alone(
+            rt.alloc(),
+            &["log = {id = \"1\"}\nrule = []\nsubtree = []\n"],
+            &[1]
+        )?
+    );
     Ok(())
 }

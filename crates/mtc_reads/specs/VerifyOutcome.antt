@@ -9,12 +9,14 @@ use Rattle.mtc_proof.specs.declared.fault.ProofError.TheVariants as proof_error
 use Rattle.policy_core.specs.Files.{store_of}
 use Rattle.policy_core.specs.declared.answer.Accepted.{Accepted}
 use Rattle.policy_core.specs.declared.error.Key.{Key}
-use Rattle.policy_core.specs.declared.error.Key.TheVariants.{LogId, Start, End, Hash, Table}
+use Rattle.policy_core.specs.declared.error.Key.TheVariants.{LogId, CosignerId, CosignerKey}
+use Rattle.policy_core.specs.declared.error.Key.TheVariants.{Count, Cosigners, Start, End, Hash}
+use Rattle.policy_core.specs.declared.error.Key.TheVariants.{Table}
 use Rattle.policy_core.specs.declared.error.StoreError.{StoreError}
 use Rattle.policy_core.specs.declared.error.StoreError.TheVariants.{NotToml, UnknownKey}
 use Rattle.policy_core.specs.declared.error.StoreError.TheVariants.{Missing as MissingKey, BadValue}
-use Rattle.policy_core.specs.declared.error.StoreError.TheVariants.{RepeatedSubtree, BadRange}
-use Rattle.policy_core.specs.declared.error.StoreError.TheVariants.{Memory}
+use Rattle.policy_core.specs.declared.error.StoreError.TheVariants.{RepeatedId, RepeatedSubtree}
+use Rattle.policy_core.specs.declared.error.StoreError.TheVariants.{BadRange, Memory}
 use Rattle.policy_core.specs.declared.refusal.Refusal.{Refusal}
 use Rattle.policy_core.specs.declared.refusal.Refusal.TheVariants.{Grammar, Algorithm, UnknownLog}
 use Rattle.policy_core.specs.declared.refusal.Refusal.TheVariants.{NotYet, Expired, UnknownCritical}
@@ -31,6 +33,10 @@ use Rattle.mtc_answers.specs.Steps.{Outcome, Files, says, stops, with_bytes, wit
 -- A key of a store.
 abbrev pub key_text : Key → Text
 key_text LogId = codes "LogId"
+key_text CosignerId = codes "CosignerId"
+key_text CosignerKey = codes "CosignerKey"
+key_text Count = codes "Count"
+key_text Cosigners = codes "Cosigners"
 key_text Start = codes "Start"
 key_text End = codes "End"
 key_text Hash = codes "Hash"
@@ -42,6 +48,7 @@ store_fault_text NotToml = codes "NotToml"
 store_fault_text UnknownKey = codes "UnknownKey"
 store_fault_text (MissingKey key) = codes "Missing " ++ key_text key
 store_fault_text (BadValue key) = codes "BadValue " ++ key_text key
+store_fault_text RepeatedId = codes "RepeatedId"
 store_fault_text RepeatedSubtree = codes "RepeatedSubtree"
 store_fault_text BadRange = codes "BadRange"
 store_fault_text Memory = codes "Memory"

@@ -20,6 +20,10 @@ fn key_name(key: Key) -> &'static str
 {
     match key {
         Key::LogId => "LogId",
+        Key::CosignerId => "CosignerId",
+        Key::CosignerKey => "CosignerKey",
+        Key::Count => "Count",
+        Key::Cosigners => "Cosigners",
         Key::Start => "Start",
         Key::End => "End",
         Key::Hash => "Hash",
@@ -36,6 +40,7 @@ fn store_fault(alloc: Global, why: StoreError) -> Result<String, AllocError>
         StoreError::UnknownKey => String::from_str(alloc, "UnknownKey"),
         StoreError::Missing(key) => format!(in alloc; "Missing {}", key_name(key)),
         StoreError::BadValue(key) => format!(in alloc; "BadValue {}", key_name(key)),
+        StoreError::RepeatedId => String::from_str(alloc, "RepeatedId"),
         StoreError::RepeatedSubtree => String::from_str(alloc, "RepeatedSubtree"),
         StoreError::BadRange => String::from_str(alloc, "BadRange"),
         StoreError::Memory => String::from_str(alloc, "Memory"),

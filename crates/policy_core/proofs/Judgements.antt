@@ -1,6 +1,6 @@
 -- A certificate is accepted exactly where the grammars, the tree and the store say so.
 use Rattle.std.proofs.Common.{◌≡◌, ℕ, List, ◌∷◌, ◌++◌, length, Option, Some, None, Result, Ok, refl}
-use Rattle.std.proofs.Common.{sym, ap, subst, ◌∙◌}
+use Rattle.std.proofs.Common.{sym, ap, subst, ◌∙◌, ◌⊎◌, inl, inr}
 use Rattle.std.specs.Prelude.{ℤ}
 use Rattle.std.specs.List.{find}
 use Rattle.std.specs.Str.{bytes_eq}
@@ -20,66 +20,109 @@ use Rattle.mtc_proof.specs.Reading.{proof_in}
 use Rattle.mtc_proof.proofs.Forms.{proofs_only, proofs_again}
 use Rattle.policy_core.specs.Stores.{IsValid}
 use Rattle.policy_core.specs.declared.answer.Accepted.{Accepted}
+use Rattle.policy_core.specs.declared.answer.By.{By}
+use Rattle.policy_core.specs.declared.answer.By.TheVariants.{Landmark, Cosigners}
 use Rattle.policy_core.specs.declared.lists.Trusted.{Trusted}
 use Rattle.policy_core.specs.declared.store.Store.{Store}
 use Rattle.policy_core.specs.declared.refusal.Refusal.{Refusal}
 use Rattle.policy_core.specs.declared.refusal.Refusal.TheVariants.{Grammar, ProofGrammar}
 use Rattle.policy_core.specs.declared.refusal.Refusal.TheVariants.{ProofShape, LandmarkDiffers}
-use Rattle.policy_core.specs.Acceptance.{IsAmong, IsAccepted}
-use Rattle.policy_core.specs.Judgement.{admitted, is_of, accepted, by_trust, decided, judged}
-use Rattle.policy_core.specs.Judgement.{judgement}
+use Rattle.policy_core.specs.Acceptance.{IsAmong, IsTrusted, IsCosigned, IsAccepted}
+use Rattle.policy_core.specs.Counting.{counted, first_unmet}
+use Rattle.policy_core.specs.Judgement.{admitted, is_of, accepted, by_rules, by_cosigners, by_trust}
+use Rattle.policy_core.specs.Judgement.{decided, judged, judgement}
 use Rattle.policy_core.proofs.Asked.{admitted_only, admitted_again}
-use Rattle.policy_core.proofs.TrustedHash.{find_only, find_again}
+use Rattle.policy_core.proofs.Policies.{all_met, met_all}
+use Rattle.policy_core.proofs.TrustedHash.{find_only, find_again, find_none, none_found}
 
--- ---- the trusted hash
+-- ---- the decision
 
 abbrev trusted_with : ℕ → ℕ → List ℕ → Trusted
 trusted_with start end hash = record { start = start; end = end; hash = hash }
 
-pub record IsDecided (subtrees : List Trusted) (index start end : ℕ) (hash : List ℕ)
-    (a : Accepted) : Type 0 where
-  pub trusted : IsAmong (trusted_with start end hash) subtrees
-  pub known : a ≡ accepted index start end hash
+pub record IsDecided (store : Store) (index : ℕ) (p : ProofParts) (hash : List ℕ) (a : Accepted)
+    : Type 0 where
+  pub by : IsTrusted store p hash a.by ⊎ IsCosigned store p hash a.by
+  pub known : a ≡ accepted a.by index p hash
 
-decided_only : (subtrees : List Trusted) (index start end : ℕ) (hash : List ℕ) (a : Accepted)
-    → decided subtrees index start end hash ≡ Ok a
-    → IsDecided subtrees index start end hash a
-unfolding decided
-decided_only subtrees index start end hash a e = go (find (is_of start end) subtrees) refl e
+told : (by : By) (index : ℕ) (p : ProofParts) (hash : List ℕ) (a : Accepted)
+    → accepted by index p hash ≡ a → a ≡ accepted a.by index p hash
+told by index p hash a same =
+    sym same ∙ ap (λ (b : By). accepted b index p hash) (ap (λ (x : Accepted). x.by) same)
+
+cosigned_only : (store : Store) (index : ℕ) (p : ProofParts) (hash : List ℕ) (a : Accepted)
+    → find (is_of p.start p.end) store.subtrees ≡ None
+    → by_cosigners store index p hash ≡ Ok a → IsDecided store index p hash a
+unfolding by_cosigners
+cosigned_only store index p hash a none e =
+    let set : ℕ = counted store p hash in
+    go (first_unmet set store.rules) refl e
   where
-    go : (o : Option Trusted) → find (is_of start end) subtrees ≡ o
-        → by_trust index start end hash o ≡ Ok a → IsDecided subtrees index start end hash a
-    go None found e = absurd cc
-    go (Some t) found e =
-        let g = pass_ok (bytes_eq t.hash hash) (Ok (accepted index start end hash))
-        LandmarkDiffers a e in
-        let f = find_only start end subtrees t found in
-        let same : t.hash ≡ hash = (bytes_eq-Decides t.hash hash).0 g.0 in
-        let all : t ≡ trusted_with start end hash =
-        ap (λ (n : ℕ). trusted_with n t.end t.hash) f.from
-        ∙ (ap (λ (n : ℕ). trusted_with start n t.hash) f.to
-        ∙ ap (λ (b : List ℕ). trusted_with start end b) same) in
-        let P : Trusted → Type 0 = λ x. IsAmong x subtrees in
+    go : (u : Option ℕ) → first_unmet (counted store p hash) store.rules ≡ u
+        → by_rules index p hash (counted store p hash) u ≡ Ok a → IsDecided store index p hash a
+    go (Some rule) is e = absurd cc
+    go None is e =
+        let set : ℕ = counted store p hash in
+        let same = ok_is Refusal (accepted (Cosigners set) index p hash) a e in
+        let all = all_met set store.rules is in
         record {
-          trusted = subst P all f.among;
-          known =
-              sym (ok_is Refusal (accepted index start end hash) a g.1);
+          by = inr (record {
+            cosigners = sym (ap (λ (x : Accepted). x.by) same);
+            untrusted = find_none p.start p.end store.subtrees none;
+            some = all.0;
+            met = all.1;
+          });
+          known = told (Cosigners set) index p hash a same;
         }
 
-decided_again : (store : Store) (index start end : ℕ) (hash : List ℕ) → IsValid store
-    → IsAmong (trusted_with start end hash) store.subtrees
-    → decided store.subtrees index start end hash ≡ Ok (accepted index start end hash)
+decided_only : (store : Store) (index : ℕ) (p : ProofParts) (hash : List ℕ) (a : Accepted)
+    → decided store index p hash ≡ Ok a → IsDecided store index p hash a
 unfolding decided
-decided_again store index start end hash valid among =
-    let found = find_again (trusted_with start end hash) store.subtrees valid.different among in
-    rw (found, (bytes_eq-Decides hash hash).1 refl) refl
+decided_only store index p hash a e = go (find (is_of p.start p.end) store.subtrees) refl e
+  where
+    go : (o : Option Trusted) → find (is_of p.start p.end) store.subtrees ≡ o
+        → by_trust store index p hash o ≡ Ok a → IsDecided store index p hash a
+    go None found e = cosigned_only store index p hash a found e
+    go (Some t) found e =
+        let g = pass_ok (bytes_eq t.hash hash) (Ok (accepted Landmark index p hash))
+        LandmarkDiffers a e in
+        let f = find_only p.start p.end store.subtrees t found in
+        let equal : t.hash ≡ hash = (bytes_eq-Decides t.hash hash).0 g.0 in
+        let all : t ≡ trusted_with p.start p.end hash =
+        ap (λ (n : ℕ). trusted_with n t.end t.hash) f.from
+        ∙ (ap (λ (n : ℕ). trusted_with p.start n t.hash) f.to
+        ∙ ap (λ (b : List ℕ). trusted_with p.start p.end b) equal) in
+        let P : Trusted → Type 0 = λ x. IsAmong x store.subtrees in
+        let same = ok_is Refusal (accepted Landmark index p hash) a g.1 in
+        record {
+          by = inl (record {
+            landmark = sym (ap (λ (x : Accepted). x.by) same);
+            among = subst P all f.among;
+          });
+          known = told Landmark index p hash a same;
+        }
+
+decided_again : (store : Store) (index : ℕ) (p : ProofParts) (hash : List ℕ) (by : By)
+    → IsValid store → IsTrusted store p hash by ⊎ IsCosigned store p hash by
+    → decided store index p hash ≡ Ok (accepted by index p hash)
+unfolding decided by_cosigners
+decided_again store index p hash by valid (inl t) =
+    let found = find_again (trusted_with p.start p.end hash) store.subtrees valid.different
+    t.among in
+    rw (found, (bytes_eq-Decides hash hash).1 refl, t.landmark) refl
+decided_again store index p hash by valid (inr c) =
+    rw (
+      none_found p.start p.end store.subtrees c.untrusted,
+      met_all (counted store p hash) store.rules c.some c.met,
+      c.cosigners,
+    ) refl
 
 -- ---- the steps
 
 abbrev with_proof : (List ℕ → List ℕ) → Store → Parts → ProofParts → Result Accepted Refusal
 with_proof h store c p =
     lifted ProofShape (evaluation h (leaf_hash h (entry_of h c)) c.serial p.start p.end p.path) >>=
-    λ hash. decided store.subtrees c.serial p.start p.end hash
+    λ hash. decided store c.serial p hash
 
 abbrev admitted_with : (List ℕ → List ℕ) → Store → Parts → Result Accepted Refusal
 admitted_with h store c = lifted ProofGrammar (proof_in c.proof) >>= λ p. with_proof h store c p
@@ -110,16 +153,16 @@ accepted_only h bytes store now a ok e =
     (λ (p : ProofParts). with_proof h store c p) a t.2 in
     let p : ProofParts = u.0 in
     let eval = evaluation h (leaf_hash h (entry_of h c)) c.serial p.start p.end p.path in
-    let v = bind_ok (lifted ProofShape eval) (λ (hash : List ℕ). decided store.subtrees c.serial
-    p.start p.end hash) a u.2 in
+    let v = bind_ok (lifted ProofShape eval) (λ (hash : List ℕ). decided store c.serial p hash)
+    a u.2 in
     let cert = parts_only bytes c ok (lifted_ok Grammar (parts_of bytes) c s.1) in
     let admission = admitted_only store now c t.0 t.1 in
     let inner : IsBytes c.proof = proof_bytes c (subst IsBytes cert.0 ok) in
     let proof = proofs_only c.proof p inner (lifted_ok ProofGrammar (proof_in c.proof) p u.1) in
     let value : eval ≡ Ok v.0 = lifted_ok ProofShape eval v.0 v.1 in
-    let end = decided_only store.subtrees c.serial p.start p.end v.0 a v.2 in
+    let end = decided_only store c.serial p v.0 a v.2 in
     let hash : v.0 ≡ a.hash = sym (ap (λ (x : Accepted). x.hash) end.known) in
-    let Among : List ℕ → Type 0 = λ b. IsAmong (trusted_with p.start p.end b) store.subtrees in
+    let By : List ℕ → Type 0 = λ b. IsTrusted store p b a.by ⊎ IsCosigned store p b a.by in
     record {
       parts = c;
       fits = cert.1;
@@ -134,8 +177,8 @@ accepted_only h bytes store now a ok e =
       proof_fits = proof.1;
       proof_spelled = proof.0;
       evaluates = value ∙ ap (λ (b : List ℕ). Ok b) hash;
-      trusted = subst Among hash end.trusted;
-      known = end.known ∙ ap (λ (b : List ℕ). accepted c.serial p.start p.end b) hash;
+      by = subst By hash end.by;
+      known = end.known ∙ ap (λ (b : List ℕ). accepted a.by c.serial p b) hash;
     }
 
 pub accepted_again : (h : List ℕ → List ℕ) (bytes : List ℕ) (store : Store) (now : ℤ) (a : Accepted)
@@ -156,5 +199,5 @@ accepted_again h bytes store now a valid f =
     }) in
     let three : proof_in c.proof ≡ Ok p = ap proof_in f.proof_spelled
     ∙ proofs_again p f.proof_fits in
-    let last = decided_again store c.serial p.start p.end a.hash valid f.trusted in
+    let last = decided_again store c.serial p a.hash a.by valid f.by in
     rw (one, two, three, f.evaluates, last) (ap (λ (x : Accepted). Ok x) (sym f.known))

@@ -1,5 +1,7 @@
 mod Wholes
+mod FileRules
 mod Repeats
 mod Asked
 mod TrustedHash
+mod Policies
 pub mod Judgements

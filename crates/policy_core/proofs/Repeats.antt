@@ -10,8 +10,7 @@ use Rattle.std.specs.BTreeSet.{BTreeSet, contains, Updates, IsEmpty}
 use Rattle.std.specs.List.{list_any}
 use Rattle.std.specs.Ordering.{ordering_then}
 use Rattle.policy_core.specs.declared.lists.Trusted.{Trusted}
-use Rattle.policy_core.specs.Files.{has_repeat}
-use Rattle.policy_core.specs.Stores.{has_same_interval}
+use Rattle.policy_core.specs.Stores.{has_repeat, has_same_interval}
 
 -- the order of intervals, as pairs
 abbrev pub by_interval : ℕ × ℕ → ℕ × ℕ → Ordering
@@ -47,14 +46,17 @@ list_any-push test (y ∷ ys) x = ap (λ (b : Bool). test y || b) (list_any-push
     ∙ sym (or_joined (test y) (list_any test ys) (test x))
 
 has_repeat-push : (xs : List Trusted) (x : Trusted)
-    → has_repeat (xs ++ x ∷ []) ≡ (has_repeat xs || list_any (has_interval (x.start, x.end)) xs)
+    → has_repeat has_same_interval (xs ++ x ∷ [])
+    ≡ (has_repeat has_same_interval xs || list_any (has_interval (x.start, x.end)) xs)
 unfolding has_repeat
 has_repeat-push [] x = refl
 has_repeat-push (y ∷ ys) x =
-    ap (λ (b : Bool). b || has_repeat (ys ++ x ∷ [])) (list_any-push (has_same_interval y) ys x)
+    ap (λ (b : Bool). b || has_repeat has_same_interval (ys ++ x ∷ []))
+    (list_any-push (has_same_interval y) ys x)
     ∙ (ap (λ (b : Bool). (list_any (has_same_interval y) ys || has_same_interval y x) || b)
     (has_repeat-push ys x)
-    ∙ shuffled (list_any (has_same_interval y) ys) (has_same_interval y x) (has_repeat ys)
+    ∙ shuffled (list_any (has_same_interval y) ys) (has_same_interval y x)
+    (has_repeat has_same_interval ys)
     (list_any (has_interval (x.start, x.end)) ys))
 
 -- an interval among those that stand before it
@@ -63,19 +65,21 @@ repeats_behind seen [] = false
 repeats_behind seen (x ∷ xs) = list_any (has_interval (x.start, x.end)) seen || repeats_behind (seen
     ++ x ∷ []) xs
 
-behind : (seen xs : List Trusted) → has_repeat (seen ++ xs)
-    ≡ (has_repeat seen || repeats_behind seen xs)
+behind : (seen xs : List Trusted) → has_repeat has_same_interval (seen ++ xs)
+    ≡ (has_repeat has_same_interval seen || repeats_behind seen xs)
 unfolding repeats_behind
-behind seen [] = ap has_repeat (append-nil seen) ∙ sym (or_nothing (has_repeat seen))
+behind seen [] = ap (has_repeat has_same_interval) (append-nil seen)
+    ∙ sym (or_nothing (has_repeat has_same_interval seen))
 behind seen (x ∷ xs) =
-    ap has_repeat (sym (append_assoc seen (x ∷ []) xs))
+    ap (has_repeat has_same_interval) (sym (append_assoc seen (x ∷ []) xs))
     ∙ (behind (seen ++ x ∷ []) xs
     ∙ (ap (λ (b : Bool). b || repeats_behind (seen ++ x ∷ []) xs) (has_repeat-push seen x)
-    ∙ or_joined (has_repeat seen) (list_any (has_interval (x.start, x.end)) seen)
+    ∙ or_joined (has_repeat has_same_interval seen) (list_any (has_interval (x.start, x.end)) seen)
     (repeats_behind (seen ++ x ∷ []) xs)))
 
 -- at the front nothing is seen
-pub repeats_behind-nothing : (xs : List Trusted) → repeats_behind [] xs ≡ has_repeat xs
+pub repeats_behind-nothing : (xs : List Trusted)
+    → repeats_behind [] xs ≡ has_repeat has_same_interval xs
 unfolding has_repeat
 repeats_behind-nothing xs = sym (behind [] xs)
 
@@ -140,9 +144,9 @@ holds_more old new xs x holds updates = record {
 
 holds_next : (set : BTreeSet (ℕ × ℕ)) (xs : List Trusted) (i : ℕ) (d : Trusted) (b : Bool)
     → i < length xs → Holds set (take i xs)
-    → repeats_behind (take i xs) (drop i xs) ≡ has_repeat xs
+    → repeats_behind (take i xs) (drop i xs) ≡ has_repeat has_same_interval xs
     → contains by_interval set ((get_or xs i d).start, (get_or xs i d).end) ≡ b
-    → (b || repeats_behind (take (i + 1) xs) (drop (i + 1) xs)) ≡ has_repeat xs
+    → (b || repeats_behind (take (i + 1) xs) (drop (i + 1) xs)) ≡ has_repeat has_same_interval xs
 holds_next set xs i d b lt holds whole found =
     let key : ℕ × ℕ = ((get_or xs i d).start, (get_or xs i d).end) in
     ap (λ (a : Bool). a || repeats_behind (take (i + 1) xs) (drop (i + 1) xs)) (sym found
@@ -160,18 +164,18 @@ was_new false h = refl
 -- an interval that is there already repeats
 pub repeats_there : (set : BTreeSet (ℕ × ℕ)) (xs : List Trusted) (i : ℕ) (d : Trusted)
     → i < length xs → Holds set (take i xs)
-    → repeats_behind (take i xs) (drop i xs) ≡ has_repeat xs
+    → repeats_behind (take i xs) (drop i xs) ≡ has_repeat has_same_interval xs
     → not (contains by_interval set ((get_or xs i d).start, (get_or xs i d).end)) ≡ false
-    → true ≡ has_repeat xs
+    → true ≡ has_repeat has_same_interval xs
 repeats_there set xs i d lt holds whole h =
     holds_next set xs i d true lt holds whole (was_there _ h)
 
 -- a new one leaves the question to those behind it
 pub repeats_later : (set : BTreeSet (ℕ × ℕ)) (xs : List Trusted) (i : ℕ) (d : Trusted)
     → i < length xs → Holds set (take i xs)
-    → repeats_behind (take i xs) (drop i xs) ≡ has_repeat xs
+    → repeats_behind (take i xs) (drop i xs) ≡ has_repeat has_same_interval xs
     → not (contains by_interval set ((get_or xs i d).start, (get_or xs i d).end)) ≡ true
-    → repeats_behind (take (i + 1) xs) (drop (i + 1) xs) ≡ has_repeat xs
+    → repeats_behind (take (i + 1) xs) (drop (i + 1) xs) ≡ has_repeat has_same_interval xs
 repeats_later set xs i d lt holds whole h = holds_next set xs i d false lt holds whole (was_new _ h)
 
 -- the set with one more

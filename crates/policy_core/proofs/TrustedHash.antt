@@ -1,5 +1,6 @@
 -- The trusted subtree of an interval.
-use Rattle.std.proofs.Common.{◌≡◌, ℕ, Bool, true, false, List, [], ◌∷◌, Some, cond, refl, sym, ap}
+use Rattle.std.proofs.Common.{◌≡◌, ℕ, Bool, true, false, List, [], ◌∷◌, Some, None, cond, refl, sym}
+use Rattle.std.proofs.Common.{ap}
 use Rattle.std.proofs.Common.{subst, ◌∙◌, inl, inr, eq-eqb, eqb-true}
 use Rattle.std.specs.Prelude.{◌==◌, ◌&&◌}
 use Rattle.std.specs.List.{find, AllByRecursion, IsDistinct}
@@ -66,3 +67,20 @@ find_again t (x ∷ xs) distinct (inr later) =
     let Other : Trusted → Type 0 = λ y. has_same_interval x y ≡ false in
     let other : is_of t.start t.end x ≡ false = all_at Other t xs distinct.0 later in
     rw other (find_again t xs distinct.1 later)
+
+pub find_none : (start end : ℕ) (xs : List Trusted) → find (is_of start end) xs ≡ None
+    → AllByRecursion (λ t. is_of start end t ≡ false) xs
+find_none start end [] e = tt
+find_none start end (x ∷ xs) e = go (is_of start end x) refl e (λ h. find_none start end xs h)
+  where
+    go : (b : Bool) → is_of start end x ≡ b → cond b (Some x) (find (is_of start end) xs) ≡ None
+        → (find (is_of start end) xs ≡ None
+        → AllByRecursion (λ t. is_of start end t ≡ false) xs)
+        → AllByRecursion (λ t. is_of start end t ≡ false) (x ∷ xs)
+    go true test e later = absurd cc
+    go false test e later = (test, later e)
+
+pub none_found : (start end : ℕ) (xs : List Trusted)
+    → AllByRecursion (λ t. is_of start end t ≡ false) xs → find (is_of start end) xs ≡ None
+none_found start end [] all = refl
+none_found start end (x ∷ xs) all = rw all.0 (none_found start end xs all.1)

@@ -1,7 +1,7 @@
 -- What it means that a certificate is accepted, in terms of the grammars and of the tree.
-use Rattle.std.specs.Prelude.{◌≡◌, ◌⊎◌, false, ℤ, ◌≤ℤ◌, List, [], ◌∷◌, Ok}
-use Rattle.std.specs.List.{AllByRecursion}
-use Rattle.byte_forms.specs.Types.{Text, HashFunction}
+use Rattle.std.specs.Prelude.{◌≡◌, ◌⊎◌, ◌<◌, ◌≤◌, ℕ, false, ℤ, ◌≤ℤ◌, List, [], ◌∷◌, length, Ok}
+use Rattle.std.specs.List.{AllByRecursion, count_by}
+use Rattle.byte_forms.specs.Types.{Text, Hash, HashFunction}
 use Rattle.cert_fields.specs.Certificate.{Parts}
 use Rattle.cert_fields.specs.Extensions.{has_unknown_critical}
 use Rattle.cert_fields.specs.Given.{mtc_proof}
@@ -12,18 +12,39 @@ use Rattle.tree_core.specs.Tree.{leaf_hash}
 use Rattle.log_entry.specs.EntryOf.{entry_of}
 use Rattle.mtc_proof.specs.Proofs.{ProofParts, proof_text, IsProof}
 use Rattle.policy_core.specs.declared.answer.Accepted.{Accepted}
+use Rattle.policy_core.specs.declared.answer.By.{By}
+use Rattle.policy_core.specs.declared.answer.By.TheVariants.{Landmark, Cosigners}
 use Rattle.policy_core.specs.declared.lists.Trusted.{Trusted}
+use Rattle.policy_core.specs.declared.rules.Rule.{Rule}
 use Rattle.policy_core.specs.declared.store.Store.{Store}
-use Rattle.policy_core.specs.Judgement.{is_in, accepted}
+use Rattle.policy_core.specs.Counting.{counted, is_in_set}
+use Rattle.policy_core.specs.Judgement.{is_in, is_of, accepted}
 
 -- The subtree is one of these.
 abbrev pub IsAmong : Trusted → List Trusted → Type 0
 IsAmong t [] = ⊥
 IsAmong t (x ∷ xs) = (x ≡ t) ⊎ IsAmong t xs
 
+-- The store trusts the proof's interval with this hash.
+pub record IsTrusted (store : Store) (p : ProofParts) (hash : Hash) (by : By) : Type 0 where
+  pub landmark : by ≡ Landmark
+  pub among : IsAmong (record { start = p.start; end = p.end; hash = hash }) store.subtrees
+
+-- At least as many of the rule's cosigners are in the set as it asks for.
+abbrev pub IsMet : ℕ → Rule → Type 0
+IsMet set r = r.count ≤ count_by (is_in_set set) r.cosigners
+
+-- The store doesn't trust the proof's interval with any hash. It has rules, and those of its
+-- cosigners who count for this hash meet each of them.
+pub record IsCosigned (store : Store) (p : ProofParts) (hash : Hash) (by : By) : Type 0 where
+  pub cosigners : by ≡ Cosigners (counted store p hash)
+  pub untrusted : AllByRecursion (λ t. is_of p.start p.end t ≡ false) store.subtrees
+  pub some : 0 < length store.rules
+  pub met : AllByRecursion (IsMet (counted store p hash)) store.rules
+
 -- The bytes spell a certificate of the store's log that is valid at the moment, isn't revoked, and
 -- has no critical extension that isn't known; its signature spells a proof, whose path gives the
--- interval a hash that the store trusts there.
+-- interval a hash that the store trusts there, or for which enough cosigners count.
 pub record IsAccepted (h : HashFunction) (bytes : Text) (store : Store) (now : ℤ) (a : Accepted)
     : Type 0 where
   pub parts : Parts
@@ -41,6 +62,5 @@ pub record IsAccepted (h : HashFunction) (bytes : Text) (store : Store) (now : �
   pub evaluates :
       evaluation h (leaf_hash h (entry_of h parts)) parts.serial proof.start proof.end proof.path
       ≡ Ok a.hash
-  pub trusted :
-      IsAmong (record { start = proof.start; end = proof.end; hash = a.hash }) store.subtrees
-  pub known : a ≡ accepted parts.serial proof.start proof.end a.hash
+  pub by : IsTrusted store proof a.hash a.by ⊎ IsCosigned store proof a.hash a.by
+  pub known : a ≡ accepted a.by parts.serial proof a.hash

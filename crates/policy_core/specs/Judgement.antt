@@ -1,6 +1,6 @@
 -- The judgement of a certificate by a relying party: the first refusal that holds, or what is known
 -- of the certificate.
-use Rattle.std.specs.Prelude.{ℕ, ◌&&◌, ◌==◌, Bool, not, nat_lt, nat_le, int_lt, ℤ, List, Option}
+use Rattle.std.specs.Prelude.{ℕ, ◌&&◌, ◌==◌, Bool, not, nat_lt, nat_le, int_lt, ℤ, Option}
 use Rattle.std.specs.Prelude.{Some, None, Result, Ok, Err, if◌then◌else◌}
 use Rattle.std.specs.List.{list_any, find}
 use Rattle.std.specs.Str.{bytes_eq}
@@ -13,9 +13,11 @@ use Rattle.tree_core.specs.Evaluation.{evaluation}
 use Rattle.tree_core.specs.Tree.{leaf_hash}
 use Rattle.tree_core.specs.declared.spans.Span.{Span}
 use Rattle.log_entry.specs.EntryOf.{entry_of}
+use Rattle.mtc_proof.specs.Proofs.{ProofParts}
 use Rattle.mtc_proof.specs.Reading.{proof_in}
 use Rattle.policy_core.specs.declared.answer.Accepted.{Accepted}
-use Rattle.policy_core.specs.declared.answer.By.TheVariants.{Landmark}
+use Rattle.policy_core.specs.declared.answer.By.{By}
+use Rattle.policy_core.specs.declared.answer.By.TheVariants.{Landmark, Cosigners}
 use Rattle.policy_core.specs.declared.lists.Trusted.{Trusted}
 use Rattle.policy_core.specs.declared.store.Store.{Store}
 use Rattle.policy_core.specs.declared.refusal.Refusal.{Refusal}
@@ -24,6 +26,7 @@ use Rattle.policy_core.specs.declared.refusal.Refusal.TheVariants.{NotYet, Expir
 use Rattle.policy_core.specs.declared.refusal.Refusal.TheVariants.{Revoked, ProofGrammar}
 use Rattle.policy_core.specs.declared.refusal.Refusal.TheVariants.{ProofShape, LandmarkDiffers}
 use Rattle.policy_core.specs.declared.refusal.Refusal.TheVariants.{TooFewCosigners}
+use Rattle.policy_core.specs.Counting.{counted, first_unmet}
 
 -- A range holds its start and not its end.
 abbrev pub is_in : ℕ → Span → Bool
@@ -46,21 +49,32 @@ admitted store now c =
 abbrev pub is_of : ℕ → ℕ → Trusted → Bool
 is_of start end t = (t.start == start) && (t.end == end)
 
--- What is known of a certificate that was accepted by a trusted hash.
-abbrev pub accepted : ℕ → ℕ → ℕ → Hash → Accepted
-accepted index start end hash =
-    record { index = index; start = start; end = end; hash = hash; by = Landmark }
+-- What is known of a certificate that was accepted.
+abbrev pub accepted : By → ℕ → ProofParts → Hash → Accepted
+accepted by index p hash =
+    record { index = index; start = p.start; end = p.end; hash = hash; by = by }
 
--- The trusted hash decides alone; without one there are too few cosigners.
-abbrev pub by_trust : ℕ → ℕ → ℕ → Hash → Option Trusted → Result Accepted Refusal
-by_trust index start end hash None = Err (TooFewCosigners 0)
-by_trust index start end hash (Some t) =
-    if bytes_eq t.hash hash then Ok (accepted index start end hash) else Err LandmarkDiffers
+-- The answer where these cosigners count, and this is the first rule that isn't met.
+abbrev pub by_rules : ℕ → ProofParts → Hash → ℕ → Option ℕ → Result Accepted Refusal
+by_rules index p hash set None = Ok (accepted (Cosigners set) index p hash)
+by_rules index p hash set (Some rule) = Err (TooFewCosigners rule)
+
+-- The cosigners decide by the rules.
+unfoldable pub by_cosigners : Store → ℕ → ProofParts → Hash → Result Accepted Refusal
+by_cosigners store index p hash =
+    let set = counted store p hash in
+    by_rules index p hash set (first_unmet set store.rules)
+
+-- A trusted hash decides alone; without one the cosigners decide.
+abbrev pub by_trust : Store → ℕ → ProofParts → Hash → Option Trusted → Result Accepted Refusal
+by_trust store index p hash None = by_cosigners store index p hash
+by_trust store index p hash (Some t) =
+    if bytes_eq t.hash hash then Ok (accepted Landmark index p hash) else Err LandmarkDiffers
 
 -- The decision on the hash that the path of a proof gives the interval.
-unfoldable pub decided : List Trusted → ℕ → ℕ → ℕ → Hash → Result Accepted Refusal
-decided subtrees index start end hash =
-    by_trust index start end hash (find (is_of start end) subtrees)
+unfoldable pub decided : Store → ℕ → ProofParts → Hash → Result Accepted Refusal
+decided store index p hash =
+    by_trust store index p hash (find (is_of p.start p.end) store.subtrees)
 
 -- The judgement of a certificate that has these parts, under the hash function h. The certificate's
 -- entry stands in the log at its serial number, and the proof's path is evaluated there, in the
@@ -71,7 +85,7 @@ judged h store now c =
     lifted ProofGrammar (proof_in c.proof) >>= λ p.
     lifted ProofShape
     (evaluation h (leaf_hash h (entry_of h c)) c.serial p.start p.end p.path) >>= λ hash.
-    decided store.subtrees c.serial p.start p.end hash
+    decided store c.serial p hash
 
 -- The judgement of bytes: that of the certificate which they are.
 unfoldable pub judgement : HashFunction → Text → Store → ℤ → Result Accepted Refusal

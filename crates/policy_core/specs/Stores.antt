@@ -1,16 +1,38 @@
 -- Stores, and which of them are valid.
-use Rattle.std.specs.Prelude.{◌≡◌, ◌<◌, ◌==◌, ◌&&◌, Bool}
-use Rattle.std.specs.List.{AllByRecursion, IsDistinct}
+use Rattle.std.specs.Prelude.{◌≡◌, ℕ, ◌<◌, ◌≤◌, ◌==◌, ◌&&◌, ◌||◌, Bool, false, List, [], ◌∷◌}
+use Rattle.std.specs.Prelude.{length}
+use Rattle.std.specs.List.{list_any, AllByRecursion, IsDistinct}
+use Rattle.std.specs.Str.{bytes_eq}
 use Rattle.cert_names.specs.LogNames.{name_with}
 use Rattle.tls_wire.specs.Anchors.{text_of}
 use Rattle.tree_core.specs.Laws.{IsSubtree}
 use Rattle.tree_core.specs.declared.spans.Span.{Span}
+use Rattle.policy_core.specs.declared.cosigners.Known.{Known}
 use Rattle.policy_core.specs.declared.lists.Trusted.{Trusted}
+use Rattle.policy_core.specs.declared.rules.Rule.{Rule}
 use Rattle.policy_core.specs.declared.store.Store.{Store}
 
--- The two have one interval.
+-- The two cosigners have one id, the two subtrees one interval; the two places are one.
+abbrev pub has_same_id : Known → Known → Bool
+has_same_id a b = bytes_eq a.id b.id
+
 abbrev pub has_same_interval : Trusted → Trusted → Bool
 has_same_interval a b = (a.start == b.start) && (a.end == b.end)
+
+abbrev pub is_same_place : ℕ → ℕ → Bool
+is_same_place a b = a == b
+
+-- Two of these are the same.
+unfoldable pub has_repeat : {A : Type 0} → (A → A → Bool) → List A → Bool
+has_repeat same [] = false
+has_repeat same (x ∷ xs) = list_any (same x) xs || has_repeat same xs
+
+-- The rule names different ones of so many cosigners, and asks for one at least and all at most.
+pub record IsRule (known : ℕ) (r : Rule) : Type 0 where
+  pub places : AllByRecursion (λ n. n < known) r.cosigners
+  pub different : IsDistinct is_same_place r.cosigners
+  pub some : 1 ≤ r.count
+  pub most : r.count ≤ length r.cosigners
 
 -- The interval is that of a subtree.
 abbrev pub IsOfSubtree : Trusted → Type 0
@@ -20,10 +42,13 @@ IsOfSubtree t = IsSubtree t.start t.end
 abbrev pub IsInhabited : Span → Type 0
 IsInhabited r = r.start < r.end
 
--- The name is that of the log, each interval is a subtree and is trusted once, and each revoked
--- range holds a number.
+-- The name is that of the log, there are at most 64 cosigners, whose ids differ, each rule is one
+-- over them, each interval is a subtree and is trusted once, and each revoked range holds a number.
 pub record IsValid (s : Store) : Type 0 where
   pub name : s.name ≡ name_with (text_of s.log)
+  pub few : length s.cosigners ≤ 64
+  pub cosigners : IsDistinct has_same_id s.cosigners
+  pub rules : AllByRecursion (IsRule (length s.cosigners)) s.rules
   pub subtrees : AllByRecursion IsOfSubtree s.subtrees
   pub different : IsDistinct has_same_interval s.subtrees
   pub revoked : AllByRecursion IsInhabited s.revoked

@@ -5,6 +5,8 @@
 pub enum By {
     /// The subtree is one whose hash the store trusts.
     Landmark,
+    /// These cosigners count: bit i is set exactly where the one at place i of the store does.
+    Cosigners(u64),
 }
 
 /// A certificate that was accepted: the entry's index in the log, the subtree `[start, end)` that

@@ -8,6 +8,14 @@ use std::alloc::AllocFailed;
 pub enum Key {
     /// The log's `id`.
     LogId,
+    /// A cosigner's `id`.
+    CosignerId,
+    /// A cosigner's `key`.
+    CosignerKey,
+    /// A rule's `count`.
+    Count,
+    /// A rule's `cosigners`.
+    Cosigners,
     /// A range's or a subtree's `start`.
     Start,
     /// A range's or a subtree's `end`.
@@ -19,9 +27,9 @@ pub enum Key {
 }
 
 /// Why a text is no store file. The tests are made in this order: the text, the keys of the root,
-/// the log, the subtrees and the revoked ranges one by one, each of them for its keys and then
-/// field by field, and the whole. An item that is no table is met at its turn, behind the faults of
-/// the items before it.
+/// the log, the cosigners, the rules, the subtrees and the revoked ranges one by one, each of them
+/// for its keys and then field by field, and the whole. An item that is no table is met at its
+/// turn, behind the faults of the items before it.
 #[derive(Clone, Copy, Debug, PartialEq, Eq)]
 pub enum StoreError {
     /// The text isn't UTF-8, or isn't TOML.
@@ -30,8 +38,11 @@ pub enum StoreError {
     UnknownKey,
     /// The field is absent. `Missing(LogId)` is also the answer where there is no table `log`.
     Missing(Key),
-    /// The field isn't in its form.
+    /// The field isn't in its form. `BadValue(CosignerId)` is also the answer at a 65th cosigner,
+    /// whatever its id is.
     BadValue(Key),
+    /// Two cosigners have one id.
+    RepeatedId,
     /// Two subtrees have one interval.
     RepeatedSubtree,
     /// An interval is no subtree, or a revoked range ends where it starts or before.

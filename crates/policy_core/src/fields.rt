@@ -6,7 +6,8 @@ ghost use Rattle.toml.specs.Data.{Data, get_member};
 ghost use Rattle.toml.specs.View.{items_view, table_view, view};
 ghost use Rattle.toml_fields.specs.Codes.{hash_data, number_data};
 ghost use Rattle.policy_core.specs.declared.error.StoreError.{StoreError};
-ghost use Rattle.policy_core.specs.Files.{each_of, store_field, id_data, items_at, list_at, log_at, range_data, subtree_data, table_with};
+ghost use Rattle.policy_core.specs.Fields.{each_of, store_field, id_data, items_at, list_at, table_with};
+ghost use Rattle.policy_core.specs.Files.{log_at, range_data, subtree_data};
 
 use crate::error::{Key, StoreError};
 use crate::lists::{Revoked, Subtrees, Trusted};
@@ -17,8 +18,8 @@ use toml::{Table, Value};
 use toml_fields::{hash_of, keys_are_among, number_of, value_at};
 use tree_core::Span;
 
-// A table that has no other keys than these.
-fn table_with<'a>(value: &'a Value, names: &[&str]) -> Result<&'a Table, StoreError>
+/// A table that has no other keys than these.
+pub fn table_with<'a>(value: &'a Value, names: &[&str]) -> Result<&'a Table, StoreError>
     ensures { Gives (λ t. table_view t.now) result
         (table_with (map (λ n. n.now) names.now) (view value.now)) }
 {
@@ -53,9 +54,9 @@ fn hash_at(table: &Table) -> Result<[u8; 32], StoreError>
     hash_of(value).ok_or(StoreError::BadValue(Key::Hash))
 }
 
-// An anchor id, where the value is the text of one.
-#[tactic(auto, unfolding(crate::specs::Files::id_data))]
-fn id_of(alloc: Global, value: &Value) -> Result<Option<AnchorId>, Memory>
+/// An anchor id, where the value is the text of one.
+#[tactic(auto, unfolding(crate::specs::Fields::id_data))]
+pub fn id_of(alloc: Global, value: &Value) -> Result<Option<AnchorId>, Memory>
     ensures { IfOk result (λ o. o ≡ id_data (view value.now)) }
 {
     let Some(text) = value.as_str() else {
@@ -127,8 +128,8 @@ impl Item for Span {
     }
 }
 
-// The items of a list of tables; none where the list is absent.
-fn items_at<'a>(root: &'a Table, name: &str) -> Result<&'a [Value], StoreError>
+/// The items of a list of tables; none where the list is absent.
+pub fn items_at<'a>(root: &'a Table, name: &str) -> Result<&'a [Value], StoreError>
     ensures { Gives (λ vs. items_view vs.now) result
         (items_at (get_member name.now (table_view root.now))) }
 {

@@ -1,22 +1,29 @@
 //! What a relying party holds of a log, and how it judges a certificate by that.
 //!
-//! A [`Store`] has the log's id, the issuer name of its certificates, the subtrees whose hashes are
-//! trusted, and the ranges of serial numbers that are revoked. [`Store::read`] reads it from a TOML
-//! file and answers valid stores only. The judgement of a certificate stands here as a definition,
-//! with its answers [`Accepted`] and [`Refusal`]; the call that makes it is of a crate above.
+//! A [`Store`] has the log's id, the issuer name of its certificates, cosigners and rules over
+//! them, the subtrees whose hashes are trusted, and the ranges of serial numbers that are revoked.
+//! [`Store::read`] reads it from a TOML file and answers valid stores only. The judgement of a
+//! certificate stands here as a definition, with its answers [`Accepted`] and [`Refusal`]; the call
+//! that makes it is of a crate above.
 #![tactic(auto)]
 
 mod answer;
+mod cosigner_fields;
+mod cosigners;
 mod error;
 mod fields;
 mod lists;
 mod reading;
 mod refusal;
+mod rule_fields;
+mod rules;
 mod store;
 mod whole;
 
 pub use answer::{Accepted, By};
+pub use cosigners::{Cosigners, Known};
 pub use error::{Key, StoreError};
 pub use lists::{Revoked, Subtrees, Trusted};
 pub use refusal::Refusal;
+pub use rules::{Places, Rule, Rules};
 pub use store::Store;

@@ -6,8 +6,10 @@ ghost use Rattle.toml.specs.View.{table_view};
 ghost use Rattle.policy_core.specs.Files.{store_in, store_of};
 ghost use Rattle.policy_core.specs.Stores.{IsValid};
 
+use crate::cosigner_fields::cosigners_of;
 use crate::error::StoreError;
 use crate::fields::{log_id_of, revoked_of, subtrees_of};
+use crate::rule_fields::rules_of;
 use crate::store::Store;
 use crate::whole::check;
 use cert_names::log_name;
@@ -23,11 +25,15 @@ fn store_from(alloc: Global, root: &Table) -> Result<Store, StoreError>
 {
     let log = log_id_of(alloc, root)?;
     let name = log_name(alloc, &log)?;
+    let cosigners = cosigners_of(alloc, root)?;
+    let rules = rules_of(alloc, &cosigners, root)?;
     let subtrees = subtrees_of(alloc, root)?;
     let revoked = revoked_of(alloc, root)?;
     let store = Store {
         log,
         name,
+        cosigners,
+        rules,
         subtrees,
         revoked,
     };
@@ -45,7 +51,7 @@ fn read_store(alloc: Global, text: &[u8]) -> Result<Store, StoreError>
         Err(TreeError::NotToml) => return Err(StoreError::NotToml),
         Err(TreeError::Memory) => return Err(StoreError::Memory),
     };
-    if keys_are_among(&root, &["log", "subtree", "revoked"]) {
+    if keys_are_among(&root, &["log", "cosigner", "rule", "subtree", "revoked"]) {
         store_from(alloc, &root)
     } else {
         Err(StoreError::UnknownKey)
@@ -54,9 +60,12 @@ fn read_store(alloc: Global, text: &[u8]) -> Result<Store, StoreError>
 
 impl Store {
     /// Reads a store file. It has a table `log` with the text `id`, an anchor id in dotted decimal;
-    /// and may have lists of tables: `subtree` with the numbers `start` and `end` and the text
-    /// `hash` of 64 hexadecimal digits, and `revoked` with the numbers `start` and `end`. The first
-    /// fault is answered, in the order of [`StoreError`]; what is answered is a valid store.
+    /// and may have lists of tables: `cosigner`, at most 64, with the texts `id`, an anchor id, and
+    /// `key`, an HSS public key (RFC 8554, section 6.1) in base64; `rule` with the list `cosigners`
+    /// of ids of different cosigners and the number `count`, from 1 to their number; `subtree` with
+    /// the numbers `start` and `end` and the text `hash` of 64 hexadecimal digits; and `revoked`
+    /// with the numbers `start` and `end`. The first fault is answered, in the order of
+    /// [`StoreError`]; what is answered is a valid store.
     pub fn read(alloc: Global, text: &[u8]) -> Result<Store, StoreError>
         ensures exact { Answers StoreError.Memory (store_of text.now) result }
         ensures valid { IfOk result IsValid }

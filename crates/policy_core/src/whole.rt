@@ -1,12 +1,14 @@
 //! What a store has to be as a whole.
 
-ghost use Rattle.std.specs.Prelude.{◌≡◌, IfOk};
+ghost use Rattle.std.specs.Prelude.{◌≡◌, length, IfOk};
 ghost use Rattle.byte_forms.specs.Readings.{Answers};
-ghost use Rattle.policy_core.specs.Files.{are_inhabited, are_subtrees, checked_store, has_repeat};
-ghost use Rattle.policy_core.specs.Stores.{IsValid};
+ghost use Rattle.std.specs.List.{AllByRecursion, list_any};
+ghost use Rattle.policy_core.specs.Files.{are_inhabited, are_subtrees, checked_store};
+ghost use Rattle.policy_core.specs.Stores.{has_repeat, has_same_id, has_same_interval, IsRule, IsValid};
 ghost use Rattle.cert_names.specs.LogNames.{name_with};
 ghost use Rattle.tls_wire.specs.Anchors.{text_of};
 
+use crate::cosigners::Known;
 use crate::error::StoreError;
 use crate::lists::Trusted;
 use crate::store::Store;
@@ -17,7 +19,7 @@ use tree_core::{Span, subtree_ok};
 
 // Two of these have one interval. Each interval is looked for among those before it.
 fn repeats(alloc: Global, subtrees: &[Trusted]) -> Result<bool, Memory>
-    ensures { IfOk result (λ r. r ≡ has_repeat subtrees.now) }
+    ensures { IfOk result (λ r. r ≡ has_repeat has_same_interval subtrees.now) }
 {
     let mut seen = BTreeSet::new(alloc);
     for one in subtrees {
@@ -26,6 +28,30 @@ fn repeats(alloc: Global, subtrees: &[Trusted]) -> Result<bool, Memory>
         }
     }
     Ok(false)
+}
+
+// One of these has the cosigner's id.
+fn is_among(one: &Known, others: &[Known]) -> bool
+    ensures { result ≡ list_any (has_same_id one.now) others.now }
+{
+    others
+        .iter()
+        .any(|other| one.id.as_bytes() == other.id.as_bytes())
+}
+
+// Two of these have one id.
+#[tactic(auto, unfolding(crate::specs::Stores::has_repeat))]
+fn ids_repeat(known: &[Known]) -> bool
+    ensures { result ≡ has_repeat has_same_id known.now }
+{
+    let mut rest = known;
+    while let [one, behind @ ..] = rest {
+        if is_among(one, behind) {
+            return true;
+        }
+        rest = behind;
+    }
+    false
 }
 
 // Each interval is that of a subtree.
@@ -42,13 +68,17 @@ fn all_inhabited(ranges: &[Span]) -> bool
     ranges.iter().all(|range| range.start < range.end)
 }
 
-/// The store, where it is one as a whole: no interval is trusted twice, each is that of a subtree,
-/// and each range holds a number.
+/// The store, where it is one as a whole: no two cosigners have one id, no interval is trusted
+/// twice, each is that of a subtree, and each range holds a number.
 #[tactic(auto, unfolding(crate::specs::Files::checked_store))]
 pub fn check(alloc: Global, store: Store) -> Result<Store, StoreError>
     ensures exact { Answers StoreError.Memory (checked_store store) result }
-    ensures valid { store.name ≡ name_with (text_of store.log) → IfOk result IsValid }
+    ensures valid { store.name ≡ name_with (text_of store.log)
+        → AllByRecursion (IsRule (length store.cosigners)) store.rules → IfOk result IsValid }
 {
+    if ids_repeat(store.cosigners.as_slice()) {
+        return Err(StoreError::RepeatedId);
+    }
     if repeats(alloc, store.subtrees.as_slice())? {
         return Err(StoreError::RepeatedSubtree);
     }

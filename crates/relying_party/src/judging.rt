@@ -21,8 +21,11 @@ use tree_core::{TreeHash, evaluate};
 /// `Revoked` where its serial number lies in a revoked range; `ProofGrammar` where the bytes of its
 /// signature aren't a proof; `ProofShape` where the path has no value for its entry, which stands
 /// in the log at the serial number, in the interval of the proof; `LandmarkDiffers` where the
-/// interval is trusted with another hash than the path's value; `TooFewCosigners(0)` where the
-/// interval isn't trusted.
+/// interval is trusted with another hash than the path's value; `TooFewCosigners` where the
+/// interval isn't trusted, with the first rule that isn't met, counted from 1, or 0 where there is
+/// no rule. A rule is met where at least as many of its cosigners as it asks for have a signature
+/// in the proof that verifies (RFC 8554, section 6.3). Where the interval is trusted no signature
+/// is verified; else none that no rule names, and each once at most.
 #[tactic(auto, unfolding(policy_core::specs::Judgement::judgement))]
 pub fn judge<H: TreeHash>(cert: &[u8], store: &Store, now: i64) -> Result<Accepted, Refusal>
     ensures { result ≡ judgement H.hash cert.now store.now now }
@@ -32,11 +35,5 @@ pub fn judge<H: TreeHash>(cert: &[u8], store: &Store, now: i64) -> Result<Accept
     let proof = read_proof(cert.proof)?;
     let leaf = entry_hash::<H>(&cert);
     let hash = evaluate::<H>(&leaf, cert.serial, proof.start, proof.end, proof.path)?;
-    decide(
-        store.subtrees.as_slice(),
-        cert.serial,
-        proof.start,
-        proof.end,
-        hash,
-    )
+    decide(store, cert.serial, &proof, &hash)
 }

@@ -3,12 +3,15 @@
 //!
 //! A [`Store`](policy_core::Store) says what is trusted. A certificate whose proof names an
 //! interval that the store trusts is accepted exactly where the proof gives the hash that is
-//! trusted, whatever signatures it has.
+//! trusted, whatever signatures it has. Else it is accepted exactly where the store has rules, and
+//! the cosigners that have signed meet each of them.
 #![tactic(auto)]
 
 mod admission;
+mod counting;
 mod judging;
 mod laws;
+mod rules;
 mod trust;
 
 pub use judging::judge;

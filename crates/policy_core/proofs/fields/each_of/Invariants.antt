@@ -1,7 +1,7 @@
 use Rattle.std.proofs.Common.{◌≡◌, ◌++◌, drop, Ok}
 use Rattle.byte_forms.specs.Readings.{◌>>=◌}
 use Rattle.toml.specs.View.{items_view}
-use Rattle.policy_core.specs.Files.{each_of}
+use Rattle.policy_core.specs.Fields.{each_of}
 use Rattle.policy_core.proofs.fields.each_of.Given as goal
 
 -- What is read so far, and what the rest says, make the whole.

@@ -1,5 +1,5 @@
 use Rattle.std.proofs.Common.{◌≡◌, take, drop}
-use Rattle.policy_core.specs.Files.{has_repeat}
+use Rattle.policy_core.specs.Stores.{has_repeat, has_same_interval}
 use Rattle.policy_core.proofs.Repeats.{Holds, repeats_behind}
 use Rattle.policy_core.proofs.whole.repeats.Given as goal
 
@@ -9,5 +9,5 @@ abbrev pub invariant-loop-one : goal.invariant-loop-one
 invariant-loop-one l = record {
   seen : Holds l.seen (take l.one-index l.subtrees);
   whole : repeats_behind (take l.one-index l.subtrees) (drop l.one-index l.subtrees)
-      ≡ has_repeat l.subtrees;
+      ≡ has_repeat has_same_interval l.subtrees;
 }

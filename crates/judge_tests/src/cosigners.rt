@@ -1,0 +1,275 @@
+//! The judgement of the certificate of [`judgements`](crate::judgements) by its cosigners.
+
+use crate::judgements::{CERTIFICATE, FIRST, TRUSTED, store_of};
+use hss_core::{Key, LmsType, OtsType, SigBuf};
+use mtc_proof::{InputBuf, signature_input};
+use policy_core::{By, Cosigners, Known, Places, Rule, Rules, Store};
+use relying_party::judge;
+use std::alloc::Global;
+use std::test::Fail;
+use tls_wire::AnchorId;
+use tree_core::Sha;
+
+// The keys of the cosigners with the numbers 2 to 4.
+#[derive(Drop)]
+struct Keys {
+    first: Key,
+    second: Key,
+    third: Key,
+}
+
+// A key whose secret is made of this number.
+fn key_of(alloc: Global, number: u8) -> Result<Key, Fail> {
+    Ok(Key::make(alloc, LmsType::H5, OtsType::W4, &[number; 48], 0)?)
+}
+
+impl Keys {
+    fn make(alloc: Global) -> Result<Keys, Fail> {
+        Ok(Keys {
+            first: key_of(alloc, 2)?,
+            second: key_of(alloc, 3)?,
+            third: key_of(alloc, 4)?,
+        })
+    }
+
+    // Signs a text by the key of this number.
+    fn sign(&mut self, number: u8, text: &[u8], out: &mut SigBuf) {
+        let key = match number {
+            2 => &mut self.first,
+            3 => &mut self.second,
+            _ => &mut self.third,
+        };
+        if key.left() > 0 {
+            key.sign(text, out);
+        }
+    }
+}
+
+// The id of the cosigner with this number.
+fn id_of(alloc: Global, number: u8) -> Result<AnchorId, Fail> {
+    let text = format!(in alloc; "32473.{number}")?;
+    Ok(AnchorId::from_text(alloc, text.as_str())?)
+}
+
+// What a signature of a case differs in: the number of the key and of the id, the number of the
+// log, the end of the interval, and a byte of the hash.
+#[derive(Clone, Copy)]
+struct Mark {
+    key: u8,
+    id: u8,
+    log: u8,
+    end: u64,
+    change: u8,
+}
+
+fn mark_of(letter: u8) -> Mark {
+    let good = Mark {
+        key: 2,
+        id: 2,
+        log: 1,
+        end: 2,
+        change: 0,
+    };
+    match letter {
+        b'3' => Mark {
+            key: 3,
+            id: 3,
+            ..good
+        },
+        b'4' => Mark {
+            key: 4,
+            id: 4,
+            ..good
+        },
+        b'i' => Mark { id: 3, ..good },
+        b'l' => Mark { log: 9, ..good },
+        b'e' => Mark { end: 1, ..good },
+        b'h' => Mark { change: 1, ..good },
+        b'u' => Mark { id: 9, ..good },
+        _ => good,
+    }
+}
+
+// The signature with this mark.
+fn signature_of(alloc: Global, keys: &mut Keys, mark: &Mark) -> Result<SigBuf, Fail> {
+    let cosigner = id_of(alloc, mark.id)?;
+    let log = id_of(alloc, mark.log)?;
+    let mut hash = TRUSTED;
+    hash[0] ^= mark.change;
+    let mut text = InputBuf::new();
+    signature_input(
+        cosigner.as_bytes(),
+        log.as_bytes(),
+        0,
+        mark.end,
+        &hash,
+        &mut text,
+    );
+    let mut out = SigBuf::new();
+    keys.sign(mark.key, text.as_slice(), &mut out);
+    Ok(out)
+}
+
+// A length in two bytes.
+fn two_bytes(length: usize) -> Result<[u8; 2], Fail> {
+    match u16::try_from(length) {
+        Ok(length) => Ok(length.to_be_bytes()),
+        Err(_) => Err(Fail::from("too long")),
+    }
+}
+
+// Puts the signature of this letter behind the bytes; `s` is one that is a byte short.
+fn put_signature(
+    alloc: Global,
+    keys: &mut Keys,
+    bytes: &mut Vec<u8>,
+    letter: u8,
+) -> Result<(), Fail> {
+    let mark = mark_of(letter);
+    let id = id_of(alloc, mark.id)?;
+    let whole = signature_of(alloc, keys, &mark)?;
+    let signature = match whole.as_slice() {
+        [short @ .., _] if letter == b's' => short,
+        all => all,
+    };
+    bytes.push(u8::try_from(id.as_bytes().len()).unwrap_or(0))?;
+    bytes.extend_from_slice(id.as_bytes())?;
+    bytes.extend_from_slice(&two_bytes(signature.len())?)?;
+    bytes.extend_from_slice(signature)?;
+    Ok(())
+}
+
+// The signatures of these letters.
+fn signatures_of(alloc: Global, keys: &mut Keys, letters: &str) -> Result<Vec<u8>, Fail> {
+    let mut bytes = Vec::new(alloc);
+    for letter in letters.as_bytes() {
+        if *letter != b'-' {
+            put_signature(alloc, keys, &mut bytes, *letter)?;
+        }
+    }
+    Ok(bytes)
+}
+
+// The certificate with these signatures in its proof.
+fn with_signatures(alloc: Global, signatures: &[u8]) -> Result<Vec<u8>, Fail> {
+    if signatures.is_empty() {
+        return Ok(Vec::from_slice(alloc, &CERTIFICATE)?);
+    }
+    let size = signatures.len();
+    let pieces: [&[u8]; 7] = [
+        &[0x30, 0x82],
+        &two_bytes(size.saturating_add(230))?,
+        &CERTIFICATE[3..176],
+        &[0x03, 0x82],
+        &two_bytes(size.saturating_add(53))?,
+        &CERTIFICATE[178..229],
+        &two_bytes(size)?,
+    ];
+    let mut bytes = Vec::new(alloc);
+    for piece in pieces {
+        bytes.extend_from_slice(piece)?;
+    }
+    bytes.extend_from_slice(signatures)?;
+    Ok(bytes)
+}
+
+// The cosigner with this number, as it is known.
+fn known(alloc: Global, number: u8, key: &Key) -> Result<Known, Fail> {
+    Ok(Known {
+        id: id_of(alloc, number)?,
+        key: key.public(),
+    })
+}
+
+// A rule, as `COUNT:NUMBERS`, where the cosigners have the numbers 2 to 4.
+fn rule_of(alloc: Global, word: &str) -> Result<Rule, Fail> {
+    let mut places = Vec::new(alloc);
+    let (count, numbers) = word.split_once(':').unwrap_or((word, ""));
+    for number in numbers.as_bytes() {
+        places.push(u32::from(number.saturating_sub(b'2')))?;
+    }
+    Ok(Rule {
+        count: count.parse::<u32>()?,
+        cosigners: Places::from_vec(places),
+    })
+}
+
+// A store of three cosigners with these rules.
+fn store_with(alloc: Global, keys: &Keys, words: &str) -> Result<Store, Fail> {
+    let mut rules = Vec::new(alloc);
+    for word in words.split(',') {
+        if word != "-" {
+            rules.push(rule_of(alloc, word)?)?;
+        }
+    }
+    let cosigners = vec![in alloc;
+        known(alloc, 2, &keys.first)?,
+        known(alloc, 3, &keys.second)?,
+        known(alloc, 4, &keys.third)?,
+    ]?;
+    let plain = store_of(alloc, "32473.1", &[], &[])?;
+    Ok(Store {
+        log: plain.log,
+        name: plain.name,
+        cosigners: Cosigners::from_vec(cosigners),
+        rules: Rules::from_vec(rules),
+        subtrees: plain.subtrees,
+        revoked: plain.revoked,
+    })
+}
+
+// Signatures by their letters, rules, and the judgement: the set of those who count, as a number,
+// or the refusal. The letters 2 to 4 are the cosigners' own signatures. The others are made by
+// the key of the first: under the id of the second, or of none; for another log, over another
+// interval or another hash; and a byte short.
+const CASES: &str = "\
+- 1:2 TooFewCosigners(1)
+234 - TooFewCosigners(0)
+234 3:234 7
+23 2:234 3
+24 2:234 5
+34 3:234 TooFewCosigners(1)
+22 2:234 TooFewCosigners(1)
+22 1:234 1
+23 1:2,1:4 TooFewCosigners(2)
+23 1:2 1
+i 1:23 TooFewCosigners(1)
+u 1:23 TooFewCosigners(1)
+l 1:23 TooFewCosigners(1)
+e 1:23 TooFewCosigners(1)
+h 1:23 TooFewCosigners(1)
+s 1:23 TooFewCosigners(1)
+hs2 1:23 1
+";
+
+// The judgement as the cases say it.
+fn judged(alloc: Global, certificate: &[u8], store: &Store) -> Result<String, Fail> {
+    match judge::<Sha>(certificate, store, FIRST) {
+        Ok(accepted) => match accepted.by {
+            By::Cosigners(set) => Ok(format!(in alloc; "{set}")?),
+            By::Landmark => Ok(format!(in alloc; "Landmark")?),
+        },
+        Err(why) => Ok(format!(in alloc; "{why:?}")?),
+    }
+}
+
+fn is_judged(alloc: Global, keys: &mut Keys, line: &str) -> Result<bool, Fail> {
+    let mut words = line.split(' ');
+    let signatures = signatures_of(alloc, keys, words.next().unwrap_or(""))?;
+    let certificate = with_signatures(alloc, signatures.as_slice())?;
+    let store = store_with(alloc, keys, words.next().unwrap_or(""))?;
+    let found = judged(alloc, certificate.as_slice(), &store)?;
+    Ok(Some(found.as_str()) == words.next())
+}
+
+#[test]
+fn the_cosigners_decide(rt: HostRuntime) -> Result<(), Fail> {
+    let mut keys = Keys::make(rt.alloc())?;
+    let mut count = 0u64;
+    for line in CASES.lines() {
+        assert!(rt; is_judged(rt.alloc(), &mut keys, line)?, "{line}");
+        count = count.saturating_add(1);
+    }
+    assert!(rt; count == 17);
+    Ok(())
+}

@@ -1,0 +1,10 @@
+use Rattle.std.proofs.Common.{◌≡◌, length}
+use Rattle.policy_core.specs.Stores.{has_repeat, is_same_place}
+use Rattle.policy_core.proofs.rule_fields.repeats.Given as goal
+
+-- None of the places so far stands again behind itself.
+abbrev pub invariant-loop-rest : goal.invariant-loop-rest
+invariant-loop-rest l = has_repeat is_same_place l.rest ≡ has_repeat is_same_place l.fn.places
+
+abbrev pub decreases-loop-rest : goal.decreases-loop-rest
+decreases-loop-rest l = length l.rest

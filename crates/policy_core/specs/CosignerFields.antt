@@ -1,0 +1,95 @@
+-- The cosigners of a store file, and the rules over them.
+use Rattle.std.specs.Prelude.{ℕ, ◌+◌, ◌&&◌, not, nat_le, nat_lt, List, [], ◌∷◌, length}
+use Rattle.std.specs.Prelude.{codes, Option, Some, None, Result, Ok, if◌then◌else◌, option_map}
+use Rattle.std.specs.List.{position}
+use Rattle.std.specs.Option.{option_and_then}
+use Rattle.std.specs.Str.{bytes_eq}
+use Rattle.byte_forms.specs.Types.{Text}
+use Rattle.byte_forms.specs.Readings.{◌>>=◌}
+use Rattle.hss_core.specs.Hss.{hss_key_types}
+use Rattle.toml.specs.Data.{Data, Items, no_items, item, as_array, get_member}
+use Rattle.toml_fields.specs.Codes.{bytes_data, number_data}
+use Rattle.policy_core.specs.declared.cosigners.Known.{Known}
+use Rattle.policy_core.specs.declared.rules.Rule.{Rule}
+use Rattle.policy_core.specs.declared.error.Key.TheVariants.{CosignerId, CosignerKey, Count}
+use Rattle.policy_core.specs.declared.error.Key.TheVariants.{Cosigners}
+use Rattle.policy_core.specs.declared.error.StoreError.{StoreError}
+use Rattle.policy_core.specs.Fields.{table_with, store_field, id_data, items_at, list_at}
+use Rattle.policy_core.specs.Stores.{has_repeat, is_same_place}
+
+-- ---- cosigners
+
+abbrev pub cosigner_keys : List Text
+cosigner_keys = codes "id" ∷ codes "key" ∷ []
+
+-- The id of the cosigner at this place, from 0: none is taken at place 64 and behind it.
+abbrev pub id_data_at : ℕ → Data → Option Text
+id_data_at place d = if nat_lt place 64 then id_data d else None
+
+-- Bytes that are an HSS public key (RFC 8554, 6.1), and the text of one in base64.
+unfoldable pub public_key : Text → Option Text
+public_key bytes = option_map (λ types. bytes) (hss_key_types bytes)
+
+unfoldable pub key_data : Data → Option Text
+key_data d = option_and_then public_key (bytes_data d)
+
+unfoldable pub cosigner_data : ℕ → Data → Result Known StoreError
+cosigner_data place d = do
+  ms ← table_with cosigner_keys d
+  id ← store_field CosignerId (id_data_at place) (get_member (codes "id") ms)
+  key ← store_field CosignerKey key_data (get_member (codes "key") ms)
+  Ok (record { id = id; key = key })
+
+-- Each cosigner from this place on: the first fault is told.
+abbrev pub cosigners_from : ℕ → Items → Result (List Known) StoreError
+cosigners_from place no_items = Ok []
+cosigners_from place (item d ds) =
+    cosigner_data place d >>= λ k. cosigners_from (place + 1) ds >>= λ ks. Ok (k ∷ ks)
+
+abbrev pub cosigners_at : Option Data → Result (List Known) StoreError
+cosigners_at d = items_at d >>= cosigners_from 0
+
+-- ---- rules
+
+abbrev pub rule_keys : List Text
+rule_keys = codes "cosigners" ∷ codes "count" ∷ []
+
+-- The place of the cosigner that a value names.
+abbrev pub place_of : List Known → Text → Option ℕ
+place_of known id = position (λ k. bytes_eq k.id id) known
+
+unfoldable pub place_data : List Known → Data → Option ℕ
+place_data known d = option_and_then (place_of known) (id_data d)
+
+-- The places that all the items name.
+abbrev pub places_in : List Known → Items → Option (List ℕ)
+places_in known no_items = Some []
+places_in known (item d ds) =
+    option_and_then (λ n. option_map (λ ns. n ∷ ns) (places_in known ds)) (place_data known d)
+
+-- Places of so many cosigners, none of which stands there twice.
+abbrev pub if_different : ℕ → List ℕ → Option (List ℕ)
+if_different known ns =
+    if nat_le (length ns) known && not (has_repeat is_same_place ns) then Some ns else None
+
+unfoldable pub places_data : List Known → Data → Option (List ℕ)
+places_data known d =
+    option_and_then (if_different (length known))
+    (option_and_then (places_in known) (as_array d))
+
+-- A number from 1 to the most.
+abbrev pub if_counts : ℕ → ℕ → Option ℕ
+if_counts most n = if nat_le 1 n && nat_le n most then Some n else None
+
+unfoldable pub count_data : ℕ → Data → Option ℕ
+count_data most d = option_and_then (if_counts most) (number_data d)
+
+unfoldable pub rule_data : List Known → Data → Result Rule StoreError
+rule_data known d = do
+  ms ← table_with rule_keys d
+  places ← store_field Cosigners (places_data known) (get_member (codes "cosigners") ms)
+  count ← store_field Count (count_data (length places)) (get_member (codes "count") ms)
+  Ok (record { count = count; cosigners = places })
+
+abbrev pub rules_at : List Known → Option Data → Result (List Rule) StoreError
+rules_at known d = list_at (rule_data known) d
