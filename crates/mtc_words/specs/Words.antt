@@ -4,6 +4,7 @@ use Rattle.std.specs.Prelude.{ℕ, ◌+◌, ◌==◌, Bool, true, List, [], ◌�
 use Rattle.std.specs.Prelude.{Result, Ok, Err, slice_index_or, is_some, if◌then◌else◌}
 use Rattle.byte_forms.specs.Readings.{◌>>=◌, blamed}
 use Rattle.tls_wire.specs.Anchors.{anchor_text}
+use Rattle.tls_wire.specs.Decimal.{number_of}
 use Rattle.mtc_words.specs.declared.error.WordError.{WordError}
 use Rattle.mtc_words.specs.declared.error.WordError.TheVariants.{NoCommand, UnknownCommand, BadWord}
 use Rattle.mtc_words.specs.declared.error.WordError.TheVariants.{WrongCount, BadNumber, BadId}
@@ -15,7 +16,6 @@ use Rattle.mtc_words.specs.Commands.{CommandValue, member, show, verify, init_lo
 use Rattle.mtc_words.specs.Commands.{checkpoint, entries, consist, subtree, keygen, is_height}
 use Rattle.mtc_words.specs.Commands.{is_width, is_time, is_active, is_limit, is_any}
 use Rattle.mtc_words.specs.Names.{named_command, word_count}
-use Rattle.mtc_words.specs.Numbers.{number_of}
 
 -- Empty, or begins with a hyphen.
 abbrev pub is_bad_word : List ℕ → Bool

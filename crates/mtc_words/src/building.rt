@@ -8,9 +8,8 @@ ghost use Rattle.mtc_words.specs.Words.{command_from, number_word, id_word};
 use crate::command::Command;
 use crate::error::WordError;
 use crate::name::Name;
-use crate::number::read_number;
 use std::alloc::Global;
-use tls_wire::{AnchorError, AnchorId};
+use tls_wire::{AnchorError, AnchorId, read_number};
 
 // The last second of the year 9999.
 const LAST_MOMENT: u64 = 253_402_300_799;
@@ -24,7 +23,7 @@ const MOST_ENTRIES: u64 = 1_048_576;
 fn height(place: usize, word: &str) -> Result<u64, WordError>
     ensures { result ≡ number_word place is_height word.now }
 {
-    match read_number(word) {
+    match read_number(word.as_bytes()) {
         Some(height) if height == 5 || height == 10 => Ok(height),
         _ => Err(WordError::BadNumber(place)),
     }
@@ -34,7 +33,7 @@ fn height(place: usize, word: &str) -> Result<u64, WordError>
 fn width(place: usize, word: &str) -> Result<u64, WordError>
     ensures { result ≡ number_word place is_width word.now }
 {
-    match read_number(word) {
+    match read_number(word.as_bytes()) {
         Some(width) if width == 1 || width == 2 || width == 4 || width == 8 => Ok(width),
         _ => Err(WordError::BadNumber(place)),
     }
@@ -44,7 +43,7 @@ fn width(place: usize, word: &str) -> Result<u64, WordError>
 fn time(place: usize, word: &str) -> Result<u64, WordError>
     ensures { result ≡ number_word place is_time word.now }
 {
-    match read_number(word) {
+    match read_number(word.as_bytes()) {
         Some(seconds) if seconds <= LAST_MOMENT => Ok(seconds),
         _ => Err(WordError::BadNumber(place)),
     }
@@ -54,7 +53,7 @@ fn time(place: usize, word: &str) -> Result<u64, WordError>
 fn active(place: usize, word: &str) -> Result<u64, WordError>
     ensures { result ≡ number_word place is_active word.now }
 {
-    match read_number(word) {
+    match read_number(word.as_bytes()) {
         Some(count) if 1 <= count && count <= MOST_ACTIVE => Ok(count),
         _ => Err(WordError::BadNumber(place)),
     }
@@ -64,7 +63,7 @@ fn active(place: usize, word: &str) -> Result<u64, WordError>
 fn limit(place: usize, word: &str) -> Result<u64, WordError>
     ensures { result ≡ number_word place is_limit word.now }
 {
-    match read_number(word) {
+    match read_number(word.as_bytes()) {
         Some(count) if 2 <= count && count <= MOST_ENTRIES => Ok(count),
         _ => Err(WordError::BadNumber(place)),
     }
@@ -74,7 +73,7 @@ fn limit(place: usize, word: &str) -> Result<u64, WordError>
 fn number(place: usize, word: &str) -> Result<u64, WordError>
     ensures { result ≡ number_word place is_any word.now }
 {
-    match read_number(word) {
+    match read_number(word.as_bytes()) {
         Some(number) => Ok(number),
         None => Err(WordError::BadNumber(place)),
     }

@@ -9,7 +9,6 @@ mod building;
 mod command;
 mod error;
 mod name;
-mod number;
 mod reading;
 
 pub use command::Command;
