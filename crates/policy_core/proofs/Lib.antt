@@ -4,4 +4,5 @@ mod Repeats
 mod Asked
 mod TrustedHash
 mod Policies
+pub mod Sets
 pub mod Judgements

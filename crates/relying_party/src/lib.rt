@@ -15,4 +15,4 @@ mod rules;
 mod trust;
 
 pub use judging::judge;
-pub use laws::accepted_certificates;
+pub use laws::{accepted_certificates, counted_cosigners};

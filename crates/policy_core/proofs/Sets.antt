@@ -1,0 +1,86 @@
+-- The bits of a set.
+use Rattle.std.proofs.Common.{◌≡◌, ℕ, zero, suc, ◌+◌, ◌*◌, ◌/◌, ◌%◌, ◌^◌, ◌<◌, ◌==◌, Bool, true}
+use Rattle.std.proofs.Common.{false, List, [], ◌∷◌, length, get_or, refl, sym, ap, ◌∙◌, arith}
+use Rattle.std.proofs.lemmas.Grind.{pow_more}
+use Rattle.std.proofs.lemmas.Nat.Bits.{bit_at_lowest, bit_at-suc}
+use Rattle.std.specs.Int.{bit_at}
+use Rattle.std.specs.List.{AllByRecursion, flat_map, list_any}
+use Rattle.std.specs.Prelude.{if◌then◌else◌}
+use Rattle.byte_forms.specs.Types.{Hash, Text}
+use Rattle.mtc_proof.specs.Proofs.{ProofParts, SigParts, signature_text, IsMtcSignature}
+use Rattle.mtc_proof.proofs.Sequence.{signatures_found}
+use Rattle.policy_core.specs.declared.cosigners.Known.{Known}
+use Rattle.policy_core.specs.declared.store.Store.{Store}
+use Rattle.policy_core.specs.Counting.{counts, set_from, counted, is_in_set, has_signed}
+use Rattle.policy_core.specs.Counting.{is_signature_of, signed_text}
+
+abbrev one_if : Bool → ℕ
+one_if b = if b then 1 else 0
+
+-- the set, counted from its first place
+abbrev digits : {A : Type 0} → (ℕ → A → Bool) → ℕ → List A → ℕ
+digits passes n [] = 0
+digits passes n (x ∷ xs) = one_if (passes n x) + 2 * digits passes (n + 1) xs
+
+set_step : (b : Bool) (digit power : ℕ)
+    → (if b then power else 0) + digit * (power * 2) ≡ (one_if b + 2 * digit) * power
+set_step true digit power = omega arith
+set_step false digit power = omega arith
+
+set_is : {A : Type 0} (passes : ℕ → A → Bool) (n : ℕ) (xs : List A)
+    → set_from passes n xs ≡ digits passes n xs * 2 ^ n
+set_is passes n [] = omega arith
+set_is passes n (x ∷ xs) =
+    ap (λ (rest : ℕ). (if passes n x then 2 ^ n else 0) + rest) (set_is passes (n + 1) xs)
+    ∙ (ap (λ (power : ℕ). (if passes n x then 2 ^ n else 0) + digits passes (n + 1) xs * power)
+    (pow_more 2 n)
+    ∙ set_step (passes n x) (digits passes (n + 1) xs) (2 ^ n))
+
+lowest : (b : Bool) (more : ℕ) → (one_if b + 2 * more) % 2 ≡ one_if b
+lowest true more = omega arith
+lowest false more = omega arith
+
+higher : (b : Bool) (more : ℕ) → (one_if b + 2 * more) / 2 ≡ more
+higher true more = omega arith
+higher false more = omega arith
+
+bit_of : {A : Type 0} (passes : ℕ → A → Bool) (n : ℕ) (xs : List A) (place : ℕ) (d : A)
+    → place < length xs
+    → bit_at (digits passes n xs) place ≡ one_if (passes (n + place) (get_or xs place d))
+bit_of passes n [] place d lt = absurd (omega arith)
+bit_of passes n (x ∷ xs) zero d lt =
+    let same : n + 0 ≡ n = omega arith in
+    rw (bit_at_lowest (digits passes n (x ∷ xs)), same)
+    (lowest (passes n x) (digits passes (n + 1) xs))
+bit_of passes n (x ∷ xs) (suc place) d lt =
+    let less : place < length xs = omega arith in
+    let same : n + suc place ≡ n + 1 + place = omega arith in
+    bit_at-suc (digits passes n (x ∷ xs)) place
+    ∙ (ap (λ (m : ℕ). bit_at m place) (higher (passes n x) (digits passes (n + 1) xs))
+    ∙ (bit_of passes (n + 1) xs place d less
+    ∙ ap (λ (m : ℕ). one_if (passes m (get_or xs place d))) (sym same)))
+
+is_one : (b : Bool) → (one_if b == 1) ≡ b
+is_one true = refl
+is_one false = refl
+
+pub set_has : (store : Store) (p : ProofParts) (hash : Hash) (place : ℕ) (k : Known)
+    → place < length store.cosigners
+    → is_in_set (counted store p hash) place
+    ≡ counts store p hash place (get_or store.cosigners place k)
+unfolding counted
+set_has store p hash place k lt =
+    let passes : ℕ → Known → Bool = counts store p hash in
+    let whole : set_from passes 0 store.cosigners ≡ digits passes 0 store.cosigners =
+    set_is passes 0 store.cosigners ∙ omega arith in
+    let first : 0 + place ≡ place = omega arith in
+    ap (λ (m : ℕ). bit_at m place == 1) whole
+    ∙ (ap (λ (bit : ℕ). bit == 1) (bit_of passes 0 store.cosigners place k lt)
+    ∙ (ap (λ (n : ℕ). one_if (passes n (get_or store.cosigners place k)) == 1) first
+    ∙ is_one (passes place (get_or store.cosigners place k))))
+
+pub signed_as_spelled : (log : Text) (p : ProofParts) (hash : Hash) (k : Known)
+    (xs : List SigParts) → AllByRecursion IsMtcSignature xs
+    → p.signatures ≡ flat_map signature_text xs
+    → has_signed log p hash k ≡ list_any (is_signature_of k (signed_text log p hash k)) xs
+signed_as_spelled log p hash k xs each spelled = rw (spelled, signatures_found xs each) refl
