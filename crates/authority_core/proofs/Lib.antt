@@ -1,3 +1,4 @@
+mod Certificates
 mod Labels
 mod Items
 mod Sizes

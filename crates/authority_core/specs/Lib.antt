@@ -1,3 +1,4 @@
+pub mod Certificates
 pub mod Hosts
 pub mod Requests
 pub mod Files

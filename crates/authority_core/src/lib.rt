@@ -1,13 +1,15 @@
-//! The authority: what it is asked to issue, and the entries that it issues.
+//! The authority: what it is asked to issue, the entries that it issues, and their certificates.
 //!
 //! A request file is TOML with the dates between which the certificate is to be valid, the host
 //! names that it is for, a public key, and maybe a common name. [`read_request`] reads it and
 //! answers only what can be issued. [`entry_of_request`] makes the entry of a request in the log of
-//! the authority, and [`issue`] adds it to the log with the key.
+//! the authority, and [`issue`] adds it to the log with the key. [`cert`] writes the certificate of
+//! an entry of the log.
 #![tactic(auto)]
 
 mod issuing;
 mod requests;
+mod writing;
 
 pub use issuing::{
     IssueError, entries_say_what_was_asked, entry_of_request, issue,
@@ -16,3 +18,4 @@ pub use issuing::{
 pub use requests::{
     Field, Names, Request, RequestError, host_names_are_joined_labels, is_host, read_request,
 };
+pub use writing::{WriteError, cert};

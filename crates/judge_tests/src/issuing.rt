@@ -11,16 +11,18 @@ use std::test::Fail;
 use tls_wire::AnchorId;
 use tree_core::Sha;
 
-const DATES: &str = "not_before = \"2026-01-01T00:00:00Z\"\nnot_after = \"2026-01-08T00:00:00Z\"\n";
+pub(crate) const DATES: &str =
+    "not_before = \"2026-01-01T00:00:00Z\"\nnot_after = \"2026-01-08T00:00:00Z\"\n";
 
-const KEY: &str = "key = \"MCowBQYDK2VwAyEAAAAAAAAAAAAAAAAAAAAAAAAAAAAAAAAAAAAAAAAAAAA=\"\n";
+pub(crate) const KEY: &str =
+    "key = \"MCowBQYDK2VwAyEAAAAAAAAAAAAAAAAAAAAAAAAAAAAAAAAAAAAAAAAAAAA=\"\n";
 
-const DNS: &str = "dns = [\"a.example\"]\n";
+pub(crate) const DNS: &str = "dns = [\"a.example\"]\n";
 
 const NAMED: &str = "common_name = \"\u{E4} b\"\n";
 
 // A disk with a new log of this limit, which is one that is allowed.
-fn new_log(alloc: Global, limit: u32) -> Result<MemDisk, Fail> {
+pub(crate) fn new_log(alloc: Global, limit: u32) -> Result<MemDisk, Fail> {
     if limit < 2 || limit > 1_048_576 {
         return Err(Fail::from("no limit"));
     }
@@ -35,7 +37,7 @@ fn new_log(alloc: Global, limit: u32) -> Result<MemDisk, Fail> {
     }
 }
 
-fn open(alloc: Global, disk: MemDisk) -> Result<Log<Sha, MemDisk>, Fail> {
+pub(crate) fn open(alloc: Global, disk: MemDisk) -> Result<Log<Sha, MemDisk>, Fail> {
     match Log::<Sha, MemDisk>::open(alloc, disk) {
         Ok(log) => Ok(log),
         Err(_) => Err(Fail::from("no log")),
@@ -43,7 +45,7 @@ fn open(alloc: Global, disk: MemDisk) -> Result<Log<Sha, MemDisk>, Fail> {
 }
 
 // What a log answers to the request of these lines.
-fn issued(
+pub(crate) fn issued(
     alloc: Global,
     log: &mut Log<Sha, MemDisk>,
     lines: &[&str],

@@ -1,6 +1,8 @@
-//! Tests of store files, judgements, request files and issuing.
+//! Tests of store files, judgements, request files, issuing and certificates.
 #![tactic(auto)]
 
+#[cfg(test)]
+mod certificates;
 #[cfg(test)]
 mod cosigners;
 #[cfg(test)]

@@ -1,0 +1,106 @@
+-- Certificates of the entries of a log.
+use Rattle.std.proofs.Common.{◌≡◌, ℕ, ◌+◌, ◌*◌, ◌^◌, ◌<◌, ◌≤◌, ◌&&◌, true, List, [], ◌∷◌, length}
+use Rattle.std.proofs.Common.{slice_index_or, Option, None, IfOk, Result, Ok, Err, refl, sym, ap}
+use Rattle.std.proofs.Common.{◌∙◌, subst, arith}
+use Rattle.std.specs.List.{AllByRecursion, concat}
+use Rattle.std.proofs.lemmas.Grind.{common_steps}
+use Rattle.std.proofs.lemmas.List.{length-append}
+use Rattle.byte_forms.specs.Types.{Text, HashFunction}
+use Rattle.tls_wire.specs.Spelling.{AreHashes}
+use Rattle.cert_fields.specs.Keys.{is_public_key}
+use Rattle.mtc_proof.specs.Proofs.{ProofParts, proof_text}
+use Rattle.log_entry.specs.Entries.{TbsParts, tbs_text, entry_text}
+use Rattle.log_entry.specs.Matching.{holds, matches}
+use Rattle.log_entry.specs.Reading.{entry_in}
+use Rattle.log_entry.specs.Views.{entry_parts, tbs_parts}
+use Rattle.log_entry.specs.declared.entry.Entry.{Entry}
+use Rattle.log_entry.specs.declared.entry.Entry.TheVariants.{Tbs}
+use Rattle.log_entry.specs.declared.entry.TbsEntry.{TbsEntry}
+use Rattle.log_entry.specs.declared.fault.EntryError.{EntryError}
+use Rattle.issuance_log.specs.Folds.{LogState}
+use Rattle.issuance_log.specs.Refusals.{item_at}
+use Rattle.issuance_log.specs.Sound.{IsItem, IsSound}
+use Rattle.authority_core.specs.Certificates.{IsCertificateOf, IsWritten, proof_for}
+
+-- ---- the item of a log
+
+pub given : (s : LogState) (index : ℕ) (entry key : Text) → index < length s.entries
+    → item_at s index ≡ Ok (entry, key)
+    → (slice_index_or s.entries index [] ≡ entry) × (slice_index_or s.keys index [] ≡ key)
+unfolding item_at
+given s index entry key below is = grind (arith, common_steps)
+
+pub item_given : (h : HashFunction) (s : LogState) (index : ℕ) (entry key : Text) → IsSound h s
+    → 1 ≤ index → index < length s.entries → item_at s index ≡ Ok (entry, key)
+    → IsItem h entry key
+item_given h s index entry key sound some below is =
+    let same = given s index entry key below is in
+    subst (λ (k : Text). IsItem h entry k) same.1
+    (subst (λ (e : Text). IsItem h e (slice_index_or s.keys index [])) same.0
+    (sound.items index some below))
+
+-- ---- an entry to which a key belongs is one of type 1
+
+pub no_null : (h : HashFunction) (entry key : Text) → matches h entry key ≡ true
+    → entry_in entry ≡ Ok None → ⊥
+unfolding matches
+no_null h entry key is none =
+    let wrong = subst (λ (r : Result (Option TbsParts) EntryError).
+    (holds (h key) r && is_public_key key) ≡ true) none is in
+    absurd cc
+
+pub no_fault : (h : HashFunction) (entry key : Text) (why : EntryError)
+    → matches h entry key ≡ true → entry_in entry ≡ Err why → ⊥
+unfolding matches
+no_fault h entry key why is none =
+    let wrong = subst (λ (r : Result (Option TbsParts) EntryError).
+    (holds (h key) r && is_public_key key) ≡ true) none is in
+    absurd cc
+
+-- ---- sizes
+
+within : (p : TbsParts)
+    → length p.issuer + length p.subject + length p.extensions ≤ length (tbs_text p)
+unfolding tbs_text
+within p = simp length-append (omega arith)
+
+pub fields_within : (entry : Text) (e : Entry) (t : TbsEntry) → e ≡ Tbs t
+    → entry ≡ entry_text (entry_parts e)
+    → length t.issuer.now + length t.subject.now + length t.extensions.now ≤ length entry
+fields_within entry e t one is =
+    let size : length entry ≡ length (tbs_text (tbs_parts t)) = ap length (is
+    ∙ ap (λ (x : Entry). entry_text (entry_parts x)) one) in
+    let fields = within (tbs_parts t) in
+    omega arith
+
+length-hashes : (items : List Text) → AllByRecursion (λ hash. length hash ≡ 32) items
+    → length (concat items) ≡ length items * 32
+length-hashes [] all = refl
+length-hashes (hash ∷ items) all =
+    let rest = length-hashes items all.1 in simp length-append (omega (arith, all.0))
+
+pub proof_within : (p : ProofParts) → AreHashes p.path → length p.signatures < 2 ^ 16
+    → length (proof_text p) ≤ 200000
+proof_within p hashes short =
+    let size = length-hashes p.path hashes.0 in simp length-append (omega (arith, hashes.1))
+
+pub short_so : {E : Type 0} (r : Result Text E) (p : ProofParts)
+    → IfOk r (λ bytes. bytes ≡ proof_text p) → length (proof_text p) ≤ 200000
+    → IfOk r (λ bytes. length bytes ≤ 200000)
+short_so {E} (Ok bytes) p is few = subst (λ (b : Text). length b ≤ 200000) (sym is) few
+short_so {E} (Err e) p is few = tt
+
+-- ---- the certificate of an item that was given
+
+pub written_so : {E : Type 0} (r : Result Text E) (h : HashFunction) (s : LogState)
+    (index start end : ℕ) (signatures entry key proof : Text)
+    → entry ≡ slice_index_or s.entries index [] → key ≡ slice_index_or s.keys index []
+    → proof ≡ proof_text (proof_for h s index start end signatures)
+    → IfOk r (IsCertificateOf index entry key proof)
+    → IfOk r (IsWritten h s index start end signatures)
+written_so {E} r h s index start end signatures entry key proof one two three is =
+    subst (λ (p : Text). IfOk r (IsCertificateOf index (slice_index_or s.entries index [])
+    (slice_index_or s.keys index []) p)) three
+    (subst (λ (k : Text). IfOk r (IsCertificateOf index (slice_index_or s.entries index [])
+    k proof)) two
+    (subst (λ (e : Text). IfOk r (IsCertificateOf index e key proof)) one is))

@@ -1,0 +1,17 @@
+use Rattle.std.proofs.Common.{subst}
+use Rattle.tls_wire.specs.Spelling.{AreHashes}
+use Rattle.mtc_proof.specs.Proofs.{ProofParts}
+use Rattle.authority_core.proofs.Certificates.{proof_within, short_so}
+use Rattle.authority_core.proofs.writing.proof.proof_of.Goals as goal
+
+pub returns-clause-few : goal.returns-clause-few
+returns-clause-few g c =
+    let proof : ProofParts = record {
+      start = c.args.start;
+      end = c.args.end;
+      path = c.include.new.out;
+      signatures = c.args.signatures.now;
+    } in
+    short_so c.write_proof.result proof c.write_proof.ensures.text
+    (proof_within proof (subst AreHashes c.as_slice.ensures.value c.are_hashes.ensures)
+    c.requires.short)

@@ -1,0 +1,85 @@
+-- Certificates of the entries of a log, and why none is written.
+use Rattle.std.specs.Prelude.{◌≡◌, ℕ, ◌-◌, ◌==◌, ◌||◌, not, nat_lt, nat_le, [], length, map}
+use Rattle.std.specs.Prelude.{slice_index_or, Option, Some, None, Result, Ok, Err}
+use Rattle.std.specs.Prelude.{if◌then◌else◌}
+use Rattle.byte_forms.specs.Types.{Text, HashFunction}
+use Rattle.tree_core.specs.Path.{part_of, path_of}
+use Rattle.tree_core.specs.Subtree.{is_subtree}
+use Rattle.tree_core.specs.Tree.{leaf_hash}
+use Rattle.cert_time.specs.Times.{validity_element}
+use Rattle.cert_fields.specs.Certificate.{Parts}
+use Rattle.cert_fields.specs.Given.{mtc_proof}
+use Rattle.cert_fields.specs.Spelling.{certificate}
+use Rattle.mtc_proof.specs.Proofs.{ProofParts, proof_text}
+use Rattle.log_entry.specs.Entries.{TbsParts}
+use Rattle.log_entry.specs.Reading.{entry_in}
+use Rattle.issuance_log.specs.Folds.{LogState, LogView}
+use Rattle.authority_core.specs.declared.writing.error.WriteError.{WriteError}
+use Rattle.authority_core.specs.declared.writing.error.WriteError.TheVariants.{NoSuchEntry}
+use Rattle.authority_core.specs.declared.writing.error.WriteError.TheVariants.{NullEntry}
+use Rattle.authority_core.specs.declared.writing.error.WriteError.TheVariants.{BadSubtree}
+use Rattle.authority_core.specs.declared.writing.error.WriteError.TheVariants.{Outside, Beyond}
+use Rattle.authority_core.specs.declared.writing.error.WriteError.TheVariants.{TooManySignatures}
+use Rattle.authority_core.specs.declared.writing.error.WriteError.TheVariants.{Memory}
+
+-- the signatures of a certificate have at most so many bytes
+abbrev pub most_signatures : ℕ
+most_signatures = 65535
+
+-- The refusal of a certificate, the first that holds.
+unfoldable pub cert_refusal : LogView → ℕ → ℕ → ℕ → Text → Option WriteError
+cert_refusal v index start end signatures =
+    if nat_le v.size index then Some NoSuchEntry
+    else (if index == 0 then Some NullEntry
+    else (if not (is_subtree start end) then Some BadSubtree
+    else (if nat_lt index start || nat_le end index then Some Outside
+    else (if nat_lt v.size end then Some (Beyond v.size)
+    else (if nat_lt most_signatures (length signatures) then Some TooManySignatures
+    else None)))))
+
+-- The answer keeps to it, where memory may be refused behind all tests.
+abbrev pub KeepsToRefusal : Option WriteError → Result Text WriteError → Type 0
+KeepsToRefusal wanted (Ok bytes) = wanted ≡ None
+KeepsToRefusal wanted (Err NoSuchEntry) = wanted ≡ Some NoSuchEntry
+KeepsToRefusal wanted (Err NullEntry) = wanted ≡ Some NullEntry
+KeepsToRefusal wanted (Err BadSubtree) = wanted ≡ Some BadSubtree
+KeepsToRefusal wanted (Err Outside) = wanted ≡ Some Outside
+KeepsToRefusal wanted (Err (Beyond size)) = wanted ≡ Some (Beyond size)
+KeepsToRefusal wanted (Err TooManySignatures) = wanted ≡ Some TooManySignatures
+KeepsToRefusal wanted (Err Memory) = wanted ≡ None
+
+-- The proof of the entry at an index: its path in the subtree [start, end) of the log's entries,
+-- with these signatures.
+abbrev pub proof_for : HashFunction → LogState → ℕ → ℕ → ℕ → Text → ProofParts
+proof_for h s index start end signatures = record {
+  start = start;
+  end = end;
+  path = path_of h (index - start) (part_of (map (leaf_hash h) s.entries) start end);
+  signatures = signatures;
+}
+
+-- What a certificate says of the fields of an entry, with its key, serial number and proof.
+abbrev pub parts_with : ℕ → TbsParts → Text → Text → Parts
+parts_with index t key proof = record {
+  serial = index;
+  algorithm = mtc_proof;
+  issuer = t.issuer;
+  validity = t.validity;
+  validity_der = validity_element t.validity;
+  subject = t.subject;
+  spki = key;
+  extensions = t.extensions;
+  proof = proof;
+}
+
+-- The bytes are the certificate of this entry with its key, index and proof.
+pub record IsCertificateOf (index : ℕ) (entry key proof bytes : Text) : Type 0 where
+  pub fields : TbsParts
+  pub read : entry_in entry ≡ Ok (Some fields)
+  pub written : bytes ≡ certificate (parts_with index fields key proof)
+
+-- The bytes are the certificate of the log's entry at this index, in this subtree.
+abbrev pub IsWritten : HashFunction → LogState → ℕ → ℕ → ℕ → Text → Text → Type 0
+IsWritten h s index start end signatures bytes =
+    IsCertificateOf index (slice_index_or s.entries index []) (slice_index_or s.keys index [])
+    (proof_text (proof_for h s index start end signatures)) bytes
