@@ -28,10 +28,10 @@ use Rattle.cosigner_core.specs.Requests.{advance_text, subtree_text}
 abbrev IsId : Text → Type 0
 IsId id = (length id < 2 ^ 8) × (has_bytes id ≡ true)
 
-abbrev IsWord : ℕ → Type 0
+abbrev pub IsWord : ℕ → Type 0
 IsWord n = n < 2 ^ 64
 
-abbrev IsHash : Text → Type 0
+abbrev pub IsHash : Text → Type 0
 IsHash hash = length hash ≡ 32
 
 id_form : IsForm (vector w8) IsId Anything log_id_at
@@ -41,31 +41,31 @@ id_form =
     (lifted_form (vector w8) (λ id. length id < 2 ^ 8) Anything (vector_at w8) short_fault
     (vector_form w8 (2 ^ 8) wide8))
 
-size_form : IsForm (number w64) IsWord Anything u64_at
+pub size_form : IsForm (number w64) IsWord Anything u64_at
 size_form = lifted_form (number w64) IsWord Anything (number_at w64) short_fault word_form
 
-hash_form : IsForm itself IsHash Anything hash_at
+pub hash_form : IsForm itself IsHash Anything hash_at
 hash_form = lifted_form itself IsHash Anything (bytes_at 32) short_fault (bytes_form 32)
 
-proof_form : IsForm hashes AreHashes Anything proof_at
+pub proof_form : IsForm hashes AreHashes Anything proof_at
 proof_form = lifted_form hashes AreHashes Anything hashes_at hashes_fault hashes_form
 
 -- ---- to hold a larger log
 
-abbrev Root : Type 0
+abbrev pub Root : Type 0
 Root = Text × List Hash
 
-abbrev root_text : Root → Text
+abbrev pub root_text : Root → Text
 root_text = both itself hashes
 
-abbrev IsRoot : Root → Type 0
+abbrev pub IsRoot : Root → Type 0
 IsRoot = FitsBoth IsHash AreHashes
 
 root_form : IsForm root_text IsRoot Anything (both_at hash_at proof_at)
 root_form = both_form itself IsHash Anything hash_at hashes AreHashes Anything proof_at hash_form
     proof_form (λ y rest f q. tt)
 
-sized_form : IsForm (both (number w64) root_text) (FitsBoth IsWord IsRoot) Anything
+pub sized_form : IsForm (both (number w64) root_text) (FitsBoth IsWord IsRoot) Anything
     (both_at u64_at (both_at hash_at proof_at))
 sized_form = both_form (number w64) IsWord Anything u64_at root_text IsRoot Anything
     (both_at hash_at proof_at) size_form root_form (λ y rest f q. tt)
@@ -110,7 +110,7 @@ advance_form =
 
 -- ---- to sign a subtree
 
-spanned_form : IsForm (both (number w64) (both (number w64) root_text))
+pub spanned_form : IsForm (both (number w64) (both (number w64) root_text))
     (FitsBoth IsWord (FitsBoth IsWord IsRoot)) Anything
     (both_at u64_at (both_at u64_at (both_at hash_at proof_at)))
 spanned_form = both_form (number w64) IsWord Anything u64_at (both (number w64) root_text)

@@ -1,2 +1,10 @@
+pub mod Adds
+pub mod Allowed
+pub mod Counts
+pub mod FirstRecords
 pub mod Forms
+pub mod Lengths
+pub mod Readings
+pub mod Spelled
+pub mod Tagged
 pub mod Writes

@@ -1,3 +1,14 @@
-pub mod Requests
+pub mod Checkpoints
+pub mod Counts
+pub mod Faults
+pub mod Folds
+pub mod Openings
 pub mod Reading
+pub mod Records
+pub mod Refusals
+pub mod Requests
+pub mod Results
+pub mod Signatures
+pub mod Sound
 pub mod Views
+pub mod Words

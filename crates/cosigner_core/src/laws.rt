@@ -1,9 +1,15 @@
-//! Laws of requests: the clauses are the laws, and the functions do nothing.
+//! Laws of requests and records: the clauses are the laws, and the functions do nothing.
 
-ghost use Rattle.std.specs.Prelude.{◌≡◌, Ok};
-ghost use Rattle.byte_forms.specs.Types.{Text};
+ghost use Rattle.std.specs.Prelude.{◌≡◌, List, Some, Ok};
+ghost use Rattle.byte_forms.specs.Types.{HashFunction, Text};
 ghost use Rattle.byte_forms.specs.Forms.{Anything, IsForm};
 ghost use Rattle.byte_forms.specs.Places.{IsBytes};
+ghost use Rattle.journal_core.specs.Format.{StandsFor};
+ghost use Rattle.cosigner_core.specs.Counts.{CountsUp};
+ghost use Rattle.cosigner_core.specs.Folds.{CosignerState, cosigner_of};
+ghost use Rattle.cosigner_core.specs.Openings.{FoundCosigner, cosigner_read};
+ghost use Rattle.cosigner_core.specs.Records.{FitsCosigner, FitsStep, Step, cosigner_in, cosigner_record, step_in, step_record};
+ghost use Rattle.cosigner_core.specs.declared.settings.CosignerSettings.{CosignerSettings};
 ghost use Rattle.cosigner_core.specs.Reading.{advance_at, advance_in, subtree_at, subtree_in};
 ghost use Rattle.cosigner_core.specs.Requests.{AdvanceParts, IsAdvance, IsSubtreeRequest, SubtreeParts, advance_text, subtree_text};
 
@@ -22,4 +28,38 @@ pub fn subtree_requests_are_read_as_spelled()
     ensures only { (bytes : Text) (r : SubtreeParts) → IsBytes bytes → subtree_in bytes ≡ Ok r
         → (bytes ≡ subtree_text r) × IsSubtreeRequest r }
     ensures again { (r : SubtreeParts) → IsSubtreeRequest r → subtree_in (subtree_text r) ≡ Ok r }
+{}
+
+/// The body of an Advance or a Sign is read as what it says, and only what is spelled so is read.
+pub fn steps_are_read_as_spelled()
+    ensures again { (step : Step) → FitsStep step → step_in (step_record step) ≡ Some step }
+    ensures only { (body : Text) (step : Step) → IsBytes body → step_in body ≡ Some step
+        → (body ≡ step_record step) × FitsStep step }
+{}
+
+/// The body of a Cosigner is read as the settings and the secret that it spells, and only what is
+/// spelled so is read.
+pub fn first_records_are_read_as_spelled()
+    ensures again { (s : CosignerSettings) (secret : Text) → FitsCosigner s secret
+        → cosigner_in (cosigner_record s secret) ≡ Some (s, secret) }
+    ensures only { (body : Text) (s : CosignerSettings) (secret : Text) → IsBytes body
+        → cosigner_in body ≡ Some (s, secret)
+        → (body ≡ cosigner_record s secret) × FitsCosigner s secret }
+{}
+
+/// A file is read as a cosigner's exactly where it stands for records that make this cosigner.
+pub fn cosigners_are_read_from_their_journals()
+    ensures read { (h : HashFunction) (bytes : Text) (list : List Text) (s : CosignerState)
+        → StandsFor bytes list → cosigner_of h list ≡ Ok s
+        → cosigner_read h bytes ≡ Ok (record { records = list; state = s }) }
+    ensures only { (h : HashFunction) (bytes : Text) (found : FoundCosigner) → IsBytes bytes
+        → cosigner_read h bytes ≡ Ok found
+        → StandsFor bytes found.records × (cosigner_of h found.records ≡ Ok found.state) }
+{}
+
+/// In the records of a cosigner no one-time key signs twice: the i-th Sign record, counted from 0,
+/// has the number i.
+pub fn one_time_keys_sign_once()
+    ensures { (h : HashFunction) (list : List Text) (s : CosignerState)
+        → cosigner_of h list ≡ Ok s → CountsUp list s }
 {}

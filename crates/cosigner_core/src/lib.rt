@@ -1,15 +1,46 @@
-//! Cosigners of a log. So far the requests that they are sent: to hold the root of a larger log,
-//! and to sign a subtree of it, as bytes in the presentation language of TLS (RFC 8446, section 3).
+//! Cosigners of a log, as the draft on Merkle Tree Certificates has them: they hold the root of a
+//! log and sign subtrees of it, each over a journal of its own.
+//!
+//! [`create`] begins the journal of a new cosigner, and [`pack`] takes the memory for it before
+//! there is a disk. [`Cosigner::open`] reads and tests the records of a journal one by one, and
+//! makes the key anew. [`Cosigner::advance`] holds the root of a larger log, and
+//! [`Cosigner::cosign`] signs a subtree by the next one-time key, once every image of the disk
+//! holds the record with its number: so no one-time key signs twice, whenever the machine stops.
+//!
+//! What the records of a journal make of a cosigner is one function of them. A cosigner keeps to
+//! it: unless an append has failed, what it holds and its next one-time key are what the records on
+//! its disk make.
+//!
+//! Requests are bytes in the presentation language of TLS (RFC 8446, section 3).
 #![tactic(auto)]
 
+mod checkpoint;
+mod contents;
+mod cosigner;
+mod creation;
+mod error;
 mod fault;
 mod laws;
+mod opening;
 mod reading;
+mod record;
 mod requests;
+mod settings;
+mod signer;
+mod step;
+mod step_record;
 mod writing;
 
+pub use cosigner::Cosigner;
+pub use creation::{create, pack};
+pub use error::{CosignError, CosignerOpenError};
 pub use fault::FormError;
-pub use laws::{advance_requests_are_read_as_spelled, subtree_requests_are_read_as_spelled};
+pub use laws::{
+    advance_requests_are_read_as_spelled, cosigners_are_read_from_their_journals,
+    first_records_are_read_as_spelled, one_time_keys_sign_once, steps_are_read_as_spelled,
+    subtree_requests_are_read_as_spelled,
+};
 pub use reading::{read_advance, read_subtree};
 pub use requests::{AdvanceRequest, SubtreeRequest};
+pub use settings::CosignerSettings;
 pub use writing::{write_advance, write_subtree};

@@ -1,0 +1,254 @@
+-- What a request makes of a cosigner.
+use Rattle.std.proofs.Common.{◌≡◌, ℕ, ◌+◌, ◌<◌, ◌≤◌, nat_lt, ◌↔◌, Bool, true, false}
+use Rattle.std.proofs.Common.{length, Option, Some, None, IfSome, Result, Ok}
+use Rattle.std.specs.Prelude.{if◌then◌else◌}
+use Rattle.std.proofs.Common.{Err, IsErrAnd, IsErrOf, IsTrue, refl, sym, ap, subst, arith}
+use Rattle.std.proofs.lemmas.Bool.{ltb-true, lt-ltb}
+use Rattle.byte_forms.specs.Types.{Text}
+use Rattle.disk_core.specs.declared.disk.Disk.{Ghosts}
+use Rattle.disk_core.specs.Moments.{LeavesOnly}
+use Rattle.tree_core.specs.declared.hashing.TreeHash.{Ghosts as Hashes}
+use Rattle.journal_core.specs.Format.{StandsForEither, most_bytes}
+use Rattle.journal_core.specs.Words.{AppendLeaves}
+use Rattle.journal_core.proofs.Appends.{all_kept, untouched_after, untouched_moment}
+use Rattle.journal_core.specs.declared.error.AppendError.{AppendError}
+use Rattle.journal_core.specs.declared.error.AppendError.TheVariants.{Broken, Failed, Full}
+use Rattle.cosigner_core.specs.Folds.{CosignerState}
+use Rattle.cosigner_core.specs.Refusals.{IsOfRequest, KeepsTo, answer_of, earlier}
+use Rattle.cosigner_core.specs.Refusals.{journal_refusal}
+use Rattle.cosigner_core.specs.Words.{CosignerAppends, CosignerLeaves, cosigner_broken}
+use Rattle.cosigner_core.specs.Words.{cosigner_disk, cosigner_end, cosigner_records, state_of}
+use Rattle.cosigner_core.specs.declared.cosigner.Cosigner.{Cosigner}
+use Rattle.cosigner_core.specs.declared.error.CosignError.{CosignError}
+use Rattle.cosigner_core.specs.declared.error.CosignError.TheVariants.{WrongLog, NotNewer}
+use Rattle.cosigner_core.specs.declared.error.CosignError.TheVariants.{BadSubtree, Beyond, BadProof}
+use Rattle.cosigner_core.specs.declared.error.CosignError.TheVariants.{Exhausted, Append}
+
+-- the answers of an append
+abbrev pub Answer : Type 0
+Answer = Result (Unit {0}) AppendError
+
+abbrev pub told : AppendError → Answer
+told why = Err why
+
+abbrev pub done : Answer
+done = Ok tt
+
+was_sound : (b : Bool) → ((b ≡ true) → told Failed ≡ told Broken) → b ≡ false
+was_sound true is = let wrong : told Failed ≡ told Broken = is refl in cc
+was_sound false is = refl
+
+pub some_body : (body written : Text) → body ≡ written → 1 ≤ length written → 1 ≤ length body
+some_body body written is some = subst (λ (b : Text). 1 ≤ length b) (sym is) some
+
+-- ---- what is left of a cosigner
+
+err_is : {T E : Type 0} (r : Result T E) (e : E) → IsErrAnd r (λ x. x ≡ e) → Err e ≡ r
+err_is (Ok x) e is = absurd is
+err_is (Err x) e is = ap Err (sym is)
+
+module _ {H D : Type 0} {hashes : Hashes H} {g : Ghosts D} where
+  -- a refusal before the append
+  stays : (it : Cosigner H D hashes g) (body : Text) (next : CosignerState) (why : CosignError)
+      → IsOfRequest why
+      → CosignerLeaves body next it it (Err why)
+  stays it body next WrongLog kind = record { disk = refl; state = refl; end = refl; broken = refl }
+  stays it body next (NotNewer held) kind =
+      record { disk = refl; state = refl; end = refl; broken = refl }
+  stays it body next BadSubtree kind =
+      record { disk = refl; state = refl; end = refl; broken = refl }
+  stays it body next (Beyond held) kind =
+      record { disk = refl; state = refl; end = refl; broken = refl }
+  stays it body next BadProof kind =
+      record { disk = refl; state = refl; end = refl; broken = refl }
+  stays it body next Exhausted kind =
+      record { disk = refl; state = refl; end = refl; broken = refl }
+  stays it body next (Append why) kind = absurd kind
+
+  pub refused : (it : Cosigner H D hashes g) (body : Text) (next : CosignerState)
+      (result : Result (Unit {0}) CosignError) (why : CosignError)
+      → IsErrAnd result (λ e. e ≡ why) → IsOfRequest why
+      → ((c : Text) → g.left_since (cosigner_disk it) (g.moment (cosigner_disk it)) c
+      → g.may_leave (cosigner_disk it) c)
+      → CosignerAppends body next it it result
+  refused it body next result why is kind only_now =
+      subst (CosignerAppends body next it it) (err_is result why is) (record {
+        leaves = stays it body next why kind;
+        kept = tt;
+        count = omega arith;
+        any_moment = λ sound. untouched_moment g (cosigner_disk it) (cosigner_end it) body
+            (it.journal.settled sound) only_now;
+        afterwards = λ sound. untouched_after g (cosigner_disk it) (cosigner_end it) body
+            (it.journal.settled sound);
+      })
+
+  -- what the journal says of an append
+  pub record Appended (old new : Cosigner H D hashes g) (body : Text)
+      (result : Result (Unit {0}) AppendError)
+      : Type 0 where
+    pub leaves : AppendLeaves body old.journal new.journal result
+    pub broken : IsErrOf result Broken ↔ IsTrue (cosigner_broken old)
+    pub count : g.faults (cosigner_disk old) ≤ g.faults (cosigner_disk new)
+    pub any_moment : cosigner_broken old ≡ false → IfSome (cosigner_records old) (λ list.
+        LeavesOnly g (cosigner_disk old) (cosigner_disk new) (StandsForEither list body))
+    pub afterwards : cosigner_broken old ≡ false → IfSome (cosigner_records old) (λ list.
+        (c : Text) → g.may_leave (cosigner_disk new) c → StandsForEither list body c)
+
+  grown_by : (old new : Cosigner H D hashes g) (body : Text) (next : CosignerState)
+      → Appended old new body (Ok tt) → state_of new ≡ next
+      → CosignerAppends body next old new (Ok tt)
+  grown_by old new body next did made = record {
+    leaves = record {
+      records = did.leaves.records;
+      state = made;
+      end = did.leaves.end;
+      was_sound = did.leaves.was_sound;
+      sound = did.leaves.sound;
+      fine = did.leaves.fine;
+    };
+    kept = all_kept g (cosigner_disk new) (g.told (cosigner_disk new)) (cosigner_records old) body
+        body did.leaves.records refl did.leaves.all;
+    count = did.count;
+    any_moment = did.any_moment;
+    afterwards = did.afterwards;
+  }
+
+  pub grown : (old new : Cosigner H D hashes g) (written body : Text) (next : CosignerState)
+      → written ≡ body
+      → Appended old new written (Ok tt) → state_of new ≡ next
+      → CosignerAppends body next old new (Ok tt)
+  grown old new written body next is did made =
+      subst (λ (b : Text). CosignerAppends b next old new (Ok tt)) is
+      (grown_by old new written next did made)
+
+  unappended : (old new : Cosigner H D hashes g) (body : Text) (next : CosignerState)
+      (why : AppendError)
+      → Appended old new body (Err why) → state_of new ≡ state_of old
+      → CosignerAppends body next old new (Err (Append why))
+  unappended old new body next Failed did same = record {
+    leaves = record {
+      cause = did.leaves.cause;
+      state = same;
+      end = did.leaves.end;
+      was_sound = was_sound (cosigner_broken old) did.broken.1;
+      broken = did.leaves.broken;
+    };
+    kept = tt;
+    count = did.count;
+    any_moment = did.any_moment;
+    afterwards = did.afterwards;
+  }
+  unappended old new body next Broken did same = record {
+    leaves = record {
+      disk = did.leaves.disk;
+      state = same;
+      end = did.leaves.end;
+      broken = did.leaves.broken;
+    };
+    kept = tt;
+    count = did.count;
+    any_moment = did.any_moment;
+    afterwards = did.afterwards;
+  }
+  unappended old new body next Full did same = record {
+    leaves = record {
+      disk = did.leaves.disk;
+      state = same;
+      end = did.leaves.end;
+      broken = did.leaves.broken;
+    };
+    kept = tt;
+    count = did.count;
+    any_moment = did.any_moment;
+    afterwards = did.afterwards;
+  }
+
+  pub not_appended : (old new : Cosigner H D hashes g) (written body : Text) (next : CosignerState)
+      (result : Result (Unit {0}) CosignError) (why : AppendError)
+      → IsErrAnd result (λ e. e ≡ Append why) → written ≡ body
+      → Appended old new written (Err why) → state_of new ≡ state_of old
+      → CosignerAppends body next old new result
+  not_appended old new written body next result why is same did kept =
+      subst (CosignerAppends body next old new) (err_is result (Append why) is)
+      (subst (λ (b : Text). CosignerAppends b next old new (Err (Append why))) same
+      (unappended old new written next why did kept))
+
+-- ---- which refusal it is
+
+keeps_itself : (why : CosignError) → IsOfRequest why → KeepsTo (Some why) (Err why)
+keeps_itself WrongLog kind = refl
+keeps_itself (NotNewer held) kind = refl
+keeps_itself BadSubtree kind = refl
+keeps_itself (Beyond held) kind = refl
+keeps_itself BadProof kind = refl
+keeps_itself Exhausted kind = refl
+keeps_itself (Append why) kind = absurd kind
+
+pub keeps_first : (first second : Option CosignError) (why : CosignError) → IsOfRequest why
+    → Err why ≡ answer_of first → KeepsTo (earlier first second) (Err why)
+keeps_first None second why kind is = let wrong : Err why ≡ Ok tt = is in cc
+keeps_first (Some other) second why kind is =
+    let same : why ≡ other = cc in
+    subst (λ (e : CosignError). KeepsTo (Some e) (Err why)) same (keeps_itself why kind)
+
+pub none_of : (first : Option CosignError) → Ok tt ≡ answer_of first → first ≡ None
+none_of None is = refl
+none_of (Some other) is = let wrong : Ok tt ≡ Err other = is in cc
+
+pub keeps_second : (first second : Option CosignError) (result : Result (Unit {0}) CosignError)
+    → Ok tt ≡ answer_of first → KeepsTo second result → KeepsTo (earlier first second) result
+keeps_second first second result is keeps =
+    subst (λ (o : Option CosignError). KeepsTo (earlier o second) result) (sym (none_of first is))
+    keeps
+
+-- what the journal refuses
+keeps_why : (broken : Bool) (end : ℕ) (body : Text) (why : AppendError)
+    → (IsErrOf (told why) Broken ↔ IsTrue broken)
+    → (IsErrOf (told why) Full
+    ↔ (broken ≡ false) × (most_bytes < end + 5 + length body))
+    → KeepsTo (journal_refusal broken end body) (Err (Append why))
+keeps_why true end body Broken by_broken by_full = refl
+keeps_why false end body Broken by_broken by_full =
+    let wrong : false ≡ true = by_broken.0 refl in cc
+keeps_why broken end body Full by_broken by_full =
+    let full = by_full.0 refl in
+    rw (full.0, lt-ltb most_bytes (end + 5 + length body) full.1) refl
+keeps_why true end body Failed by_broken by_full =
+    let wrong : told Failed ≡ told Broken = by_broken.1 refl in cc
+keeps_why false end body Failed by_broken by_full =
+    room (nat_lt most_bytes (end + 5 + length body)) refl
+  where
+    room : (b : Bool) → nat_lt most_bytes (end + 5 + length body) ≡ b
+        → (if b then Some (Append Full) else None) ≡ None
+    room true is =
+        let wrong : told Failed ≡ told Full =
+        by_full.1 (refl, ltb-true most_bytes (end + 5 + length body) is) in cc
+    room false is = refl
+
+pub keeps_append : (broken : Bool) (end : ℕ) (written body : Text)
+    (result : Result (Unit {0}) CosignError) (why : AppendError)
+    → IsErrAnd result (λ e. e ≡ Append why) → written ≡ body
+    → (IsErrOf (told why) Broken ↔ IsTrue broken)
+    → (IsErrOf (told why) Full
+    ↔ (broken ≡ false) × (most_bytes < end + 5 + length written))
+    → KeepsTo (journal_refusal broken end body) result
+keeps_append broken end written body result why is same by_broken by_full =
+    subst (KeepsTo (journal_refusal broken end body)) (err_is result (Append why) is)
+    (subst (λ (b : Text). KeepsTo (journal_refusal broken end b) (Err (Append why))) same
+    (keeps_why broken end written why by_broken by_full))
+
+pub keeps_ok : (broken : Bool) (end : ℕ) (body : Text)
+    → (IsErrOf done Broken ↔ IsTrue broken)
+    → (IsErrOf done Full ↔ (broken ≡ false) × (most_bytes < end + 5 + length body))
+    → KeepsTo (journal_refusal broken end body) (Ok tt)
+keeps_ok true end body by_broken by_full =
+    let wrong : done ≡ told Broken = by_broken.1 refl in cc
+keeps_ok false end body by_broken by_full =
+    room (nat_lt most_bytes (end + 5 + length body)) refl
+  where
+    room : (b : Bool) → nat_lt most_bytes (end + 5 + length body) ≡ b
+        → (if b then Some (Append Full) else None) ≡ None
+    room true is =
+        let wrong : done ≡ told Full =
+        by_full.1 (refl, ltb-true most_bytes (end + 5 + length body) is) in cc
+    room false is = refl

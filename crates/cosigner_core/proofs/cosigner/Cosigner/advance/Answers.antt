@@ -1,0 +1,85 @@
+use Rattle.std.proofs.Common.{refl, ◌∙◌}
+use Rattle.cosigner_core.specs.Records.{Advance, advance_record}
+use Rattle.cosigner_core.specs.Folds.{holding}
+use Rattle.cosigner_core.specs.Refusals.{advance_refusal}
+use Rattle.cosigner_core.specs.Views.{advance_parts}
+use Rattle.cosigner_core.specs.Words.{cosigner_broken, cosigner_end, cosigner_records, state_of}
+use Rattle.cosigner_core.proofs.Adds.{grown, keeps_append, keeps_second, none_of, not_appended}
+use Rattle.cosigner_core.proofs.Adds.{refused, some_body}
+use Rattle.cosigner_core.proofs.Allowed.{added, advance_allowed, valid_step}
+use Rattle.cosigner_core.proofs.Spelled.{length-advance}
+use Rattle.cosigner_core.proofs.cosigner.Cosigner.advance.Goals as goal
+
+pub returns-in_err-test_advance-clause-appends : goal.returns-in_err-test_advance-clause-appends
+returns-in_err-test_advance-clause-appends g c =
+    refused c.args.self.now _ _ c.from_residual.result c.in_err-test_advance.field-0.0
+    c.from_residual.ensures.1 c.in_err-test_advance.ensures.kind (g.met.D.Disk.only_now _)
+
+pub append-requires-clause-some : goal.append-requires-clause-some
+append-requires-clause-some g c =
+    let r = advance_parts c.args.request.now in
+    some_body c.as_slice.result.now (advance_record r.size r.root r.proof)
+    (c.as_slice.ensures.value ∙ c.advance-body.ensures.bytes)
+    (length-advance r.size r.root r.proof)
+
+pub returns-in_err-append-clause-appends : goal.returns-in_err-append-clause-appends
+returns-in_err-append-clause-appends g c =
+    not_appended c.args.self.now _ c.as_slice.result.now _ _ c.from_residual-in_err-append.result
+    c.in_err-append.field-0.0 c.from_residual-in_err-append.ensures.1
+    (c.as_slice.ensures.value ∙ c.advance-body.ensures.bytes)
+    (record {
+      leaves = c.in_err-append.ensures.leaves;
+      broken = c.in_err-append.ensures.broken;
+      count = c.in_err-append.ensures.count;
+      any_moment = c.in_err-append.ensures.any_moment;
+      afterwards = c.in_err-append.ensures.afterwards;
+    }) refl
+
+pub returns-in_err-append-clause-answer : goal.returns-in_err-append-clause-answer
+returns-in_err-append-clause-answer g c =
+    let it = c.args.self.now in
+    let r = advance_parts c.args.request.now in
+    keeps_second (advance_refusal g.H.TreeHash.hash (state_of it) r) _
+    c.from_residual-in_err-append.result c.in_ok-test_advance.ensures.exact
+    (keeps_append (cosigner_broken it) (cosigner_end it) c.as_slice.result.now
+    (advance_record r.size r.root r.proof) c.from_residual-in_err-append.result
+    c.in_err-append.field-0.0 c.from_residual-in_err-append.ensures.1
+    (c.as_slice.ensures.value ∙ c.advance-body.ensures.bytes) c.in_err-append.ensures.broken
+    c.in_err-append.ensures.full)
+
+pub returns-in_err-append-clause-valid : goal.returns-in_err-append-clause-valid
+returns-in_err-append-clause-valid g c =
+    let it = c.args.self.now in
+    let r = advance_parts c.args.request.now in
+    valid_step g.H.TreeHash.hash (state_of it) (holding r.size r.root (state_of it))
+    (Advance r.size r.root r.proof) c.advance-body.ensures.fits (cosigner_records it)
+    (advance_refusal g.H.TreeHash.hash (state_of it) r) (cosigner_broken it) (cosigner_end it)
+    (advance_record r.size r.root r.proof) it.agrees
+    (advance_allowed g.H.TreeHash.hash (state_of it) r)
+
+pub invariant_of-self-2 : goal.invariant_of-self-2
+invariant_of-self-2 g c = record {
+  agrees = λ sound.
+      let it = c.args.self.now in
+      let r = advance_parts c.args.request.now in
+      let h = g.H.TreeHash.hash in
+      added h (state_of it) (holding r.size r.root (state_of it)) (Advance r.size r.root r.proof)
+      c.advance-body.ensures.fits (cosigner_records it) _ c.as_slice.result.now c.hold.new.self
+      c.in_ok-append.ensures.leaves.records
+      (c.as_slice.ensures.value ∙ c.advance-body.ensures.bytes) c.hold.ensures
+      (advance_allowed h (state_of it) r (none_of (advance_refusal h (state_of it) r)
+      c.in_ok-test_advance.ensures.exact))
+      (it.agrees c.in_ok-append.ensures.leaves.was_sound);
+}
+
+pub returns-clause-appends : goal.returns-clause-appends
+returns-clause-appends g c =
+    grown c.args.self.now _ c.as_slice.result.now _ _
+    (c.as_slice.ensures.value ∙ c.advance-body.ensures.bytes)
+    (record {
+      leaves = c.in_ok-append.ensures.leaves;
+      broken = c.in_ok-append.ensures.broken;
+      count = c.in_ok-append.ensures.count;
+      any_moment = c.in_ok-append.ensures.any_moment;
+      afterwards = c.in_ok-append.ensures.afterwards;
+    }) c.hold.ensures

@@ -1,0 +1,21 @@
+-- What a cosigner holds of its log, and what a consistency proof shows of it.
+use Rattle.std.specs.Prelude.{ℕ, ◌==◌, Bool, List, [], length, is_ok, if◌then◌else◌}
+use Rattle.byte_forms.specs.Types.{Hash, HashFunction}
+use Rattle.tree_proofs.specs.Consistency.{consistency}
+use Rattle.cosigner_core.specs.declared.checkpoint.Checkpoint.{Checkpoint}
+
+-- of no entries, whose tree hash is that of no bytes
+abbrev pub empty_checkpoint : HashFunction → Checkpoint
+empty_checkpoint h = record { size = 0; root = h [] }
+
+-- The entries that are held are the first ones of the log with this size and root, by this proof.
+-- Of no entries it is the proof of no hashes.
+abbrev pub is_front_of : HashFunction → Checkpoint → ℕ → Hash → List Hash → Bool
+is_front_of h held size root proof =
+    if held.size == 0 then length proof == 0
+    else is_ok (consistency h 0 held.size size held.root root proof)
+
+-- The hash is that of the subtree [start, end) of the entries that are held, by this proof.
+abbrev pub has_subtree : HashFunction → Checkpoint → ℕ → ℕ → Hash → List Hash → Bool
+has_subtree h held start end hash proof =
+    is_ok (consistency h start end held.size hash held.root proof)

@@ -1,0 +1,79 @@
+-- What the records of a journal make of a cosigner. The first one begins it, and each later one is
+-- an Advance or a Sign that its state allows.
+use Rattle.std.specs.Prelude.{ℕ, ◌+◌, ◌^◌, ◌==◌, ◌&&◌, nat_lt, List, Option, Some, None, option_map}
+use Rattle.std.specs.Prelude.{option_and_then, Result, if◌then◌else◌}
+use Rattle.byte_forms.specs.Types.{Hash, HashFunction, Text}
+use Rattle.journal_core.specs.Folds.{Fold, state_behind}
+use Rattle.hss_core.specs.Counted.{Counted}
+use Rattle.lms_core.specs.Heights.{height}
+use Rattle.lms_core.specs.Trees.{private_key}
+use Rattle.cosigner_core.specs.Checkpoints.{empty_checkpoint, has_subtree, is_front_of}
+use Rattle.cosigner_core.specs.Records.{Advance, Sign, Step, cosigner_in, step_in}
+use Rattle.cosigner_core.specs.declared.checkpoint.Checkpoint.{Checkpoint}
+use Rattle.cosigner_core.specs.declared.error.CosignerOpenError.{CosignerOpenError}
+use Rattle.cosigner_core.specs.declared.error.CosignerOpenError.TheVariants.{BadRecord, Open}
+use Rattle.cosigner_core.specs.declared.settings.CosignerSettings.{CosignerSettings}
+
+-- A cosigner: its id and that of its log, what it holds of the log, and its key, which counts.
+pub record CosignerState : Type 0 where
+  pub id : Text
+  pub log : Text
+  pub held : Checkpoint
+  pub key : Counted
+
+-- a new cosigner holds no entries, and no one-time key has signed
+abbrev pub new_cosigner : HashFunction → CosignerSettings → Text → CosignerState
+new_cosigner h s secret = record {
+  id = s.id;
+  log = s.log;
+  held = empty_checkpoint h;
+  key = record { key = private_key s.lms s.ots secret; next = 0 };
+}
+
+-- this checkpoint in place of the one that is held
+abbrev pub holding : ℕ → Hash → CosignerState → CosignerState
+holding size root s =
+    record { id = s.id; log = s.log; held = record { size = size; root = root }; key = s.key }
+
+-- the next one-time key has signed
+abbrev pub having_signed : CosignerState → CosignerState
+having_signed s = record {
+  id = s.id;
+  log = s.log;
+  held = s.held;
+  key = record { key = s.key.key; next = s.key.next + 1 };
+}
+
+-- how many one-time keys there are
+abbrev pub key_count : CosignerState → ℕ
+key_count s = 2 ^ height s.key.key.lms
+
+-- An Advance needs a larger size, and a proof that what is held is the front of that log. A Sign
+-- needs the number of the next one-time key, which is there, and a proof of the subtree in what is
+-- held.
+abbrev pub after_step : HashFunction → CosignerState → Step → Option CosignerState
+after_step h s (Advance size root proof) =
+    if nat_lt s.held.size size && is_front_of h s.held size root proof
+    then Some (holding size root s) else None
+after_step h s (Sign index start end hash proof) =
+    if (index == s.key.next) && (nat_lt index (key_count s) && has_subtree h s.held start end
+    hash proof)
+    then Some (having_signed s) else None
+
+-- the cosigner that a first record begins
+unfoldable pub begun : HashFunction → Text → Option CosignerState
+begun h body = option_map (λ x. new_cosigner h x.0 x.1) (cosigner_in body)
+
+-- the cosigner behind one record more, or none where the record breaks the rules
+unfoldable pub next_state : HashFunction → CosignerState → Text → Option CosignerState
+next_state h s body = option_and_then (after_step h s) (step_in body)
+
+-- A cosigner as a kind of journal.
+abbrev pub cosigner_fold : HashFunction → Fold CosignerState CosignerOpenError
+cosigner_fold h =
+    record { begins = begun h; takes = next_state h; bad_record = BadRecord; not_read = Open }
+
+-- The cosigner of a journal with these records, or the number of the first record that breaks the
+-- rules. Without a record the first one is missing.
+abbrev pub cosigner_of : HashFunction → List Text → Result CosignerState ℕ
+cosigner_of h list = state_behind (cosigner_fold h) list

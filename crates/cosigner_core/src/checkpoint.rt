@@ -1,0 +1,56 @@
+//! What a cosigner holds of its log.
+ghost use Rattle.std.specs.Prelude.{◌≡◌, ◌≤◌, true, length};
+ghost use Rattle.cosigner_core.specs.Checkpoints.{empty_checkpoint, has_subtree, is_front_of};
+
+use tree_core::TreeHash;
+use tree_proofs::check;
+
+/// The number of entries of a log at some time, and their tree hash.
+#[derive(Clone, Copy, Debug)]
+pub(crate) struct Checkpoint {
+    pub(crate) size: u64,
+    pub(crate) root: [u8; 32],
+}
+
+impl Checkpoint {
+    /// The checkpoint of a log without entries.
+    pub(crate) fn empty<H: TreeHash>() -> Checkpoint
+        ensures { result ≡ empty_checkpoint H.hash }
+    {
+        Checkpoint {
+            size: 0,
+            root: H::begin().end(),
+        }
+    }
+
+    /// The proof shows that these entries are the first ones of the log that has this size and
+    /// root. For no entries it is the proof of no hashes.
+    pub(crate) fn is_front_of<H: TreeHash>(
+        &self,
+        size: u64,
+        root: &[u8; 32],
+        proof: &[[u8; 32]],
+    ) -> bool
+        ensures exact { result ≡ is_front_of H.hash self.now size root.now proof.now }
+        ensures short { result ≡ true → length proof.now ≤ 65 }
+    {
+        if self.size == 0 {
+            return proof.is_empty();
+        }
+        check::<H>(0, self.size, size, &self.root, root, proof).is_ok()
+    }
+
+    /// The proof shows that this is the hash of a subtree of these entries.
+    pub(crate) fn has_subtree<H: TreeHash>(
+        &self,
+        start: u64,
+        end: u64,
+        hash: &[u8; 32],
+        proof: &[[u8; 32]],
+    ) -> bool
+        ensures exact { result ≡ has_subtree H.hash self.now start end hash.now proof.now }
+        ensures short { result ≡ true → length proof.now ≤ 65 }
+    {
+        check::<H>(start, end, self.size, hash, &self.root, proof).is_ok()
+    }
+}

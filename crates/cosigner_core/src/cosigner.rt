@@ -1,0 +1,186 @@
+//! A cosigner that is open for requests.
+ghost use Rattle.std.specs.Prelude.{◌≡◌, ◌<◌, ◌^◌, ◌++◌, [], ◌∷◌, length, false, None, Ok, IfSome, IfOk, IfErr, OnOk, OnErr};
+ghost use Rattle.std.proofs.Props.{props};
+ghost use Rattle.disk_core.specs.Moments.{Looks};
+ghost use Rattle.journal_core.specs.Format.{StandsFor, end_behind};
+ghost use Rattle.journal_core.specs.Words.{is_broken, records, AllStandFor};
+ghost use Rattle.hss_core.specs.Hss.{Verifies, one_level_public};
+ghost use Rattle.cosigner_core.specs.Folds.{cosigner_of, having_signed, holding};
+ghost use Rattle.cosigner_core.specs.Openings.{CountsNoOther, HasCauseOf, cosigner_read};
+ghost use Rattle.cosigner_core.specs.Records.{advance_record, sign_record};
+ghost use Rattle.cosigner_core.specs.Refusals.{KeepsTo, advance_refused, cosign_refused};
+ghost use Rattle.cosigner_core.specs.Signatures.{signature_by, signed_text};
+ghost use Rattle.cosigner_core.specs.Views.{advance_parts, subtree_parts};
+
+use crate::error::{CosignError, CosignerOpenError, hand_back};
+use crate::opening::read_signer;
+use crate::requests::{AdvanceRequest, SubtreeRequest};
+use crate::signer::Signer;
+use crate::step_record::StepRecord;
+use disk_core::Disk;
+use hss_core::{PUBLIC_KEY_LEN, SigBuf};
+use journal_core::{Journal, Opening, Refused};
+use std::alloc::Global;
+use std::marker::PhantomData;
+use tls_wire::AnchorId;
+use tree_core::TreeHash;
+
+/// A cosigner over the journal of its records: what it holds of its log, and its key, which counts.
+/// Unless an append has failed, they are what the records on the disk make. `H` is the hash
+/// function of the log's tree.
+#[derive(Drop)]
+pub struct Cosigner<H: TreeHash, D: Disk> {
+    journal: Journal<D>,
+    signer: Signer,
+    hash: PhantomData<H>,
+    ghost agrees: { is_broken journal ≡ false → IfSome (records journal)
+        (λ list. cosigner_of H.TreeHash.hash list ≡ Ok signer) } by { Prim.hlevel props },
+}
+
+impl<H: TreeHash, D: Disk> Cosigner<H, D> {
+    ghost use Rattle.cosigner_core.specs.Words.{cosigner_disk, cosigner_records, cosigner_end, cosigner_broken, state_of, CosignerAppends};
+
+    /// Opens the cosigner in a journal. Its records are read and tested one by one, and then its
+    /// key is made anew: the one-time keys that have signed by these records are used.
+    ///
+    /// Errors, of which the first that is met is answered: what [`Opening::begin`] and
+    /// [`Opening::next`] refuse; `BadRecord` at the first record that breaks the rules, or where
+    /// there is none; `Open(Memory)` for the key. The disk is handed back, and was only looked at.
+    pub fn open(alloc: Global, disk: D) -> Result<Cosigner<H, D>, Refused<D, CosignerOpenError>>
+        ensures sound { IfOk result (λ it. cosigner_broken it ≡ false) }
+        ensures looks { IfOk result (λ it. Looks D.Disk disk (cosigner_disk it)) }
+        ensures fine { IfOk result (λ it. D.faults (cosigner_disk it) ≡ D.faults disk) }
+        ensures found { IfOk result (λ it. IfSome (D.told disk) (λ b. IfSome (cosigner_records it)
+            (λ list. cosigner_read H.hash b
+            ≡ Ok (record { records = list; state = state_of it })))) }
+        ensures valid { IfOk result (λ it. IfSome (cosigner_records it)
+            (λ list. cosigner_of H.hash list ≡ Ok (state_of it))) }
+        ensures stands { IfOk result (λ it. IfSome (D.told (cosigner_disk it))
+            (λ b. IfSome (cosigner_records it) (StandsFor b))) }
+        ensures all { IfOk result
+            (λ it. IfSome (cosigner_records it) (AllStandFor D.Disk (cosigner_disk it))) }
+        ensures end { IfOk result (λ it. IfSome (cosigner_records it)
+            (λ list. cosigner_end it ≡ end_behind list)) }
+        ensures err { IfErr result (λ e. Looks D.Disk disk e.disk) }
+        ensures cause { IfErr result (λ e. HasCauseOf D.Disk H.hash disk e.disk e.why) }
+        ensures fine_err { IfErr result (λ e. CountsNoOther D.Disk disk e.disk e.why) }
+    {
+        let mut opening = match Opening::begin(alloc, disk) {
+            Ok(opening) => opening,
+            Err(Refused { disk, why }) => {
+                return Err(hand_back(disk, CosignerOpenError::Open(why)));
+            }
+        };
+        match read_signer::<H, D>(alloc, &mut opening) {
+            Ok(signer) => Ok(Cosigner {
+                journal: opening.ready(),
+                signer,
+                hash: PhantomData,
+            }),
+            Err(why) => Err(hand_back(opening.into_disk(), why)),
+        }
+    }
+
+    /// Holds the root of a larger log, where the proof shows that what is held is its front. At Ok
+    /// a crash leaves the records with the Advance; at any moment of the call it leaves the old
+    /// records, or these and that one.
+    ///
+    /// Errors, in the order of the tests: `WrongLog` where the request names another log;
+    /// `NotNewer` with the held size where the size isn't above it; `BadProof` where the
+    /// consistency proof does not check, or no log is held and the proof has hashes; and what
+    /// [`Journal::append`] refuses. A refusal leaves the cosigner as it was. After `Append(Failed)`
+    /// it shows what it showed before, and each further call that passes its tests answers
+    /// `Append(Broken)`. It takes no memory.
+    pub fn advance(&mut self, request: &AdvanceRequest<'_>) -> Result<(), CosignError>
+        ensures appends { CosignerAppends
+            (advance_record request.now.size request.now.root request.now.proof.now)
+            (holding request.now.size request.now.root (state_of self.old))
+            self.old self.new result }
+        ensures answer { KeepsTo (advance_refused H.hash (state_of self.old)
+            (cosigner_broken self.old) (cosigner_end self.old) (advance_parts request.now))
+            result }
+        ensures valid { advance_refused H.hash (state_of self.old) (cosigner_broken self.old)
+            (cosigner_end self.old) (advance_parts request.now) ≡ None
+            → IfSome (cosigner_records self.old) (λ list. cosigner_of H.hash (list
+            ++ advance_record request.now.size request.now.root request.now.proof.now ∷ [])
+            ≡ Ok (holding request.now.size request.now.root (state_of self.old))) }
+    {
+        self.signer.test_advance::<H>(request)?;
+        let body = StepRecord::advance(request.size, &request.root, request.proof);
+        self.journal.append(body.as_slice())?;
+        self.signer.hold(request.size, &request.root);
+        Ok(())
+    }
+
+    /// Signs a subtree of the log that is held, by the next one-time key: the signature is the
+    /// whole of `out`. It is made once every image of the disk holds the Sign record with the
+    /// number of that key: at Ok a crash leaves the records with it; at any moment of the call it
+    /// leaves the old records, or these and that one. So no one-time key signs twice.
+    ///
+    /// Errors, in the order of the tests: `WrongLog` where the request names another log;
+    /// `BadSubtree` where the interval is no subtree; `Beyond` with the held size where the subtree
+    /// ends above it; `BadProof` where the consistency proof does not check; `Exhausted` where each
+    /// one-time key has signed; and what [`Journal::append`] refuses. After each of them `out` is
+    /// empty, and the cosigner is as it was. After `Append(Failed)` it shows what it showed before,
+    /// and each further call that passes its tests answers `Append(Broken)`. It takes no memory.
+    pub fn cosign(
+        &mut self,
+        request: &SubtreeRequest<'_>,
+        out: &mut SigBuf,
+    ) -> Result<(), CosignError>
+        ensures appends { CosignerAppends
+            (sign_record (state_of self.old).key.next request.now.start request.now.end
+            request.now.hash request.now.proof.now)
+            (having_signed (state_of self.old)) self.old self.new result }
+        ensures answer { KeepsTo (cosign_refused H.hash (state_of self.old)
+            (cosigner_broken self.old) (cosigner_end self.old) (subtree_parts request.now))
+            result }
+        ensures valid { cosign_refused H.hash (state_of self.old) (cosigner_broken self.old)
+            (cosigner_end self.old) (subtree_parts request.now) ≡ None
+            → IfSome (cosigner_records self.old) (λ list. cosigner_of H.hash (list
+            ++ sign_record (state_of self.old).key.next request.now.start request.now.end
+            request.now.hash request.now.proof.now ∷ [])
+            ≡ Ok (having_signed (state_of self.old))) }
+        ensures signature { OnOk result (out.new ≡ signature_by (state_of self.old)
+            request.now.start request.now.end request.now.hash) }
+        ensures verifies { OnOk result (Verifies (one_level_public (state_of self.old).key.key)
+            (signed_text (state_of self.old) request.now.start request.now.end request.now.hash)
+            out.new) }
+        ensures short { OnOk result (length out.new < 2 ^ 14) }
+        ensures nothing { OnErr result (out.new ≡ []) }
+    {
+        out.clear();
+        self.signer.test_subtree::<H>(request)?;
+        let body = self.signer.record_of(request);
+        self.journal.append(body.as_slice())?;
+        self.signer
+            .sign(request.start, request.end, &request.hash, out);
+        Ok(())
+    }
+
+    /// The size of the log that is held, and its root.
+    pub fn held(&self) -> (u64, [u8; 32])
+        ensures { result ≡ ((state_of self.now).held.size, (state_of self.now).held.root) }
+    {
+        self.signer.held()
+    }
+
+    /// The public key of its signatures (RFC 8554, section 6.1).
+    pub fn public(&self) -> [u8; PUBLIC_KEY_LEN]
+        ensures { result ≡ one_level_public (state_of self.now).key.key }
+    {
+        self.signer.public()
+    }
+
+    pub fn id(&self) -> &AnchorId
+        ensures { result.now ≡ (state_of self.now).id }
+    {
+        self.signer.id()
+    }
+
+    pub fn into_disk(self) -> D
+        ensures { result ≡ cosigner_disk self }
+    {
+        self.journal.into_disk()
+    }
+}

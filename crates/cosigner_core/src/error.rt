@@ -1,0 +1,99 @@
+//! What the calls of a cosigner refuse.
+ghost use Rattle.std.specs.Prelude.{◌≡◌};
+ghost use Rattle.cosigner_core.specs.declared.error.CosignError.TheVariants.{Append as NotAppended};
+ghost use Rattle.cosigner_core.specs.declared.error.RecordError.TheVariants.{Unfit, Memory as RecordMemory};
+ghost use Rattle.cosigner_core.specs.Faults.{of_id};
+
+use crate::fault::FormError;
+use journal_core::{AppendError, OpenError, Refused};
+use mtc_io::Memory;
+use tls_wire::{AnchorBytesError, Short};
+
+pub(crate) fn hand_back<D>(disk: D, why: CosignerOpenError) -> Refused<D, CosignerOpenError>
+    ensures disk { result.disk ≡ disk }
+    ensures why { result.why ≡ why }
+{
+    Refused { disk, why }
+}
+
+/// Why a file is not opened as a cosigner's. The records are read and tested one by one, and the
+/// first fault is answered.
+#[derive(Clone, Copy, Debug, PartialEq, Eq)]
+pub enum CosignerOpenError {
+    /// The record of this number, counted from 0, breaks the rules of a cosigner's records, or
+    /// there is no record.
+    BadRecord(u64),
+    /// The file is not read as a journal. The disk may have failed, or memory was refused.
+    Open(OpenError),
+}
+
+/// What a cosigner refuses. Each call says in which order it tests.
+#[derive(Clone, Copy, Debug, PartialEq, Eq)]
+pub enum CosignError {
+    /// The request names another log.
+    WrongLog,
+    /// The log is not larger than this, the size that is held.
+    NotNewer(u64),
+    /// The interval is no subtree.
+    BadSubtree,
+    /// The subtree ends behind this, the size that is held.
+    Beyond(u64),
+    /// The consistency proof does not check.
+    BadProof,
+    /// Each one-time key of the cosigner has signed.
+    Exhausted,
+    /// The record was not appended.
+    Append(AppendError),
+}
+
+/// Why a record is not taken.
+#[derive(Clone, Copy, Debug, PartialEq, Eq)]
+pub(crate) enum RecordError {
+    /// It breaks the rules.
+    Unfit,
+    /// Memory was refused.
+    Memory,
+}
+
+impl From<AppendError> for CosignError {
+    ghost from_gives = { λ why e. e ≡ NotAppended why };
+
+    fn from(why: AppendError) -> Self {
+        CosignError::Append(why)
+    }
+}
+
+impl From<Memory> for RecordError {
+    ghost from_gives = { λ _ e. e ≡ RecordMemory };
+
+    fn from(_: Memory) -> Self {
+        RecordError::Memory
+    }
+}
+
+impl From<Short> for RecordError {
+    ghost from_gives = { λ _ e. e ≡ Unfit };
+
+    fn from(_: Short) -> Self {
+        RecordError::Unfit
+    }
+}
+
+impl From<FormError> for RecordError {
+    ghost from_gives = { λ _ e. e ≡ Unfit };
+
+    fn from(_: FormError) -> Self {
+        RecordError::Unfit
+    }
+}
+
+impl From<AnchorBytesError> for RecordError {
+    ghost from_gives = { λ fault e. e ≡ of_id fault };
+
+    fn from(fault: AnchorBytesError) -> Self {
+        match fault {
+            AnchorBytesError::Memory => RecordError::Memory,
+            _ => RecordError::Unfit,
+        }
+    }
+}

@@ -1,0 +1,183 @@
+//! Reading the bodies of a cosigner's records.
+ghost use Rattle.std.specs.Prelude.{◌≡◌, ◌≤◌, option_map, option_and_then, IfSome, IfOk};
+ghost use Rattle.byte_forms.specs.Readings.{Moves};
+ghost use Rattle.lms_core.specs.Heights.{height};
+ghost use Rattle.tls_wire.specs.Reading.{bytes_at};
+ghost use Rattle.cosigner_core.specs.Records.{advance_step_at, cosigner_at, cosigner_in, founded, settings_with, sign_step_at, signing_type, step_in, advance_of, sign_of, whole_of};
+ghost use Rattle.cosigner_core.specs.Results.{Finds};
+ghost use Rattle.cosigner_core.specs.Views.{step_said};
+
+use crate::error::RecordError;
+use crate::fault::FormError;
+use crate::settings::CosignerSettings;
+use crate::step::Step;
+use hss_core::{LmsType, OtsType};
+use std::alloc::Global;
+use tls_wire::{AnchorId, Cursor, Short};
+
+pub(crate) const COSIGNER: u8 = 0x11;
+
+pub(crate) const ADVANCE: u8 = 0x12;
+
+pub(crate) const SIGN: u8 = 0x13;
+
+// The secret of a key.
+fn secret(cursor: &mut Cursor<'_>) -> Result<[u8; 48], Short>
+    ensures { Moves (λ secret. secret) (bytes_at 48) cursor.old result cursor.new }
+{
+    let bytes = cursor.bytes(48)?;
+    let mut secret = [0; 48];
+    secret.copy_from_slice(bytes);
+    Ok(secret)
+}
+
+// The two ids, the two typecodes and the secret behind the tag, in their order.
+#[tactic(auto, unfolding(crate::specs::Records::cosigner_at))]
+fn cosigner_fields<'a>(
+    cursor: &mut Cursor<'a>,
+) -> Result<(&'a [u8], &'a [u8], u32, u32, [u8; 48]), Short>
+    ensures { Moves (λ x. (x.0.now, (x.1.now, (x.2, (x.3, x.4))))) cosigner_at cursor.old
+        result cursor.new }
+{
+    let id = cursor.vec8()?;
+    let log = cursor.vec8()?;
+    let lms = cursor.u32()?;
+    let ots = cursor.u32()?;
+    let secret = secret(cursor)?;
+    Ok((id, log, lms, ots, secret))
+}
+
+// The size, the root and the proof behind the tag of an Advance.
+#[tactic(auto, unfolding(crate::specs::Records::advance_step_at))]
+fn advance_fields<'a>(cursor: &mut Cursor<'a>) -> Result<(u64, [u8; 32], &'a [[u8; 32]]), FormError>
+    ensures { Moves (λ x. (x.0, (x.1, x.2.now))) advance_step_at cursor.old result cursor.new }
+{
+    let size = cursor.u64()?;
+    let root = *cursor.hash()?;
+    let proof = cursor.hashes()?;
+    Ok((size, root, proof))
+}
+
+// The number of the one-time key, the interval, the hash and the proof behind the tag of a Sign.
+#[tactic(auto, unfolding(crate::specs::Records::sign_step_at))]
+fn sign_fields<'a>(
+    cursor: &mut Cursor<'a>,
+) -> Result<(u32, u64, u64, [u8; 32], &'a [[u8; 32]]), FormError>
+    ensures { Moves (λ x. (x.0, (x.1, (x.2, (x.3, x.4.now))))) sign_step_at cursor.old result
+        cursor.new }
+{
+    let index = cursor.u32()?;
+    let start = cursor.u64()?;
+    let end = cursor.u64()?;
+    let hash = *cursor.hash()?;
+    let proof = cursor.hashes()?;
+    Ok((index, start, end, hash, proof))
+}
+
+// An Advance that ends where the record does.
+fn advance_step(mut cursor: Cursor<'_>) -> Result<Step<'_>, RecordError>
+    ensures { Finds step_said (option_map advance_of (whole_of (advance_step_at cursor.entry)))
+        result }
+{
+    let (size, root, proof) = advance_fields(&mut cursor)?;
+    if cursor.left() != 0 {
+        return Err(RecordError::Unfit);
+    }
+    Ok(Step::Advance { size, root, proof })
+}
+
+// A Sign that ends where the record does.
+fn sign_step(mut cursor: Cursor<'_>) -> Result<Step<'_>, RecordError>
+    ensures { Finds step_said (option_map sign_of (whole_of (sign_step_at cursor.entry))) result }
+{
+    let (index, start, end, hash, proof) = sign_fields(&mut cursor)?;
+    if cursor.left() != 0 {
+        return Err(RecordError::Unfit);
+    }
+    Ok(Step::Sign {
+        index,
+        start,
+        end,
+        hash,
+        proof,
+    })
+}
+
+/// What an Advance or a Sign says, in the body of a record behind the first one.
+#[tactic(auto, unfolding(crate::specs::Records::step_in))]
+pub(crate) fn read_step(body: &[u8]) -> Result<Step<'_>, RecordError>
+    ensures { Finds step_said (step_in body.now) result }
+{
+    let mut cursor = Cursor::new(body);
+    match cursor.u8()? {
+        ADVANCE => advance_step(cursor),
+        SIGN => sign_step(cursor),
+        _ => Err(RecordError::Unfit),
+    }
+}
+
+// The height that a typecode names, where a key of that height signs.
+fn signing_type(code: u32) -> Option<LmsType>
+    ensures exact { result ≡ signing_type code }
+    ensures small { IfSome result (λ lms. height lms ≤ 10) }
+{
+    match code {
+        5 => Some(LmsType::H5),
+        6 => Some(LmsType::H10),
+        _ => None,
+    }
+}
+
+fn settings_with(
+    alloc: Global,
+    id: &[u8],
+    log: &[u8],
+    lms: u32,
+    ots: u32,
+) -> Result<CosignerSettings, RecordError>
+    ensures found { Finds (λ s. s) (settings_with id.now log.now lms ots) result }
+    ensures small { IfOk result (λ s. height s.lms ≤ 10) }
+{
+    let Some(lms) = signing_type(lms) else {
+        return Err(RecordError::Unfit);
+    };
+    let Some(ots) = OtsType::from_typecode(ots) else {
+        return Err(RecordError::Unfit);
+    };
+    let id = AnchorId::from_bytes(alloc, id)?;
+    let log = AnchorId::from_bytes(alloc, log)?;
+    Ok(CosignerSettings { id, log, lms, ots })
+}
+
+// The settings and the secret behind the tag of a Cosigner, where nothing else stands there.
+fn founded(
+    alloc: Global,
+    mut cursor: Cursor<'_>,
+) -> Result<(CosignerSettings, [u8; 48]), RecordError>
+    ensures found { Finds (λ x. x) (option_and_then founded (whole_of (cosigner_at cursor.entry)))
+        result }
+    ensures small { IfOk result (λ x. height x.0.lms ≤ 10) }
+{
+    let (id, log, lms, ots, secret) = cosigner_fields(&mut cursor)?;
+    if cursor.left() != 0 {
+        return Err(RecordError::Unfit);
+    }
+    let settings = settings_with(alloc, id, log, lms, ots)?;
+    Ok((settings, secret))
+}
+
+/// The settings and the secret in the body of a Cosigner, the first record of a journal.
+#[tactic(auto, unfolding(crate::specs::Records::cosigner_in))]
+pub(crate) fn read_settings(
+    alloc: Global,
+    body: &[u8],
+) -> Result<(CosignerSettings, [u8; 48]), RecordError>
+    ensures found { Finds (λ x. x) (cosigner_in body.now) result }
+    ensures small { IfOk result (λ x. height x.0.lms ≤ 10) }
+{
+    let mut cursor = Cursor::new(body);
+    if cursor.u8()? != COSIGNER {
+        return Err(RecordError::Unfit);
+    }
+    founded(alloc, cursor)
+}

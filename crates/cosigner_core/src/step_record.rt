@@ -1,0 +1,133 @@
+//! The bodies of records, as they are written.
+ghost use Rattle.std.specs.Prelude.{◌≡◌, ◌+◌, ◌*◌, ◌≤◌, ◌++◌, [], length, IfOk};
+ghost use Rattle.lms_core.specs.Heights.{height};
+ghost use Rattle.tls_wire.specs.Spelling.{hashes};
+ghost use Rattle.cosigner_core.specs.Records.{FitsAdvance, FitsCosigner, FitsSign, advance_record, cosigner_record, sign_record};
+
+use crate::record::{ADVANCE, COSIGNER, SIGN};
+use crate::settings::CosignerSettings;
+use mtc_io::{Bytes, Memory};
+use std::alloc::Global;
+use std::marker::Model;
+use tls_wire::{put_bytes, put_u8, put_u32, put_vec8};
+
+// The bytes of a Sign whose proof has 65 hashes: no proof that checks has more.
+const CAPACITY: usize = 2_135;
+
+/// The body of an Advance or a Sign in the making. It lies where it is declared and takes no memory
+/// of its own.
+#[derive(Drop)]
+pub(crate) struct StepRecord {
+    bytes: [u8; CAPACITY],
+    length: usize,
+}
+
+impl Model for StepRecord {
+    ghost use Rattle.std.specs.Prelude.{List, ℕ, take, ◌≤◌};
+
+    ghost Value = { List ℕ };
+
+    ghost view = { λ s. take s.length s.bytes };
+
+    ghost invariant = { λ s. s.length ≤ 2135 };
+}
+
+impl StepRecord {
+    fn new() -> StepRecord
+        ensures { result ≡ [] }
+    {
+        StepRecord {
+            bytes: [0; CAPACITY],
+            length: 0,
+        }
+    }
+
+    /// The body of an Advance. A proof that checks has at most 65 hashes.
+    #[tactic(auto, unfolding(crate::specs::Records::advance_record))]
+    pub(crate) fn advance(size: u64, root: &[u8; 32], proof: &[[u8; 32]]) -> StepRecord
+        requires { length proof.now ≤ 65 }
+        ensures bytes { result ≡ advance_record size root.now proof.now }
+        ensures fits { FitsAdvance size root.now proof.now }
+    {
+        let mut body = StepRecord::new();
+        body.append(&[ADVANCE]);
+        body.append(&size.to_be_bytes());
+        body.append(root);
+        body.append_hashes(proof);
+        body
+    }
+
+    /// The body of a Sign. A proof that checks has at most 65 hashes.
+    #[tactic(auto, unfolding(crate::specs::Records::sign_record))]
+    pub(crate) fn sign(
+        index: u32,
+        start: u64,
+        end: u64,
+        hash: &[u8; 32],
+        proof: &[[u8; 32]],
+    ) -> StepRecord
+        requires { length proof.now ≤ 65 }
+        ensures bytes { result ≡ sign_record index start end hash.now proof.now }
+        ensures fits { FitsSign index start end hash.now proof.now }
+    {
+        let mut body = StepRecord::new();
+        body.append(&[SIGN]);
+        body.append(&index.to_be_bytes());
+        body.append(&start.to_be_bytes());
+        body.append(&end.to_be_bytes());
+        body.append(hash);
+        body.append_hashes(proof);
+        body
+    }
+
+    pub(crate) fn as_slice(&self) -> &[u8]
+        ensures value { result.now ≡ self.now }
+        ensures few { length result.now ≤ 2135 }
+    {
+        &self.bytes[..self.length]
+    }
+
+    // Puts a piece behind the bytes so far.
+    fn append(&mut self, piece: &[u8])
+        requires { length self.old + length piece.now ≤ 2135 }
+        ensures { self.new ≡ self.old ++ piece.now }
+    {
+        let end = self.length + piece.len();
+        self.bytes[self.length..end].copy_from_slice(piece);
+        self.length = end;
+    }
+
+    // Puts hashes behind the bytes so far, behind their length in bytes.
+    fn append_hashes(&mut self, items: &[[u8; 32]])
+        requires few { length items.now ≤ 65 }
+        requires room { length self.old + 2 + 32 * length items.now ≤ 2135 }
+        ensures { self.new ≡ self.old ++ hashes items.now }
+    {
+        let bytes = items.as_flattened();
+        self.append(&(bytes.len() as u16).to_be_bytes());
+        self.append(bytes);
+    }
+}
+
+/// The body of a Cosigner.
+#[tactic(auto, unfolding(crate::specs::Records::cosigner_record))]
+pub(crate) fn cosigner_record(
+    alloc: Global,
+    settings: &CosignerSettings,
+    secret: &[u8; 48],
+) -> Result<Bytes, Memory>
+    requires { height settings.now.lms ≤ 10 }
+    ensures value { IfOk result (λ body. body ≡ cosigner_record settings.now secret.now) }
+    ensures fits { FitsCosigner settings.now secret.now }
+{
+    let id = settings.id.as_bytes();
+    let log = settings.log.as_bytes();
+    let mut body = Bytes::new(alloc);
+    put_u8(&mut body, COSIGNER)?;
+    put_vec8(&mut body, id)?;
+    put_vec8(&mut body, log)?;
+    put_u32(&mut body, settings.lms.typecode())?;
+    put_u32(&mut body, settings.ots.typecode())?;
+    put_bytes(&mut body, secret)?;
+    Ok(body)
+}
