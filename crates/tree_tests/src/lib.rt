@@ -1,10 +1,12 @@
-//! Tests of trees, of proofs in certificates and of requests to cosigners.
+//! Tests of trees, of landmarks, of proofs in certificates and of requests to cosigners.
 #![tactic(auto)]
 
 #[cfg(test)]
 mod hashing;
 #[cfg(test)]
 mod known;
+#[cfg(test)]
+mod marking;
 #[cfg(test)]
 mod proving;
 #[cfg(test)]

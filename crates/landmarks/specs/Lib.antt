@@ -1,0 +1,3 @@
+pub mod Landmarks
+pub mod Texts
+pub mod Views
