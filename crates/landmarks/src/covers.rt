@@ -18,7 +18,8 @@ pub fn active(l: &Landmarks) -> Span
     }
 }
 
-/// The subtrees of an active landmark: those that cover the entries behind the landmark before it.
+/// The subtrees of an active landmark: those that cover the entries behind the landmark before it,
+/// up to its own size.
 pub fn subtrees(l: &Landmarks, number: u64) -> Cover
     requires { IsActive l.now number }
     ensures exact { result ≡ subtrees_of l.now number }

@@ -124,7 +124,8 @@ fn newest_from_zero(alloc: Global, marks: &[u64], most: usize) -> Result<Vec<u64
 }
 
 /// The landmarks of a log that was marked at these sizes, of which at most `max_active` are active:
-/// landmark 0 at size 0, and landmark i at the size `marks[i - 1]`.
+/// landmark 0 at size 0, and landmark i at the size `marks[i - 1]`. The sizes rise from above 0,
+/// and are below 2^63.
 #[tactic(auto, unfolding(crate::specs::Landmarks::landmarks_of))]
 pub fn of_marks(alloc: Global, marks: &[u64], max_active: u32) -> Result<Landmarks, Memory>
     requires rise { IsStrictlyIncreasing (0 ∷ marks.now) }
