@@ -1,12 +1,37 @@
--- What an answer means: the status, and what goes to standard output and to standard error.
-use Rattle.std.specs.Prelude.{◌≡◌, ◌⊎◌, ℕ, List, []}
+-- How a command ends: with a reply or without one; and what a reply means: the status, and what
+-- goes to standard output and to standard error.
+use Rattle.std.specs.Prelude.{◌≡◌, ◌⊎◌, ℕ, List, [], ◌++◌, codes, Option, None, Some, option_map}
+use Rattle.std.specs.Prelude.{Result, Ok, Err}
+use Rattle.std.specs.Fmt.{decimal}
+use Rattle.mtc_answers.specs.Lines.{line_of}
 use Rattle.mtc_answers.specs.declared.answer.Said.{Said}
 use Rattle.mtc_answers.specs.declared.answer.Said.TheVariants.{Done, Against}
 use Rattle.mtc_answers.specs.declared.answer.Stopped.{Stopped}
-use Rattle.mtc_answers.specs.declared.answer.Stopped.TheVariants.{BadWords, BadForm, Refused}
+use Rattle.mtc_answers.specs.declared.answer.Stopped.TheVariants.{BadWords, BadForm}
+use Rattle.mtc_answers.specs.declared.answer.Stopped.TheVariants.{Refused as NotAllowed}
 use Rattle.mtc_answers.specs.declared.answer.Stopped.TheVariants.{Missing, Beyond}
 use Rattle.mtc_answers.specs.declared.answer.Answer.{Answer}
-use Rattle.mtc_answers.specs.declared.answer.Answer.TheVariants.{Says, Stops}
+use Rattle.mtc_answers.specs.declared.answer.More.{More}
+use Rattle.mtc_answers.specs.declared.answer.More.TheVariants.{Nothing, Name, Number, Numbers}
+use Rattle.mtc_answers.specs.declared.answer.Reason.{Reason}
+use Rattle.mtc_answers.specs.declared.answer.Refusal.{Refusal}
+use Rattle.mtc_answers.specs.declared.answer.Stop.{Stop}
+use Rattle.mtc_answers.specs.declared.answer.Stop.TheVariants.{Refused, Room, Memory}
+
+-- What a command replies.
+pub data Reply : Type 0 where
+  -- It did its work or judged, and this goes to standard output.
+  said : Said → List ℕ → Reply
+  -- It is refused: why, the file that the refusal is about, and the reason.
+  refused : Stopped → Option (List ℕ) → List ℕ → Reply
+
+-- How a command ends.
+pub data Ending : Type 0 where
+  replied : Reply → Ending
+  -- The room, or an object that it lent, failed at this file.
+  room_failed : List ℕ → Ending
+  -- Memory was refused.
+  no_memory : Ending
 
 abbrev pub said_code : Said → ℕ
 said_code Done = 0
@@ -15,26 +40,55 @@ said_code Against = 3
 abbrev pub stopped_code : Stopped → ℕ
 stopped_code BadWords = 1
 stopped_code BadForm = 2
-stopped_code Refused = 4
+stopped_code NotAllowed = 4
 stopped_code Missing = 7
 stopped_code Beyond = 9
 
 -- The status.
-abbrev pub status_of : Answer → ℕ
-status_of (Says status text) = said_code status
-status_of (Stops why line) = stopped_code why
+abbrev pub status_of : Reply → ℕ
+status_of (said status text) = said_code status
+status_of (refused why file reason) = stopped_code why
 
 -- What goes to standard output.
-abbrev pub out_of : Answer → List ℕ
-out_of (Says status text) = text
-out_of (Stops why line) = []
+abbrev pub out_of : Reply → List ℕ
+out_of (said status text) = text
+out_of (refused why file reason) = []
 
--- What goes to standard error.
-abbrev pub err_of : Answer → List ℕ
-err_of (Says status text) = []
-err_of (Stops why line) = line
+-- What goes to standard error, where the words begin with this command.
+abbrev pub err_of : List ℕ → Reply → List ℕ
+err_of command (said status text) = []
+err_of command (refused why file reason) = line_of command file reason
 
 -- The statuses of a command that may not have opened its journal.
 abbrev pub IsEarly : ℕ → Type 0
 IsEarly status =
     (status ≡ 1) ⊎ ((status ≡ 2) ⊎ ((status ≡ 5) ⊎ ((status ≡ 7) ⊎ ((status ≡ 8) ⊎ (status ≡ 9)))))
+
+-- It is so of the reply, where there is one.
+abbrev pub IfReply : Ending → (Reply → Type 0) → Type 0
+IfReply (replied reply) P = P reply
+IfReply (room_failed file) P = Unit {0}
+IfReply no_memory P = Unit {0}
+
+-- The text of a reason: its name, and what stands behind it.
+abbrev pub more_text : More → List ℕ
+more_text Nothing = []
+more_text (Name name) = codes " " ++ name.now
+more_text (Number number) = codes " " ++ decimal number
+more_text (Numbers first second) = codes " " ++ (decimal first ++ (codes " " ++ decimal second))
+
+abbrev pub reason_text : Reason → List ℕ
+reason_text reason = reason.name.now ++ more_text reason.more
+
+-- What the program's values say.
+abbrev pub refusal_reply : Refusal → Reply
+refusal_reply r = refused r.why (option_map (λ file. file.now) r.file) (reason_text r.reason)
+
+abbrev pub end_of : Stop → Ending
+end_of (Refused refusal) = replied (refusal_reply refusal)
+end_of (Room file) = room_failed file.now
+end_of Memory = no_memory
+
+abbrev pub ending_of : Result Answer Stop → Ending
+ending_of (Ok answer) = replied (said answer.status answer.text)
+ending_of (Err stop) = end_of stop

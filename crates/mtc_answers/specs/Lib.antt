@@ -1,6 +1,7 @@
-pub mod Answers
 pub mod Lines
+pub mod Answers
+pub mod Wanted
 pub mod Made
-pub mod Settled
+pub mod Endings
 pub mod Steps
 pub mod Served

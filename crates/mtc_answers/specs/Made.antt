@@ -1,7 +1,7 @@
 -- What a command leaves of its journal: the images that a crash may leave of it now, and since the
 -- call began.
 use Rattle.std.specs.Prelude.{◌≡◌, ◌⊎◌, ◌≤◌, ℕ, List, [], ◌∷◌, ◌++◌, Option, None, Some}
-use Rattle.disk_core.specs.Moments.{LeavesOnly}
+use Rattle.disk_core.specs.Moments.{LeavesOnly, Looks}
 use Rattle.disk_core.specs.declared.disk.Disk.{Ghosts}
 use Rattle.journal_core.specs.Format.{StandsFor, StandsForEither}
 use Rattle.journal_core.specs.Words.{AllStandFor}
@@ -101,9 +101,14 @@ module _ {D : Type 0} (g : Ghosts D) where
     pub stands : StandsFor bytes list
     pub all : AllStandFor g mid list
 
+  -- The work looked at the device, or made no call of it.
+  abbrev pub OnlyLooks : D → D → Type 0
+  OnlyLooks mid new = (new ≡ mid) ⊎ Looks g mid new
+
+  -- What the work behind the opening makes of the device, and what it may where the device failed.
   abbrev pub Adds : Journaled → D → D → Type 0
   Adds untouched mid new = ⊥
-  Adds (reads list) mid new = IsOpen mid list × (new ≡ mid)
+  Adds (reads list) mid new = IsOpen mid list × OnlyLooks mid new
   Adds (appended list body) mid new =
       IsOpen mid list × LeavesOnly g mid new (StandsForEither list body)
       × AllStandFor g new (list ++ body ∷ [])
@@ -111,7 +116,7 @@ module _ {D : Type 0} (g : Ghosts D) where
 
   abbrev pub MayAdd : Journaled → D → D → Type 0
   MayAdd untouched mid new = ⊥
-  MayAdd (reads list) mid new = ⊥
+  MayAdd (reads list) mid new = IsOpen mid list × OnlyLooks mid new
   MayAdd (appended list body) mid new = IsOpen mid list
       × LeavesOnly g mid new (StandsForEither list body)
       × ((c : List ℕ) → g.may_leave new c → StandsForEither list body c)

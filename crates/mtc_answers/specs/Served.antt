@@ -1,17 +1,14 @@
 -- What a command leaves of a room, and how it ends.
-use Rattle.std.specs.Prelude.{◌≡◌, ◌≢◌, ◌≤◌, ℕ, List, [], ◌∷◌, None, Result, Ok, Err, IfOk, IfErr}
-use Rattle.std.specs.Prelude.{IsOk}
+use Rattle.std.specs.Prelude.{◌≡◌, ◌≢◌, ◌≤◌, ℕ, List, [], ◌∷◌, None}
 use Rattle.disk_core.specs.declared.disk.Disk.{Ghosts as Disks}
 use Rattle.mtc_io.specs.Counts.{Rose}
 use Rattle.mtc_room.specs.Room.{Stays}
 use Rattle.mtc_room.specs.declared.room.Room.{Ghosts as Rooms}
-use Rattle.mtc_answers.specs.Answers.{status_of, IsEarly}
-use Rattle.mtc_answers.specs.Made.{Journaled, IsOnOld, HasMade, Leaves, Leaving, untouched}
-use Rattle.mtc_answers.specs.Settled.{FailedOnly, LeftBy}
+use Rattle.mtc_answers.specs.Answers.{Ending, no_memory, IfReply, status_of, IsEarly}
+use Rattle.mtc_answers.specs.Made.{Journaled, IsOnOld, Leaves, Leaving, untouched}
+use Rattle.mtc_answers.specs.Endings.{FailedOnly, LeftBy, RepliesToBadWords}
 use Rattle.mtc_answers.specs.Steps.{Outcome}
-use Rattle.mtc_answers.specs.declared.answer.Answer.{Answer}
-use Rattle.mtc_answers.specs.declared.answer.Stop.{Stop}
-use Rattle.mtc_answers.specs.declared.answer.Stop.TheVariants.{Memory}
+use Rattle.mtc_answers.specs.Wanted.{Meets}
 
 -- The journals that a command works on, each by its name, and what it does with it.
 abbrev pub Journals : Type 0
@@ -22,51 +19,82 @@ abbrev pub OfEach : (List ℕ → Journaled → Type 0) → Journals → Type 0
 OfEach P [] = Unit {0}
 OfEach P (journal ∷ rest) = P journal.0 journal.1 × OfEach P rest
 
--- The answer is the one to words that are no command, unless memory was refused.
-abbrev pub AnswersBadWords : Outcome → Result Answer Stop → Type 0
-AnswersBadWords wanted (Ok answer) = (answer ≡ wanted.answer) × (status_of answer ≡ 1)
-AnswersBadWords wanted (Err stop) = stop ≡ Memory
+-- What is done with each journal of these names, in their order. One of which nothing is said isn't
+-- opened.
+abbrev pub first_of : List Journaled → Journaled
+first_of [] = untouched
+first_of (did ∷ rest) = did
 
--- Each journal has left this, where the room tells its files.
-abbrev pub LeavesEach : {R S D : Type 0} → Rooms R S D → Disks D → R → R → Journals
-    → (Journaled → Leaving) → Type 0
-LeavesEach rooms disks old new journals How = rooms.tells old
-    → OfEach (λ name did. Leaves disks (How did) (rooms.device old name) (rooms.device new name))
-    journals
+abbrev pub rest_of : List Journaled → List Journaled
+rest_of [] = []
+rest_of (did ∷ rest) = rest
+
+abbrev pub done_with : List (List ℕ) → List Journaled → Journals
+done_with [] dids = []
+done_with (name ∷ names) dids = (name, first_of dids) ∷ done_with names (rest_of dids)
+
+-- The name is none of these.
+abbrev pub IsOther : List (List ℕ) → List ℕ → Type 0
+IsOther [] name = Unit {0}
+IsOther (other ∷ others) name = (name ≢ other) × IsOther others name
+
+module _ {R S D : Type 0} (rooms : Rooms R S D) (old new : R) where
+  -- All that was lent is given back, the room's count of faults hasn't fallen, and each file that
+  -- is no journal of these names stays.
+  pub record GivesBack (names : List (List ℕ)) : Type 0 where
+    pub lent : rooms.lent new ≡ rooms.lent old
+    pub later : rooms.faults old ≤ rooms.faults new
+    pub tells : rooms.tells old → rooms.tells new
+    pub others : (name : List ℕ) → IsOther names name
+        → Stays (rooms.file old) (rooms.file new) (rooms.device old) (rooms.device new) name
+
+  -- No file of this name is made.
+  abbrev pub IsUnmade : List ℕ → Type 0
+  IsUnmade name = rooms.file old name ≡ None → rooms.file new name ≡ None
+
+module _ {R S D : Type 0} (rooms : Rooms R S D) (disks : Disks D) (old new : R) where
+  -- Each journal has left this.
+  abbrev pub LeavesEach : Journals → (Journaled → Leaving) → Type 0
+  LeavesEach journals How =
+      OfEach (λ name did. Leaves disks (How did) (rooms.device old name) (rooms.device new name))
+      journals
+
+  -- No file is made but a new journal, and none at all where memory was refused.
+  pub record LeavesJournals (journals : Journals) (ending : Ending) : Type 0 where
+    pub no_file : OfEach (λ name did. IsOnOld did → IsUnmade rooms old new name) journals
+    pub unmade : ending ≡ no_memory → OfEach (λ name did. IsUnmade rooms old new name) journals
+    pub left : LeavesEach journals (LeftBy ending)
+
+-- A command that has to give this outcome, names these files, and works on these journals ended so.
+-- Where the room tells its files the reply is the one that is wanted, and one before which a
+-- journal wasn't opened has one of the early statuses. Bad says that the words are no command.
+pub record EndsAs (Tells Fault Bad : Type 0) (files : List (List ℕ)) (journals : Journals)
+    (wanted : Outcome) (ending : Ending) : Type 0 where
+  pub reply : IfReply ending (λ reply. Tells → Meets wanted.answer reply)
+  pub words : Bad → RepliesToBadWords wanted.answer ending
+  pub not_words : IfReply ending (λ reply. status_of reply ≡ 1 → Bad)
+  pub fault : FailedOnly Fault files ending
+  pub early : IfReply ending (λ reply. Tells
+      → OfEach (λ name did. did ≡ untouched → IsEarly (status_of reply)) journals)
 
 module _ {R S D : Type 0} (rooms : Rooms R S D) (disks : Disks D) (Bad : Type 0)
-    (journals : Journals) (wanted : Outcome) (old new : R) where
-  -- A command that works on these journals and has to give that outcome left the room so, and ended
-  -- so. Bad says that the words are no command.
-  pub record HasDone (result : Result Answer Stop) : Type 0 where
-    -- All that was lent is given back, and each other file stays. None is made but a new journal,
-    -- and none at all where memory was refused.
-    pub lent : rooms.lent new ≡ rooms.lent old
-    pub faults : rooms.faults old ≤ rooms.faults new
-    pub tells : rooms.tells old → rooms.tells new
-    pub others : (name : List ℕ) → OfEach (λ other did. name ≢ other) journals
-        → Stays (rooms.file old) (rooms.file new) (rooms.device old) (rooms.device new) name
-    pub no_file : rooms.tells old → OfEach (λ name did. IsOnOld did
-        → rooms.file old name ≡ None → rooms.file new name ≡ None) journals
-    pub unmade : IfErr result (λ stop. stop ≡ Memory → rooms.tells old → OfEach (λ name did.
-        rooms.file old name ≡ None → rooms.file new name ≡ None) journals)
-    -- It answers as the outcome says, or a cause kept it from that.
-    pub answer : IfOk result (λ answer. rooms.tells old → answer ≡ wanted.answer)
-    pub words : Bad → AnswersBadWords wanted result
-    pub not_words : IfOk result (λ answer. status_of answer ≡ 1 → Bad)
-    pub fault : IfErr result (FailedOnly (Rose (rooms.faults old) (rooms.faults new)))
-    -- It did with each journal what the outcome says, or what its end without an answer leaves.
-    pub made : IsOk result → LeavesEach rooms disks old new journals HasMade
-    pub left : IfErr result (λ stop. LeavesEach rooms disks old new journals (LeftBy stop))
-    -- An answer to which no journal belongs has one of the statuses that come before.
-    pub early : IfOk result (λ answer. rooms.tells old
-        → OfEach (λ name did. did ≡ untouched → IsEarly (status_of answer)) journals)
+    (files names : List (List ℕ)) (wanted : Outcome) (old new : R) where
+  abbrev pub journals : Journals
+  journals = done_with names wanted.journals
+
+  -- A command that names these files, works on the journals of these names and has to give that
+  -- outcome left the room so, and ended so.
+  pub record HasDone (ending : Ending) : Type 0 where
+    pub back : GivesBack rooms old new names
+    pub ends : EndsAs (rooms.tells old) (Rose (rooms.faults old) (rooms.faults new)) Bad files
+        journals wanted ending
+    pub made : rooms.tells old → LeavesJournals rooms disks old new journals ending
 
 module _ {R S D : Type 0} (rooms : Rooms R S D) (disks : Disks D) where
-  -- A command that only reads files.
-  abbrev pub HasAnswered : Outcome → R → R → Result Answer Stop → Type 0
-  HasAnswered wanted = HasDone rooms disks ⊥ [] wanted
+  -- A command that only reads these files.
+  abbrev pub HasAnswered : List (List ℕ) → Outcome → R → R → Ending → Type 0
+  HasAnswered files wanted = HasDone rooms disks ⊥ files [] wanted
 
   -- A command on the one journal of this name.
-  abbrev pub HasServed : List ℕ → Outcome → R → R → Result Answer Stop → Type 0
-  HasServed name wanted = HasDone rooms disks ⊥ ((name, wanted.journal) ∷ []) wanted
+  abbrev pub HasServed : List (List ℕ) → List ℕ → Outcome → R → R → Ending → Type 0
+  HasServed files name wanted = HasDone rooms disks ⊥ files (name ∷ []) wanted

@@ -1,4 +1,4 @@
-//! What a command answers.
+//! What a command answers, and why it is refused.
 ghost use Rattle.std.specs.Prelude.{◌≡◌};
 
 use mtc_io::{Bytes, Memory};
@@ -28,20 +28,57 @@ pub enum Stopped {
     Beyond,
 }
 
-/// What a command answers: a text for standard output, or a line for standard error.
-#[derive(Debug, Drop)]
-pub enum Answer {
-    Says { status: Said, text: Bytes },
-    Stops { why: Stopped, line: Bytes },
+/// What stands behind the name of a reason, each with a blank before it.
+#[derive(Clone, Copy, Debug)]
+pub enum More {
+    Nothing,
+    Name(&'static str),
+    Number(u64),
+    Numbers(u64, u64),
 }
 
-/// What ends a command without an answer of its own.
-#[derive(Clone, Copy, Debug, PartialEq, Eq)]
+/// A reason: its name, as `BadRecord`, and what stands behind it.
+#[derive(Clone, Copy, Debug)]
+pub struct Reason {
+    pub name: &'static str,
+    pub more: More,
+}
+
+/// A refusal. It takes no memory, and is written where the program ends.
+#[derive(Clone, Copy, Debug)]
+pub struct Refusal<'a> {
+    pub why: Stopped,
+    /// The file that it is about, if it is about one.
+    pub file: Option<&'a str>,
+    pub reason: Reason,
+}
+
+/// What a command answers that did its work or judged: the status, and a text for standard output.
+#[derive(Debug, Drop)]
+pub struct Answer {
+    pub status: Said,
+    pub text: Bytes,
+}
+
+/// What ends a command without an answer.
+#[derive(Clone, Copy, Debug)]
 pub enum Stop<'a> {
+    /// It is refused.
+    Refused(Refusal<'a>),
     /// The room, or an object that it lent, failed at this file.
     Room(&'a str),
     /// Memory was refused.
     Memory,
+}
+
+impl<'a> From<Refusal<'a>> for Stop<'a> {
+    ghost use Rattle.mtc_answers.specs.declared.answer.Stop.TheVariants.{Refused as IsRefused};
+
+    ghost from_gives = { λ refusal e. e ≡ IsRefused refusal };
+
+    fn from(refusal: Refusal<'a>) -> Stop<'a> {
+        Stop::Refused(refusal)
+    }
 }
 
 impl<'a> From<Memory> for Stop<'a> {

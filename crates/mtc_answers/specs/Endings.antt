@@ -1,0 +1,43 @@
+-- What follows of the way in which a command ends.
+use Rattle.std.specs.Prelude.{◌≡◌, ◌⊎◌, ℕ, List, [], ◌∷◌}
+use Rattle.disk_core.specs.declared.disk.Disk.{Ghosts}
+use Rattle.mtc_answers.specs.Answers.{Ending, replied, room_failed, no_memory, status_of}
+use Rattle.mtc_answers.specs.Made.{Journaled, Leaving, HasKept, HasMade, MayHaveMade}
+use Rattle.mtc_answers.specs.Made.{Adds, MayAdd, OnlyLooks}
+use Rattle.mtc_answers.specs.Wanted.{Wanted, Meets}
+
+-- What an ending leaves of a journal.
+abbrev pub LeftBy : Ending → Journaled → Leaving
+LeftBy (replied reply) did = HasMade did
+LeftBy (room_failed file) did = MayHaveMade did
+LeftBy no_memory did = HasKept did
+
+-- The file is one of these.
+abbrev pub IsAmong : List (List ℕ) → List ℕ → Type 0
+IsAmong [] file = ⊥
+IsAmong (name ∷ names) file = (file ≡ name) ⊎ IsAmong names file
+
+-- The room is named as the cause only where it failed, and at one of these files; want of memory is
+-- free.
+abbrev pub FailedOnly : Type 0 → List (List ℕ) → Ending → Type 0
+FailedOnly Fault files (replied reply) = Unit {0}
+FailedOnly Fault files (room_failed file) = Fault × IsAmong files file
+FailedOnly Fault files no_memory = Unit {0}
+
+-- It replies as is wanted, unless memory was refused.
+abbrev pub Replies : Wanted → Ending → Type 0
+Replies wanted (replied reply) = Meets wanted reply
+Replies wanted (room_failed file) = ⊥
+Replies wanted no_memory = Unit {0}
+
+-- The same to words that are no command.
+abbrev pub RepliesToBadWords : Wanted → Ending → Type 0
+RepliesToBadWords wanted (replied reply) = Meets wanted reply × (status_of reply ≡ 1)
+RepliesToBadWords wanted (room_failed file) = ⊥
+RepliesToBadWords wanted no_memory = Unit {0}
+
+-- What the work behind an opening makes of the device, by its ending.
+abbrev pub AddsBy : {D : Type 0} → Ghosts D → Ending → Journaled → D → D → Type 0
+AddsBy g (replied reply) did mid new = Adds g did mid new
+AddsBy g (room_failed file) did mid new = MayAdd g did mid new
+AddsBy g no_memory did mid new = OnlyLooks g mid new
