@@ -5,13 +5,13 @@ use Rattle.std.specs.Option.{IsSomeAnd}
 use Rattle.disk_core.specs.Moments.{LeavesOnly, Looks}
 use Rattle.disk_core.specs.Same.{SameDevice}
 use Rattle.disk_core.specs.declared.disk.Disk.{Ghosts}
-use Rattle.journal_core.specs.Format.{StandsForEither}
+use Rattle.journal_core.specs.Format.{StandsFor, StandsForEither}
 use Rattle.mtc_answers.specs.Made.{Journaled, untouched, reads, appended, started, Images, Leaving}
 use Rattle.mtc_answers.specs.Made.{Kept, WasRead, HasAdded, HasKept, HasMade, MayHaveMade, IsOpen}
-use Rattle.mtc_answers.specs.Made.{Adds, MayAdd, Leaves}
-use Rattle.mtc_answers.specs.Settled.{LeftBy}
-use Rattle.mtc_answers.specs.declared.answer.Stop.{Stop}
-use Rattle.mtc_answers.specs.declared.answer.Stop.TheVariants.{Room, Memory}
+use Rattle.mtc_answers.specs.Made.{OnlyLooks, Adds, MayAdd, Leaves}
+use Rattle.mtc_answers.specs.Answers.{Ending, replied, room_failed, no_memory, IfReply}
+use Rattle.mtc_answers.specs.Endings.{LeftBy, AddsBy}
+use Rattle.disk_core.proofs.Moments.{looked_on}
 
 module _ {D : Type 0} (g : Ghosts D) where
   -- what a disk tells is an image; and of this moment there are only the images of now
@@ -56,34 +56,60 @@ module _ {D : Type 0} (g : Ghosts D) where
       → g.moment old ≤ g.moment new
   later_still old mid new P looks run = omega (arith, looks.moments.later, run.later)
 
+  -- what was only looked at
+  looked : (old mid new : D) → Looks g old mid → OnlyLooks g mid new → Looks g old new
+  looked old mid new looks only = elim only [
+    | inl same ↦ subst (Looks g old) (sym same) looks
+    | inr more ↦ looked_on g old mid new looks more
+  ]
+
+  still_open : (mid new : D) (list : List (List ℕ)) → IsOpen g mid list → OnlyLooks g mid new
+      → (c : List ℕ) → g.may_leave new c → StandsFor c list
+  still_open mid new list is only = elim only [
+    | inl same ↦ subst (λ d. (c : List ℕ) → g.may_leave d c → StandsFor c list) (sym same) is.all
+    | inr more ↦ λ c left. is.all c (more.crash c left)
+  ]
+
   -- what the work behind an opening has made
-  pub has_made : (old mid new : D) (did : Journaled) → ReadsImage
+  has_made : (old mid new : D) (did : Journaled) → ReadsImage
       → Looks g old mid → Adds g did mid new → Leaves g (HasMade did) (Some old) (Some new)
   has_made old mid new untouched image looks made = absurd made
   has_made old mid new (reads list) image looks made =
-      subst (λ d. Leaves g (HasMade (reads list)) (Some old) (Some d)) (sym made.1) (record {
-        later = looks.moments.later;
+      let after = looked old mid new looks made.1 in
+      record {
+        later = after.moments.later;
         images = record {
           read = was_read old mid list image looks made.0;
-          now_is = made.0.all;
-          since_is = looks.moments.each;
+          now_is = still_open mid new list made.0 made.1;
+          since_is = after.moments.each;
         };
-      })
+      }
   has_made old mid new (appended list body) image looks made = record {
     later = later_still old mid new _ looks made.1;
     images = has_added old mid new list body _ image looks made.0 made.1 made.2;
   }
   has_made old mid new (started body) image looks made = absurd made
 
-  pub may_have_made : (old mid new : D) (did : Journaled) → ReadsImage
+  may_have_made : (old mid new : D) (did : Journaled) → ReadsImage
       → Looks g old mid → MayAdd g did mid new → Leaves g (MayHaveMade did) (Some old) (Some new)
   may_have_made old mid new untouched image looks made = absurd made
-  may_have_made old mid new (reads list) image looks made = absurd made
+  may_have_made old mid new (reads list) image looks made =
+      kept_of old new (reads list) (looked old mid new looks made.1)
   may_have_made old mid new (appended list body) image looks made = record {
     later = later_still old mid new _ looks made.1;
     images = inr (has_added old mid new list body _ image looks made.0 made.1 made.2);
   }
   may_have_made old mid new (started body) image looks made = absurd made
+
+  -- what it leaves, by its ending
+  pub worked : (old mid new : D) (ending : Ending) (did : Journaled) → ReadsImage
+      → Looks g old mid → AddsBy g ending did mid new
+      → Leaves g (LeftBy ending did) (Some old) (Some new)
+  worked old mid new (replied reply) did image looks made = has_made old mid new did image looks made
+  worked old mid new (room_failed file) did image looks made =
+      may_have_made old mid new did image looks made
+  worked old mid new no_memory did image looks made =
+      kept_of old new did (looked old mid new looks made)
 
 -- Nothing new is left also by a command that a fault has ended.
 pub may_kept : (did : Journaled) (before now since : Images) → Kept before now since
@@ -94,13 +120,18 @@ may_kept (appended list body) before now since kept = inl kept
 may_kept (started body) before now since kept = tt
 
 module _ {D : Type 0} (g : Ghosts D) where
-  pub left_kept : (stop : Stop) (did : Journaled) (old new : Option D)
-      → Leaves g (HasKept did) old new → Leaves g (LeftBy stop did) old new
-  left_kept (Room file) did old new kept = record {
+  -- a journal that isn't opened where there is a reply
+  pub left_kept : (ending : Ending) (did : Journaled) (old new : Option D)
+      → IfReply ending (λ reply. did ≡ untouched)
+      → Leaves g (HasKept did) old new → Leaves g (LeftBy ending did) old new
+  left_kept (replied reply) did old new not kept =
+      subst (λ d. Leaves g (HasMade d) old new) (sym not)
+      (record { later = kept.later; images = kept.images })
+  left_kept (room_failed file) did old new not kept = record {
     later = kept.later;
     images = may_kept did _ _ _ kept.images;
   }
-  left_kept Memory did old new kept = record { later = kept.later; images = kept.images }
+  left_kept no_memory did old new not kept = record { later = kept.later; images = kept.images }
 
   -- a device that was left alone
   still_at : (x : Option D) (did : Journaled) → OnlyNow g → Leaves g (HasKept did) x x
@@ -191,13 +222,11 @@ module _ {D : Type 0} (g : Ghosts D) where
     }) k.images;
   }
 
-  pub made_lent : (did : Journaled) (x z : Option D) (d e : D) → Lent x d → PutBack z e
-      → Leaves g (HasMade did) (Some d) (Some e) → Leaves g (HasMade did) x z
-  made_lent did = lent (HasMade did) (λ b b' n n' s s' w. made_through b b' n n' s s' w did)
-
-  pub left_lent : (stop : Stop) (did : Journaled) (x z : Option D) (d e : D)
-      → Lent x d → PutBack z e → Leaves g (LeftBy stop did) (Some d) (Some e)
-      → Leaves g (LeftBy stop did) x z
-  left_lent (Room file) did =
+  pub left_lent : (ending : Ending) (did : Journaled) (x z : Option D) (d e : D)
+      → Lent x d → PutBack z e → Leaves g (LeftBy ending did) (Some d) (Some e)
+      → Leaves g (LeftBy ending did) x z
+  left_lent (replied reply) did =
+      lent (HasMade did) (λ b b' n n' s s' w. made_through b b' n n' s s' w did)
+  left_lent (room_failed file) did =
       lent (MayHaveMade did) (λ b b' n n' s s' w. may_through b b' n n' s s' w did)
-  left_lent Memory did = lent (HasKept did) kept_through
+  left_lent no_memory did = lent (HasKept did) kept_through

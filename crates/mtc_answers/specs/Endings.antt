@@ -1,5 +1,5 @@
 -- What follows of the way in which a command ends.
-use Rattle.std.specs.Prelude.{◌≡◌, ◌⊎◌, ℕ, List, [], ◌∷◌}
+use Rattle.std.specs.Prelude.{◌≡◌, ◌≢◌, ◌⊎◌, ℕ, List, [], ◌∷◌}
 use Rattle.disk_core.specs.declared.disk.Disk.{Ghosts}
 use Rattle.mtc_answers.specs.Answers.{Ending, replied, room_failed, no_memory, status_of}
 use Rattle.mtc_answers.specs.Made.{Journaled, Leaving, HasKept, HasMade, MayHaveMade}
@@ -24,9 +24,9 @@ FailedOnly Fault files (replied reply) = Unit {0}
 FailedOnly Fault files (room_failed file) = Fault × IsAmong files file
 FailedOnly Fault files no_memory = Unit {0}
 
--- It replies as is wanted, unless memory was refused.
+-- It replies as is wanted, unless memory was refused; the words are a command.
 abbrev pub Replies : Wanted → Ending → Type 0
-Replies wanted (replied reply) = Meets wanted reply
+Replies wanted (replied reply) = Meets wanted reply × (status_of reply ≢ 1)
 Replies wanted (room_failed file) = ⊥
 Replies wanted no_memory = Unit {0}
 

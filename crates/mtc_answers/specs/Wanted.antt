@@ -27,6 +27,6 @@ abbrev pub Meets : Wanted → Reply → Type 0
 Meets (exactly wanted) reply = reply ≡ wanted
 Meets (formed status form) (said kind text) = (kind ≡ status) × (form text ≡ true)
 Meets (formed status form) (refused why file reason) = ⊥
-Meets (pair_of status h spelled firsts seconds) (said said text) =
-    (said ≡ status) × IsPair h spelled firsts seconds text
+Meets (pair_of status h spelled firsts seconds) (said kind text) =
+    (kind ≡ status) × IsPair h spelled firsts seconds text
 Meets (pair_of status h spelled firsts seconds) (refused why file reason) = ⊥

@@ -52,7 +52,7 @@ impl Reason {
 
 /// A refusal that is about no file.
 pub fn refuse<'a>(why: Stopped, reason: Reason) -> Stop<'a>
-    ensures { end_of result ≡ replied (refused why None (reason_text reason.entry)) }
+    ensures { end_of result ≡ replied (refused why None (reason_text reason)) }
 {
     Stop::Refused(Refusal {
         why,
@@ -63,7 +63,7 @@ pub fn refuse<'a>(why: Stopped, reason: Reason) -> Stop<'a>
 
 /// A refusal of this file.
 pub fn refuse_file<'a>(why: Stopped, file: &'a str, reason: Reason) -> Stop<'a>
-    ensures { end_of result ≡ replied (refused why (Some file.now) (reason_text reason.entry)) }
+    ensures { end_of result ≡ replied (refused why (Some file.now) (reason_text reason)) }
 {
     Stop::Refused(Refusal {
         why,
