@@ -1,5 +1,5 @@
 -- What holds of each journal that a command works on, and of a command behind what it has read.
-use Rattle.std.proofs.Common.{◌≡◌, ◌≢◌, ◌≤◌, inl, inr, ℕ, List, [], ◌∷◌, None, refl, sym, subst, ap, ◌∙◌}
+use Rattle.std.proofs.Common.{◌≡◌, ◌≢◌, ◌≤◌, inl, inr, ℕ, List, [], ◌∷◌, refl, sym, subst, ap, ◌∙◌}
 use Rattle.std.proofs.Common.{arith}
 use Rattle.disk_core.specs.declared.disk.Disk.{Ghosts as Disks}
 use Rattle.mtc_io.specs.Counts.{Rose}
@@ -7,9 +7,9 @@ use Rattle.mtc_room.specs.declared.room.Room.{Ghosts as Rooms}
 use Rattle.mtc_answers.specs.Answers.{Ending, replied, room_failed, no_memory, IfReply, Reply}
 use Rattle.mtc_answers.specs.Answers.{status_of, IsEarly}
 use Rattle.mtc_answers.specs.Endings.{FailedOnly, IsAmong, LeftBy, Replies}
-use Rattle.mtc_answers.specs.Made.{Journaled, untouched, IsOnOld, Leaves}
-use Rattle.mtc_answers.specs.Served.{Journals, OfEach, done_with, first_of, rest_of, GivesBack}
-use Rattle.mtc_answers.specs.Served.{IsUnmade, LeavesEach, LeavesJournals, EndsAs, HasDone, HasAnswered}
+use Rattle.mtc_answers.specs.Made.{Journaled, untouched, Leaves}
+use Rattle.mtc_answers.specs.Served.{Journals, OfEach, done_with, GivesBack}
+use Rattle.mtc_answers.specs.Served.{LeavesEach, LeavesJournals, HasDone}
 use Rattle.mtc_answers.specs.Steps.{Outcome, answers}
 use Rattle.mtc_answers.specs.Wanted.{Wanted, Meets}
 use Rattle.mtc_answers.proofs.Made.{OnlyNow, left_kept, still}
