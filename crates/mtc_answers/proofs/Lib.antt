@@ -1,3 +1,4 @@
 pub mod Made
 pub mod Served
 pub mod Inputs
+pub mod Works

@@ -64,13 +64,13 @@ no_early Tells (room_failed file) = tt
 no_early Tells no_memory = tt
 
 -- a fact of the reply gives another
-reply_so : (ending : Ending) (P Q : Reply → Type 0) → ((reply : Reply) → P reply → Q reply)
+pub reply_so : (ending : Ending) (P Q : Reply → Type 0) → ((reply : Reply) → P reply → Q reply)
     → IfReply ending P → IfReply ending Q
 reply_so (replied reply) P Q so is = so reply is
 reply_so (room_failed file) P Q so is = tt
 reply_so no_memory P Q so is = tt
 
-failed_so : (ending : Ending) (Fault Fault' : Type 0) (files files' : List (List ℕ))
+pub failed_so : (ending : Ending) (Fault Fault' : Type 0) (files files' : List (List ℕ))
     → (Fault → Fault') → ((file : List ℕ) → IsAmong files file → IsAmong files' file)
     → FailedOnly Fault files ending → FailedOnly Fault' files' ending
 failed_so (replied reply) Fault Fault' files files' so more is = tt

@@ -5,3 +5,4 @@ pub mod Made
 pub mod Endings
 pub mod Steps
 pub mod Served
+pub mod Works

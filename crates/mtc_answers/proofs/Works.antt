@@ -1,0 +1,184 @@
+-- The work on a journal's device: from the device as it was opened to the one that was lent, and
+-- from that to the room.
+use Rattle.std.proofs.Common.{◌≡◌, ◌≢◌, ◌≤◌, ◌<◌, inl, inr, ℕ, List, [], ◌∷◌, Option, None, Some}
+use Rattle.std.proofs.Common.{IfSome, IsSome, option_map, subst, sym, ◌∙◌, ap, refl, arith, rules}
+use Rattle.std.proofs.lemmas.Option.{IfSome_then}
+use Rattle.mtc_io.specs.Counts.{Rose, with_count}
+use Rattle.disk_core.specs.declared.disk.Disk.{Ghosts}
+use Rattle.disk_core.specs.Moments.{Looks}
+use Rattle.journal_core.specs.Format.{StandsFor, records_of}
+use Rattle.journal_core.specs.Words.{AllStandFor}
+use Rattle.mtc_room.specs.Room.{LendsBytes}
+use Rattle.mtc_room.specs.declared.room.Room.{Ghosts as Rooms}
+use Rattle.mtc_answers.specs.Answers.{Ending, replied, room_failed, no_memory, IfReply, Reply}
+use Rattle.mtc_answers.specs.Answers.{status_of, IsEarly}
+use Rattle.mtc_answers.specs.Endings.{AddsBy, FailedOnly, IsAmong, LeftBy}
+use Rattle.mtc_answers.specs.Made.{IsOpen, Journaled, Leaves, untouched}
+use Rattle.mtc_answers.specs.Served.{HasServed}
+use Rattle.mtc_answers.specs.Steps.{Outcome, answers, with_file}
+use Rattle.mtc_answers.specs.Wanted.{Meets}
+use Rattle.mtc_answers.specs.Works.{HasEnded, HasLent, HasTaken, HasWorked, HasWorkedOn}
+use Rattle.mtc_answers.specs.Works.{journal_of}
+use Rattle.mtc_answers.proofs.Made.{ReadsImage, kept_of, left_kept, left_lent, worked}
+use Rattle.mtc_answers.proofs.Served.{failed_so, reply_so}
+
+-- The device was opened, which only looked at it: mid, where its records were found.
+module _ {D : Type 0} (g : Ghosts D) (name : List ℕ) (says : List ℕ → Outcome)
+    (next : List (List ℕ) → Outcome) (old mid new : D) where
+  opened_at : (P : Outcome → Type 0) (told x : Option (List ℕ)) → g.told mid ≡ x → x ≡ told
+      → IfSome told (λ b. IfSome (option_map records_of x) (λ list. says b ≡ next list))
+      → IfSome x (λ b. IfSome (option_map records_of x) (StandsFor b))
+      → IfSome (option_map records_of x) (AllStandFor g mid)
+      → IfSome (option_map records_of x) (λ list. IsOpen g mid list → P (next list))
+      → IfSome told (λ b. P (says b))
+  opened_at P None x is same found stands all then = tt
+  opened_at P (Some b) None is same found stands all then = absurd cc
+  opened_at P (Some b) (Some x) is same found stands all then = subst P (sym found)
+      (then (record { bytes = x; told = is; stands = stands; all = all }))
+
+  abbrev list : Option (List (List ℕ))
+  list = option_map records_of (g.told mid)
+
+  no_early : (ending : Ending)
+      → IfSome list (λ l. IsOpen g mid l → AddsBy g ending (journal_of (next l)) mid new)
+      → IfReply ending (λ reply. IfSome list (λ l. IsOpen g mid l
+      → journal_of (next l) ≡ untouched → IsEarly (status_of reply)))
+  no_early (replied reply) adds = IfSome_then list adds (λ l made opened is.
+      absurd (subst (λ did. AddsBy g (replied reply) did mid new) is (made opened)))
+  no_early (room_failed file) adds = tt
+  no_early no_memory adds = tt
+
+  -- the work behind an opening is work on the device that was lent
+  pub worked_on : (ending : Ending) → ReadsImage g → Looks g old mid → g.faults mid ≡ g.faults old
+      → IfSome (g.told old) (λ b. IfSome list (λ l. says b ≡ next l))
+      → IfSome (g.told mid) (λ b. IfSome list (StandsFor b))
+      → IfSome list (AllStandFor g mid)
+      → HasWorked g name list next mid new ending → HasWorkedOn g name says old new ending
+  worked_on ending image looks fine found stands all work = record {
+    ends = record {
+      plain = work.ends.plain;
+      later = omega (arith, fine, work.ends.later);
+      fault = failed_so ending _ _ (name ∷ []) (name ∷ [])
+          (subst (λ n. Rose n (g.faults new)) fine) (λ file is. is) work.ends.fault;
+    };
+    reply = reply_so ending _ _ (λ reply is. opened_at (λ o. Meets o.answer reply) (g.told old)
+        (g.told mid) refl looks.told found stands all
+        (IfSome_then list is (λ l meets opened. meets))) work.reply;
+    left = opened_at (λ o. Leaves g (LeftBy ending (journal_of o)) (Some old) (Some new))
+        (g.told old) (g.told mid) refl looks.told found stands all
+        (IfSome_then list work.adds (λ l made opened.
+        worked g old mid new ending (journal_of (next l)) image looks (made opened)));
+    early = reply_so ending _ _ (λ reply is. opened_at
+        (λ o. journal_of o ≡ untouched → IsEarly (status_of reply)) (g.told old) (g.told mid)
+        refl looks.told found stands all is) (no_early ending work.adds);
+  }
+
+module _ {X : Type 0} where
+  each_some : (x : Option X) (P : X → Type 0) → ((y : X) → P y) → IfSome x P
+  each_some None P is = tt
+  each_some (Some y) P is = is y
+
+-- The opening was refused, and the device was only looked at.
+module _ {D : Type 0} (g : Ghosts D) (name : List ℕ) (says : List ℕ → Outcome) (old new : D)
+    (looks : Looks g old new) where
+  kept : (ending : Ending) (did : Journaled) → IfReply ending (λ reply. did ≡ untouched)
+      → Leaves g (LeftBy ending did) (Some old) (Some new)
+  kept ending did not =
+      left_kept g ending did (Some old) (Some new) not (kept_of g old new did looks)
+
+  refused_left : (ending : Ending)
+      → IfReply ending (λ reply. IfSome (g.told old) (λ b. says b ≡ answers reply))
+      → IfSome (g.told old) (λ b.
+      Leaves g (LeftBy ending (journal_of (says b))) (Some old) (Some new))
+  refused_left (replied reply) is = IfSome_then (g.told old) is
+      (λ b same. kept (replied reply) (journal_of (says b)) (ap journal_of same))
+  refused_left (room_failed file) is = each_some (g.told old) _
+      (λ b. kept (room_failed file) (journal_of (says b)) tt)
+  refused_left no_memory is = each_some (g.told old) _
+      (λ b. kept no_memory (journal_of (says b)) tt)
+
+  pub not_opened : (ending : Ending) → HasEnded g name old new ending
+      → IfReply ending (λ reply. IsEarly (status_of reply))
+      → IfReply ending (λ reply. IfSome (g.told old) (λ b. says b ≡ answers reply))
+      → HasWorkedOn g name says old new ending
+  not_opened ending ends early is = record {
+    ends = ends;
+    reply = reply_so ending _ _ (λ reply same. IfSome_then (g.told old) same
+        (λ b wanted. subst (λ (o : Outcome). Meets o.answer reply) (sym wanted) refl)) is;
+    left = refused_left ending is;
+    early = reply_so ending _ _ (λ reply soon. each_some (g.told old) _ (λ b none. soon)) early;
+  }
+
+-- a count that began at 0 and rose, added to another one
+rose_with : (before count : ℕ) → Rose 0 count → Rose before (with_count before count)
+rose_with before count rose = search rules
+
+-- a fact of the bytes that were lent is one of the file
+of_bytes : (P : Outcome → Type 0) (name : List ℕ) (file told : Option (List ℕ))
+    (says : List ℕ → Outcome) → LendsBytes file told
+    → IfSome told (λ bytes. P (says bytes)) → P (with_file name file says)
+of_bytes P name None told says lends is =
+    let there = lends.there in absurd cc
+of_bytes P name (Some bytes) told says lends is =
+    subst (λ t. IfSome t (λ b. P (says b))) lends.same is
+
+module _ {R S D : Type 0} (rooms : Rooms R S D) (g : Ghosts D) (name : List ℕ)
+    (files : List (List ℕ)) (says : List ℕ → Outcome) (old mid new : R) (d e : D)
+    (ending : Ending) where
+  abbrev wanted : Outcome
+  wanted = with_file name (rooms.file old name) says
+
+  fault_of : HasLent rooms g name old mid d → HasTaken rooms g name mid new e
+      → IsAmong files name → FailedOnly (Rose (g.faults d) (g.faults e)) (name ∷ []) ending
+      → FailedOnly (Rose (rooms.faults old) (rooms.faults new)) files ending
+  fault_of lent taken among =
+      failed_so ending _ _ (name ∷ []) files
+      (λ rose. subst (λ n. Rose n (rooms.faults new)) lent.fine
+      (subst (Rose (rooms.faults mid)) (sym taken.count)
+      (rose_with (rooms.faults mid) (g.faults e)
+      (subst (λ n. Rose n (g.faults e)) lent.begins rose))))
+      (λ file is. elim is [
+        | inl same ↦ subst (IsAmong files) (sym same) among
+        | inr never ↦ absurd never
+      ])
+
+  -- a journal was lent, worked on and given back
+  pub served : HasLent rooms g name old mid d → HasWorkedOn g name says d e ending
+      → HasTaken rooms g name mid new e → IsAmong files name
+      → HasServed rooms g files name wanted old new ending
+  served lent worked taken among = record {
+    back = record {
+      lent = omega (arith, lent.lent, taken.lent);
+      later = omega (arith, lent.fine, taken.count);
+      tells = λ t. taken.tells (lent.tells t);
+      others = λ other is. record {
+        bytes = (taken.others other is.0).bytes ∙ (lent.stay other).bytes;
+        disk = (taken.others other is.0).disk ∙ (lent.stay other).disk;
+      };
+    };
+    ends = record {
+      reply = reply_so ending _ _ (λ reply is t. of_bytes (λ o. Meets o.answer reply) name _ _ says
+          (lent.bytes t) is) worked.reply;
+      words = λ bad. absurd bad;
+      not_words = worked.ends.plain;
+      fault = fault_of lent taken among worked.ends.fault;
+      early = reply_so ending _ _ (λ reply is t. (
+        of_bytes
+            (λ o. journal_of o ≡ untouched → IsEarly (status_of reply)) name _ _ says
+            (lent.bytes t) is,
+        tt,
+      )) worked.early;
+    };
+    made = λ t. record {
+      no_file = (λ on none. taken.none (lent.tells t) ((lent.stay name).bytes ∙ none), tt);
+      unmade = λ memory. (λ none. taken.none (lent.tells t) ((lent.stay name).bytes ∙ none), tt);
+      left = (
+        left_lent g ending (journal_of wanted) _ _ d e (lent.device t)
+            (taken.device (lent.tells t)
+            (subst IsSome (sym (lent.stay name).bytes) (lent.bytes t).there))
+            (of_bytes (λ o. Leaves g (LeftBy ending (journal_of o)) (Some d) (Some e)) name _ _ says
+            (lent.bytes t) worked.left),
+        tt,
+      );
+    };
+  }

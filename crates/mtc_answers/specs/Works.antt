@@ -1,0 +1,81 @@
+-- The work of a command on the device of one journal: how it ends, and what it leaves.
+use Rattle.std.specs.Prelude.{◌≡◌, ◌≢◌, ◌≤◌, ◌+◌, ℕ, List, [], ◌∷◌, Option, None, Some, IfSome}
+use Rattle.std.specs.Prelude.{IsSome, codes, Result, Ok, Err}
+use Rattle.std.specs.Option.{IsSomeAnd}
+use Rattle.mtc_io.specs.Counts.{Rose, with_count}
+use Rattle.disk_core.specs.Same.{SameDevice}
+use Rattle.disk_core.specs.declared.disk.Disk.{Ghosts}
+use Rattle.mtc_room.specs.Room.{AllStay, LendsBytes, OthersStay}
+use Rattle.mtc_room.specs.declared.room.Room.{Ghosts as Rooms}
+use Rattle.journal_core.specs.declared.error.StartError.{StartError}
+use Rattle.journal_core.specs.declared.error.StartError.TheVariants.{Failed, Memory, NotEmpty}
+use Rattle.mtc_answers.specs.declared.answer.Said.TheVariants.{Done}
+use Rattle.mtc_answers.specs.declared.answer.Stopped.TheVariants.{Missing}
+use Rattle.mtc_answers.specs.Answers.{Ending, replied, room_failed, no_memory, said, refused}
+use Rattle.mtc_answers.specs.Answers.{IfReply, status_of, IsEarly}
+use Rattle.mtc_answers.specs.Endings.{AddsBy, FailedOnly, LeftBy}
+use Rattle.mtc_answers.specs.Made.{IsOpen, Journaled, Leaves, untouched}
+use Rattle.mtc_answers.specs.Served.{first_of}
+use Rattle.mtc_answers.specs.Steps.{Outcome}
+use Rattle.mtc_answers.specs.Wanted.{Meets}
+
+-- What is done with the one journal of a command.
+abbrev pub journal_of : Outcome → Journaled
+journal_of wanted = first_of wanted.journals
+
+module _ {D : Type 0} (g : Ghosts D) (name : List ℕ) where
+  -- What holds of each ending, whatever the device tells: the words were a command's, and a failure
+  -- is one of this journal's device.
+  pub record HasEnded (old new : D) (ending : Ending) : Type 0 where
+    pub plain : IfReply ending (λ reply. status_of reply ≢ 1)
+    pub later : g.faults old ≤ g.faults new
+    pub fault : FailedOnly (Rose (g.faults old) (g.faults new)) (name ∷ []) ending
+
+  -- The work on an open device, where these records were found if it tells them, which has to give
+  -- the outcome of those records.
+  pub record HasWorked (list : Option (List (List ℕ))) (says : List (List ℕ) → Outcome)
+      (old new : D) (ending : Ending) : Type 0 where
+    pub ends : HasEnded old new ending
+    pub reply : IfReply ending (λ reply. IfSome list (λ records. Meets (says records).answer reply))
+    pub adds : IfSome list (λ records. IsOpen g old records
+        → AddsBy g ending (journal_of (says records)) old new)
+
+  -- The work on a device that was lent, which has to give the outcome of its bytes.
+  pub record HasWorkedOn (says : List ℕ → Outcome) (old new : D) (ending : Ending) : Type 0 where
+    pub ends : HasEnded old new ending
+    pub reply : IfReply ending (λ reply. IfSome (g.told old) (λ bytes.
+        Meets (says bytes).answer reply))
+    pub left : IfSome (g.told old) (λ bytes.
+        Leaves g (LeftBy ending (journal_of (says bytes))) (Some old) (Some new))
+    pub early : IfReply ending (λ reply. IfSome (g.told old) (λ bytes.
+        journal_of (says bytes) ≡ untouched → IsEarly (status_of reply)))
+
+module _ {R S D : Type 0} (rooms : Rooms R S D) (g : Ghosts D) (name : List ℕ) where
+  -- The device of this journal was lent: it has no fault so far, reads as the file does, and leaves
+  -- what the file's device leaves.
+  pub record HasLent (old new : R) (disk : D) : Type 0 where
+    pub lent : rooms.lent new ≡ rooms.lent old + 1
+    pub fine : rooms.faults new ≡ rooms.faults old
+    pub tells : rooms.tells old → rooms.tells new
+    pub stay : AllStay (rooms.file old) (rooms.file new) (rooms.device old) (rooms.device new)
+    pub begins : g.faults disk ≡ 0
+    pub bytes : rooms.tells old → LendsBytes (rooms.file old name) (g.told disk)
+    pub device : rooms.tells old → IsSomeAnd (rooms.device old name) (λ d. SameDevice g d disk)
+
+  -- The device was put in the place of that file's, where there is one.
+  pub record HasTaken (old new : R) (disk : D) : Type 0 where
+    pub lent : rooms.lent new + 1 ≡ rooms.lent old
+    pub count : rooms.faults new ≡ with_count (rooms.faults old) (g.faults disk)
+    pub tells : rooms.tells old → rooms.tells new
+    pub others : OthersStay (rooms.file old) (rooms.file new)
+        (rooms.device old) (rooms.device new) name
+    pub none : rooms.tells old → rooms.file old name ≡ None → rooms.file new name ≡ None
+    pub device : rooms.tells old → IsSome (rooms.file old name)
+        → IsSomeAnd (rooms.device new name) (λ d. SameDevice g disk d)
+
+-- What comes of making a journal with this text: all memory for it was taken before.
+abbrev pub made_ending : List ℕ → List ℕ → Result (Unit {0}) StartError → Ending
+made_ending file text (Ok done) = replied (said Done text)
+made_ending file text (Err NotEmpty) = replied (refused Missing (Some file) (codes "NotEmpty"))
+made_ending file text (Err Failed) = room_failed file
+made_ending file text (Err Memory) = no_memory
