@@ -8,20 +8,17 @@ use Rattle.mtc_io.specs.declared.sink.Sink.{Ghosts as Sinks}
 use Rattle.mtc_room.specs.Room.{TellsFile}
 use Rattle.mtc_room.specs.declared.room.Room.{Ghosts as Rooms}
 use Rattle.journal_core.specs.Format.{StandsFor}
-use Rattle.mtc_answers.specs.Answers.{IsEarly, status_of, out_of}
+use Rattle.mtc_answers.specs.Answers.{Reply, said, refused, IsEarly, status_of, out_of}
 use Rattle.mtc_answers.specs.Made.{Journaled, Images, Leaving, untouched, appended, started}
 use Rattle.mtc_answers.specs.Made.{HasKept, HasMade, MayHaveMade, Leaves}
 use Rattle.mtc_answers.specs.Served.{OfEach}
-use Rattle.mtc_answers.specs.declared.answer.Answer.{Answer}
-use Rattle.mtc_answers.specs.declared.answer.Answer.TheVariants.{Says, Stops}
 use Rattle.mtc_answers.specs.declared.answer.Said.TheVariants.{Done, Against}
-use Rattle.mtc_answers.specs.declared.answer.Stopped.TheVariants.{BadWords, BadForm, Refused}
-use Rattle.mtc_answers.specs.declared.answer.Stopped.TheVariants.{Missing, Beyond}
 use Rattle.mtc_answers.proofs.Made.{ReadsImage}
 use Rattle.mtc_answers.proofs.Served.{each_so, both_so}
 use Rattle.mtc_top.specs.Nodes.{AllStandForNode, TookSome, fresh_node}
 use Rattle.mtc_top.specs.Run.{journals, Prints, HasRun}
 use Rattle.mtc_top.specs.RunLaws.{RunShows, RunSteps, took}
+use Rattle.mtc_top.proofs.Runs.{reply_code}
 use Rattle.mtc_top.proofs.Nodes.{kept_ends, failed_ends, made_ends, took_dec, file_stands}
 
 -- where nothing was appended, no byte went out
@@ -30,22 +27,12 @@ took_none None new none took = took
 took_none (Some xs) None none took = took
 took_none (Some xs) (Some ys) none took = grind (rules, arith, none, took)
 
--- the statuses of answers
-known_code : (a : Answer) → status_of a ≤ 9
-known_code (Says Done text) = omega arith
-known_code (Says Against text) = omega arith
-known_code (Stops BadWords line) = omega arith
-known_code (Stops BadForm line) = omega arith
-known_code (Stops Refused line) = omega arith
-known_code (Stops Missing line) = omega arith
-known_code (Stops Beyond line) = omega arith
-
--- an answer with another status than 0 and 3 prints nothing
-silent_answer : (P : List ℕ → Type 0) (a : Answer) (status : ℕ) → status ≡ status_of a → status ≢ 0
-    → status ≢ 3 → P (out_of a) → P []
-silent_answer P (Says Done text) status is not0 not3 prints = absurd (not0 is)
-silent_answer P (Says Against text) status is not0 not3 prints = absurd (not3 is)
-silent_answer P (Stops why line) status is not0 not3 prints = prints
+-- a reply with another status than 0 and 3 prints nothing
+silent_reply : (P : List ℕ → Type 0) (reply : Reply) (status : ℕ) → status ≡ status_of reply
+    → status ≢ 0 → status ≢ 3 → P (out_of reply) → P []
+silent_reply P (said Done text) status is not0 not3 prints = absurd (not0 is)
+silent_reply P (said Against text) status is not0 not3 prints = absurd (not3 is)
+silent_reply P (refused why file reason) status is not0 not3 prints = prints
 
 -- each image holds the record that was added, or that a new journal begins with
 module _ (did : Journaled) (before now since : Images) (made : HasMade did before now since) where
@@ -74,7 +61,7 @@ module _ {R S D O E : Type 0} (h : List ℕ → List ℕ) (rooms : Rooms R S D) 
           | inl is8 ↦ omega (arith, is8.1)
           | inr not8 ↦
               (let a = run.answered not5.1 not6.1 not8.1 in
-              subst (λ n. n ≤ 9) (sym a.code) (known_code a.answer))
+              subst (λ n. n ≤ 9) (sym a.code) (reply_code a.reply).known)
         ]
       ]
     ];
@@ -86,8 +73,8 @@ module _ {R S D O E : Type 0} (h : List ℕ → List ℕ) (rooms : Rooms R S D) 
         | inl is8 ↦ (run.no_memory is8.1).text
         | inr not8 ↦
             (let a = run.answered not5.1 not6 not8.1 in
-            silent_answer (Prints h rooms disks outs errs words old new out out' err err')
-            a.answer status a.code not0 not3 a.text)
+            silent_reply (Prints h rooms disks outs errs words old new out out' err err')
+            a.reply status a.code not0 not3 a.text)
       ]
     ];
   }

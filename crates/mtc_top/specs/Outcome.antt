@@ -1,7 +1,7 @@
 -- The outcome: what the program has to answer, as a function of the words and the room's files. One
 -- line for each command; each command's own outcome stands in a file of its own, in mtc_reads or
 -- mtc_logs.
-use Rattle.std.specs.Prelude.{ℕ, List, [], ◌∷◌, codes, Result, Ok, Err}
+use Rattle.std.specs.Prelude.{ℕ, List, [], ◌∷◌, Result, Ok, Err}
 use Rattle.mtc_words.specs.declared.error.WordError.{WordError}
 use Rattle.mtc_words.specs.Commands.{CommandValue, member, show, verify, init_log, issue}
 use Rattle.mtc_words.specs.Commands.{checkpoint, entries, consist, subtree, keygen}
@@ -11,10 +11,9 @@ use Rattle.mtc_reads.specs.KeygenOutcome.{keygen_outcome}
 use Rattle.mtc_logs.specs.LogOutcomes.{init_log_outcome}
 use Rattle.mtc_reads.specs.MemberOutcome.{member_outcome}
 use Rattle.mtc_reads.specs.ShowOutcome.{show_outcome}
-use Rattle.mtc_answers.specs.Served.{Journals}
 use Rattle.mtc_answers.specs.Steps.{Outcome, Files}
 use Rattle.mtc_reads.specs.VerifyOutcome.{verify_outcome}
-use Rattle.mtc_top.specs.WordsOutcome.{words_say, first_word}
+use Rattle.mtc_top.specs.WordsOutcome.{words_say}
 use Rattle.mtc_logs.specs.Works.{journal_outcome}
 use Rattle.mtc_logs.specs.declared.work.Work.TheVariants.{Checkpoint, Entries, Consist, Subtree}
 
@@ -27,38 +26,50 @@ command_outcome h (init_log journal id active limit) files =
     init_log_outcome journal id active limit files
 command_outcome h (issue journal request) files = issue_outcome h journal request files
 command_outcome h (checkpoint journal) files =
-    journal_outcome h (codes "checkpoint") journal (files journal) Checkpoint
+    journal_outcome h journal (files journal) Checkpoint
 command_outcome h (entries journal size) files =
-    journal_outcome h (codes "entries") journal (files journal) (Entries size)
+    journal_outcome h journal (files journal) (Entries size)
 command_outcome h (consist journal old new) files =
-    journal_outcome h (codes "consist") journal (files journal) (Consist old new)
+    journal_outcome h journal (files journal) (Consist old new)
 command_outcome h (subtree journal start end size) files =
-    journal_outcome h (codes "subtree") journal (files journal) (Subtree start end size)
+    journal_outcome h journal (files journal) (Subtree start end size)
 command_outcome h (keygen height width file) files = keygen_outcome height width file files
 
--- What is answered where the words say this.
-abbrev pub spoken_outcome : (List ℕ → List ℕ) → List ℕ → Result CommandValue WordError → Files
-    → Outcome
-spoken_outcome h first (Ok command) files = command_outcome h command files
-spoken_outcome h first (Err why) files = words_say first why
+-- The files that a command names.
+abbrev pub files_of : CommandValue → List (List ℕ)
+files_of (member file) = file ∷ []
+files_of (show file) = file ∷ []
+files_of (verify cert store moment) = cert ∷ (store ∷ [])
+files_of (init_log journal id active limit) = journal ∷ []
+files_of (issue journal request) = journal ∷ (request ∷ [])
+files_of (checkpoint journal) = journal ∷ []
+files_of (entries journal size) = journal ∷ []
+files_of (consist journal old new) = journal ∷ []
+files_of (subtree journal start end size) = journal ∷ []
+files_of (keygen height width file) = file ∷ []
+
+-- The journals that it works on.
+abbrev pub journals_of : CommandValue → List (List ℕ)
+journals_of (member file) = []
+journals_of (show file) = []
+journals_of (verify cert store moment) = []
+journals_of (init_log journal id active limit) = journal ∷ []
+journals_of (issue journal request) = journal ∷ []
+journals_of (checkpoint journal) = journal ∷ []
+journals_of (entries journal size) = journal ∷ []
+journals_of (consist journal old new) = journal ∷ []
+journals_of (subtree journal start end size) = journal ∷ []
+journals_of (keygen height width file) = []
+
+-- The same where the words say this.
+abbrev pub spoken_outcome : (List ℕ → List ℕ) → Result CommandValue WordError → Files → Outcome
+spoken_outcome h (Ok command) files = command_outcome h command files
+spoken_outcome h (Err why) files = words_say why
+
+abbrev pub spoken : (CommandValue → List (List ℕ)) → Result CommandValue WordError
+    → List (List ℕ)
+spoken names (Ok command) = names command
+spoken names (Err why) = []
 
 abbrev pub outcome : (List ℕ → List ℕ) → List (List ℕ) → Files → Outcome
-outcome h words files = spoken_outcome h (first_word words) (command_of words) files
-
--- The journals that a command works on, and what it does with each where it has that outcome.
-abbrev pub journals_of : CommandValue → Outcome → Journals
-journals_of (member file) o = []
-journals_of (show file) o = []
-journals_of (verify cert store moment) o = []
-journals_of (init_log journal id active limit) o = (journal, o.journal) ∷ []
-journals_of (issue journal request) o = (journal, o.journal) ∷ []
-journals_of (checkpoint journal) o = (journal, o.journal) ∷ []
-journals_of (entries journal size) o = (journal, o.journal) ∷ []
-journals_of (consist journal old new) o = (journal, o.journal) ∷ []
-journals_of (subtree journal start end size) o = (journal, o.journal) ∷ []
-journals_of (keygen height width file) o = []
-
--- And those of words that say this.
-abbrev pub spoken_journals : Result CommandValue WordError → Outcome → Journals
-spoken_journals (Ok command) o = journals_of command o
-spoken_journals (Err why) o = []
+outcome h words files = spoken_outcome h (command_of words) files

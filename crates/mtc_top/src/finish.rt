@@ -1,13 +1,12 @@
 //! The last step: what was decided goes out.
-ghost use Rattle.std.specs.Prelude.{◌≡◌, ◌≢◌, codes};
-ghost use Rattle.std.specs.Io.KnownBytes.{Appends};
+ghost use Rattle.std.specs.Prelude.{◌≡◌, ◌⊎◌, ◌++◌, codes, option_map};
 ghost use Rattle.mtc_io.specs.Counts.{Rose};
-ghost use Rattle.mtc_io.specs.Streams.{AppendsPrefix, joined};
-ghost use Rattle.mtc_answers.specs.Answers.{status_of, said_code, stopped_code, out_of, err_of, IsEarly};
-ghost use Rattle.mtc_answers.specs.Lines.{command_line, file_line, memory_line, stop_line, WritesLine};
-ghost use Rattle.mtc_answers.specs.Settled.{stop_code};
+ghost use Rattle.mtc_answers.specs.Answers.{said, said_code, stopped_code, ending_of, more_text, reason_text};
+ghost use Rattle.mtc_answers.specs.Lines.{line_of, of_command, WritesLine};
+ghost use Rattle.mtc_top.specs.Concluded.{Wrote, Lost, Concludes};
 
-use mtc_answers::{Answer, Said, Stop, Stopped};
+use itoa::Buffer;
+use mtc_answers::{Answer, More, Reason, Said, Stop, Stopped};
 use mtc_io::{Failed, Sink, write_all, write_pieces};
 
 const ROOM_FAILED: u8 = 5;
@@ -37,95 +36,112 @@ fn code_stopped(why: Stopped) -> u8
     }
 }
 
-// The lines of failures are written in pieces, so that they take no memory.
-fn write_line<E: Sink>(err: &mut E, pieces: &[&[u8]])
-    ensures { WritesLine (Rose (E.faults err.old) (E.faults err.new))
-        (E.taken err.old) (E.taken err.new) (joined pieces.now) }
+// Texts that stand one behind the other.
+type Texts<'x> = (&'x str, &'x str, &'x str, &'x str);
+
+// What stands behind the name of a reason. Numbers are written to the buffers.
+fn texts_of<'x>(more: More, first: &'x mut Buffer, second: &'x mut Buffer) -> Texts<'x>
+    ensures { result.0.now ++ (result.1.now ++ (result.2.now ++ result.3.now)) ≡ more_text more }
 {
-    let _ = write_pieces(err, pieces);
+    match more {
+        More::Nothing => ("", "", "", ""),
+        More::Name(name) => (" ", name, "", ""),
+        More::Number(number) => (" ", first.format(number), "", ""),
+        More::Numbers(one, two) => (" ", first.format(one), " ", second.format(two)),
+    }
 }
 
-fn write_command_line<E: Sink>(err: &mut E, command: &str, refusal: &[u8])
+// Writes a line in pieces, so that it takes no memory.
+fn write_pieces_of<'x, E: Sink>(
+    err: &mut E,
+    command: &'x str,
+    file: (&'x str, &'x str),
+    name: &'x str,
+    more: Texts<'x>,
+)
     ensures { WritesLine (Rose (E.faults err.old) (E.faults err.new))
-        (E.taken err.old) (E.taken err.new) (command_line command.now refusal.now) }
+        (E.taken err.old) (E.taken err.new)
+        (codes "mtc: " ++ of_command command.now (file.entry.0.now ++ (file.entry.1.now
+        ++ (name.now ++ (more.entry.0.now ++ (more.entry.1.now ++ (more.entry.2.now
+        ++ (more.entry.3.now ++ codes "\n")))))))) }
 {
-    write_line(err, &[b"mtc: ", command.as_bytes(), b": ", refusal, b"\n"]);
-}
-
-fn write_file_line<E: Sink>(err: &mut E, command: &str, file: &str, refusal: &[u8])
-    ensures { WritesLine (Rose (E.faults err.old) (E.faults err.new))
-        (E.taken err.old) (E.taken err.new) (file_line command.now file.now refusal.now) }
-{
-    write_line(
+    let behind_command = if command.is_empty() { "" } else { ": " };
+    let _ = write_pieces(
         err,
         &[
             b"mtc: ",
             command.as_bytes(),
-            b": ",
-            file.as_bytes(),
-            b": ",
-            refusal,
+            behind_command.as_bytes(),
+            file.0.as_bytes(),
+            file.1.as_bytes(),
+            name.as_bytes(),
+            more.0.as_bytes(),
+            more.1.as_bytes(),
+            more.2.as_bytes(),
+            more.3.as_bytes(),
             b"\n",
         ],
     );
 }
 
-fn write_memory_line<E: Sink>(err: &mut E, command: &str)
+// The line of a refusal or a failure.
+fn write_line<E: Sink>(err: &mut E, command: &str, file: Option<&str>, reason: Reason)
     ensures { WritesLine (Rose (E.faults err.old) (E.faults err.new))
-        (E.taken err.old) (E.taken err.new) (memory_line command.now) }
+        (E.taken err.old) (E.taken err.new)
+        (line_of command.now (option_map (λ f. f.now) file.entry) (reason_text reason)) }
 {
-    if command.is_empty() {
-        write_line(err, &[b"mtc: ", b"Memory", b"\n"]);
-    } else {
-        write_command_line(err, command, b"Memory");
+    let mut first = Buffer::new();
+    let mut second = Buffer::new();
+    let more = texts_of(reason.more, &mut first, &mut second);
+    match file {
+        Some(file) => write_pieces_of(err, command, (file, ": "), reason.name, more),
+        None => write_pieces_of(err, command, ("", ""), reason.name, more),
     }
 }
 
-// Ends a command that has no answer of its own.
-pub fn fail<E: Sink>(command: &str, err: &mut E, stop: Stop) -> u8
-    ensures status { result ≡ stop_code stop.entry }
-    ensures line { WritesLine (Rose (E.faults err.old) (E.faults err.new))
-        (E.taken err.old) (E.taken err.new) (stop_line command.now stop.entry) }
+// Writes the text of an answer.
+fn write_answer<O: Sink, E: Sink>(
+    command: &str,
+    out: &mut O,
+    err: &mut E,
+    answer: &Answer,
+) -> u8
+    ensures { Wrote O.Sink E.Sink command.now out.old out.new err.old err.new
+        (said answer.now.status answer.now.text) result
+        ⊎ Lost O.Sink E.Sink command.now out.old out.new err.old err.new answer.now.text result }
 {
-    match stop {
-        Stop::Room(file) => {
-            write_file_line(err, command, file, b"Failed");
+    match write_all(out, answer.text.as_slice()) {
+        Ok(()) => code_said(answer.status),
+        Err(Failed) => {
+            write_line(err, command, None, Reason::named("OutputFailed"));
+            OUTPUT_FAILED
+        }
+    }
+}
+
+// Writes what a command ended with, and answers the status.
+pub fn conclude<O: Sink, E: Sink>(
+    command: &str,
+    ended: Result<Answer, Stop>,
+    out: &mut O,
+    err: &mut E,
+) -> u8
+    ensures { Concludes O.Sink E.Sink command.now out.old out.new err.old err.new
+        (ending_of ended.entry) result }
+{
+    match ended {
+        Ok(answer) => write_answer(command, out, err, &answer),
+        Err(Stop::Refused(refusal)) => {
+            write_line(err, command, refusal.file, refusal.reason);
+            code_stopped(refusal.why)
+        }
+        Err(Stop::Room(file)) => {
+            write_line(err, command, Some(file), Reason::named("Failed"));
             ROOM_FAILED
         }
-        Stop::Memory => {
-            write_memory_line(err, command);
+        Err(Stop::Memory) => {
+            write_line(err, command, None, Reason::named("Memory"));
             NO_MEMORY
-        }
-    }
-}
-
-// Writes an answer: its text, or its line.
-pub fn conclude<O: Sink, E: Sink>(command: &str, out: &mut O, err: &mut E, answer: &Answer) -> u8
-    ensures status { result ≢ 6 → result ≡ status_of answer.now }
-    ensures took { result ≢ 6 → Appends (O.taken out.old) (O.taken out.new) (out_of answer.now) }
-    ensures line { result ≢ 6 → WritesLine (Rose (E.faults err.old) (E.faults err.new))
-        (E.taken err.old) (E.taken err.new) (err_of answer.now) }
-    ensures out_failed { result ≡ 6 → Rose (O.faults out.old) (O.faults out.new) }
-    ensures prefix { result ≡ 6
-        → AppendsPrefix (O.taken out.old) (O.taken out.new) (out_of answer.now) }
-    ensures out_line { result ≡ 6 → WritesLine (Rose (E.faults err.old) (E.faults err.new))
-        (E.taken err.old) (E.taken err.new) (command_line command.now (codes "OutputFailed")) }
-    ensures early { IsEarly (status_of answer.now) → result ≡ status_of answer.now }
-    ensures bad_words { status_of answer.now ≡ 1 → result ≡ 1 }
-    ensures not_5 { result ≢ 5 }
-    ensures not_8 { result ≢ 8 }
-{
-    match answer {
-        Answer::Says { status, text } => match write_all(out, text.as_slice()) {
-            Ok(()) => code_said(*status),
-            Err(Failed) => {
-                write_command_line(err, command, b"OutputFailed");
-                OUTPUT_FAILED
-            }
-        },
-        Answer::Stops { why, line } => {
-            write_line(err, &[line.as_slice()]);
-            code_stopped(*why)
         }
     }
 }

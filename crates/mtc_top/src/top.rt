@@ -2,18 +2,18 @@
 ghost use Rattle.std.specs.Prelude.{◌≡◌, ◌<◌, ◌^◌, map, string_bytes, IsErr};
 ghost use Rattle.mtc_words.specs.Commands.{command_value, IsInRange};
 ghost use Rattle.mtc_words.specs.Words.{command_of};
+ghost use Rattle.mtc_answers.specs.Answers.{ending_of};
 ghost use Rattle.mtc_answers.specs.Served.{HasDone};
-ghost use Rattle.mtc_top.specs.Outcome.{command_outcome, journals_of, outcome, spoken_journals};
+ghost use Rattle.mtc_top.specs.Outcome.{command_outcome, files_of, journals_of, outcome, spoken};
 ghost use Rattle.mtc_top.specs.Run.{HasRun};
-ghost use Rattle.mtc_top.specs.WordsOutcome.{first_word};
 
-use crate::finish::{conclude, fail};
-use crate::refused_words::refuse_words;
-use mtc_answers::{Answer, Stop};
+use crate::finish::conclude;
+use crate::refused_words::word_reason;
+use mtc_answers::{Answer, Stop, Stopped, refuse};
 use mtc_io::Sink;
 use mtc_logs::init_log::init_log;
 use mtc_logs::issue::issue;
-use mtc_logs::{Work, on_journal};
+use mtc_logs::{Work, on_log};
 use mtc_reads::keygen::keygen;
 use mtc_reads::member::member;
 use mtc_reads::show::show;
@@ -22,16 +22,6 @@ use mtc_room::Room;
 use mtc_words::{Command, WordError, command_word, read_words};
 use std::alloc::Global;
 use tree_core::TreeHash;
-
-// The first word, or an empty text.
-fn first(words: &[String]) -> &str
-    ensures { result.now ≡ first_word (map string_bytes words.now) }
-{
-    match words.first() {
-        Some(first) => first.as_str(),
-        None => "",
-    }
-}
 
 // Carries out a command. There is one arm for each.
 fn perform<'a, H: TreeHash, R: Room>(
@@ -42,10 +32,9 @@ fn perform<'a, H: TreeHash, R: Room>(
     requires lent { R.lent room.old < 2 ^ 32 }
     requires range { IsInRange (command_value command) }
     ensures { HasDone R.Room R.Dsk.Disk ⊥
-        (journals_of (command_value command.entry)
-        (command_outcome H.hash (command_value command.entry) (R.file room.old)))
+        (files_of (command_value command.entry)) (journals_of (command_value command.entry))
         (command_outcome H.hash (command_value command.entry) (R.file room.old))
-        room.old room.new result }
+        room.old room.new (ending_of result) }
 {
     match command {
         Command::Member(file) => member::<H, R>(alloc, room, file),
@@ -55,23 +44,15 @@ fn perform<'a, H: TreeHash, R: Room>(
             init_log(alloc, room, journal, id, max_active, limit)
         }
         Command::Issue(journal, request) => issue::<H, R>(alloc, room, journal, request),
-        Command::Checkpoint(journal) => {
-            on_journal::<H, R>(alloc, room, "checkpoint", journal, Work::Checkpoint)
-        }
+        Command::Checkpoint(journal) => on_log::<H, R>(alloc, room, journal, Work::Checkpoint),
         Command::Entries(journal, size) => {
-            on_journal::<H, R>(alloc, room, "entries", journal, Work::Entries(size))
+            on_log::<H, R>(alloc, room, journal, Work::Entries(size))
         }
         Command::Consist(journal, old, new) => {
-            on_journal::<H, R>(alloc, room, "consist", journal, Work::Consist(old, new))
+            on_log::<H, R>(alloc, room, journal, Work::Consist(old, new))
         }
         Command::Subtree(journal, start, end, size) => {
-            on_journal::<H, R>(
-                alloc,
-                room,
-                "subtree",
-                journal,
-                Work::Subtree(start, end, size),
-            )
+            on_log::<H, R>(alloc, room, journal, Work::Subtree(start, end, size))
         }
         Command::Keygen(height, width, secret) => keygen(alloc, room, height, width, secret),
     }
@@ -85,14 +66,15 @@ fn answer<'a, H: TreeHash, R: Room>(
 ) -> Result<Answer, Stop<'a>>
     requires { R.lent room.old < 2 ^ 32 }
     ensures { HasDone R.Room R.Dsk.Disk (IsErr (command_of (map string_bytes words.now)))
-        (spoken_journals (command_of (map string_bytes words.now))
-        (outcome H.hash (map string_bytes words.now) (R.file room.old)))
-        (outcome H.hash (map string_bytes words.now) (R.file room.old)) room.old room.new result }
+        (spoken files_of (command_of (map string_bytes words.now)))
+        (spoken journals_of (command_of (map string_bytes words.now)))
+        (outcome H.hash (map string_bytes words.now) (R.file room.old))
+        room.old room.new (ending_of result) }
 {
     match read_words(alloc, words) {
         Ok(command) => perform::<H, R>(alloc, room, command),
         Err(WordError::Memory) => Err(Stop::Memory),
-        Err(why) => Ok(refuse_words(alloc, first(words), why)?),
+        Err(why) => Err(refuse(Stopped::BadWords, word_reason(why))),
     }
 }
 
@@ -120,9 +102,6 @@ pub fn run<H: TreeHash, R: Room, O: Sink, E: Sink>(
     ensures { HasRun H.hash R.Room R.Dsk.Disk O.Sink E.Sink (map string_bytes words.now)
         room.old room.new out.old out.new err.old err.new result }
 {
-    let command = command_word(words);
-    match answer::<H, R>(alloc, words, room) {
-        Ok(answer) => conclude(command, out, err, &answer),
-        Err(stop) => fail(command, err, stop),
-    }
+    let ended = answer::<H, R>(alloc, words, room);
+    conclude(command_word(words), ended, out, err)
 }

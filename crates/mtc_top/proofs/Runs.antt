@@ -1,0 +1,202 @@
+-- A command that was done, and whose ending went out, is a run.
+use Rattle.std.proofs.Common.{◌≡◌, ◌≤◌, ◌⊎◌, inl, inr, ℕ, List, [], Option, None, Some, codes, refl, sym}
+use Rattle.std.proofs.Common.{subst, ◌∙◌, arith, IsErr}
+use Rattle.disk_core.specs.declared.disk.Disk.{Ghosts as Disks}
+use Rattle.mtc_io.specs.Counts.{Rose}
+use Rattle.mtc_io.specs.declared.sink.Sink.{Ghosts as Sinks}
+use Rattle.mtc_room.specs.declared.room.Room.{Ghosts as Rooms}
+use Rattle.mtc_words.specs.Words.{command_of, known_word}
+use Rattle.mtc_answers.specs.Answers.{Ending, Reply, replied, room_failed, no_memory, said, refused}
+use Rattle.mtc_answers.specs.Answers.{status_of, out_of, IsEarly}
+use Rattle.mtc_answers.specs.Made.{untouched, IsOnOld}
+use Rattle.mtc_answers.specs.Served.{HasDone, OfEach, IsUnmade, done_with}
+use Rattle.mtc_answers.specs.Steps.{Outcome}
+use Rattle.mtc_answers.specs.declared.answer.Said.{Said}
+use Rattle.mtc_answers.specs.declared.answer.Said.TheVariants.{Done, Against}
+use Rattle.mtc_answers.specs.declared.answer.Stopped.{Stopped}
+use Rattle.mtc_answers.specs.declared.answer.Stopped.TheVariants.{BadWords, BadForm}
+use Rattle.mtc_answers.specs.declared.answer.Stopped.TheVariants.{Refused as NotAllowed}
+use Rattle.mtc_answers.specs.declared.answer.Stopped.TheVariants.{Missing, Beyond}
+use Rattle.mtc_answers.proofs.Served.{each_so, each_is}
+use Rattle.mtc_top.specs.Concluded.{Wrote, Lost, Told, Concludes}
+use Rattle.mtc_top.specs.Outcome.{outcome, files_of, journals_of, spoken}
+use Rattle.mtc_top.specs.Run.{HasRun}
+
+-- a reply's status is none of those without a reply
+pub record IsReply (status : ℕ) : Type 0 where
+  pub not5 : status ≡ 5 → ⊥
+  pub not6 : status ≡ 6 → ⊥
+  pub not8 : status ≡ 8 → ⊥
+  pub known : status ≤ 9
+
+is_reply : (n : ℕ) → n ≤ 4 ⊎ ((n ≡ 7) ⊎ (n ≡ 9)) → IsReply n
+is_reply n of = record {
+  not5 = λ is. omega (arith, is, of);
+  not6 = λ is. omega (arith, is, of);
+  not8 = λ is. omega (arith, is, of);
+  known = omega (arith, of);
+}
+
+pub reply_code : (reply : Reply) → IsReply (status_of reply)
+reply_code (said Done text) = is_reply 0 (inl (omega arith))
+reply_code (said Against text) = is_reply 3 (inl (omega arith))
+reply_code (refused BadWords file reason) = is_reply 1 (inl (omega arith))
+reply_code (refused BadForm file reason) = is_reply 2 (inl (omega arith))
+reply_code (refused NotAllowed file reason) = is_reply 4 (inl (omega arith))
+reply_code (refused Missing file reason) = is_reply 7 (inr (inl refl))
+reply_code (refused Beyond file reason) = is_reply 9 (inr (inr refl))
+
+-- a reply that says something doesn't come early, and not to words that are no command
+said_late : (kind : Said) (text : List ℕ) → (status_of (said kind text) ≡ 1 → ⊥)
+    × (IsEarly (status_of (said kind text)) → ⊥)
+said_late Done text = (λ is. omega (arith, is), λ is. omega (arith, is))
+said_late Against text = (λ is. omega (arith, is), λ is. omega (arith, is))
+
+module _ {R S D O E : Type 0} (h : List ℕ → List ℕ) (rooms : Rooms R S D) (disks : Disks D)
+    (outs : Sinks O) (errs : Sinks E) (words : List (List ℕ))
+    (old new : R) (out out' : O) (err err' : E) where
+  abbrev Run : ℕ → Type 0
+  Run = HasRun h rooms disks outs errs words old new out out' err err'
+
+  abbrev Bad : Type 0
+  Bad = IsErr (command_of words)
+
+  abbrev want : Outcome
+  want = outcome h words (rooms.file old)
+
+  abbrev Did : Ending → Type 0
+  Did = HasDone rooms disks Bad (spoken files_of (command_of words))
+      (spoken journals_of (command_of words)) want old new
+
+  no_file : (ending : Ending) → Did ending → rooms.tells old
+      → OfEach (λ name did. IsOnOld did → IsUnmade rooms old new name)
+      (done_with (spoken journals_of (command_of words)) want.journals)
+  no_file ending done tells = (done.made tells).no_file
+
+  -- the reply went out
+  run_wrote : (reply : Reply) (status : ℕ) → Did (replied reply)
+      → Wrote outs errs (known_word words) out out' err err' reply status → Run status
+  run_wrote reply status done wrote =
+      let code = reply_code reply in
+      record {
+        read = record {
+          only = λ one. done.ends.not_words (sym wrote.code ∙ one);
+          first = λ bad not8. wrote.code ∙ (done.ends.words bad).1;
+        };
+        answered = λ not5 not6 not8. record {
+          reply = reply;
+          is = λ where_. elim where_ [
+            | inl tells ↦ done.ends.reply tells
+            | inr bad ↦ (done.ends.words bad).0
+          ];
+          code = wrote.code;
+          text = wrote.text;
+          line = wrote.line;
+          made = λ tells. (done.made tells).left;
+        };
+        room_failed = λ is. absurd (code.not5 (sym wrote.code ∙ is));
+        out_failed = λ is. absurd (code.not6 (sym wrote.code ∙ is));
+        no_memory = λ is. absurd (code.not8 (sym wrote.code ∙ is));
+        back = done.back;
+        no_file = no_file (replied reply) done;
+        early = λ tells. subst (λ n. OfEach (λ name did. did ≡ untouched → IsEarly n)
+            (done_with (spoken journals_of (command_of words)) want.journals)) (sym wrote.code)
+            (done.ends.early tells);
+      }
+
+  -- standard output failed
+  run_lost : (kind : Said) (text : List ℕ) (status : ℕ) → Did (replied (said kind text))
+      → Lost outs errs (known_word words) out out' err err' text status → Run status
+  run_lost kind text status done lost = record {
+    read = record {
+      only = λ one. absurd (omega (arith, lost.code, one));
+      first = λ bad not8. absurd ((said_late kind text).0 (done.ends.words bad).1);
+    };
+    answered = λ not5 not6 not8. absurd (not6 lost.code);
+    room_failed = λ is. absurd (omega (arith, lost.code, is));
+    out_failed = λ is. record {
+      cause = lost.cause;
+      reply = said kind text;
+      is = λ where_. elim where_ [
+        | inl tells ↦ done.ends.reply tells
+        | inr bad ↦ (done.ends.words bad).0
+      ];
+      text = lost.front;
+      line = lost.line;
+      made = λ tells. (done.made tells).left;
+    };
+    no_memory = λ is. absurd (omega (arith, lost.code, is));
+    back = done.back;
+    no_file = no_file (replied (said kind text)) done;
+    early = λ tells. each_so (λ name did. did ≡ untouched → IsEarly (status_of (said kind text)))
+        (λ name did. did ≡ untouched → IsEarly status)
+        (λ name did late of. absurd ((said_late kind text).1 (late of)))
+        (done_with (spoken journals_of (command_of words)) want.journals)
+        (done.ends.early tells);
+  }
+
+  -- the room failed
+  run_failed : (file : List ℕ) (status : ℕ) → Did (room_failed file)
+      → Told outs errs (known_word words) out out' err err' 5 (Some file) (codes "Failed") status
+      → Run status
+  run_failed file status done told = record {
+    read = record {
+      only = λ one. absurd (omega (arith, told.is, one));
+      first = λ bad not8. absurd (done.ends.words bad);
+    };
+    answered = λ not5 not6 not8. absurd (not5 told.is);
+    room_failed = λ is. record {
+      cause = done.ends.fault.0;
+      text = told.nothing;
+      file = file;
+      named = done.ends.fault.1;
+      line = told.line;
+      made = λ tells. (done.made tells).left;
+    };
+    out_failed = λ is. absurd (omega (arith, told.is, is));
+    no_memory = λ is. absurd (omega (arith, told.is, is));
+    back = done.back;
+    no_file = no_file (room_failed file) done;
+    early = λ tells. each_is (λ name did. did ≡ untouched → IsEarly status)
+        (λ name did of. inr (inr (inl told.is)))
+        (done_with (spoken journals_of (command_of words)) want.journals);
+  }
+
+  -- memory was refused
+  run_starved : (status : ℕ) → Did no_memory
+      → Told outs errs (known_word words) out out' err err' 8 None (codes "Memory") status
+      → Run status
+  run_starved status done told = record {
+    read = record {
+      only = λ one. absurd (omega (arith, told.is, one));
+      first = λ bad not8. absurd (not8 told.is);
+    };
+    answered = λ not5 not6 not8. absurd (not8 told.is);
+    room_failed = λ is. absurd (omega (arith, told.is, is));
+    out_failed = λ is. absurd (omega (arith, told.is, is));
+    no_memory = λ is. record {
+      text = told.nothing;
+      line = told.line;
+      made = λ tells. (done.made tells).left;
+      unmade = λ tells. (done.made tells).unmade refl;
+    };
+    back = done.back;
+    no_file = no_file no_memory done;
+    early = λ tells. each_is (λ name did. did ≡ untouched → IsEarly status)
+        (λ name did of. inr (inr (inr (inr (inl told.is)))))
+        (done_with (spoken journals_of (command_of words)) want.journals);
+  }
+
+  pub has_run : (ending : Ending) (status : ℕ) → HasDone rooms disks (IsErr (command_of words))
+      (spoken files_of (command_of words)) (spoken journals_of (command_of words))
+      (outcome h words (rooms.file old)) old new ending
+      → Concludes outs errs (known_word words) out out' err err' ending status
+      → HasRun h rooms disks outs errs words old new out out' err err' status
+  has_run (replied (said kind text)) status done ends = elim ends [
+    | inl wrote ↦ run_wrote (said kind text) status done wrote
+    | inr lost ↦ run_lost kind text status done lost
+  ]
+  has_run (replied (refused why file reason)) status done wrote =
+      run_wrote (refused why file reason) status done wrote
+  has_run (room_failed file) status done told = run_failed file status done told
+  has_run no_memory status done told = run_starved status done told

@@ -1,0 +1,49 @@
+-- What goes out where a command ends, and its status.
+use Rattle.std.specs.Prelude.{◌≡◌, ◌⊎◌, ℕ, List, [], Option, None, Some, codes}
+use Rattle.std.specs.Io.KnownBytes.{Appends}
+use Rattle.mtc_io.specs.Counts.{Rose}
+use Rattle.mtc_io.specs.Streams.{AppendsPrefix}
+use Rattle.mtc_io.specs.declared.sink.Sink.{Ghosts as Sinks}
+use Rattle.mtc_answers.specs.Answers.{Ending, Reply, replied, room_failed, no_memory, said, refused}
+use Rattle.mtc_answers.specs.Answers.{status_of, out_of, err_of}
+use Rattle.mtc_answers.specs.Lines.{line_of, WritesLine}
+
+module _ {O E : Type 0} (outs : Sinks O) (errs : Sinks E) (out out' : O) (err err' : E) where
+  -- This went to standard output; a front of it did.
+  abbrev pub Prints : List ℕ → Type 0
+  Prints text = Appends (outs.taken out) (outs.taken out') text
+
+  abbrev pub PrintsFront : List ℕ → Type 0
+  PrintsFront text = AppendsPrefix (outs.taken out) (outs.taken out') text
+
+  -- This line went to standard error, or a front of it where that failed.
+  abbrev pub Reports : List ℕ → Type 0
+  Reports line = WritesLine (Rose (errs.faults err) (errs.faults err'))
+      (errs.taken err) (errs.taken err') line
+
+module _ {O E : Type 0} (outs : Sinks O) (errs : Sinks E) (command : List ℕ)
+    (out out' : O) (err err' : E) where
+  -- The reply went out.
+  pub record Wrote (reply : Reply) (status : ℕ) : Type 0 where
+    pub code : status ≡ status_of reply
+    pub text : Prints outs errs out out' err err' (out_of reply)
+    pub line : Reports outs errs out out' err err' (err_of command reply)
+
+  -- Standard output failed.
+  pub record Lost (text : List ℕ) (status : ℕ) : Type 0 where
+    pub code : status ≡ 6
+    pub cause : Rose (outs.faults out) (outs.faults out')
+    pub front : PrintsFront outs errs out out' err err' text
+    pub line : Reports outs errs out out' err err' (line_of command None (codes "OutputFailed"))
+
+  -- There is no reply.
+  pub record Told (code : ℕ) (file : Option (List ℕ)) (reason : List ℕ) (status : ℕ) : Type 0 where
+    pub is : status ≡ code
+    pub nothing : Prints outs errs out out' err err' []
+    pub line : Reports outs errs out out' err err' (line_of command file reason)
+
+  abbrev pub Concludes : Ending → ℕ → Type 0
+  Concludes (replied (said kind text)) status = Wrote (said kind text) status ⊎ Lost text status
+  Concludes (replied (refused why file reason)) status = Wrote (refused why file reason) status
+  Concludes (room_failed file) status = Told 5 (Some file) (codes "Failed") status
+  Concludes no_memory status = Told 8 None (codes "Memory") status
