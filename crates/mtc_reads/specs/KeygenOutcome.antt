@@ -1,5 +1,6 @@
 -- The outcome of `keygen HEIGHT WIDTH SECRET`.
 use Rattle.std.specs.Prelude.{ℕ, ◌==◌, nat_lt, ◌++◌, length, codes, if◌then◌else◌}
+use Rattle.std.specs.Fmt.{decimal}
 use Rattle.byte_forms.specs.Types.{Text}
 use Rattle.base64.specs.Engines.{standard}
 use Rattle.base64.specs.GeneralPurpose.{encode_of}
@@ -11,8 +12,7 @@ use Rattle.lms_core.specs.Trees.{private_key}
 use Rattle.hss_core.specs.Hss.{one_level_public}
 use Rattle.mtc_answers.specs.declared.answer.Said.TheVariants.{Done}
 use Rattle.mtc_answers.specs.declared.answer.Stopped.TheVariants.{BadForm}
-use Rattle.mtc_answers.specs.Lines.{file_line}
-use Rattle.mtc_answers.specs.Steps.{Outcome, Files, says, stops, with_bytes}
+use Rattle.mtc_answers.specs.Steps.{Outcome, Files, says, stops_at, with_bytes}
 
 -- The type of a tree by its height, 5 or 10, and of its one-time keys by their width, 1, 2, 4 or 8.
 abbrev pub lms_type : ℕ → LmsType
@@ -26,17 +26,13 @@ abbrev pub public_text : ℕ → ℕ → Text → Text
 public_text height width secret = encode_of standard
     (one_level_public (private_key (lms_type height) (ots_type width) secret))
 
--- A file that is no secret.
-abbrev pub bad_secret : Text → Text → Outcome
-bad_secret file refusal = stops BadForm (file_line (codes "keygen") file refusal)
-
 -- A secret file has 48 bytes: 16 of identifier and 32 of seed.
 abbrev pub keygen_says : ℕ → ℕ → Text → Text → Outcome
 keygen_says height width file secret =
-    if nat_lt (length secret) 48 then bad_secret file (codes "Short 0")
-    else (if nat_lt 48 (length secret) then bad_secret file (codes "Trailing")
+    if nat_lt (length secret) 48 then stops_at BadForm file (codes "Short " ++ decimal 0)
+    else (if nat_lt 48 (length secret) then stops_at BadForm file (codes "Trailing")
     else says Done (public_text height width secret ++ codes "\n"))
 
 abbrev pub keygen_outcome : ℕ → ℕ → Text → Files → Outcome
 keygen_outcome height width file files =
-    with_bytes 16777216 (codes "keygen") file (files file) (keygen_says height width file)
+    with_bytes 16777216 file (files file) (keygen_says height width file)

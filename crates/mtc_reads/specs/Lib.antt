@@ -1,7 +1,6 @@
-pub mod CertFaults
 pub mod KeygenOutcome
 pub mod Member
-pub mod MemberNames
 pub mod MemberOutcome
+pub mod Reasons
 pub mod ShowOutcome
 pub mod VerifyOutcome

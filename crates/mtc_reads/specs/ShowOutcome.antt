@@ -17,7 +17,7 @@ use Rattle.cert_fields.specs.Certificate.{Parts, parts_of}
 use Rattle.cert_fields.specs.Extensions.{dns_names_in}
 use Rattle.cert_names.specs.LogNames.{log_in}
 use Rattle.mtc_answers.specs.declared.answer.Said.TheVariants.{Done}
-use Rattle.mtc_reads.specs.CertFaults.{cert_fault_text}
+use Rattle.mtc_reads.specs.Reasons.{cert_fault_text}
 use Rattle.mtc_answers.specs.Steps.{Outcome, Files, says, with_bytes, with_form}
 
 -- The log id that an issuer name holds, or `other`.
@@ -87,7 +87,7 @@ show_text p = fields_text p ++ (flat_map name_line (dns_names_in p.extensions) +
 -- The lines of the certificate in these bytes.
 abbrev pub show_says : Text → Text → Outcome
 show_says file bytes =
-    with_form cert_fault_text (codes "show") file (parts_of bytes) (λ p. says Done (show_text p))
+    with_form cert_fault_text file (parts_of bytes) (λ p. says Done (show_text p))
 
 abbrev pub show_outcome : Text → Files → Outcome
-show_outcome file files = with_bytes 16777216 (codes "show") file (files file) (show_says file)
+show_outcome file files = with_bytes 16777216 file (files file) (show_says file)

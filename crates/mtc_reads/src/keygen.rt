@@ -1,16 +1,18 @@
 //! The command `keygen`: the public key of a secret.
-ghost use Rattle.std.specs.Prelude.{◌≡◌, ◌<◌, ◌^◌, true, ◌++◌, IfOk, codes, string_bytes};
+ghost use Rattle.std.specs.Prelude.{◌≡◌, ◌<◌, ◌^◌, true, [], ◌∷◌, ◌++◌, IfOk, codes, string_bytes};
 ghost use Rattle.base64.specs.GeneralPurpose.{encode_of};
 ghost use Rattle.base64.specs.Engines.{standard};
 ghost use Rattle.mtc_words.specs.Commands.{is_height, is_width};
 ghost use Rattle.mtc_reads.specs.KeygenOutcome.{lms_type, ots_type, public_text, keygen_says, keygen_outcome};
-ghost use Rattle.mtc_answers.specs.Lines.{file_line};
+ghost use Rattle.mtc_answers.specs.Answers.{ending_of};
+ghost use Rattle.mtc_answers.specs.Endings.{Replies};
 ghost use Rattle.mtc_answers.specs.Served.{HasAnswered};
+ghost use Rattle.mtc_answers.specs.Steps.{says};
 
+use crate::replies::done;
 use base64::engine::general_purpose::STANDARD;
 use hss_core::{Key, LmsType, OtsType};
-use mtc_answers::{Answer, INPUT_LIMIT, Said, Stop, Stopped, no_input, read_input, refuse_file};
-use mtc_io::{Bytes, Memory};
+use mtc_answers::{Answer, INPUT_LIMIT, Reason, Said, Stop, Stopped, read_input, refuse_file};
 use mtc_room::Room;
 use std::alloc::{AllocError, Global};
 
@@ -48,56 +50,40 @@ fn in_base64(alloc: Global, bytes: &[u8]) -> Result<String, AllocError>
 }
 
 // The public key of a secret, in base64 and with a newline.
-fn public_answer(
+fn public_answer<'a>(
     alloc: Global,
     height: u64,
     width: u64,
     secret: &[u8; SECRET_LENGTH],
-) -> Result<Answer, Memory>
+) -> Result<Answer, Stop<'a>>
     requires height { is_height height ≡ true }
     requires width { is_width width ≡ true }
-    ensures { IfOk result (λ answer. answer
-        ≡ Answer.Says Said.Done (public_text height width secret.now ++ codes "\n")) }
+    ensures { Replies (says Said.Done (public_text height width secret.now ++ codes "\n")).answer
+        (ending_of result) }
 {
-    let key = Key::make(
-        alloc,
-        tree_of_height(height),
-        chains_of_width(width),
-        secret,
-        0,
-    )?;
+    let (tree, chains) = (tree_of_height(height), chains_of_width(width));
+    let key = Key::make(alloc, tree, chains, secret, 0)?;
     let text = in_base64(alloc, &key.public())?;
-    Ok(Answer::Says {
-        status: Said::Done,
-        text: Bytes::from_vec(format!(in alloc; "{text}\n")?.into_bytes()),
-    })
+    Ok(done(format!(in alloc; "{text}\n")?))
 }
 
-fn bad_secret(alloc: Global, file: &str, refusal: &str) -> Result<Answer, Memory>
-    ensures { IfOk result (λ answer. answer ≡ Answer.Stops Stopped.BadForm
-        (file_line (codes "keygen") file.now refusal.now)) }
-{
-    refuse_file(alloc, Stopped::BadForm, "keygen", file, refusal)
-}
-
-fn answer_of(
+fn answer_of<'a>(
     alloc: Global,
     height: u64,
     width: u64,
-    file: &str,
+    file: &'a str,
     secret: &[u8],
-) -> Result<Answer, Memory>
+) -> Result<Answer, Stop<'a>>
     requires height { is_height height ≡ true }
     requires width { is_width width ≡ true }
-    ensures { IfOk result (λ answer. answer
-        ≡ (keygen_says height width file.now secret.now).answer) }
+    ensures { Replies (keygen_says height width file.now secret.now).answer (ending_of result) }
 {
     if secret.len() < SECRET_LENGTH {
-        return bad_secret(alloc, file, "Short 0");
+        return Err(refuse_file(Stopped::BadForm, file, Reason::with_number("Short", 0)));
     }
     match <[u8; SECRET_LENGTH]>::try_from(secret) {
         Ok(secret) => public_answer(alloc, height, width, &secret),
-        Err(_) => bad_secret(alloc, file, "Trailing"),
+        Err(_) => Err(refuse_file(Stopped::BadForm, file, Reason::named("Trailing"))),
     }
 }
 
@@ -112,11 +98,10 @@ pub fn keygen<'a, R: Room>(
     requires lent { R.lent room.old < 2 ^ 32 }
     requires height { is_height height ≡ true }
     requires width { is_width width ≡ true }
-    ensures { HasAnswered R.Room R.Dsk.Disk (keygen_outcome height width file.now (R.file room.old))
-        room.old room.new result }
+    ensures { HasAnswered R.Room R.Dsk.Disk (file.now ∷ [])
+        (keygen_outcome height width file.now (R.file room.old))
+        room.old room.new (ending_of result) }
 {
-    match read_input(alloc, room, file, INPUT_LIMIT)? {
-        Ok(secret) => Ok(answer_of(alloc, height, width, file, secret.as_slice())?),
-        Err(why) => Ok(no_input(alloc, "keygen", file, why)?),
-    }
+    let secret = read_input(alloc, room, file, INPUT_LIMIT)?;
+    answer_of(alloc, height, width, file, secret.as_slice())
 }

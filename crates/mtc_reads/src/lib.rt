@@ -4,8 +4,9 @@
 //! `specs/` of its own.
 #![tactic(auto)]
 
-mod cert_fault;
 pub mod keygen;
 pub mod member;
+mod reasons;
+mod replies;
 pub mod show;
 pub mod verify;

@@ -1,19 +1,21 @@
 //! The command `show`: what a certificate says.
-ghost use Rattle.std.specs.Prelude.{◌≡◌, ◌<◌, ◌^◌, ◌++◌, IfOk, OnOk, string_bytes};
+ghost use Rattle.std.specs.Prelude.{◌≡◌, ◌<◌, ◌^◌, [], ◌∷◌, ◌++◌, IfOk, OnOk, string_bytes};
 ghost use Rattle.std.specs.List.{list_all, flat_map};
 ghost use Rattle.cert_names.specs.LogNames.{log_in};
 ghost use Rattle.cert_fields.specs.Views.{parts};
 ghost use Rattle.tls_wire.specs.Anchors.{anchor_of};
 ghost use Rattle.mtc_proof.specs.Views.{proof_parts, sig_parts};
 ghost use Rattle.mtc_io.specs.Streams.{joined};
+ghost use Rattle.mtc_answers.specs.Answers.{ending_of};
+ghost use Rattle.mtc_answers.specs.Endings.{Replies};
 ghost use Rattle.mtc_answers.specs.Served.{HasAnswered};
 ghost use Rattle.mtc_reads.specs.ShowOutcome.{issuer_text, subject_text, is_graphic, name_line, fields_text, cosigner_text, signature_line, interval_text, proof_section, show_text, show_says, show_outcome};
 
-use crate::cert_fault::cert_fault;
+use crate::reasons::cert_reason;
 use cert_fields::{Cert, DnsNames, MTC_PROOF, dns_names, parse};
 use cert_names::log_of;
 use cert_time::seconds_to_text;
-use mtc_answers::{Answer, INPUT_LIMIT, Said, Stop, Stopped, no_input, read_input, refuse_file};
+use mtc_answers::{Answer, INPUT_LIMIT, Said, Stop, Stopped, read_input, refuse_file};
 use mtc_io::{Bytes, Memory};
 use mtc_proof::{Proof, SigRef, Signatures, read_proof, signatures};
 use mtc_room::Room;
@@ -191,29 +193,24 @@ fn lines(alloc: Global, cert: &Cert) -> Result<Bytes, Memory>
     Ok(out)
 }
 
-fn answer_of(alloc: Global, file: &str, bytes: &[u8]) -> Result<Answer, Memory>
-    ensures { IfOk result (λ answer. answer ≡ (show_says file.now bytes.now).answer) }
+fn answer_of<'a>(alloc: Global, file: &'a str, bytes: &[u8]) -> Result<Answer, Stop<'a>>
+    ensures { Replies (show_says file.now bytes.now).answer (ending_of result) }
 {
     match parse(bytes) {
-        Ok(cert) => Ok(Answer::Says {
+        Ok(cert) => Ok(Answer {
             status: Said::Done,
             text: lines(alloc, &cert)?,
         }),
-        Err(why) => {
-            let refusal = cert_fault(alloc, why)?;
-            refuse_file(alloc, Stopped::BadForm, "show", file, refusal.as_str())
-        }
+        Err(why) => Err(refuse_file(Stopped::BadForm, file, cert_reason(why))),
     }
 }
 
 /// The command `show CERT`.
 pub fn show<'a, R: Room>(alloc: Global, room: &mut R, file: &'a str) -> Result<Answer, Stop<'a>>
     requires { R.lent room.old < 2 ^ 32 }
-    ensures { HasAnswered R.Room R.Dsk.Disk (show_outcome file.now (R.file room.old))
-        room.old room.new result }
+    ensures { HasAnswered R.Room R.Dsk.Disk (file.now ∷ [])
+        (show_outcome file.now (R.file room.old)) room.old room.new (ending_of result) }
 {
-    match read_input(alloc, room, file, INPUT_LIMIT)? {
-        Ok(bytes) => Ok(answer_of(alloc, file, bytes.as_slice())?),
-        Err(why) => Ok(no_input(alloc, "show", file, why)?),
-    }
+    let bytes = read_input(alloc, room, file, INPUT_LIMIT)?;
+    answer_of(alloc, file, bytes.as_slice())
 }

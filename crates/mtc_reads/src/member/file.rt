@@ -2,8 +2,7 @@
 ghost use Rattle.byte_forms.specs.Readings.{Gives};
 ghost use Rattle.mtc_reads.specs.Member.{member_file, member_view};
 
-use crate::member::judgement::MemberError;
-use tls_wire::Cursor;
+use tls_wire::{Cursor, HashesError};
 
 /// A member file, cut into its parts.
 #[derive(Clone, Copy, Debug)]
@@ -23,7 +22,7 @@ pub struct MemberFile<'a> {
 // Cuts a member file into its parts. Refuses the first form that doesn't fit, with its offset, and
 // a length of hashes that is no multiple of 32.
 #[tactic(auto, unfolding(crate::specs::Member::member_file))]
-pub fn read_member(bytes: &[u8]) -> Result<MemberFile<'_>, MemberError>
+pub fn read_member(bytes: &[u8]) -> Result<MemberFile<'_>, HashesError>
     ensures { Gives member_view result (member_file bytes.now) }
 {
     let mut cursor = Cursor::new(bytes);
