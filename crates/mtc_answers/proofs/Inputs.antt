@@ -55,7 +55,9 @@ module _ {R S D : Type 0} (rooms : Rooms R S D) (disks : Disks D) (limit : ℕ) 
 
   pub failed : Rose (rooms.faults old) (rooms.faults new)
       → Done rooms disks limit name old new (room_failed name)
-  failed rose = λ files names next among. stopped rooms disks files names _ old new read only_now _ (rose, among) tt
+  failed rose = λ files names next among.
+      stopped rooms disks files names _ old new read only_now _ (rose, among) tt
 
   pub starved : Done rooms disks limit name old new no_memory
-  starved = λ files names next among. stopped rooms disks files names _ old new read only_now no_memory tt tt
+  starved = λ files names next among.
+      stopped rooms disks files names _ old new read only_now no_memory tt tt

@@ -105,7 +105,8 @@ module _ {D : Type 0} (g : Ghosts D) where
   pub worked : (old mid new : D) (ending : Ending) (did : Journaled) → ReadsImage
       → Looks g old mid → AddsBy g ending did mid new
       → Leaves g (LeftBy ending did) (Some old) (Some new)
-  worked old mid new (replied reply) did image looks made = has_made old mid new did image looks made
+  worked old mid new (replied reply) did image looks made =
+      has_made old mid new did image looks made
   worked old mid new (room_failed file) did image looks made =
       may_have_made old mid new did image looks made
   worked old mid new no_memory did image looks made =

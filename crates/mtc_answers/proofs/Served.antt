@@ -91,10 +91,11 @@ module _ {R S D : Type 0} (rooms : Rooms R S D) (disks : Disks D) where
         → LeavesJournals rooms disks mid new (done_with names wanted'.journals) ending
         → LeavesJournals rooms disks old new (done_with names wanted.journals) ending
     made_behind tells same made = subst
-        (λ (w : Outcome). LeavesJournals rooms disks old new (done_with names w.journals) ending) same
+        (λ (w : Outcome). LeavesJournals rooms disks old new (done_with names w.journals) ending)
+        same
         (record {
           no_file = each_so _ _ (λ name did is on none.
-              is on (((read.others name tt).bytes) ∙ none)) (done_with names wanted'.journals)
+              is on ((read.others name tt).bytes ∙ none)) (done_with names wanted'.journals)
               made.no_file;
           unmade = λ memory. each_so _ _ (λ name did is none.
               is ((read.others name tt).bytes ∙ none)) (done_with names wanted'.journals)

@@ -79,16 +79,14 @@ pub record EndsAs (Tells Fault Bad : Type 0) (files : List (List ℕ)) (journals
 
 module _ {R S D : Type 0} (rooms : Rooms R S D) (disks : Disks D) (Bad : Type 0)
     (files names : List (List ℕ)) (wanted : Outcome) (old new : R) where
-  abbrev pub journals : Journals
-  journals = done_with names wanted.journals
-
   -- A command that names these files, works on the journals of these names and has to give that
   -- outcome left the room so, and ended so.
   pub record HasDone (ending : Ending) : Type 0 where
     pub back : GivesBack rooms old new names
     pub ends : EndsAs (rooms.tells old) (Rose (rooms.faults old) (rooms.faults new)) Bad files
-        journals wanted ending
-    pub made : rooms.tells old → LeavesJournals rooms disks old new journals ending
+        (done_with names wanted.journals) wanted ending
+    pub made : rooms.tells old
+        → LeavesJournals rooms disks old new (done_with names wanted.journals) ending
 
 module _ {R S D : Type 0} (rooms : Rooms R S D) (disks : Disks D) where
   -- A command that only reads these files.

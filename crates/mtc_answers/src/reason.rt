@@ -1,11 +1,9 @@
 //! The reasons of refusals.
-ghost use Rattle.std.specs.Prelude.{◌≡◌, ◌++◌, codes, None, Some, IfOk};
+ghost use Rattle.std.specs.Prelude.{◌≡◌, ◌++◌, codes, None, Some};
 ghost use Rattle.std.specs.Fmt.{decimal};
 ghost use Rattle.mtc_answers.specs.Answers.{reason_text, end_of, replied, refused};
 
-use crate::answer::{Answer, More, Reason, Refusal, Said, Stop, Stopped};
-use mtc_io::{Bytes, Memory};
-use std::alloc::Global;
+use crate::answer::{More, Reason, Refusal, Stop, Stopped};
 
 impl Reason {
     /// The reason of this name.

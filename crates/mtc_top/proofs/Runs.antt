@@ -1,6 +1,6 @@
 -- A command that was done, and whose ending went out, is a run.
-use Rattle.std.proofs.Common.{◌≡◌, ◌≤◌, ◌⊎◌, inl, inr, ℕ, List, [], Option, None, Some, codes, refl, sym}
-use Rattle.std.proofs.Common.{subst, ◌∙◌, arith, IsErr}
+use Rattle.std.proofs.Common.{◌≡◌, ◌≤◌, ◌⊎◌, inl, inr, ℕ, List, [], Option, None, Some, codes}
+use Rattle.std.proofs.Common.{refl, sym, subst, ◌∙◌, arith, IsErr}
 use Rattle.disk_core.specs.declared.disk.Disk.{Ghosts as Disks}
 use Rattle.mtc_io.specs.Counts.{Rose}
 use Rattle.mtc_io.specs.declared.sink.Sink.{Ghosts as Sinks}
