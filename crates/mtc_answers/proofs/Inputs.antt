@@ -36,7 +36,6 @@ module _ {R S D : Type 0} (rooms : Rooms R S D) (disks : Disks D) (limit : ℕ) 
 
 module _ {R S D : Type 0} (rooms : Rooms R S D) (disks : Disks D) (limit : ℕ) (name : List ℕ)
     (old new : R) (read : GivesBack rooms old new []) (only_now : OnlyNow disks) where
-
   pub absent : (ending : Ending) (reason : List ℕ)
       → ending ≡ replied (refused Missing (Some name) reason) → reason ≡ codes "Absent"
       → (rooms.tells old → rooms.file old name ≡ None)

@@ -1,26 +1,105 @@
 -- The work on a journal's device: from the device as it was opened to the one that was lent, and
 -- from that to the room.
-use Rattle.std.proofs.Common.{◌≡◌, ◌≢◌, ◌≤◌, ◌<◌, inl, inr, ℕ, List, [], ◌∷◌, Option, None, Some}
+use Rattle.std.proofs.Common.{◌≡◌, ◌≢◌, ◌≤◌, ◌<◌, inl, inr, ℕ, List, [], ◌∷◌, ◌++◌, Option, None}
+use Rattle.std.proofs.Common.{Some}
 use Rattle.std.proofs.Common.{IfSome, IsSome, option_map, subst, sym, ◌∙◌, ap, refl, arith, rules}
 use Rattle.std.proofs.lemmas.Option.{IfSome_then}
 use Rattle.mtc_io.specs.Counts.{Rose, with_count}
 use Rattle.disk_core.specs.declared.disk.Disk.{Ghosts}
-use Rattle.disk_core.specs.Moments.{Looks}
-use Rattle.journal_core.specs.Format.{StandsFor, records_of}
+use Rattle.disk_core.specs.Moments.{LeavesOnly, Looks}
+use Rattle.journal_core.specs.Format.{StandsFor, StandsForEither, records_of}
 use Rattle.journal_core.specs.Words.{AllStandFor}
 use Rattle.mtc_room.specs.Room.{LendsBytes}
 use Rattle.mtc_room.specs.declared.room.Room.{Ghosts as Rooms}
 use Rattle.mtc_answers.specs.Answers.{Ending, replied, room_failed, no_memory, IfReply, Reply}
-use Rattle.mtc_answers.specs.Answers.{status_of, IsEarly}
-use Rattle.mtc_answers.specs.Endings.{AddsBy, FailedOnly, IsAmong, LeftBy}
-use Rattle.mtc_answers.specs.Made.{IsOpen, Journaled, Leaves, untouched}
+use Rattle.mtc_answers.specs.Answers.{said, status_of, IsEarly}
+use Rattle.mtc_answers.specs.Endings.{AddsBy, FailedOnly, IsAmong, LeftBy, Replies}
+use Rattle.mtc_answers.specs.Made.{IsOpen, Journaled, Leaves, OnlyLooks, untouched}
 use Rattle.mtc_answers.specs.Served.{HasServed}
-use Rattle.mtc_answers.specs.Steps.{Outcome, answers, with_file}
-use Rattle.mtc_answers.specs.Wanted.{Meets}
+use Rattle.mtc_answers.specs.Steps.{Outcome, answers, answers_on, appends, with_file}
+use Rattle.mtc_answers.specs.Wanted.{Meets, exactly}
+use Rattle.mtc_answers.specs.declared.answer.Said.TheVariants.{Done}
 use Rattle.mtc_answers.specs.Works.{HasEnded, HasLent, HasTaken, HasWorked, HasWorkedOn}
 use Rattle.mtc_answers.specs.Works.{journal_of}
 use Rattle.mtc_answers.proofs.Made.{ReadsImage, kept_of, left_kept, left_lent, worked}
 use Rattle.mtc_answers.proofs.Served.{failed_so, reply_so}
+
+module _ {X : Type 0} where
+  each_some : (x : Option X) (P : X → Type 0) → ((y : X) → P y) → IfSome x P
+  each_some None P is = tt
+  each_some (Some y) P is = is y
+
+  both_some : {P Q R : X → Type 0} (x : Option X) → IfSome x P → IfSome x Q
+      → ((y : X) → P y → Q y → R y) → IfSome x R
+  both_some None p q so = tt
+  both_some (Some y) p q so = so y p q
+
+-- What the work on an open device, where these records were found, has given.
+module _ {D : Type 0} (g : Ghosts D) (name : List ℕ) (list : Option (List (List ℕ)))
+    (mid new : D) where
+  later_of : OnlyLooks g mid new → g.faults mid ≤ g.faults new
+  later_of only = elim only [ inl same ↦ omega (arith, ap g.faults same) | inr looks ↦ looks.faults ]
+
+  -- it was opened to be read
+  pub read_on : (reply : Reply) (ending : Ending) → OnlyLooks g mid new
+      → Replies (exactly reply) ending
+      → HasWorked g name list (λ records. answers_on records reply) mid new ending
+  read_on reply (replied given) only is = record {
+    ends = record { plain = is.1; later = later_of only; fault = tt };
+    reply = each_some list _ (λ records. is.0);
+    adds = each_some list _ (λ records opened. (opened, only));
+  }
+  read_on reply (room_failed file) only is = absurd is
+  read_on reply no_memory only is = record {
+    ends = record { plain = tt; later = later_of only; fault = tt };
+    reply = tt;
+    adds = each_some list _ (λ records opened. only);
+  }
+
+  -- memory was refused before there was anything to append
+  pub starved_on : (says : List (List ℕ) → Outcome) → OnlyLooks g mid new
+      → HasWorked g name list says mid new no_memory
+  starved_on says only = record {
+    ends = record { plain = tt; later = later_of only; fault = tt };
+    reply = tt;
+    adds = each_some list _ (λ records opened. only);
+  }
+
+  -- a record was appended, and a text made before
+  pub appended_on : (body text : List ℕ) → g.faults mid ≤ g.faults new
+      → IfSome list (λ records. LeavesOnly g mid new (StandsForEither records body))
+      → IfSome list (λ records. AllStandFor g new (records ++ body ∷ []))
+      → HasWorked g name list (λ records. appends records body text) mid new
+      (replied (said Done text))
+  appended_on body text later any after = record {
+    ends = record { plain = λ is. absurd cc; later = later; fault = tt };
+    reply = each_some list _ (λ records. refl);
+    adds = both_some list any after (λ records run all opened. (opened, run, all));
+  }
+
+  -- the device failed in the append
+  pub failed_on : (body text : List ℕ) → Rose (g.faults mid) (g.faults new)
+      → g.faults mid ≤ g.faults new
+      → IfSome list (λ records. LeavesOnly g mid new (StandsForEither records body))
+      → IfSome list (λ records. (c : List ℕ) → g.may_leave new c → StandsForEither records body c)
+      → HasWorked g name list (λ records. appends records body text) mid new (room_failed name)
+  failed_on body text rose later any after = record {
+    ends = record { plain = tt; later = later; fault = (rose, inl refl) };
+    reply = tt;
+    adds = both_some list any after (λ records run all opened. (opened, run, all));
+  }
+
+  -- the outcome in other words
+  pub says_so : (says says' : List (List ℕ) → Outcome) (ending : Ending)
+      → IfSome list (λ records. says records ≡ says' records)
+      → HasWorked g name list says mid new ending → HasWorked g name list says' mid new ending
+  says_so says says' ending same work = record {
+    ends = work.ends;
+    reply = reply_so ending _ _ (λ reply is. both_some list same is (λ records equal meets.
+        subst (λ (o : Outcome). Meets o.answer reply) equal meets)) work.reply;
+    adds = both_some list same work.adds (λ records equal adds opened.
+        subst (λ o. AddsBy g ending (journal_of o) mid new) equal (adds opened));
+  }
 
 -- The device was opened, which only looked at it: mid, where its records were found.
 module _ {D : Type 0} (g : Ghosts D) (name : List ℕ) (says : List ℕ → Outcome)
@@ -72,11 +151,6 @@ module _ {D : Type 0} (g : Ghosts D) (name : List ℕ) (says : List ℕ → Outc
         (λ o. journal_of o ≡ untouched → IsEarly (status_of reply)) (g.told old) (g.told mid)
         refl looks.told found stands all is) (no_early ending work.adds);
   }
-
-module _ {X : Type 0} where
-  each_some : (x : Option X) (P : X → Type 0) → ((y : X) → P y) → IfSome x P
-  each_some None P is = tt
-  each_some (Some y) P is = is y
 
 -- The opening was refused, and the device was only looked at.
 module _ {D : Type 0} (g : Ghosts D) (name : List ℕ) (says : List ℕ → Outcome) (old new : D)
