@@ -1,6 +1,6 @@
 -- The items of a log, one behind the other.
 use Rattle.std.proofs.Common.{◌≡◌, ℕ, zero, suc, ◌+◌, ◌<◌, ◌++◌, [], ◌∷◌, length, slice_index_or}
-use Rattle.std.proofs.Common.{Ok, ap, ◌∙◌, arith}
+use Rattle.std.proofs.Common.{Ok, ap, sym, ◌∙◌, arith}
 use Rattle.std.specs.Prelude.{map}
 use Rattle.std.specs.List.{concat, range_with_len}
 use Rattle.std.proofs.lemmas.Grind.{common_steps}
@@ -11,7 +11,7 @@ use Rattle.byte_forms.specs.Types.{HashFunction, Text}
 use Rattle.issuance_log.specs.Folds.{LogState}
 use Rattle.issuance_log.specs.Refusals.{item_at}
 use Rattle.issuance_log.specs.Sound.{IsSound}
-use Rattle.mtc_logs.specs.LogOutcomes.{item_text, items_text}
+use Rattle.mtc_logs.specs.LogOutcomes.{IsItem, item_text, items_text}
 
 -- one item more
 pub items_more : (s : LogState) (count : ℕ)
@@ -21,13 +21,6 @@ items_more s count =
     ap concat (map-range_with_len_more (item_text s) 0 count count (omega arith))
     ∙ concat-append before (item_text s count ∷ [])
     ∙ ap (λ last. concat before ++ last) (append-nil (item_text s count))
-
--- the entry and the key that a log gives fit behind a length of two bytes
-pub record Fits (s : LogState) (index : ℕ) (entry key : Text) : Type 0 where
-  pub entry_is : slice_index_or s.entries index [] ≡ entry
-  pub key_is : slice_index_or s.keys index [] ≡ key
-  pub short_entry : length entry < 65536
-  pub short_key : length key < 65536
 
 given : (s : LogState) (index : ℕ) (entry key : Text) → index < length s.entries
     → item_at s index ≡ Ok (entry, key)
@@ -43,14 +36,14 @@ short h s zero sound below =
 short h s (suc i) sound below =
     let item = sound.items (suc i) (omega arith) below in (item.short_entry, item.short_key)
 
-pub fits : (h : HashFunction) (s : LogState) (index : ℕ) (entry key : Text) → IsSound h s
-    → index < length s.entries → item_at s index ≡ Ok (entry, key) → Fits s index entry key
-fits h s index entry key sound below is =
+pub is_item : (h : HashFunction) (s : LogState) (index : ℕ) (entry key : Text) → IsSound h s
+    → index < length s.entries → item_at s index ≡ Ok (entry, key) → IsItem s index entry key
+is_item h s index entry key sound below is =
     let same = given s index entry key below is in
     let both = short h s index sound below in
     record {
-      entry_is = same.0;
-      key_is = same.1;
+      entry_is = sym same.0;
+      key_is = sym same.1;
       short_entry = rw same.0 at both.0;
       short_key = rw same.1 at both.1;
     }

@@ -1,4 +1,5 @@
-pub mod LogSteps
 pub mod Items
 pub mod Asked
-pub mod Starts
+pub mod Opened
+pub mod Issued
+pub mod Reading

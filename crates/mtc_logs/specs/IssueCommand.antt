@@ -1,5 +1,5 @@
 -- The outcome of `issue J REQUEST` over the room's files: the request first, then the journal.
-use Rattle.std.specs.Prelude.{codes, Option}
+use Rattle.std.specs.Prelude.{Option}
 use Rattle.byte_forms.specs.Types.{HashFunction, Text}
 use Rattle.authority_core.specs.Files.{request_of}
 use Rattle.mtc_answers.specs.Steps.{Outcome, Files, with_bytes, with_form}
@@ -8,11 +8,11 @@ use Rattle.mtc_logs.specs.Works.{journal_outcome}
 use Rattle.mtc_logs.specs.declared.work.Work.TheVariants.{Issue}
 
 -- The request is read, and then its entry is added.
-unfoldable pub request_says : HashFunction → Text → Text → Option Text → Text → Outcome
+abbrev pub request_says : HashFunction → Text → Text → Option Text → Text → Outcome
 request_says h journal request file bytes =
-    with_form request_fault_text (codes "issue") request (request_of bytes)
-    (λ r. journal_outcome h (codes "issue") journal file (Issue r))
+    with_form request_fault_text request (request_of bytes)
+    (λ r. journal_outcome h journal file (Issue r))
 
 abbrev pub issue_outcome : HashFunction → Text → Text → Files → Outcome
-issue_outcome h journal request files = with_bytes 16777216 (codes "issue") request (files request)
+issue_outcome h journal request files = with_bytes 16777216 request (files request)
     (request_says h journal request (files journal))

@@ -10,6 +10,8 @@ use Rattle.issuance_log.specs.declared.error.LogError.{LogError}
 use Rattle.issuance_log.specs.declared.error.LogError.TheVariants as log_error
 use Rattle.authority_core.specs.Issues.{issued_entry, issued_record}
 use Rattle.authority_core.specs.Requests.{RequestParts}
+use Rattle.authority_core.specs.declared.issuing.error.IssueError.{IssueError}
+use Rattle.authority_core.specs.declared.issuing.error.IssueError.TheVariants.{Log}
 use Rattle.authority_core.specs.declared.requests.error.Field.{Field}
 use Rattle.authority_core.specs.declared.requests.error.Field.TheVariants.{NotBefore, NotAfter, Dns}
 use Rattle.authority_core.specs.declared.requests.error.Field.TheVariants.{CommonName, PublicKey}
@@ -21,7 +23,8 @@ use Rattle.authority_core.specs.declared.requests.error.RequestError.TheVariants
 use Rattle.authority_core.specs.declared.requests.error.RequestError.TheVariants.{DatesReversed}
 use Rattle.authority_core.specs.declared.requests.error.RequestError.TheVariants.{NoNames, Memory}
 use Rattle.mtc_answers.specs.declared.answer.Stopped.TheVariants.{Beyond}
-use Rattle.mtc_answers.specs.Lines.{command_line}
+use Rattle.mtc_answers.specs.declared.answer.Stopped.TheVariants.{BadForm}
+use Rattle.mtc_answers.specs.Answers.{Ending, replied, room_failed, no_memory, refused}
 use Rattle.mtc_answers.specs.Steps.{Outcome, stops_on, appends}
 
 -- A field of a request.
@@ -42,6 +45,11 @@ request_fault_text DatesReversed = codes "DatesReversed"
 request_fault_text NoNames = codes "NoNames"
 request_fault_text Memory = codes "Memory"
 
+-- What comes of it: the file is told not to be a request, unless memory was refused.
+abbrev pub request_ending : Text → RequestError → Ending
+request_ending file Memory = no_memory
+request_ending file why = replied (refused BadForm (Some file) (request_fault_text why))
+
 -- Why a log takes no entry more.
 abbrev pub log_fault_text : LogError → Text
 log_fault_text log_error.Full = codes "Full"
@@ -52,6 +60,16 @@ log_fault_text (log_error.Append append_error.Broken) = codes "Broken"
 log_fault_text (log_error.Append append_error.Full) = codes "JournalFull"
 log_fault_text log_error.Memory = codes "Memory"
 
+-- What comes of it in a command on this journal: the entry is refused, unless the device failed or
+-- memory was refused.
+abbrev pub log_ending : Text → LogError → Ending
+log_ending journal (log_error.Append append_error.Failed) = room_failed journal
+log_ending journal log_error.Memory = no_memory
+log_ending journal why = replied (refused Beyond None (log_fault_text why))
+
+abbrev pub issue_ending : Text → IssueError → Ending
+issue_ending journal (Log why) = log_ending journal why
+
 -- The line of an entry that was added at this index.
 abbrev pub issued_text : ℕ → Text
 issued_text index = codes "issued " ++ (decimal index ++ codes "\n")
@@ -61,7 +79,7 @@ abbrev pub issued : HashFunction → RequestParts → FoundLog → Option LogErr
 issued h r found None =
     appends found.records (issued_record h found.state r) (issued_text (length found.state.entries))
 issued h r found (Some why) =
-    stops_on found.records Beyond (command_line (codes "issue") (log_fault_text why))
+    stops_on found.records Beyond (log_fault_text why)
 
 -- What `issue` makes of a log that was found.
 abbrev pub issue_says : HashFunction → RequestParts → FoundLog → Outcome

@@ -1,6 +1,5 @@
-pub mod LogSteps
-pub mod Works
 pub mod LogOutcomes
-pub mod IssueOutcome
-pub mod IssueCommand
 pub mod RequestOutcomes
+pub mod IssueOutcome
+pub mod Works
+pub mod IssueCommand

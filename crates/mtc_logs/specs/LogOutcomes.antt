@@ -1,6 +1,6 @@
 -- The outcomes of the commands on a log: `init-log`, `checkpoint` and `entries`.
-use Rattle.std.specs.Prelude.{ℕ, nat_lt, List, [], ◌++◌, length, slice_index_or, map, codes, Option}
-use Rattle.std.specs.Prelude.{if◌then◌else◌}
+use Rattle.std.specs.Prelude.{ℕ, nat_lt, List, [], ◌++◌, length, slice_index_or, map, codes, None}
+use Rattle.std.specs.Prelude.{◌≡◌, ◌<◌, if◌then◌else◌}
 use Rattle.std.specs.Fmt.{decimal}
 use Rattle.std.specs.Int.{w16}
 use Rattle.std.specs.List.{concat, range_with_len}
@@ -13,12 +13,10 @@ use Rattle.issuance_log.specs.Folds.{LogState}
 use Rattle.issuance_log.specs.Openings.{FoundLog}
 use Rattle.issuance_log.specs.Records.{settings_record}
 use Rattle.issuance_log.specs.Settings.{Settings}
-use Rattle.mtc_answers.specs.declared.answer.Answer.{Answer}
-use Rattle.mtc_answers.specs.declared.answer.Answer.TheVariants.{Says, Stops}
 use Rattle.mtc_answers.specs.declared.answer.Said.TheVariants.{Done}
 use Rattle.mtc_answers.specs.declared.answer.Stopped.TheVariants.{Refused}
-use Rattle.mtc_answers.specs.Lines.{command_line}
-use Rattle.mtc_answers.specs.Steps.{Outcome, Files, says_on, answers_on, starts, with_fresh}
+use Rattle.mtc_answers.specs.Answers.{Reply, said, refused}
+use Rattle.mtc_answers.specs.Steps.{Outcome, Files, answers_on, starts, with_fresh}
 
 -- A new log.
 
@@ -30,25 +28,18 @@ settings_of id active limit = record { id = id; max_active = active; limit = lim
 abbrev pub log_line : Text → Text
 log_line id = codes "log " ++ (text_of id ++ codes "\n")
 
--- A journal of this first record, with this text, where its name has no file.
-abbrev pub made_outcome : Text → Text → Text → Option Text → Outcome
-made_outcome journal first text file =
-    with_fresh (codes "init-log") journal file (starts first text)
-
 abbrev pub init_log_outcome : Text → Text → ℕ → ℕ → Files → Outcome
-init_log_outcome journal id active limit files = made_outcome journal
-    (settings_record (settings_of id active limit)) (log_line id) (files journal)
+init_log_outcome journal id active limit files = with_fresh journal (files journal)
+    (starts (settings_record (settings_of id active limit)) (log_line id))
 
 -- The size and the tree hash.
 
--- The lines of a log with these entries.
-abbrev pub checkpoint_text : HashFunction → List Text → Text
-checkpoint_text h entries =
-    codes "size " ++ (decimal (length entries)
-    ++ (codes "\nroot " ++ (encode_lower (tree_hash h entries) ++ codes "\n")))
+abbrev pub checkpoint_reply : HashFunction → List Text → Reply
+checkpoint_reply h entries = said Done (codes "size " ++ (decimal (length entries)
+    ++ (codes "\nroot " ++ (encode_lower (tree_hash h entries) ++ codes "\n"))))
 
 abbrev pub checkpoint_says : HashFunction → FoundLog → Outcome
-checkpoint_says h found = says_on found.records Done (checkpoint_text h found.state.entries)
+checkpoint_says h found = answers_on found.records (checkpoint_reply h found.state.entries)
 
 -- An item: the entry, and its key, each behind its length of two bytes.
 abbrev pub item_text : LogState → ℕ → Text
@@ -59,15 +50,26 @@ item_text s index =
 abbrev pub items_text : LogState → ℕ → Text
 items_text s count = concat (map (item_text s) (range_with_len 0 count))
 
+-- The state of the log doesn't allow it.
+abbrev pub not_allowed : Text → Reply
+not_allowed reason = refused Refused None reason
+
 -- The asked size is above that of the log.
-abbrev pub beyond : Text → ℕ → Answer
-beyond command size = Stops Refused (command_line command (codes "Beyond " ++ decimal size))
+abbrev pub beyond : ℕ → Reply
+beyond size = not_allowed (codes "Beyond " ++ decimal size)
 
 -- So many of the first items, where the log has them.
-abbrev pub entries_answer : ℕ → LogState → Answer
-entries_answer size s =
-    if nat_lt (length s.entries) size then beyond (codes "entries") (length s.entries)
-    else Says Done (items_text s size)
+abbrev pub entries_reply : ℕ → LogState → Reply
+entries_reply size s =
+    if nat_lt (length s.entries) size then beyond (length s.entries)
+    else said Done (items_text s size)
 
 abbrev pub entries_says : ℕ → FoundLog → Outcome
-entries_says size found = answers_on found.records (entries_answer size found.state)
+entries_says size found = answers_on found.records (entries_reply size found.state)
+
+-- These are the entry and the key at an index, and both have fewer than 2^16 bytes.
+pub record IsItem (s : LogState) (index : ℕ) (entry key : Text) : Type 0 where
+  pub entry_is : entry ≡ slice_index_or s.entries index []
+  pub key_is : key ≡ slice_index_or s.keys index []
+  pub short_entry : length entry < 65536
+  pub short_key : length key < 65536

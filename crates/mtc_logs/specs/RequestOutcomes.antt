@@ -9,17 +9,10 @@ use Rattle.tree_core.specs.Path.{part_of}
 use Rattle.tree_core.specs.Subtree.{is_subtree}
 use Rattle.tree_core.specs.Tree.{leaf_hash, tree_hash}
 use Rattle.tree_proofs.specs.Proof.{proof_of}
-use Rattle.mtc_answers.specs.declared.answer.Answer.{Answer}
-use Rattle.mtc_answers.specs.declared.answer.Answer.TheVariants.{Says, Stops}
 use Rattle.mtc_answers.specs.declared.answer.Said.TheVariants.{Done}
-use Rattle.mtc_answers.specs.declared.answer.Stopped.TheVariants.{Refused}
-use Rattle.mtc_answers.specs.Lines.{command_line}
-use Rattle.mtc_logs.specs.LogOutcomes.{beyond}
+use Rattle.mtc_answers.specs.Answers.{Reply, said}
 use Rattle.mtc_answers.specs.Steps.{Outcome, answers_on}
-
--- The state of the log doesn't allow the request.
-abbrev pub refuses : Text → Text → Answer
-refuses command refusal = Stops Refused (command_line command refusal)
+use Rattle.mtc_logs.specs.LogOutcomes.{beyond, not_allowed}
 
 -- The consistency proof of the subtree [start, end) in the first size entries.
 abbrev pub prefix_proof : HashFunction → List Text → ℕ → ℕ → ℕ → List Hash
@@ -41,14 +34,14 @@ advance_of h s old new = record {
 }
 
 -- There must be more of them than old ones, and the log must have them.
-abbrev pub consist_answer : HashFunction → ℕ → ℕ → LogState → Answer
-consist_answer h old new s =
-    if nat_le new old then refuses (codes "consist") (codes "NothingNew")
-    else (if nat_lt (length s.entries) new then beyond (codes "consist") (length s.entries)
-    else Says Done (advance_text (advance_of h s old new)))
+abbrev pub consist_reply : HashFunction → ℕ → ℕ → LogState → Reply
+consist_reply h old new s =
+    if nat_le new old then not_allowed (codes "NothingNew")
+    else (if nat_lt (length s.entries) new then beyond (length s.entries)
+    else said Done (advance_text (advance_of h s old new)))
 
 abbrev pub consist_says : HashFunction → ℕ → ℕ → FoundLog → Outcome
-consist_says h old new found = answers_on found.records (consist_answer h old new found.state)
+consist_says h old new found = answers_on found.records (consist_reply h old new found.state)
 
 -- A subtree: the id of the log, the interval, the tree hash of its entries, and its consistency
 -- proof in the first size entries.
@@ -64,13 +57,13 @@ subtree_of h s start end size = record {
 
 -- The interval must be a subtree, the log must have so many entries, and the subtree must lie among
 -- them.
-abbrev pub subtree_answer : HashFunction → ℕ → ℕ → ℕ → LogState → Answer
-subtree_answer h start end size s =
-    if not (is_subtree start end) then refuses (codes "subtree") (codes "BadSubtree")
-    else (if nat_lt (length s.entries) size then beyond (codes "subtree") (length s.entries)
-    else (if nat_lt size end then beyond (codes "subtree") size
-    else Says Done (subtree_text (subtree_of h s start end size))))
+abbrev pub subtree_reply : HashFunction → ℕ → ℕ → ℕ → LogState → Reply
+subtree_reply h start end size s =
+    if not (is_subtree start end) then not_allowed (codes "BadSubtree")
+    else (if nat_lt (length s.entries) size then beyond (length s.entries)
+    else (if nat_lt size end then beyond size
+    else said Done (subtree_text (subtree_of h s start end size))))
 
 abbrev pub subtree_says : HashFunction → ℕ → ℕ → ℕ → FoundLog → Outcome
 subtree_says h start end size found =
-    answers_on found.records (subtree_answer h start end size found.state)
+    answers_on found.records (subtree_reply h start end size found.state)

@@ -1,54 +1,63 @@
 //! The commands `checkpoint` and `entries`: what a log holds.
-ghost use Rattle.std.specs.Prelude.{◌≡◌, ◌<◌, ◌≤◌, ◌++◌, length, codes, IfOk, OnOk};
-ghost use Rattle.std.specs.Fmt.{decimal};
+ghost use Rattle.std.specs.Prelude.{◌≡◌, ◌<◌, ◌≤◌, ◌++◌, length, IfOk, OnOk};
 ghost use Rattle.issuance_log.specs.Words.{state_of};
-ghost use Rattle.tree_core.specs.Tree.{tree_hash};
-ghost use Rattle.mtc_answers.specs.Lines.{command_line};
-ghost use Rattle.mtc_logs.specs.LogOutcomes.{checkpoint_text, item_text, items_text, entries_answer};
+ghost use Rattle.mtc_answers.specs.Answers.{end_of, ending_of, replied};
+ghost use Rattle.mtc_answers.specs.Endings.{Replies};
+ghost use Rattle.mtc_answers.specs.Wanted.{exactly};
+ghost use Rattle.mtc_logs.specs.LogOutcomes.{IsItem, beyond, checkpoint_reply, entries_reply, item_text, items_text};
 
-use crate::requests::hash_of;
+use crate::tree::root_of;
 use disk_core::Disk;
 use issuance_log::Log;
-use mtc_answers::{Answer, Said, Stopped, refuse};
+use mtc_answers::{Answer, Reason, Said, Stop, Stopped, refuse};
 use mtc_io::{Bytes, Memory};
 use std::alloc::Global;
 use tls_wire::put_vec16;
 use tree_core::TreeHash;
 
-// The tree hash of all entries (RFC 9162, section 2.1.1).
-fn root_of<H: TreeHash, D: Disk>(log: &mut Log<H, D>) -> [u8; 32]
-    ensures hash { result ≡ tree_hash H.hash (state_of log.old).entries }
+/// The work of `checkpoint J`: the size, and the tree hash in hexadecimal.
+pub fn checkpoint<'a, H: TreeHash, D: Disk>(
+    alloc: Global,
+    log: &mut Log<H, D>,
+) -> Result<Answer, Stop<'a>>
+    ensures reply { Replies (exactly (checkpoint_reply H.hash (state_of log.old).entries))
+        (ending_of result) }
     ensures same { log.new ≡ log.old }
 {
     let size = log.size();
-    hash_of(log, 0, size)
-}
-
-/// The work of `checkpoint J`: the size, and the tree hash in hexadecimal.
-pub fn checkpoint<H: TreeHash, D: Disk>(
-    alloc: Global,
-    log: &mut Log<H, D>,
-) -> Result<Answer, Memory>
-    ensures answer { IfOk result (λ answer. answer
-        ≡ Answer.Says Said.Done (checkpoint_text H.hash (state_of log.old).entries)) }
-    ensures same { log.new ≡ log.old }
-{
-    let root = root_of(log);
+    let root = root_of(log, size);
     let hash = hex::encode(alloc, &root)?;
-    let text = format!(in alloc; "size {}\nroot {hash}\n", log.size())?;
-    Ok(Answer::Says {
+    let text = format!(in alloc; "size {size}\nroot {hash}\n")?;
+    Ok(Answer {
         status: Said::Done,
         text: Bytes::from_vec(text.into_bytes()),
     })
 }
 
-/// The answer where the asked size is above that of the log.
-pub fn beyond(alloc: Global, command: &str, size: u64) -> Result<Answer, Memory>
-    ensures { IfOk result (λ answer. answer ≡ Answer.Stops Stopped.Refused
-        (command_line command.now (codes "Beyond " ++ decimal size))) }
+/// The refusal where the asked size is above that of the log.
+pub fn too_many<'a>(size: u64) -> Stop<'a>
+    ensures { end_of result ≡ replied (beyond size) }
 {
-    let refusal = format!(in alloc; "Beyond {size}")?;
-    refuse(alloc, Stopped::Refused, command, refusal.as_str())
+    refuse(Stopped::Refused, Reason::with_number("Beyond", size))
+}
+
+// The item at an index: the entry and its key, in the place of what the two byte strings held.
+fn read_item<H: TreeHash, D: Disk>(
+    log: &mut Log<H, D>,
+    index: u64,
+    entry: &mut Bytes,
+    key: &mut Bytes,
+) -> Result<(), Memory>
+    requires { index < length (state_of log.old).entries }
+    ensures item { OnOk result (IsItem (state_of log.old) index entry.new key.new) }
+    ensures same { log.new ≡ log.old }
+{
+    log.sound();
+    match log.entry(index, entry, key) {
+        Ok(()) => Ok(()),
+        // The log has the item, so memory was refused.
+        Err(_) => Err(Memory),
+    }
 }
 
 // Puts the item at an index behind the bytes: the entry and its key, each behind its length of two
@@ -64,16 +73,9 @@ fn put_item<H: TreeHash, D: Disk>(
     ensures text { OnOk result (out.new ≡ out.old ++ item_text (state_of log.old) index) }
     ensures same { log.new ≡ log.old }
 {
-    log.sound();
-    match log.entry(index, entry, key) {
-        Ok(()) => {
-            put_vec16(out, entry.as_slice())?;
-            put_vec16(out, key.as_slice())?;
-            Ok(())
-        }
-        // The log has the item, so memory was refused.
-        Err(_) => Err(Memory),
-    }
+    read_item(log, index, entry, key)?;
+    put_vec16(out, entry.as_slice())?;
+    put_vec16(out, key.as_slice())
 }
 
 // The first items.
@@ -96,18 +98,18 @@ fn items<H: TreeHash, D: Disk>(
 }
 
 /// The work of `entries J SIZE`.
-pub fn entries<H: TreeHash, D: Disk>(
+pub fn entries<'a, H: TreeHash, D: Disk>(
     alloc: Global,
     log: &mut Log<H, D>,
     size: u64,
-) -> Result<Answer, Memory>
-    ensures answer { IfOk result (λ answer. answer ≡ entries_answer size (state_of log.old)) }
+) -> Result<Answer, Stop<'a>>
+    ensures reply { Replies (exactly (entries_reply size (state_of log.old))) (ending_of result) }
     ensures same { log.new ≡ log.old }
 {
     if log.size() < size {
-        return beyond(alloc, "entries", log.size());
+        return Err(too_many(log.size()));
     }
-    Ok(Answer::Says {
+    Ok(Answer {
         status: Said::Done,
         text: items(alloc, log, size)?,
     })

@@ -1,7 +1,7 @@
 //! The commands on the journal of a log: `init-log`, `issue`, `checkpoint`, `entries`, `consist`
 //! and `subtree`.
 //!
-//! A journal is lent by the room, opened as a log, worked on and put back ([`on_journal`]); what is
+//! A journal is lent by the room, opened as a log, worked on and put back ([`on_log`]); what is
 //! done with the log is a [`Work`]. What each command has to answer, and what it leaves of the
 //! journal, are definitions in `specs/`.
 #![tactic(auto)]
@@ -11,7 +11,8 @@ pub mod init_log;
 pub mod issue;
 mod log_command;
 mod requests;
+mod tree;
 mod work;
 
-pub use log_command::on_journal;
+pub use log_command::on_log;
 pub use work::Work;

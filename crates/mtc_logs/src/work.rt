@@ -1,6 +1,7 @@
 //! The work of a command on a log whose journal is open: its own refusals, its text, and at most
 //! one append, which is its last step.
 ghost use Rattle.mtc_logs.specs.Works.{HasWorked, IsReady, work_says};
+ghost use Rattle.mtc_answers.specs.Answers.{ending_of};
 
 use crate::checkpoint::{checkpoint, entries};
 use crate::issue::issue_on;
@@ -38,13 +39,13 @@ pub fn carry_out<'a, H: TreeHash, D: Disk>(
     work: Work,
 ) -> Result<Answer, Stop<'a>>
     requires { IsReady log.old }
-    ensures { HasWorked journal.now (work_says H.hash work) log.old log.new result }
+    ensures { HasWorked journal.now (work_says H.hash work) log.old log.new (ending_of result) }
 {
     match work {
-        Work::Checkpoint => Ok(checkpoint(alloc, log)?),
-        Work::Entries(size) => Ok(entries(alloc, log, size)?),
+        Work::Checkpoint => checkpoint(alloc, log),
+        Work::Entries(size) => entries(alloc, log, size),
         Work::Issue(request) => issue_on(alloc, journal, log, &request),
-        Work::Consist(old, new) => Ok(consist(alloc, log, old, new)?),
-        Work::Subtree(start, end, size) => Ok(subtree(alloc, log, start, end, size)?),
+        Work::Consist(old, new) => consist(alloc, log, old, new),
+        Work::Subtree(start, end, size) => subtree(alloc, log, start, end, size),
     }
 }

@@ -1,19 +1,59 @@
-use Rattle.std.proofs.Common.{rules}
+use Rattle.std.proofs.Common.{[], ◌∷◌, ◌≡◌, Err, Ok, inl, inr, refl, subst, sym}
+use Rattle.std.proofs.lemmas.Result.{err_from_is_err_and}
+use Rattle.byte_forms.specs.Readings.{Answers}
+use Rattle.byte_forms.specs.Types.{Text}
+use Rattle.authority_core.specs.Files.{request_of}
+use Rattle.authority_core.specs.declared.requests.error.RequestError.TheVariants.{Memory}
+use Rattle.mtc_answers.specs.Answers.{Ending, ending_of}
+use Rattle.mtc_answers.specs.Served.{HasServed}
+use Rattle.mtc_answers.proofs.Served.{behind}
+use Rattle.mtc_logs.specs.IssueCommand.{issue_outcome, request_says}
+use Rattle.mtc_logs.specs.Works.{journal_outcome}
+use Rattle.mtc_logs.specs.declared.work.Work.TheVariants.{Issue}
+use Rattle.mtc_logs.proofs.Reading.{asked_so, unread}
 use Rattle.mtc_logs.proofs.issue.issue.Goals as goal
 
+pub returns-in_err-text : goal.returns-in_err-text
+returns-in_err-text g c =
+    let journal = c.args.journal.now in
+    let file = c.args.file.now in
+    let stopped = err_from_is_err_and c.from_residual.result c.from_residual.ensures.1 in
+    rw (stopped.1, stopped.2) (c.in_err-text.ensures.stops (journal ∷ file ∷ []) (journal ∷ [])
+    (request_says g.H.TreeHash.hash journal file (g.R.Room.file c.args.room.now journal))
+    (inr (inl refl)))
+
 pub returns-in-Ok : goal.returns-in-Ok
-returns-in-Ok g c = record {
-  lent = search rules;
-  faults = search rules;
-  tells = search rules;
-  others = search rules;
-  no_file = search rules;
-  unmade = search rules;
-  answer = search rules;
-  words = search rules;
-  not_words = search rules;
-  fault = search rules;
-  made = search rules;
-  left = search rules;
-  early = search rules;
-}
+returns-in-Ok g c =
+    let h = g.H.TreeHash.hash in
+    let rooms = g.R.Room in
+    let journal = c.args.journal.now in
+    let file = c.args.file.now in
+    let old = c.args.room.now in
+    let mid = c.read_input.new.room in
+    let read = c.in_ok-text.ensures in
+    let is : request_of c.in_ok-text.text ≡ Ok c.in-Ok.request =
+    subst (λ (t : Text). request_of t ≡ Ok c.in-Ok.request) c.as_slice.ensures c.in-Ok.ensures.exact in
+    behind rooms g.R.Dsk.Disk (journal ∷ file ∷ []) (journal ∷ []) (journal ∷ [])
+    (issue_outcome h journal file (rooms.file old))
+    (journal_outcome h journal (rooms.file mid journal) (Issue c.in-Ok.request)) old mid
+    c.on_log.new.room (ending_of c.on_log.result) read.settled
+    (λ t. asked_so h journal file (rooms.file old) c.in_ok-text.text (read.bytes t).0
+    (read.bytes t).1 (rooms.file mid journal) c.in-Ok.request is
+    (read.settled.others journal tt).bytes)
+    (λ name is. elim is [ inl same ↦ inl same | inr never ↦ absurd never ])
+    c.on_log.ensures
+
+pub returns : goal.returns
+returns g c =
+    let journal = c.args.journal.now in
+    let file = c.args.file.now in
+    let old = c.args.room.now in
+    let read = c.in_ok-text.ensures in
+    let is : Answers Memory (request_of c.in_ok-text.text) (Err c.in-Err.why) =
+    subst (λ (t : Text). Answers Memory (request_of t) (Err c.in-Err.why)) c.as_slice.ensures
+    c.in-Err.ensures.exact in
+    subst (λ (e : Ending). HasServed g.R.Room g.R.Dsk.Disk (journal ∷ file ∷ []) journal
+    (issue_outcome g.H.TreeHash.hash journal file (g.R.Room.file old)) old
+    c.read_input.new.room e) (sym c.refuse_request.ensures)
+    (unread g.R.Room g.R.Dsk.Disk g.H.TreeHash.hash journal file old c.read_input.new.room
+    c.in_ok-text.text read.settled g.met.R.Dsk.Disk.only_now read.bytes c.in-Err.why is)

@@ -1,52 +1,33 @@
-use Rattle.std.proofs.Common.{IfSome, Some}
-use Rattle.std.proofs.lemmas.Option.{IfSome_then}
+use Rattle.std.proofs.Common.{subst, sym}
 use Rattle.issuance_log.specs.Words.{log_disk, log_records, state_of}
-use Rattle.mtc_answers.specs.Made.{HasMade, Leaves}
-use Rattle.mtc_answers.specs.Settled.{LeftBy}
-use Rattle.mtc_logs.specs.LogSteps.{found_log}
-use Rattle.mtc_logs.specs.Works.{bytes_say, work_says}
-use Rattle.mtc_answers.proofs.Made.{has_made}
-use Rattle.mtc_logs.proofs.LogSteps.{fallen_left, if_err, opened}
+use Rattle.mtc_answers.specs.Answers.{Ending, ending_of}
+use Rattle.mtc_answers.specs.Works.{HasWorkedOn}
+use Rattle.mtc_answers.proofs.Works.{worked_on}
+use Rattle.mtc_logs.specs.Works.{bytes_say, found_log, work_says}
+use Rattle.mtc_logs.proofs.Opened.{found_says, refused_says}
 use Rattle.mtc_logs.proofs.log_command.on_device.Goals as goal
 
-pub returns-in-Ok-clause-made : goal.returns-in-Ok-clause-made
-returns-in-Ok-clause-made g c = λ ok.
+pub returns-in-Ok : goal.returns-in-Ok
+returns-in-Ok g c =
     let d = g.D.Disk in
     let h = g.H.TreeHash.hash in
-    let says = work_says h c.args.work in
+    let name = c.args.journal.now in
     let log = c.in-Ok.log in
-    let state = state_of log in
-    let old = c.args.disk in
-    let mid = log_disk log in
-    let new = log_disk c.carry_out-answer.new.log in
-    rw c.into_disk.ensures
-    (opened d (λ o. Leaves d (HasMade o.journal) (Some old) (Some new))
-    mid (d.told old) state says c.args.command.now c.args.journal.now h
-    c.in-Ok.ensures.looks.told c.in-Ok.ensures.found c.in-Ok.ensures.stands c.in-Ok.ensures.all
-    (IfSome_then (log_records log) (c.carry_out-answer.ensures.made ok)
-    (λ list made is. has_made d old mid new (says (found_log list state)).journal
-    g.met.D.Disk.reads_image c.in-Ok.ensures.looks (made is))))
+    let opened = c.in-Ok.ensures in
+    rw c.into_disk.ensures (worked_on d name (bytes_say h name c.args.work)
+    (λ list. work_says h c.args.work (found_log (state_of log) list)) c.args.disk (log_disk log)
+    (log_disk c.carry_out-answer.new.log) (ending_of c.carry_out-answer.result)
+    g.met.D.Disk.reads_image opened.looks opened.fine
+    (found_says h name c.args.work (d.told c.args.disk) (log_records log) (state_of log)
+    opened.found) opened.stands opened.all c.carry_out-answer.ensures)
 
-pub returns-in-Ok-clause-left : goal.returns-in-Ok-clause-left
-returns-in-Ok-clause-left g c =
+pub returns-in-Err : goal.returns-in-Err
+returns-in-Err g c =
     let d = g.D.Disk in
     let h = g.H.TreeHash.hash in
-    let says = work_says h c.args.work in
-    let log = c.in-Ok.log in
-    let state = state_of log in
-    let old = c.args.disk in
-    let mid = log_disk log in
-    let new = log_disk c.carry_out-answer.new.log in
-    rw c.into_disk.ensures
-    (if_err c.carry_out-answer.result
-    (λ stop. IfSome (d.told old) (λ bytes.
-    Leaves d (LeftBy stop (bytes_say h c.args.command.now c.args.journal.now c.args.work
-    bytes).journal)
-    (Some old) (Some new)))
-    c.carry_out-answer.ensures.fallen
-    (λ stop fallen. opened d (λ o. Leaves d (LeftBy stop o.journal) (Some old) (Some new))
-    mid (d.told old) state says c.args.command.now c.args.journal.now h
-    c.in-Ok.ensures.looks.told c.in-Ok.ensures.found c.in-Ok.ensures.stands c.in-Ok.ensures.all
-    (IfSome_then (log_records log) fallen
-    (λ list made is. fallen_left d old mid new (says (found_log list state)).journal stop
-    g.met.D.Disk.reads_image c.in-Ok.ensures.looks (made is)))))
+    let name = c.args.journal.now in
+    let disk = c.in-Err.field-0.disk in
+    subst (λ (e : Ending). HasWorkedOn d name (bytes_say h name c.args.work) c.args.disk disk e)
+    (sym c.refuse_log.ensures)
+    (refused_says h name c.args.work d c.args.disk disk c.in-Err.ensures.err _
+    c.in-Err.ensures.cause)

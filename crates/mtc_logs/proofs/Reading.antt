@@ -1,0 +1,77 @@
+-- A command that reads a request first.
+use Rattle.std.proofs.Common.{◌≡◌, ◌≢◌, ◌≤◌, ℕ, List, [], ◌∷◌, Option, Some, Ok, Err, length, inl, inr}
+use Rattle.std.proofs.Common.{Bool, codes, nat_lt, false, if◌then◌else◌, refl, sym, subst, ap, ◌∙◌, arith}
+use Rattle.std.proofs.lemmas.Grind.{common_steps}
+use Rattle.byte_forms.specs.Types.{HashFunction, Text}
+use Rattle.disk_core.specs.declared.disk.Disk.{Ghosts as Disks}
+use Rattle.mtc_room.specs.declared.room.Room.{Ghosts as Rooms}
+use Rattle.authority_core.specs.Files.{request_of}
+use Rattle.authority_core.specs.Requests.{RequestParts}
+use Rattle.authority_core.specs.declared.requests.error.RequestError.{RequestError}
+use Rattle.authority_core.specs.declared.requests.error.RequestError.TheVariants.{NotToml}
+use Rattle.authority_core.specs.declared.requests.error.RequestError.TheVariants.{UnknownKey}
+use Rattle.authority_core.specs.declared.requests.error.RequestError.TheVariants.{Missing, Memory}
+use Rattle.authority_core.specs.declared.requests.error.RequestError.TheVariants.{BadValue}
+use Rattle.authority_core.specs.declared.requests.error.RequestError.TheVariants.{DatesReversed}
+use Rattle.authority_core.specs.declared.requests.error.RequestError.TheVariants.{NoNames}
+use Rattle.mtc_answers.specs.Answers.{no_memory, refused, replied}
+use Rattle.mtc_answers.specs.Served.{GivesBack, HasDone}
+use Rattle.mtc_answers.specs.Steps.{Files, answers, stops_at, with_bytes, with_form}
+use Rattle.mtc_answers.specs.declared.answer.Stopped.TheVariants.{BadForm, Beyond}
+use Rattle.mtc_answers.proofs.Made.{OnlyNow}
+use Rattle.mtc_answers.proofs.Served.{stopped}
+use Rattle.mtc_logs.specs.IssueCommand.{issue_outcome, request_says}
+use Rattle.mtc_logs.specs.IssueOutcome.{request_ending, request_fault_text}
+use Rattle.mtc_logs.specs.Works.{journal_outcome}
+use Rattle.mtc_logs.specs.declared.work.Work.TheVariants.{Issue}
+
+module _ (h : HashFunction) (journal file : Text) (files : Files) (bytes : Text)
+    (is : files file ≡ Some bytes) (few : length bytes ≤ 16777216) where
+  -- the file is there and short enough
+  read_so : issue_outcome h journal file files ≡ request_says h journal file (files journal) bytes
+  read_so =
+      let short : nat_lt 16777216 (length bytes) ≡ false = grind (arith, common_steps) in
+      ap (λ x. with_bytes 16777216 file x (request_says h journal file (files journal))) is
+      ∙ ap (λ (over : Bool). if over then stops_at Beyond file (codes "TooLong")
+      else request_says h journal file (files journal) bytes) short
+
+  -- and it is a request
+  pub asked_so : (file' : Option Text) (r : RequestParts) → request_of bytes ≡ Ok r
+      → file' ≡ files journal
+      → journal_outcome h journal file' (Issue r) ≡ issue_outcome h journal file files
+  asked_so file' r read same = sym (read_so
+      ∙ ap (λ x. with_form request_fault_text file x
+      (λ q. journal_outcome h journal (files journal) (Issue q))) read
+      ∙ ap (λ x. journal_outcome h journal x (Issue r)) (sym same))
+
+  -- or it is none
+  refused_so : (why : RequestError) → request_of bytes ≡ Err why → issue_outcome h journal file files
+      ≡ answers (refused BadForm (Some file) (request_fault_text why))
+  refused_so why read = read_so ∙ ap (λ x. with_form request_fault_text file x
+      (λ q. journal_outcome h journal (files journal) (Issue q))) read
+
+-- the command ends where the file is no request
+module _ {R S D : Type 0} (rooms : Rooms R S D) (disks : Disks D) (h : HashFunction)
+    (journal file : Text) (old new : R) (bytes : Text) (back : GivesBack rooms old new [])
+    (only_now : OnlyNow disks)
+    (is : rooms.tells old → (rooms.file old file ≡ Some bytes) × (length bytes ≤ 16777216)) where
+  no_request : (why : RequestError) → request_of bytes ≡ Err why
+      → HasDone rooms disks ⊥ (journal ∷ file ∷ []) (journal ∷ [])
+      (issue_outcome h journal file (rooms.file old)) old new
+      (replied (refused BadForm (Some file) (request_fault_text why)))
+  no_request why read = stopped rooms disks _ _ _ old new back only_now _ tt (
+    λ e. absurd cc,
+    inr (inl refl),
+    λ t. refused_so h journal file (rooms.file old) bytes (is t).0 (is t).1 why read,
+  )
+
+  pub unread : (why : RequestError) → (why ≢ Memory → request_of bytes ≡ Err why)
+      → HasDone rooms disks ⊥ (journal ∷ file ∷ []) (journal ∷ [])
+      (issue_outcome h journal file (rooms.file old)) old new (request_ending file why)
+  unread NotToml read = no_request NotToml (read (λ e. absurd cc))
+  unread UnknownKey read = no_request UnknownKey (read (λ e. absurd cc))
+  unread (Missing field) read = no_request (Missing field) (read (λ e. absurd cc))
+  unread (BadValue field) read = no_request (BadValue field) (read (λ e. absurd cc))
+  unread DatesReversed read = no_request DatesReversed (read (λ e. absurd cc))
+  unread NoNames read = no_request NoNames (read (λ e. absurd cc))
+  unread Memory read = stopped rooms disks _ _ _ old new back only_now no_memory tt tt
