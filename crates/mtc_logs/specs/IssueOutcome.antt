@@ -4,6 +4,7 @@ use Rattle.std.specs.Fmt.{decimal}
 use Rattle.byte_forms.specs.Types.{HashFunction, Text}
 use Rattle.journal_core.specs.Format.{end_behind}
 use Rattle.journal_core.specs.declared.error.AppendError.TheVariants as append_error
+use Rattle.issuance_log.specs.Folds.{view_in}
 use Rattle.issuance_log.specs.Openings.{FoundLog}
 use Rattle.issuance_log.specs.Refusals.{add_refusal}
 use Rattle.issuance_log.specs.declared.error.LogError.{LogError}
@@ -55,6 +56,7 @@ abbrev pub log_fault_text : LogError → Text
 log_fault_text log_error.Full = codes "Full"
 log_fault_text log_error.TooLarge = codes "TooLarge"
 log_fault_text log_error.NoSuchEntry = codes "NoSuchEntry"
+log_fault_text log_error.NothingNew = codes "NothingNew"
 log_fault_text (log_error.Append append_error.Failed) = codes "Failed"
 log_fault_text (log_error.Append append_error.Broken) = codes "Broken"
 log_fault_text (log_error.Append append_error.Full) = codes "JournalFull"
@@ -83,5 +85,5 @@ issued h r found (Some why) =
 
 -- What `issue` makes of a log that was found.
 abbrev pub issue_says : HashFunction → RequestParts → FoundLog → Outcome
-issue_says h r found = issued h r found
-    (add_refusal found.state false (end_behind found.records) (issued_entry h found.state r) r.key)
+issue_says h r found = issued h r found (add_refusal (view_in found.state) false
+    (end_behind found.records) (issued_entry h found.state r) r.key)

@@ -30,7 +30,8 @@ fn text_of_index(alloc: Global, index: u64) -> Result<Bytes, Memory>
 // Why a log that was opened just now takes no entry.
 fn refuse_entry<'a>(journal: &'a str, why: IssueError) -> Stop<'a>
     requires sound { why ≢ IssueError.Log (LogError.Append AppendError.Broken) }
-    requires adds { why ≢ IssueError.Log LogError.NoSuchEntry }
+    requires reads { why ≢ IssueError.Log LogError.NoSuchEntry }
+    requires marks { why ≢ IssueError.Log LogError.NothingNew }
     ensures { end_of result ≡ issue_ending journal.now why }
 {
     let beyond = Stopped::Beyond;
@@ -43,6 +44,7 @@ fn refuse_entry<'a>(journal: &'a str, why: IssueError) -> Stop<'a>
         IssueError::Log(LogError::Append(AppendError::Failed)) => Stop::Room(journal),
         IssueError::Log(LogError::Append(AppendError::Broken)) => unreachable!(),
         IssueError::Log(LogError::NoSuchEntry) => unreachable!(),
+        IssueError::Log(LogError::NothingNew) => unreachable!(),
         IssueError::Log(LogError::Memory) => Stop::Memory,
     }
 }

@@ -22,12 +22,12 @@ returns-in-Ok g c =
     let name = c.args.journal.now in
     let old = c.args.log.now in
     let new = c.issue.new.log in
-    let ensures = c.issue.ensures in
-    let line : c.in_ok-text.text ≡ issued_text _ = c.in_ok-text.ensures ∙ ap issued_text c.size.ensures.value in
+    let line : c.in_ok-text.text ≡ issued_text _ =
+    c.in_ok-text.ensures ∙ ap issued_text c.size.ensures.value in
     subst (λ (t : Text). HasWorked name (issue_says h c.args.request.now) old new
     (replied (said Done t))) (sym line)
-    (issued_so h c.args.request.now name old new c.requires c.in-Ok.ensures.answer ensures.count
-    (ensures.any_moment c.requires.sound) c.in-Ok.ensures.kept)
+    (issued_so h c.args.request.now name old new c.requires _ c.in-Ok.ensures.answer
+    c.in-Ok.ensures.appends)
 
 pub returns-in-Err : goal.returns-in-Err
 returns-in-Err g c =
@@ -35,10 +35,7 @@ returns-in-Err g c =
     let name = c.args.journal.now in
     let old = c.args.log.now in
     let new = c.issue.new.log in
-    let ensures = c.issue.ensures in
     subst (λ (e : Ending). HasWorked name (issue_says h c.args.request.now) old new e)
     (sym c.refuse_entry.ensures)
-    (refused_so h c.args.request.now name old new c.requires c.in-Err.why
-    c.in-Err.ensures.leaves
-    c.in-Err.ensures.answer ensures.count (ensures.any_moment c.requires.sound)
-    (ensures.afterwards c.requires.sound))
+    (refused_so h c.args.request.now name old new c.requires c.in-Err.why c.in-Err.ensures.appends
+    c.in-Err.ensures.answer)
