@@ -100,12 +100,7 @@ fn write_line<E: Sink>(err: &mut E, command: &str, file: Option<&str>, reason: R
 }
 
 // Writes the text of an answer.
-fn write_answer<O: Sink, E: Sink>(
-    command: &str,
-    out: &mut O,
-    err: &mut E,
-    answer: &Answer,
-) -> u8
+fn write_answer<O: Sink, E: Sink>(command: &str, out: &mut O, err: &mut E, answer: &Answer) -> u8
     ensures { Wrote O.Sink E.Sink command.now out.old out.new err.old err.new
         (said answer.now.status answer.now.text) result
         ⊎ Lost O.Sink E.Sink command.now out.old out.new err.old err.new answer.now.text result }
