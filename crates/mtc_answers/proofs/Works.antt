@@ -38,7 +38,8 @@ module _ {X : Type 0} where
 module _ {D : Type 0} (g : Ghosts D) (name : List ℕ) (list : Option (List (List ℕ)))
     (mid new : D) where
   later_of : OnlyLooks g mid new → g.faults mid ≤ g.faults new
-  later_of only = elim only [ inl same ↦ omega (arith, ap g.faults same) | inr looks ↦ looks.faults ]
+  later_of only =
+      elim only [ inl same ↦ omega (arith, ap g.faults same) | inr looks ↦ looks.faults ]
 
   -- it was opened to be read
   pub read_on : (reply : Reply) (ending : Ending) → OnlyLooks g mid new

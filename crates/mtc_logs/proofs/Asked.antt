@@ -1,5 +1,5 @@
 -- Subtrees and proofs over the leaf hashes of entries.
-use Rattle.std.proofs.Common.{◌≡◌, ◌-◌, ℕ, ◌<◌, ◌∙◌, true, List, take, ap, sym, arith}
+use Rattle.std.proofs.Common.{◌≡◌, ◌-◌, ℕ, ◌<◌, ◌∙◌, true, List, take, ap, arith}
 use Rattle.std.specs.Prelude.{map}
 use Rattle.std.proofs.Math.Nat.{zero-mod}
 use Rattle.std.proofs.lemmas.List.{take-map}
@@ -7,7 +7,7 @@ use Rattle.byte_forms.specs.Types.{Hash, HashFunction, Text}
 use Rattle.tree_core.specs.Path.{part_of}
 use Rattle.tree_core.specs.Split.{power_over}
 use Rattle.tree_core.specs.Subtree.{is_subtree}
-use Rattle.tree_core.specs.Tree.{leaf_hash, root_of, tree_hash}
+use Rattle.tree_core.specs.Tree.{leaf_hash, tree_hash}
 use Rattle.tree_core.proofs.Powers.{power_over_least}
 use Rattle.tree_core.proofs.Subtrees.{is_subtree-from}
 use Rattle.tree_proofs.specs.Proof.{proof_of}

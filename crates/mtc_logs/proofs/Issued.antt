@@ -1,13 +1,10 @@
 -- What comes of issuing on a log that was opened just now.
-use Rattle.std.proofs.Common.{◌≡◌, ◌≢◌, ◌≤◌, ◌++◌, ℕ, List, [], ◌∷◌, Bool, true, false, Option}
+use Rattle.std.proofs.Common.{◌≡◌, ◌≢◌, ℕ, Bool, true, false, Option}
 use Rattle.std.proofs.Common.{None, Some, option_map, IfSome, Result, Ok, Err, if◌then◌else◌}
 use Rattle.std.proofs.Common.{inl, refl, sym, ap, ◌∙◌, length}
 use Rattle.std.proofs.lemmas.Option.{IfSome_then}
 use Rattle.byte_forms.specs.Types.{HashFunction, Text}
-use Rattle.disk_core.specs.Moments.{LeavesOnly}
 use Rattle.disk_core.specs.declared.disk.Disk.{Ghosts}
-use Rattle.journal_core.specs.Format.{StandsForEither, end_behind}
-use Rattle.journal_core.specs.Words.{AllStandFor}
 use Rattle.journal_core.specs.declared.error.AppendError.TheVariants as append_error
 use Rattle.tree_core.specs.declared.hashing.TreeHash.{Ghosts as Hashes}
 use Rattle.issuance_log.specs.Refusals.{add_refusal}
@@ -26,7 +23,7 @@ use Rattle.mtc_answers.specs.Answers.{refused, replied, said}
 use Rattle.mtc_answers.specs.declared.answer.Said.TheVariants.{Done}
 use Rattle.mtc_answers.specs.declared.answer.Stopped.TheVariants.{Beyond}
 use Rattle.mtc_answers.proofs.Works.{appended_on, failed_on, read_on, says_so, starved_on}
-use Rattle.mtc_logs.specs.IssueOutcome.{issue_ending, issue_says, issued, issued_text, log_ending}
+use Rattle.mtc_logs.specs.IssueOutcome.{issue_ending, issue_says, issued, issued_text}
 use Rattle.mtc_logs.specs.IssueOutcome.{log_fault_text}
 use Rattle.mtc_logs.specs.Works.{HasWorked, IsReady, found_log}
 

@@ -1,5 +1,5 @@
 -- A log that is opened on a device.
-use Rattle.std.proofs.Common.{◌≡◌, ◌≤◌, ℕ, List, Option, IfSome, Ok, Err, Some, inl, inr}
+use Rattle.std.proofs.Common.{◌≡◌, List, Option, IfSome, Ok, Err, Some, inl, inr}
 use Rattle.std.proofs.Common.{refl, ap}
 use Rattle.std.proofs.lemmas.Option.{IfSome_then}
 use Rattle.byte_forms.specs.Types.{HashFunction, Text}
@@ -11,7 +11,7 @@ use Rattle.issuance_log.specs.Openings.{HasCauseOf, log_read}
 use Rattle.issuance_log.specs.declared.error.LogOpenError.{LogOpenError}
 use Rattle.issuance_log.specs.declared.error.LogOpenError.TheVariants.{BadRecord, Open}
 use Rattle.mtc_answers.specs.Answers.{no_memory, refused, replied, room_failed}
-use Rattle.mtc_answers.specs.Steps.{answers, with_form}
+use Rattle.mtc_answers.specs.Steps.{with_form}
 use Rattle.mtc_answers.specs.Works.{HasWorkedOn}
 use Rattle.mtc_answers.specs.declared.answer.Stopped.TheVariants.{BadForm}
 use Rattle.mtc_answers.proofs.Works.{not_opened}
@@ -44,9 +44,12 @@ module _ (h : HashFunction) (name : Text) (work : Work) where
         → HasWorkedOn g name (bytes_say h name work) old new (open_ending name why)
     refused_says (BadRecord number) is = no_log (BadRecord number) is
     refused_says (Open open_error.NotJournal) is = no_log (Open open_error.NotJournal) is
-    refused_says (Open (open_error.BadLength place)) is = no_log (Open (open_error.BadLength place)) is
-    refused_says (Open (open_error.CutShort place)) is = no_log (Open (open_error.CutShort place)) is
-    refused_says (Open open_error.Failed) is = not_opened g name (bytes_say h name work) old new looks
-        (room_failed name) (record { plain = tt; later = looks.faults; fault = (is, inl refl) }) tt tt
-    refused_says (Open open_error.Memory) is = not_opened g name (bytes_say h name work) old new looks
-        no_memory (record { plain = tt; later = looks.faults; fault = tt }) tt tt
+    refused_says (Open (open_error.BadLength place)) is =
+        no_log (Open (open_error.BadLength place)) is
+    refused_says (Open (open_error.CutShort place)) is =
+        no_log (Open (open_error.CutShort place)) is
+    refused_says (Open open_error.Failed) is =
+        not_opened g name (bytes_say h name work) old new looks (room_failed name)
+        (record { plain = tt; later = looks.faults; fault = (is, inl refl) }) tt tt
+    refused_says (Open open_error.Memory) is =
+        not_opened g name (bytes_say h name work) old new looks no_memory (record { plain = tt; later = looks.faults; fault = tt }) tt tt

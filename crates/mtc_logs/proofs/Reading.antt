@@ -1,6 +1,6 @@
 -- A command that reads a request first.
-use Rattle.std.proofs.Common.{◌≡◌, ◌≢◌, ◌≤◌, ℕ, List, [], ◌∷◌, Option, Some, Ok, Err, length, inl, inr}
-use Rattle.std.proofs.Common.{Bool, codes, nat_lt, false, if◌then◌else◌, refl, sym, subst, ap, ◌∙◌, arith}
+use Rattle.std.proofs.Common.{◌≡◌, ◌≢◌, ◌≤◌, [], ◌∷◌, Option, Some, Ok, Err, length, inl, inr}
+use Rattle.std.proofs.Common.{Bool, codes, nat_lt, false, if◌then◌else◌, refl, sym, ap, ◌∙◌, arith}
 use Rattle.std.proofs.lemmas.Grind.{common_steps}
 use Rattle.byte_forms.specs.Types.{HashFunction, Text}
 use Rattle.disk_core.specs.declared.disk.Disk.{Ghosts as Disks}
@@ -45,7 +45,8 @@ module _ (h : HashFunction) (journal file : Text) (files : Files) (bytes : Text)
       ∙ ap (λ x. journal_outcome h journal x (Issue r)) (sym same))
 
   -- or it is none
-  refused_so : (why : RequestError) → request_of bytes ≡ Err why → issue_outcome h journal file files
+  refused_so : (why : RequestError) → request_of bytes ≡ Err why
+      → issue_outcome h journal file files
       ≡ answers (refused BadForm (Some file) (request_fault_text why))
   refused_so why read = read_so ∙ ap (λ x. with_form request_fault_text file x
       (λ q. journal_outcome h journal (files journal) (Issue q))) read

@@ -1,5 +1,5 @@
 -- What a file is that is opened as a log, and what a command has to reply over it.
-use Rattle.std.specs.Prelude.{◌≡◌, ◌++◌, false, codes, List, Option, Some, Result, IfSome}
+use Rattle.std.specs.Prelude.{◌≡◌, ◌++◌, false, codes, List, Option, Some, IfSome}
 use Rattle.std.specs.Fmt.{decimal}
 use Rattle.byte_forms.specs.Types.{HashFunction, Text}
 use Rattle.disk_core.specs.declared.disk.Disk.{Ghosts}

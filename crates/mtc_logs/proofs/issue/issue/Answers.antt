@@ -32,7 +32,8 @@ returns-in-Ok g c =
     let mid = c.read_input.new.room in
     let read = c.in_ok-text.ensures in
     let is : request_of c.in_ok-text.text ≡ Ok c.in-Ok.request =
-    subst (λ (t : Text). request_of t ≡ Ok c.in-Ok.request) c.as_slice.ensures c.in-Ok.ensures.exact in
+    subst (λ (t : Text). request_of t ≡ Ok c.in-Ok.request) c.as_slice.ensures
+    c.in-Ok.ensures.exact in
     behind rooms g.R.Dsk.Disk (journal ∷ file ∷ []) (journal ∷ []) (journal ∷ [])
     (issue_outcome h journal file (rooms.file old))
     (journal_outcome h journal (rooms.file mid journal) (Issue c.in-Ok.request)) old mid

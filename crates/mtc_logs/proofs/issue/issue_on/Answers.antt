@@ -1,4 +1,4 @@
-use Rattle.std.proofs.Common.{◌≡◌, ◌∙◌, None, Some, ap, rules, subst, sym}
+use Rattle.std.proofs.Common.{◌≡◌, ◌∙◌, Some, ap, rules, subst, sym}
 use Rattle.byte_forms.specs.Types.{Text}
 use Rattle.issuance_log.specs.declared.error.LogError.TheVariants.{Append}
 use Rattle.journal_core.specs.declared.error.AppendError.TheVariants.{Broken}

@@ -1,5 +1,4 @@
-use Rattle.std.proofs.Common.{◌∙◌, sym, rules}
-use Rattle.issuance_log.specs.Words.{state_of}
+use Rattle.std.proofs.Common.{rules}
 use Rattle.issuance_log.proofs.Leaves.{part_root}
 use Rattle.mtc_logs.proofs.tree.hash_of.Goals as goal
 
