@@ -52,4 +52,5 @@ module _ (h : HashFunction) (name : Text) (work : Work) where
         not_opened g name (bytes_say h name work) old new looks (room_failed name)
         (record { plain = tt; later = looks.faults; fault = (is, inl refl) }) tt tt
     refused_says (Open open_error.Memory) is =
-        not_opened g name (bytes_say h name work) old new looks no_memory (record { plain = tt; later = looks.faults; fault = tt }) tt tt
+        not_opened g name (bytes_say h name work) old new looks no_memory
+        (record { plain = tt; later = looks.faults; fault = tt }) tt tt
