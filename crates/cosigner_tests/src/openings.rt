@@ -1,0 +1,69 @@
+//! Files that are opened as cosigners', or refused.
+use crate::cosigners::{disk, of_eight, open, sign_all};
+use cosigner_core::CosignerOpenError;
+use hss_core::SigBuf;
+use journal_core::OpenError;
+use mtc_io::{Bytes, Memory};
+use std::alloc::Global;
+use std::test::Fail;
+
+// The journal with two Advances and a Sign.
+fn signed(alloc: Global) -> Result<Option<Bytes>, Memory> {
+    let Some(mut cosigner) = of_eight(alloc, &[])? else {
+        return Ok(None);
+    };
+    let mut out = SigBuf::new();
+    if sign_all(&mut cosigner, &mut out).is_err() {
+        return Ok(None);
+    }
+    Ok(Some(Bytes::copy_of(alloc, cosigner.into_disk().bytes())?))
+}
+
+// What is held in a journal with another byte, or why it is refused.
+fn held_with(
+    alloc: Global,
+    journal: &[u8],
+    place: usize,
+    byte: u8,
+) -> Result<Result<u64, CosignerOpenError>, Memory> {
+    let mut bytes = Vec::from_slice(alloc, journal)?;
+    if let Some(old) = bytes.get_mut(place) {
+        *old = byte;
+    }
+    match open(alloc, disk(alloc, &bytes, &[])?) {
+        Ok(cosigner) => Ok(Ok(cosigner.held().0)),
+        Err(why) => Ok(Err(why)),
+    }
+}
+
+// Record 0 begins at 16, the Advances at 88 and 136, the Sign at 216.
+#[test]
+fn a_changed_byte_is_told(rt: HostRuntime) -> Result<(), Fail> {
+    let changes: [(usize, u8, Result<u64, CosignerOpenError>); 17] = [
+        (16, 0x80, Ok(8)),
+        (16, 0x00, Err(CosignerOpenError::BadRecord(0))),
+        (21, 0x12, Err(CosignerOpenError::BadRecord(0))),
+        (22, 0x05, Err(CosignerOpenError::BadRecord(0))),
+        (23, 0x80, Err(CosignerOpenError::BadRecord(0))),
+        (35, 0x07, Err(CosignerOpenError::BadRecord(0))),
+        (39, 0x05, Err(CosignerOpenError::BadRecord(0))),
+        (88, 0x00, Ok(0)),
+        (93, 0x13, Err(CosignerOpenError::BadRecord(1))),
+        (101, 0x00, Err(CosignerOpenError::BadRecord(1))),
+        (135, 0x20, Err(CosignerOpenError::BadRecord(1))),
+        (149, 0x04, Err(CosignerOpenError::BadRecord(2))),
+        (183, 0x00, Err(CosignerOpenError::BadRecord(2))),
+        (221, 0x11, Err(CosignerOpenError::BadRecord(3))),
+        (225, 0x01, Err(CosignerOpenError::BadRecord(3))),
+        (233, 0x01, Err(CosignerOpenError::BadRecord(3))),
+        (0, 0x00, Err(CosignerOpenError::Open(OpenError::NotJournal))),
+    ];
+    let journal = signed(rt.alloc())?.ok_or("the journal")?;
+    for (place, byte, wanted) in changes {
+        assert!(rt;
+            held_with(rt.alloc(), journal.as_slice(), place, byte)? == wanted,
+            "byte {place}"
+        );
+    }
+    Ok(())
+}
