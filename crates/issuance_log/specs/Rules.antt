@@ -18,7 +18,8 @@ pub record IsFirst (body : Text) (s : LogState) : Type 0 where
   pub made : s ≡ new_log settings
 
 -- An Entry has a key that matches, and the log isn't full. It makes the log with that item.
-pub record IsEntry (h : HashFunction) (s : LogState) (body : Text) (t : LogState) : Type 0 where
+pub record IsEntryRecord (h : HashFunction) (s : LogState) (body : Text)
+    (t : LogState) : Type 0 where
   pub entry : Text
   pub key : Text
   pub spelled : body ≡ entry_record entry key
@@ -29,7 +30,7 @@ pub record IsEntry (h : HashFunction) (s : LogState) (body : Text) (t : LogState
   pub made : t ≡ with_item entry key s
 
 -- A Landmark is the size, and above the last one. It makes the log with that landmark.
-pub record IsLandmark (s : LogState) (body : Text) (t : LogState) : Type 0 where
+pub record IsLandmarkRecord (s : LogState) (body : Text) (t : LogState) : Type 0 where
   pub spelled : body ≡ landmark_record (length s.entries)
   pub fits : length s.entries < 2 ^ 64
   pub above : last_mark s.marks < length s.entries
@@ -37,4 +38,4 @@ pub record IsLandmark (s : LogState) (body : Text) (t : LogState) : Type 0 where
 
 -- Each later record is one or the other.
 abbrev pub IsNext : HashFunction → LogState → Text → LogState → Type 0
-IsNext h s body t = IsEntry h s body t ⊎ IsLandmark s body t
+IsNext h s body t = IsEntryRecord h s body t ⊎ IsLandmarkRecord s body t

@@ -96,8 +96,8 @@ impl<H: TreeHash, D: Disk> Log<H, D> {
     /// Errors, in the order of the tests: `Full` where the log has as many entries as its limit
     /// allows; `TooLarge` where the entry and its key have more than 65,535 bytes together;
     /// `Memory`; and what [`Journal::append`] refuses. A refusal leaves the log as it was. After
-    /// `Append(Failed)` it shows what it showed before, and each further call that passes the first
-    /// tests answers `Append(Broken)`.
+    /// `Append(Failed)` it shows what it showed before, and each further call that passes the tests
+    /// before answers `Append(Broken)`.
     #[tactic(auto, unfolding(crate::specs::Refusals::add_refusal))]
     pub fn add(&mut self, entry: &[u8], spki: &[u8]) -> Result<u64, LogError>
         requires { matches H.hash entry.now spki.now ≡ true }
@@ -132,8 +132,8 @@ impl<H: TreeHash, D: Disk> Log<H, D> {
     ///
     /// Errors, in the order of the tests: `NothingNew` where the last landmark has this size;
     /// `Memory`; and what [`Journal::append`] refuses. A refusal leaves the log as it was. After
-    /// `Append(Failed)` it shows what it showed before, and each further call that passes the first
-    /// test answers `Append(Broken)`.
+    /// `Append(Failed)` it shows what it showed before, and each further call that passes the tests
+    /// before answers `Append(Broken)`.
     #[tactic(auto, unfolding(crate::specs::Refusals::mark_refusal))]
     pub fn mark(&mut self) -> Result<(u64, u64), LogError>
         ensures appends { LogAppends (landmark_record (length (state_of self.old).entries))
