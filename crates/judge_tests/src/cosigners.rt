@@ -1,6 +1,6 @@
 //! The judgement of the certificate of [`judgements`](crate::judgements) by its cosigners.
 
-use crate::judgements::{CERTIFICATE, FIRST, TRUSTED, store_of};
+use crate::judgements::{CERTIFICATE, FIRST, TRUSTED, store_of, trusted_in};
 use hss_core::{Key, LmsType, OtsType, SigBuf};
 use mtc_proof::{InputBuf, signature_input};
 use policy_core::{By, Cosigners, Known, Places, Rule, Rules, Store};
@@ -51,48 +51,54 @@ fn id_of(alloc: Global, number: u8) -> Result<AnchorId, Fail> {
     Ok(AnchorId::from_text(alloc, text.as_str())?)
 }
 
-// What a signature of a case differs in: the number of the key and of the id, the number of the
-// log, the end of the interval, and a byte of the hash.
+// What a signature of a case differs in: the numbers of the key, of the id, and of the cosigner and
+// the log in the text, the interval, and a byte of the hash.
 #[derive(Clone, Copy)]
 struct Mark {
     key: u8,
     id: u8,
+    cosigner: u8,
     log: u8,
+    start: u64,
     end: u64,
     change: u8,
 }
 
-fn mark_of(letter: u8) -> Mark {
-    let good = Mark {
-        key: 2,
-        id: 2,
+// That of the cosigner's own signature.
+fn own(number: u8) -> Mark {
+    Mark {
+        key: number,
+        id: number,
+        cosigner: number,
         log: 1,
+        start: 0,
         end: 2,
         change: 0,
-    };
+    }
+}
+
+fn mark_of(letter: u8) -> Mark {
+    let first = own(2);
     match letter {
-        b'3' => Mark {
-            key: 3,
-            id: 3,
-            ..good
+        b'3' => own(3),
+        b'4' => own(4),
+        b'i' => Mark { key: 2, ..own(3) },
+        b'u' => Mark { key: 2, ..own(9) },
+        b't' => Mark {
+            cosigner: 3,
+            ..first
         },
-        b'4' => Mark {
-            key: 4,
-            id: 4,
-            ..good
-        },
-        b'i' => Mark { id: 3, ..good },
-        b'l' => Mark { log: 9, ..good },
-        b'e' => Mark { end: 1, ..good },
-        b'h' => Mark { change: 1, ..good },
-        b'u' => Mark { id: 9, ..good },
-        _ => good,
+        b'l' => Mark { log: 9, ..first },
+        b'b' => Mark { start: 1, ..first },
+        b'e' => Mark { end: 1, ..first },
+        b'h' => Mark { change: 1, ..first },
+        _ => first,
     }
 }
 
 // The signature with this mark.
 fn signature_of(alloc: Global, keys: &mut Keys, mark: &Mark) -> Result<SigBuf, Fail> {
-    let cosigner = id_of(alloc, mark.id)?;
+    let cosigner = id_of(alloc, mark.cosigner)?;
     let log = id_of(alloc, mark.log)?;
     let mut hash = TRUSTED;
     hash[0] ^= mark.change;
@@ -100,7 +106,7 @@ fn signature_of(alloc: Global, keys: &mut Keys, mark: &Mark) -> Result<SigBuf, F
     signature_input(
         cosigner.as_bytes(),
         log.as_bytes(),
-        0,
+        mark.start,
         mark.end,
         &hash,
         &mut text,
@@ -150,27 +156,30 @@ fn signatures_of(alloc: Global, keys: &mut Keys, letters: &str) -> Result<Vec<u8
     Ok(bytes)
 }
 
-// The certificate with these signatures in its proof.
+// The certificate with these signatures in its proof, which are some.
 fn with_signatures(alloc: Global, signatures: &[u8]) -> Result<Vec<u8>, Fail> {
-    if signatures.is_empty() {
-        return Ok(Vec::from_slice(alloc, &CERTIFICATE)?);
-    }
     let size = signatures.len();
-    let pieces: [&[u8]; 7] = [
-        &[0x30, 0x82],
-        &two_bytes(size.saturating_add(230))?,
-        &CERTIFICATE[3..176],
-        &[0x03, 0x82],
-        &two_bytes(size.saturating_add(53))?,
-        &CERTIFICATE[178..229],
-        &two_bytes(size)?,
-    ];
-    let mut bytes = Vec::new(alloc);
-    for piece in pieces {
-        bytes.extend_from_slice(piece)?;
-    }
+    let whole = two_bytes(size.saturating_add(230))?;
+    let proof = two_bytes(size.saturating_add(53))?;
+    let list = two_bytes(size)?;
+    let mut bytes = Vec::from_slice(alloc, &[0x30, 0x82])?;
+    bytes.extend_from_slice(&whole)?;
+    bytes.extend_from_slice(&CERTIFICATE[3..176])?;
+    bytes.extend_from_slice(&[0x03, 0x82])?;
+    bytes.extend_from_slice(&proof)?;
+    bytes.extend_from_slice(&CERTIFICATE[178..229])?;
+    bytes.extend_from_slice(&list)?;
     bytes.extend_from_slice(signatures)?;
     Ok(bytes)
+}
+
+// The certificate with these signatures, or as it is where there are none.
+fn certificate_of(alloc: Global, signatures: &[u8]) -> Result<Vec<u8>, Fail> {
+    if signatures.is_empty() {
+        Ok(Vec::from_slice(alloc, &CERTIFICATE)?)
+    } else {
+        with_signatures(alloc, signatures)
+    }
 }
 
 // The cosigner with this number, as it is known.
@@ -194,8 +203,8 @@ fn rule_of(alloc: Global, word: &str) -> Result<Rule, Fail> {
     })
 }
 
-// A store of three cosigners with these rules.
-fn store_with(alloc: Global, keys: &Keys, words: &str) -> Result<Store, Fail> {
+// A store of three cosigners with these rules, which trusts the hash that ends with this byte.
+fn store_with(alloc: Global, keys: &Keys, words: &str, last: &str) -> Result<Store, Fail> {
     let mut rules = Vec::new(alloc);
     for word in words.split(',') {
         if word != "-" {
@@ -207,7 +216,8 @@ fn store_with(alloc: Global, keys: &Keys, words: &str) -> Result<Store, Fail> {
         known(alloc, 3, &keys.second)?,
         known(alloc, 4, &keys.third)?,
     ]?;
-    let plain = store_of(alloc, "32473.1", &[], &[])?;
+    let subtrees = trusted_in(alloc, last)?;
+    let plain = store_of(alloc, "32473.1", subtrees.as_slice(), &[])?;
     Ok(Store {
         log: plain.log,
         name: plain.name,
@@ -218,28 +228,34 @@ fn store_with(alloc: Global, keys: &Keys, words: &str) -> Result<Store, Fail> {
     })
 }
 
-// Signatures by their letters, rules, and the judgement: the set of those who count, as a number,
-// or the refusal. The letters 2 to 4 are the cosigners' own signatures. The others are made by
-// the key of the first: under the id of the second, or of none; for another log, over another
-// interval or another hash; and a byte short.
+// Signatures by their letters, rules, the last byte of the hash that is trusted for the interval or
+// a hyphen, and the judgement: the set of those who count, as a number, or the refusal. The letters
+// 2 to 4 are the cosigners' own signatures. The others are made by the key of the first: under the
+// id of the second, or of none; for the second alone, for another log, over another start, end or
+// hash; and a byte short.
 const CASES: &str = "\
-- 1:2 TooFewCosigners(1)
-234 - TooFewCosigners(0)
-234 3:234 7
-23 2:234 3
-24 2:234 5
-34 3:234 TooFewCosigners(1)
-22 2:234 TooFewCosigners(1)
-22 1:234 1
-23 1:2,1:4 TooFewCosigners(2)
-23 1:2 1
-i 1:23 TooFewCosigners(1)
-u 1:23 TooFewCosigners(1)
-l 1:23 TooFewCosigners(1)
-e 1:23 TooFewCosigners(1)
-h 1:23 TooFewCosigners(1)
-s 1:23 TooFewCosigners(1)
-hs2 1:23 1
+- 1:2 - TooFewCosigners(1)
+234 - - TooFewCosigners(0)
+234 3:234 - 7
+23 2:234 - 3
+24 2:234 - 5
+34 3:234 - TooFewCosigners(1)
+22 2:234 - TooFewCosigners(1)
+22 1:234 - 1
+23 1:2,1:4 - TooFewCosigners(2)
+23 1:2 - 1
+i 1:23 - TooFewCosigners(1)
+u 1:23 - TooFewCosigners(1)
+t 1:23 - TooFewCosigners(1)
+l 1:23 - TooFewCosigners(1)
+b 1:23 - TooFewCosigners(1)
+e 1:23 - TooFewCosigners(1)
+h 1:23 - TooFewCosigners(1)
+s 1:23 - TooFewCosigners(1)
+hs2 1:23 - 1
+234 3:234 0 LandmarkDiffers
+- 3:234 246 Landmark
+s 1:23 246 Landmark
 ";
 
 // The judgement as the cases say it.
@@ -256,8 +272,13 @@ fn judged(alloc: Global, certificate: &[u8], store: &Store) -> Result<String, Fa
 fn is_judged(alloc: Global, keys: &mut Keys, line: &str) -> Result<bool, Fail> {
     let mut words = line.split(' ');
     let signatures = signatures_of(alloc, keys, words.next().unwrap_or(""))?;
-    let certificate = with_signatures(alloc, signatures.as_slice())?;
-    let store = store_with(alloc, keys, words.next().unwrap_or(""))?;
+    let certificate = certificate_of(alloc, signatures.as_slice())?;
+    let store = store_with(
+        alloc,
+        keys,
+        words.next().unwrap_or(""),
+        words.next().unwrap_or(""),
+    )?;
     let found = judged(alloc, certificate.as_slice(), &store)?;
     Ok(Some(found.as_str()) == words.next())
 }
@@ -270,6 +291,6 @@ fn the_cosigners_decide(rt: HostRuntime) -> Result<(), Fail> {
         assert!(rt; is_judged(rt.alloc(), &mut keys, line)?, "{line}");
         count = count.saturating_add(1);
     }
-    assert!(rt; count == 17);
+    assert!(rt; count == 22);
     Ok(())
 }

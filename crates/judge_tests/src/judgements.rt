@@ -192,7 +192,7 @@ const STORES: &str = "\
 ";
 
 // The subtree whose hash ends with this byte, if the word has one.
-fn trusted_in(alloc: Global, word: &str) -> Result<Vec<Trusted>, Fail> {
+pub fn trusted_in(alloc: Global, word: &str) -> Result<Vec<Trusted>, Fail> {
     let mut list = Vec::new(alloc);
     if word != "-" {
         let mut hash = TRUSTED;
