@@ -385,3 +385,91 @@ fn a_store_may_have_no_lists(rt: HostRuntime) -> Result<(), Fail> {
     );
     Ok(())
 }
+
+// The public key of the secret of zeros, of height 5 and width 4, in base64.
+const KEY: &str =
+    "AAAAAQAAAAUAAAADAAAAAAAAAAAAAAAAAAAAAH4U7Q2LRLYZGKVkewVnpJ6WngRUyw8U3ypiscp4ftyw";
+
+// How many cosigners the store of this text has, or why it is none.
+fn told(alloc: Global, text: &str) -> Result<String, Fail> {
+    match Store::read(alloc, text.as_bytes()) {
+        Ok(store) => Ok(format!(in alloc; "{}", store.cosigners.as_slice().len())?),
+        Err(found) => Ok(format!(in alloc; "{found:?}")?),
+    }
+}
+
+// A store of so many cosigners, and then this text.
+fn crowd(alloc: Global, count: u64, text: &str) -> Result<String, Fail> {
+    let mut file = joined(alloc, &[LOG])?;
+    for number in 0..count {
+        let item = format!(in alloc; "[[cosigner]]\nid = \"32473.{number}\"\nkey = \"{KEY}\"\n")?;
+        file.push_str(item.as_str())?;
+    }
+    file.push_str(text)?;
+    Ok(file)
+}
+
+// A number of cosigners, what follows them, and what is told of the store.
+const CROWDS: [(u64, &str, &str); 4] = [
+    (64, "", "64"),
+    (65, "", "BadValue(CosignerId)"),
+    (64, "[[cosigner]]\nkey = 1\n", "Missing(CosignerId)"),
+    (64, "[[cosigner]]\nid = 1\nname = 1\n", "UnknownKey"),
+];
+
+#[test]
+fn a_store_has_64_cosigners_at_most(rt: HostRuntime) -> Result<(), Fail> {
+    for (count, text, wanted) in CROWDS {
+        let file = crowd(rt.alloc(), count, text)?;
+        assert!(rt;
+            told(rt.alloc(), file.as_str())?.as_str() == wanted,
+            "{count} {text}"
+        );
+    }
+    Ok(())
+}
+
+// The cosigners by their ids and the last bytes of their keys, and the rules by their counts and
+// places.
+fn policy_told(alloc: Global, store: &Store) -> Result<String, Fail> {
+    let mut text = String::new(alloc);
+    for known in store.cosigners.as_slice() {
+        text.push_str(format!(in alloc;
+            "{:?} {}, ",
+            known.id.as_bytes(),
+            known.key[59]
+        )?.as_str())?;
+    }
+    for rule in store.rules.as_slice() {
+        let places = rule.cosigners.as_slice();
+        text.push_str(format!(in alloc; "{} of {places:?}, ", rule.count)?.as_str())?;
+    }
+    Ok(text)
+}
+
+const POLICY: &str = r#"[log]
+id = "32473.1"
+[[cosigner]]
+id = "1"
+key = "AAAAAQAAAAUAAAADAAAAAAAAAAAAAAAAAAAAAH4U7Q2LRLYZGKVkewVnpJ6WngRUyw8U3ypiscp4ftyw"
+[[cosigner]]
+id = "2"
+key = "AAAAAQAAAAUAAAADAQEBAQEBAQEBAQEBAQEBAWa/b1gW7uS78zxQrLSA4JtBaeu1MzcpWbxDFcOI5QGs"
+[[rule]]
+cosigners = ["2", "1"]
+count = 2
+[[rule]]
+cosigners = ["1"]
+count = 1
+"#;
+
+#[test]
+fn a_store_keeps_its_cosigners_and_rules(rt: HostRuntime) -> Result<(), Fail> {
+    let store = Store::read(rt.alloc(), POLICY.as_bytes())?;
+    let found = policy_told(rt.alloc(), &store)?;
+    assert!(rt;
+        found.as_str() == "[1] 176, [2] 172, 2 of [1, 0], 1 of [0], ",
+        "{found}"
+    );
+    Ok(())
+}
