@@ -4,6 +4,8 @@ use Rattle.mtc_words.specs.declared.command.Command.{Command}
 use Rattle.mtc_words.specs.declared.command.Command.TheVariants.{Member, Show, Verify, InitLog}
 use Rattle.mtc_words.specs.declared.command.Command.TheVariants.{Issue, Checkpoint, Entries}
 use Rattle.mtc_words.specs.declared.command.Command.TheVariants.{Consist, Subtree, Keygen}
+use Rattle.mtc_words.specs.declared.command.Command.TheVariants.{InitCosigner, Advance, Cosign}
+use Rattle.mtc_words.specs.declared.command.Command.TheVariants.{Cert}
 use Rattle.mtc_words.specs.declared.error.WordError.{WordError}
 
 -- A command with the values of its words: a text is the list of its bytes, and so is an id.
@@ -18,12 +20,16 @@ pub data CommandValue : Type 0 where
   consist : List ℕ → ℕ → ℕ → CommandValue
   subtree : List ℕ → ℕ → ℕ → ℕ → CommandValue
   keygen : ℕ → ℕ → List ℕ → CommandValue
+  init_cosigner : List ℕ → List ℕ → List ℕ → ℕ → ℕ → List ℕ → CommandValue
+  advance : List ℕ → List ℕ → CommandValue
+  cosign : List ℕ → List ℕ → CommandValue
+  cert : List ℕ → ℕ → ℕ → ℕ → List ℕ → CommandValue
 
 -- The values of a command's words.
 abbrev pub command_value : Command → CommandValue
 command_value (Member file) = member file.now
 command_value (Show file) = show file.now
-command_value (Verify cert store moment) = verify cert.now store.now moment
+command_value (Verify certificate store moment) = verify certificate.now store.now moment
 command_value (InitLog journal id active limit) = init_log journal.now id active limit
 command_value (Issue journal request) = issue journal.now request.now
 command_value (Checkpoint journal) = checkpoint journal.now
@@ -31,6 +37,12 @@ command_value (Entries journal size) = entries journal.now size
 command_value (Consist journal old new) = consist journal.now old new
 command_value (Subtree journal start end size) = subtree journal.now start end size
 command_value (Keygen height width secret) = keygen height width secret.now
+command_value (InitCosigner journal id log height width secret) =
+    init_cosigner journal.now id log height width secret.now
+command_value (Advance journal request) = advance journal.now request.now
+command_value (Cosign journal request) = cosign journal.now request.now
+command_value (Cert journal index start end signatures) =
+    cert journal.now index start end signatures.now
 
 -- The answer, with the command seen by its values.
 abbrev pub said : Result Command WordError → Result CommandValue WordError
@@ -72,7 +84,7 @@ is_any n = true
 abbrev pub IsInRange : CommandValue → Type 0
 IsInRange (member file) = Unit {0}
 IsInRange (show file) = Unit {0}
-IsInRange (verify cert store moment) = is_time moment ≡ true
+IsInRange (verify certificate store moment) = is_time moment ≡ true
 IsInRange (init_log journal id active limit) = (is_active active ≡ true) × (is_limit limit ≡ true)
 IsInRange (issue journal request) = Unit {0}
 IsInRange (checkpoint journal) = Unit {0}
@@ -80,3 +92,8 @@ IsInRange (entries journal size) = Unit {0}
 IsInRange (consist journal old new) = Unit {0}
 IsInRange (subtree journal start end size) = Unit {0}
 IsInRange (keygen height width secret) = (is_height height ≡ true) × (is_width width ≡ true)
+IsInRange (init_cosigner journal id log height width secret) =
+    (is_height height ≡ true) × (is_width width ≡ true)
+IsInRange (advance journal request) = Unit {0}
+IsInRange (cosign journal request) = Unit {0}
+IsInRange (cert journal index start end signatures) = Unit {0}

@@ -3,7 +3,8 @@ use Rattle.std.specs.Prelude.{ℕ, List, Option, Some, None, codes, bytes_eq, if
 use Rattle.mtc_words.specs.declared.name.Name.{Name}
 use Rattle.mtc_words.specs.declared.name.Name.TheVariants.{Member, Show, Verify, InitLog, Issue}
 use Rattle.mtc_words.specs.declared.name.Name.TheVariants.{Checkpoint, Entries, Consist, Subtree}
-use Rattle.mtc_words.specs.declared.name.Name.TheVariants.{Keygen}
+use Rattle.mtc_words.specs.declared.name.Name.TheVariants.{Keygen, InitCosigner, Advance, Cosign}
+use Rattle.mtc_words.specs.declared.name.Name.TheVariants.{Cert}
 
 -- The command that a word names.
 unfoldable pub named_command : List ℕ → Option Name
@@ -18,7 +19,11 @@ named_command word =
     else (if bytes_eq word (codes "consist") then Some Consist
     else (if bytes_eq word (codes "subtree") then Some Subtree
     else (if bytes_eq word (codes "keygen") then Some Keygen
-    else None)))))))))
+    else (if bytes_eq word (codes "init-cosigner") then Some InitCosigner
+    else (if bytes_eq word (codes "advance") then Some Advance
+    else (if bytes_eq word (codes "cosign") then Some Cosign
+    else (if bytes_eq word (codes "cert") then Some Cert
+    else None)))))))))))))
 
 -- How many words stand behind a command.
 abbrev pub word_count : Name → ℕ
@@ -32,3 +37,7 @@ word_count Entries = 2
 word_count Consist = 3
 word_count Subtree = 4
 word_count Keygen = 3
+word_count InitCosigner = 6
+word_count Advance = 2
+word_count Cosign = 2
+word_count Cert = 5

@@ -11,10 +11,12 @@ use Rattle.mtc_words.specs.declared.error.WordError.TheVariants.{WrongCount, Bad
 use Rattle.mtc_words.specs.declared.name.Name.{Name}
 use Rattle.mtc_words.specs.declared.name.Name.TheVariants.{Member, Show, Verify, InitLog, Issue}
 use Rattle.mtc_words.specs.declared.name.Name.TheVariants.{Checkpoint, Entries, Consist, Subtree}
-use Rattle.mtc_words.specs.declared.name.Name.TheVariants.{Keygen}
+use Rattle.mtc_words.specs.declared.name.Name.TheVariants.{Keygen, InitCosigner, Advance, Cosign}
+use Rattle.mtc_words.specs.declared.name.Name.TheVariants.{Cert}
 use Rattle.mtc_words.specs.Commands.{CommandValue, member, show, verify, init_log, issue}
 use Rattle.mtc_words.specs.Commands.{checkpoint, entries, consist, subtree, keygen, is_height}
 use Rattle.mtc_words.specs.Commands.{is_width, is_time, is_active, is_limit, is_any}
+use Rattle.mtc_words.specs.Commands.{init_cosigner, advance, cosign, cert}
 use Rattle.mtc_words.specs.Names.{named_command, word_count}
 
 -- Empty, or begins with a hyphen.
@@ -83,6 +85,19 @@ command_from Keygen ws = do
   height ← number_word 1 is_height (word ws 0)
   width ← number_word 2 is_width (word ws 1)
   Ok (keygen height width (word ws 2))
+command_from InitCosigner ws = do
+  height ← number_word 4 is_height (word ws 3)
+  width ← number_word 5 is_width (word ws 4)
+  id ← id_word 2 (word ws 1)
+  log ← id_word 3 (word ws 2)
+  Ok (init_cosigner (word ws 0) id log height width (word ws 5))
+command_from Advance ws = Ok (advance (word ws 0) (word ws 1))
+command_from Cosign ws = Ok (cosign (word ws 0) (word ws 1))
+command_from Cert ws = do
+  index ← number_word 2 is_any (word ws 1)
+  start ← number_word 3 is_any (word ws 2)
+  end ← number_word 4 is_any (word ws 3)
+  Ok (cert (word ws 0) index start end (word ws 4))
 
 -- The fault, or else the command.
 abbrev pub unless_fault : {A : Type 0} → Option WordError → Result A WordError → Result A WordError

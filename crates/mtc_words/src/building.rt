@@ -152,6 +152,38 @@ fn entries<'a>(words: &'a [String]) -> Result<Command<'a>, WordError>
     Ok(Command::Entries(words[0].as_str(), size))
 }
 
+// The words of `init-cosigner`.
+fn init_cosigner<'a>(alloc: Global, words: &'a [String]) -> Result<Command<'a>, WordError>
+    requires { length words.now ≡ word_count Name.InitCosigner }
+    ensures exact { Answers WordError.Memory
+        (command_from Name.InitCosigner (map string_bytes words.now)) (said result) }
+    ensures range { IfOk result (λ command. IsInRange (command_value command)) }
+{
+    let height = height(4, words[3].as_str())?;
+    let width = width(5, words[4].as_str())?;
+    let own = id(alloc, 2, words[1].as_str())?;
+    let log = id(alloc, 3, words[2].as_str())?;
+    Ok(Command::InitCosigner(
+        words[0].as_str(),
+        own,
+        log,
+        height,
+        width,
+        words[5].as_str(),
+    ))
+}
+
+fn cert<'a>(words: &'a [String]) -> Result<Command<'a>, WordError>
+    requires { length words.now ≡ word_count Name.Cert }
+    ensures exact { said result ≡ command_from Name.Cert (map string_bytes words.now) }
+    ensures range { IfOk result (λ command. IsInRange (command_value command)) }
+{
+    let index = number(2, words[1].as_str())?;
+    let start = number(3, words[2].as_str())?;
+    let end = number(4, words[3].as_str())?;
+    Ok(Command::Cert(words[0].as_str(), index, start, end, words[4].as_str()))
+}
+
 // The command of this name with its words, of which there are as many as it wants.
 pub fn build<'a>(alloc: Global, name: Name, words: &'a [String]) -> Result<Command<'a>, WordError>
     requires { length words.now ≡ word_count name }
@@ -170,5 +202,9 @@ pub fn build<'a>(alloc: Global, name: Name, words: &'a [String]) -> Result<Comma
         Name::Consist => consist(words),
         Name::Subtree => subtree(words),
         Name::Keygen => keygen(words),
+        Name::InitCosigner => init_cosigner(alloc, words),
+        Name::Advance => Ok(Command::Advance(words[0].as_str(), words[1].as_str())),
+        Name::Cosign => Ok(Command::Cosign(words[0].as_str(), words[1].as_str())),
+        Name::Cert => cert(words),
     }
 }

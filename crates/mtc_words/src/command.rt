@@ -29,4 +29,15 @@ pub enum Command<'a> {
     /// `keygen HEIGHT WIDTH SECRET`: print the public key of a secret. The height is 5 or 10, the
     /// width 1, 2, 4 or 8.
     Keygen(u64, u64, &'a str),
+    /// `init-cosigner S ID LOGID HEIGHT WIDTH SECRET`: make the journal of a cosigner with this id,
+    /// for the log of LOGID and with the key of a secret. The height is 5 or 10, the width 1, 2, 4
+    /// or 8.
+    InitCosigner(&'a str, AnchorId, AnchorId, u64, u64, &'a str),
+    /// `advance S REQUEST`: go on to the size of the log that a request tells.
+    Advance(&'a str, &'a str),
+    /// `cosign S REQUEST`: sign the subtree of a request.
+    Cosign(&'a str, &'a str),
+    /// `cert J INDEX START END SIGNATURES`: write the certificate of an entry, with its place in
+    /// the subtree from START to END and the cosigners' signatures.
+    Cert(&'a str, u64, u64, u64, &'a str),
 }

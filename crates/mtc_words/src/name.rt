@@ -15,6 +15,10 @@ pub enum Name {
     Consist,
     Subtree,
     Keygen,
+    InitCosigner,
+    Advance,
+    Cosign,
+    Cert,
 }
 
 // The name that a word is, if it is one.
@@ -33,6 +37,10 @@ pub fn read_name(word: &str) -> Option<Name>
         "consist" => Some(Name::Consist),
         "subtree" => Some(Name::Subtree),
         "keygen" => Some(Name::Keygen),
+        "init-cosigner" => Some(Name::InitCosigner),
+        "advance" => Some(Name::Advance),
+        "cosign" => Some(Name::Cosign),
+        "cert" => Some(Name::Cert),
         _ => None,
     }
 }
@@ -43,8 +51,10 @@ pub fn wanted_count(name: Name) -> usize
 {
     match name {
         Name::Member | Name::Show | Name::Checkpoint => 1,
-        Name::Issue | Name::Entries => 2,
+        Name::Issue | Name::Entries | Name::Advance | Name::Cosign => 2,
         Name::Verify | Name::Consist | Name::Keygen => 3,
         Name::InitLog | Name::Subtree => 4,
+        Name::Cert => 5,
+        Name::InitCosigner => 6,
     }
 }

@@ -33,6 +33,16 @@ init-log j 01 2 1 => BadNumber 4
 init-log j 32473.1 10001 1048577 => BadNumber 3
 entries j x => BadNumber 2
 subtree j 1 2 '' => BadWord 4
+init-cosigner s 01 32473.1 6 4 k => BadNumber 4
+init-cosigner s 01 01 5 3 k => BadNumber 5
+init-cosigner s 01 01 5 4 k => BadId 2
+init-cosigner s 32473.2 01 10 8 k => BadId 3
+init-cosigner s 32473.2 32473.1 5 4 => WrongCount 5 6
+advance s => WrongCount 1 2
+cosign s r t => WrongCount 3 2
+advance s -r => BadWord 2
+cert j 1 0 4 => WrongCount 4 5
+cert j 1 0 x s => BadNumber 4
 ";
 
 // The fault that is meant; its first number is 0 where it has none.
@@ -85,7 +95,7 @@ fn words_are_refused_by_their_first_fault(rt: HostRuntime) -> Result<(), Fail> {
         assert!(rt; is_refused(rt.alloc(), line)?, "{line}");
         count = count.saturating_add(1);
     }
-    assert!(rt; count == 27);
+    assert!(rt; count == 37);
     Ok(())
 }
 
