@@ -3,7 +3,7 @@
 _mtc() {
     local word=${COMP_WORDS[COMP_CWORD]} kinds=()
     if [ "$COMP_CWORD" -eq 1 ]; then
-        COMPREPLY=($(compgen -W 'member show verify init-log issue checkpoint entries consist subtree keygen' -- "$word"))
+        COMPREPLY=($(compgen -W 'member show verify init-log issue checkpoint entries consist subtree keygen init-cosigner advance cosign export cert' -- "$word"))
         return
     fi
     case ${COMP_WORDS[1]} in
@@ -17,6 +17,11 @@ _mtc() {
         consist) kinds=(J OLD NEW) ;;
         subtree) kinds=(J START END SIZE) ;;
         keygen) kinds=(HEIGHT WIDTH SECRET) ;;
+        init-cosigner) kinds=(S ID LOGID HEIGHT WIDTH SECRET) ;;
+        advance) kinds=(S REQUEST) ;;
+        cosign) kinds=(S REQUEST) ;;
+        export) kinds=(S) ;;
+        cert) kinds=(J INDEX START END SIGNATURES) ;;
     esac
     case ${kinds[COMP_CWORD - 2]-} in
         J | FILE | CERT | STORE | REQUEST | SECRET) COMPREPLY=($(compgen -f -- "$word")) ;;
