@@ -3,7 +3,7 @@
 _mtc() {
     local word=${COMP_WORDS[COMP_CWORD]} kinds=()
     if [ "$COMP_CWORD" -eq 1 ]; then
-        COMPREPLY=($(compgen -W 'member show verify init-log issue checkpoint entries consist subtree keygen init-cosigner advance cosign export cert' -- "$word"))
+        COMPREPLY=($(compgen -W 'member show verify init-log issue checkpoint entries consist subtree keygen init-cosigner advance cosign cert' -- "$word"))
         return
     fi
     case ${COMP_WORDS[1]} in
@@ -20,11 +20,10 @@ _mtc() {
         init-cosigner) kinds=(S ID LOGID HEIGHT WIDTH SECRET) ;;
         advance) kinds=(S REQUEST) ;;
         cosign) kinds=(S REQUEST) ;;
-        export) kinds=(S) ;;
         cert) kinds=(J INDEX START END SIGNATURES) ;;
     esac
     case ${kinds[COMP_CWORD - 2]-} in
-        J | FILE | CERT | STORE | REQUEST | SECRET) COMPREPLY=($(compgen -f -- "$word")) ;;
+        J | S | FILE | CERT | STORE | REQUEST | SECRET | SIGNATURES) COMPREPLY=($(compgen -f -- "$word")) ;;
         HEIGHT) COMPREPLY=($(compgen -W '5 10' -- "$word")) ;;
         WIDTH) COMPREPLY=($(compgen -W '1 2 4 8' -- "$word")) ;;
         *) COMPREPLY=() ;;
