@@ -3,3 +3,4 @@ pub mod Asked
 pub mod Opened
 pub mod Issued
 pub mod Reading
+pub mod Certified

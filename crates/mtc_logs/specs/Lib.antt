@@ -1,5 +1,7 @@
 pub mod LogOutcomes
 pub mod RequestOutcomes
 pub mod IssueOutcome
+pub mod CertOutcome
 pub mod Works
+pub mod CertCommand
 pub mod IssueCommand

@@ -16,12 +16,13 @@ use Rattle.mtc_answers.specs.Answers.{Ending, replied, room_failed, no_memory, r
 use Rattle.mtc_answers.specs.Steps.{Outcome, with_file, with_form}
 use Rattle.mtc_answers.specs.Works.{HasWorked as HasWorkedWith}
 use Rattle.mtc_answers.specs.declared.answer.Stopped.TheVariants.{BadForm}
+use Rattle.mtc_logs.specs.CertOutcome.{cert_says}
 use Rattle.mtc_logs.specs.IssueOutcome.{issue_says}
 use Rattle.mtc_logs.specs.LogOutcomes.{checkpoint_says, entries_says}
 use Rattle.mtc_logs.specs.RequestOutcomes.{consist_says, subtree_says}
 use Rattle.mtc_logs.specs.declared.work.Work.{Work}
 use Rattle.mtc_logs.specs.declared.work.Work.TheVariants.{Checkpoint, Entries, Issue, Consist}
-use Rattle.mtc_logs.specs.declared.work.Work.TheVariants.{Subtree}
+use Rattle.mtc_logs.specs.declared.work.Work.TheVariants.{Subtree, Cert}
 
 -- Why a file is no log.
 abbrev pub open_fault_text : LogOpenError → Text
@@ -50,6 +51,8 @@ work_says h (Entries size) found = entries_says size found
 work_says h (Issue request) found = issue_says h request found
 work_says h (Consist old new) found = consist_says h old new found
 work_says h (Subtree start end size) found = subtree_says h start end size found
+work_says h (Cert index start end signatures) found =
+    cert_says h index start end signatures found
 
 -- The outcome of a command on the log of a journal with these bytes.
 abbrev pub bytes_say : HashFunction → Text → Work → Text → Outcome

@@ -1,11 +1,12 @@
-//! The commands on the journal of a log: `init-log`, `issue`, `checkpoint`, `entries`, `consist`
-//! and `subtree`.
+//! The commands on the journal of a log: `init-log`, `issue`, `checkpoint`, `entries`, `consist`,
+//! `subtree` and `cert`.
 //!
 //! A journal is lent by the room, opened as a log, worked on and put back ([`on_log`]); what is
 //! done with the log is a [`Work`]. What each command has to answer, and what it leaves of the
 //! journal, are definitions in `specs/`.
 #![tactic(auto)]
 
+pub mod cert;
 mod checkpoint;
 pub mod init_log;
 pub mod issue;

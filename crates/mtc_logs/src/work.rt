@@ -3,6 +3,7 @@
 ghost use Rattle.mtc_logs.specs.Works.{HasWorked, IsReady, work_says};
 ghost use Rattle.mtc_answers.specs.Answers.{ending_of};
 
+use crate::cert::{Signatures, certificate};
 use crate::checkpoint::{checkpoint, entries};
 use crate::issue::issue_on;
 use crate::requests::{consist, subtree};
@@ -27,6 +28,9 @@ pub enum Work {
     /// The request to sign the subtree from the first number up to the second one, of so many of
     /// the first entries.
     Subtree(u64, u64, u64),
+    /// The certificate of the entry at the first number, in the subtree from the second number up
+    /// to the third one, with these signatures.
+    Cert(u64, u64, u64, Signatures),
 }
 
 /// Carries out a command on the log of a journal. A failure of its device is told by the journal's
@@ -47,5 +51,8 @@ pub fn carry_out<'a, H: TreeHash, D: Disk>(
         Work::Issue(request) => issue_on(alloc, journal, log, &request),
         Work::Consist(old, new) => consist(alloc, log, old, new),
         Work::Subtree(start, end, size) => subtree(alloc, log, start, end, size),
+        Work::Cert(index, start, end, signatures) => {
+            certificate(alloc, log, index, start, end, &signatures)
+        }
     }
 }

@@ -1,0 +1,38 @@
+use Rattle.std.proofs.Common.{[], ◌∷◌, inl, inr, refl}
+use Rattle.std.proofs.lemmas.Result.{err_from_is_err_and}
+use Rattle.mtc_answers.specs.Answers.{ending_of}
+use Rattle.mtc_answers.proofs.Served.{behind}
+use Rattle.mtc_logs.specs.CertCommand.{cert_outcome, signed_says}
+use Rattle.mtc_logs.specs.Works.{journal_outcome}
+use Rattle.mtc_logs.specs.declared.work.Work.TheVariants.{Cert}
+use Rattle.mtc_logs.proofs.Certified.{signed_so}
+use Rattle.mtc_logs.proofs.cert.cert.Goals as goal
+
+pub returns-in_err-bytes : goal.returns-in_err-bytes
+returns-in_err-bytes g c =
+    let journal = c.args.journal.now in
+    let file = c.args.file.now in
+    let stopped = err_from_is_err_and c.from_residual.result c.from_residual.ensures.1 in
+    rw (stopped.1, stopped.2) (c.in_err-bytes.ensures.stops (journal ∷ file ∷ []) (journal ∷ [])
+    (signed_says g.H.TreeHash.hash journal c.args.index c.args.start c.args.end file
+    (g.R.Room.file c.args.room.now journal)) (inr (inl refl)))
+
+pub returns-in-Ok : goal.returns-in-Ok
+returns-in-Ok g c =
+    let h = g.H.TreeHash.hash in
+    let rooms = g.R.Room in
+    let journal = c.args.journal.now in
+    let file = c.args.file.now in
+    let old = c.args.room.now in
+    let mid = c.read_input.new.room in
+    let read = c.in_ok-bytes.ensures in
+    behind rooms g.R.Dsk.Disk (journal ∷ file ∷ []) (journal ∷ []) (journal ∷ [])
+    (cert_outcome h journal c.args.index c.args.start c.args.end file (rooms.file old))
+    (journal_outcome h journal (rooms.file mid journal)
+    (Cert c.args.index c.args.start c.args.end c.in-Ok.signatures)) old mid
+    c.on_log.new.room (ending_of c.on_log.result) read.settled
+    (λ t. signed_so h journal c.args.index c.args.start c.args.end file (rooms.file old)
+    c.in_ok-bytes.bytes (read.bytes t).0 (read.bytes t).1 (rooms.file mid journal)
+    c.in-Ok.signatures c.in-Ok.ensures (read.settled.others journal tt).bytes)
+    (λ name is. elim is [ inl same ↦ inl same | inr never ↦ absurd never ])
+    c.on_log.ensures

@@ -1,0 +1,84 @@
+-- The outcome of `cert J INDEX START END SIGNATURES`.
+use Rattle.std.specs.Prelude.{ℕ, [], ◌++◌, codes, slice_index_or, Option, Some, None, Result, Ok}
+use Rattle.std.specs.Prelude.{Err}
+use Rattle.std.specs.Fmt.{decimal}
+use Rattle.byte_forms.specs.Places.{at}
+use Rattle.byte_forms.specs.Readings.{◌>>=◌}
+use Rattle.byte_forms.specs.Types.{HashFunction, Text}
+use Rattle.cert_fields.specs.Spelling.{certificate}
+use Rattle.log_entry.specs.Entries.{TbsParts}
+use Rattle.log_entry.specs.Reading.{entry_in}
+use Rattle.log_entry.specs.declared.fault.EntryError.{EntryError}
+use Rattle.mtc_proof.specs.Proofs.{proof_text}
+use Rattle.mtc_proof.specs.Reading.{checked_signatures}
+use Rattle.mtc_proof.specs.declared.fault.ProofError.{ProofError}
+use Rattle.mtc_proof.specs.declared.fault.ProofError.TheVariants.{Short, HashLength, Trailing}
+use Rattle.mtc_proof.specs.declared.fault.ProofError.TheVariants.{EmptyId}
+use Rattle.issuance_log.specs.Folds.{LogState, view_in}
+use Rattle.issuance_log.specs.Openings.{FoundLog}
+use Rattle.authority_core.specs.Certificates.{cert_refusal, parts_with, proof_for}
+use Rattle.authority_core.specs.declared.writing.error.WriteError.{WriteError}
+use Rattle.authority_core.specs.declared.writing.error.WriteError.TheVariants as write_error
+use Rattle.mtc_answers.specs.declared.answer.Said.TheVariants.{Done}
+use Rattle.mtc_answers.specs.declared.answer.Stopped.TheVariants.{Beyond, BadForm}
+use Rattle.mtc_answers.specs.Answers.{Reply, Ending, replied, no_memory, said, refused}
+use Rattle.mtc_answers.specs.Steps.{Outcome, answers_on}
+use Rattle.mtc_logs.specs.LogOutcomes.{beyond, not_allowed}
+
+-- Why bytes are no signatures.
+abbrev pub signatures_fault_text : ProofError → Text
+signatures_fault_text (Short place) = codes "Short " ++ decimal place
+signatures_fault_text HashLength = codes "HashLength"
+signatures_fault_text Trailing = codes "Trailing"
+signatures_fault_text (EmptyId place) = codes "EmptyId " ++ decimal place
+
+abbrev pub signatures_ending : Text → ProofError → Ending
+signatures_ending file why = replied (refused BadForm (Some file) (signatures_fault_text why))
+
+-- The signatures that the bytes are, or the first fault.
+abbrev pub signatures_in : Text → Result Text ProofError
+signatures_in bytes = checked_signatures (at bytes 0) >>= λ done. Ok bytes
+
+-- Why no certificate is written.
+abbrev pub cert_refused : WriteError → Reply
+cert_refused write_error.NoSuchEntry = not_allowed (codes "NoSuchEntry")
+cert_refused write_error.NullEntry = not_allowed (codes "NullEntry")
+cert_refused write_error.BadSubtree = not_allowed (codes "BadSubtree")
+cert_refused write_error.Outside = not_allowed (codes "Outside")
+cert_refused (write_error.Beyond size) = beyond size
+cert_refused write_error.TooManySignatures = refused Beyond None (codes "TooManySignatures")
+cert_refused write_error.Memory = refused Beyond None (codes "Memory")
+
+-- What comes of it: it is told, unless memory was refused.
+abbrev pub cert_ending : WriteError → Ending
+cert_ending write_error.Memory = no_memory
+cert_ending why = replied (cert_refused why)
+
+-- The certificate of an entry that was read, with its key, index and proof. No log has an item
+-- behind the first one whose entry isn't of type 1.
+abbrev pub certificate_with : ℕ → Text → Text → Result (Option TbsParts) EntryError → Text
+certificate_with index key proof (Ok (Some fields)) =
+    certificate (parts_with index fields key proof)
+certificate_with index key proof (Ok None) = []
+certificate_with index key proof (Err why) = []
+
+-- The certificate of the log's entry at an index, in this subtree.
+abbrev pub certificate_in : HashFunction → ℕ → ℕ → ℕ → Text → LogState → Text
+certificate_in h index start end signatures s =
+    certificate_with index (slice_index_or s.keys index [])
+    (proof_text (proof_for h s index start end signatures))
+    (entry_in (slice_index_or s.entries index []))
+
+-- It is written, unless it is refused.
+abbrev pub cert_replies : Option WriteError → Text → Reply
+cert_replies None text = said Done text
+cert_replies (Some why) text = cert_refused why
+
+abbrev pub cert_reply : HashFunction → ℕ → ℕ → ℕ → Text → LogState → Reply
+cert_reply h index start end signatures s =
+    cert_replies (cert_refusal (view_in s) index start end signatures)
+    (certificate_in h index start end signatures s)
+
+abbrev pub cert_says : HashFunction → ℕ → ℕ → ℕ → Text → FoundLog → Outcome
+cert_says h index start end signatures found =
+    answers_on found.records (cert_reply h index start end signatures found.state)
