@@ -296,7 +296,7 @@ def check_commands():
 
 
 # Refusals of a log that no command can meet: it appends once, and asks for no entry.
-NEVER = {"Broken", "NoSuchEntry"}
+NEVER = {"Broken"}
 
 
 def printed_names():

@@ -1,4 +1,3 @@
-pub mod KeygenOutcome
 pub mod Member
 pub mod MemberOutcome
 pub mod Reasons

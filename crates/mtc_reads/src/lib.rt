@@ -1,10 +1,9 @@
-//! The commands that only read files: `member`, `show`, `verify` and `keygen`.
+//! The commands that only read files: `member`, `show` and `verify`.
 //!
 //! What each has to answer is a definition over its words and the room's files, in a file of
 //! `specs/` of its own.
 #![tactic(auto)]
 
-pub mod keygen;
 pub mod member;
 mod reasons;
 mod replies;

@@ -1,13 +1,17 @@
 -- The outcome: what the program has to answer, as a function of the words and the room's files. One
--- line for each command; each command's own outcome stands in a file of its own, in mtc_reads or
--- mtc_logs.
+-- line for each command; each command's own outcome stands in a file of its own, in mtc_reads,
+-- mtc_logs or mtc_cosigner.
 use Rattle.std.specs.Prelude.{ℕ, List, [], ◌∷◌, Result, Ok, Err}
 use Rattle.mtc_words.specs.declared.error.WordError.{WordError}
 use Rattle.mtc_words.specs.Commands.{CommandValue, member, show, verify, init_log, issue}
 use Rattle.mtc_words.specs.Commands.{checkpoint, entries, consist, subtree, keygen}
+use Rattle.mtc_words.specs.Commands.{init_cosigner, advance, cosign, cert}
 use Rattle.mtc_words.specs.Words.{command_of}
 use Rattle.mtc_logs.specs.IssueCommand.{issue_outcome}
-use Rattle.mtc_reads.specs.KeygenOutcome.{keygen_outcome}
+use Rattle.mtc_logs.specs.CertCommand.{cert_outcome}
+use Rattle.mtc_cosigner.specs.InitOutcome.{init_cosigner_outcome}
+use Rattle.mtc_cosigner.specs.KeygenOutcome.{keygen_outcome}
+use Rattle.mtc_cosigner.specs.Works.{advance_outcome, cosign_outcome}
 use Rattle.mtc_logs.specs.LogOutcomes.{init_log_outcome}
 use Rattle.mtc_reads.specs.MemberOutcome.{member_outcome}
 use Rattle.mtc_reads.specs.ShowOutcome.{show_outcome}
@@ -21,7 +25,8 @@ use Rattle.mtc_logs.specs.declared.work.Work.TheVariants.{Checkpoint, Entries, C
 abbrev pub command_outcome : (List ℕ → List ℕ) → CommandValue → Files → Outcome
 command_outcome h (member file) files = member_outcome h file files
 command_outcome h (show file) files = show_outcome file files
-command_outcome h (verify cert store moment) files = verify_outcome h cert store moment files
+command_outcome h (verify certificate store moment) files =
+    verify_outcome h certificate store moment files
 command_outcome h (init_log journal id active limit) files =
     init_log_outcome journal id active limit files
 command_outcome h (issue journal request) files = issue_outcome h journal request files
@@ -34,12 +39,18 @@ command_outcome h (consist journal old new) files =
 command_outcome h (subtree journal start end size) files =
     journal_outcome h journal (files journal) (Subtree start end size)
 command_outcome h (keygen height width file) files = keygen_outcome height width file files
+command_outcome h (init_cosigner journal id log height width file) files =
+    init_cosigner_outcome journal id log height width file files
+command_outcome h (advance journal request) files = advance_outcome h journal request files
+command_outcome h (cosign journal request) files = cosign_outcome h journal request files
+command_outcome h (cert journal index start end file) files =
+    cert_outcome h journal index start end file files
 
 -- The files that a command names.
 abbrev pub files_of : CommandValue → List (List ℕ)
 files_of (member file) = file ∷ []
 files_of (show file) = file ∷ []
-files_of (verify cert store moment) = cert ∷ (store ∷ [])
+files_of (verify certificate store moment) = certificate ∷ (store ∷ [])
 files_of (init_log journal id active limit) = journal ∷ []
 files_of (issue journal request) = journal ∷ (request ∷ [])
 files_of (checkpoint journal) = journal ∷ []
@@ -47,12 +58,16 @@ files_of (entries journal size) = journal ∷ []
 files_of (consist journal old new) = journal ∷ []
 files_of (subtree journal start end size) = journal ∷ []
 files_of (keygen height width file) = file ∷ []
+files_of (init_cosigner journal id log height width file) = journal ∷ (file ∷ [])
+files_of (advance journal request) = journal ∷ (request ∷ [])
+files_of (cosign journal request) = journal ∷ (request ∷ [])
+files_of (cert journal index start end file) = journal ∷ (file ∷ [])
 
 -- The journals that it works on.
 abbrev pub journals_of : CommandValue → List (List ℕ)
 journals_of (member file) = []
 journals_of (show file) = []
-journals_of (verify cert store moment) = []
+journals_of (verify certificate store moment) = []
 journals_of (init_log journal id active limit) = journal ∷ []
 journals_of (issue journal request) = journal ∷ []
 journals_of (checkpoint journal) = journal ∷ []
@@ -60,6 +75,10 @@ journals_of (entries journal size) = journal ∷ []
 journals_of (consist journal old new) = journal ∷ []
 journals_of (subtree journal start end size) = journal ∷ []
 journals_of (keygen height width file) = []
+journals_of (init_cosigner journal id log height width file) = journal ∷ []
+journals_of (advance journal request) = journal ∷ []
+journals_of (cosign journal request) = journal ∷ []
+journals_of (cert journal index start end file) = journal ∷ []
 
 -- The same where the words say this.
 abbrev pub spoken_outcome : (List ℕ → List ℕ) → Result CommandValue WordError → Files → Outcome

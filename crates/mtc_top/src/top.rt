@@ -10,11 +10,14 @@ ghost use Rattle.mtc_top.specs.Run.{HasRun};
 use crate::finish::conclude;
 use crate::refused_words::word_reason;
 use mtc_answers::{Answer, Stop, Stopped, refuse};
+use mtc_cosigner::init_cosigner::init_cosigner;
+use mtc_cosigner::keygen::keygen;
+use mtc_cosigner::requests::{advance, cosign};
 use mtc_io::Sink;
+use mtc_logs::cert::cert;
 use mtc_logs::init_log::init_log;
 use mtc_logs::issue::issue;
 use mtc_logs::{Work, on_log};
-use mtc_reads::keygen::keygen;
 use mtc_reads::member::member;
 use mtc_reads::show::show;
 use mtc_reads::verify::verify;
@@ -55,6 +58,14 @@ fn perform<'a, H: TreeHash, R: Room>(
             on_log::<H, R>(alloc, room, journal, Work::Subtree(start, end, size))
         }
         Command::Keygen(height, width, secret) => keygen(alloc, room, height, width, secret),
+        Command::InitCosigner(journal, id, log, height, width, secret) => {
+            init_cosigner(alloc, room, journal, id, log, height, width, secret)
+        }
+        Command::Advance(journal, request) => advance::<H, R>(alloc, room, journal, request),
+        Command::Cosign(journal, request) => cosign::<H, R>(alloc, room, journal, request),
+        Command::Cert(journal, index, start, end, signatures) => {
+            cert::<H, R>(alloc, room, journal, index, start, end, signatures)
+        }
     }
 }
 

@@ -5,6 +5,8 @@
 #[cfg(test)]
 mod certificates;
 #[cfg(test)]
+mod cosigners;
+#[cfg(test)]
 mod desk;
 #[cfg(test)]
 mod devices;

@@ -21,17 +21,20 @@ lms_type n = if n == 5 then H5 else H10
 abbrev pub ots_type : ℕ → OtsType
 ots_type n = if n == 1 then W1 else (if n == 2 then W2 else (if n == 4 then W4 else W8))
 
--- The public key of a secret, in base64.
-abbrev pub public_text : ℕ → ℕ → Text → Text
-public_text height width secret = encode_of standard
-    (one_level_public (private_key (lms_type height) (ots_type width) secret))
+-- The line of a secret's public key, in base64.
+abbrev pub public_line : LmsType → OtsType → Text → Text
+public_line lms ots secret =
+    encode_of standard (one_level_public (private_key lms ots secret)) ++ codes "\n"
 
 -- A secret file has 48 bytes: 16 of identifier and 32 of seed.
+abbrev pub with_secret : Text → Text → Outcome → Outcome
+with_secret file secret next =
+    if nat_lt (length secret) 48 then stops_at BadForm file (codes "Short " ++ decimal 0)
+    else (if nat_lt 48 (length secret) then stops_at BadForm file (codes "Trailing") else next)
+
 abbrev pub keygen_says : ℕ → ℕ → Text → Text → Outcome
 keygen_says height width file secret =
-    if nat_lt (length secret) 48 then stops_at BadForm file (codes "Short " ++ decimal 0)
-    else (if nat_lt 48 (length secret) then stops_at BadForm file (codes "Trailing")
-    else says Done (public_text height width secret ++ codes "\n"))
+    with_secret file secret (says Done (public_line (lms_type height) (ots_type width) secret))
 
 abbrev pub keygen_outcome : ℕ → ℕ → Text → Files → Outcome
 keygen_outcome height width file files =

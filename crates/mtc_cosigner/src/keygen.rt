@@ -1,27 +1,29 @@
 //! The command `keygen`: the public key of a secret.
-ghost use Rattle.std.specs.Prelude.{◌≡◌, ◌<◌, ◌^◌, true, [], ◌∷◌, ◌++◌, IfOk, codes, string_bytes};
+ghost use Rattle.std.specs.Prelude.{◌≡◌, ◌<◌, ◌≤◌, ◌^◌, true, [], ◌∷◌, ◌++◌, IfOk, codes, nat_lt, if◌then◌else◌, string_bytes};
+ghost use Rattle.std.specs.Fmt.{decimal};
 ghost use Rattle.base64.specs.GeneralPurpose.{encode_of};
 ghost use Rattle.base64.specs.Engines.{standard};
+ghost use Rattle.lms_core.specs.Heights.{height as height_of};
 ghost use Rattle.mtc_words.specs.Commands.{is_height, is_width};
-ghost use Rattle.mtc_reads.specs.KeygenOutcome.{lms_type, ots_type, public_text, keygen_says, keygen_outcome};
-ghost use Rattle.mtc_answers.specs.Answers.{ending_of};
+ghost use Rattle.mtc_cosigner.specs.KeygenOutcome.{lms_type, ots_type, public_line, keygen_says, keygen_outcome};
+ghost use Rattle.mtc_answers.specs.Answers.{ending_of, end_of, replied, refused};
 ghost use Rattle.mtc_answers.specs.Endings.{Replies};
 ghost use Rattle.mtc_answers.specs.Served.{HasAnswered};
-ghost use Rattle.mtc_answers.specs.Steps.{says};
 
-use crate::replies::done;
 use base64::engine::general_purpose::STANDARD;
 use hss_core::{Key, LmsType, OtsType};
 use mtc_answers::{Answer, INPUT_LIMIT, Reason, Said, Stop, Stopped, read_input, refuse_file};
+use mtc_io::{Bytes, Memory};
 use mtc_room::Room;
 use std::alloc::{AllocError, Global};
 
 /// A secret file has so many bytes: 16 of identifier and 32 of seed.
-const SECRET_LENGTH: usize = 48;
+pub(crate) const SECRET_LENGTH: usize = 48;
 
-fn tree_of_height(height: u64) -> LmsType
+pub(crate) fn tree_of_height(height: u64) -> LmsType
     requires { is_height height ≡ true }
-    ensures { result ≡ lms_type height }
+    ensures is { result ≡ lms_type height }
+    ensures small { height_of result ≤ 10 }
 {
     match height {
         5 => LmsType::H5,
@@ -30,7 +32,7 @@ fn tree_of_height(height: u64) -> LmsType
     }
 }
 
-fn chains_of_width(width: u64) -> OtsType
+pub(crate) fn chains_of_width(width: u64) -> OtsType
     requires { is_width width ≡ true }
     ensures { result ≡ ots_type width }
 {
@@ -49,22 +51,32 @@ fn in_base64(alloc: Global, bytes: &[u8]) -> Result<String, AllocError>
     STANDARD.encode(alloc, bytes)
 }
 
-// The public key of a secret, in base64 and with a newline.
-fn public_answer<'a>(
+// The line of a secret's public key.
+pub(crate) fn line_of_key(
     alloc: Global,
-    height: u64,
-    width: u64,
+    tree: LmsType,
+    chains: OtsType,
     secret: &[u8; SECRET_LENGTH],
-) -> Result<Answer, Stop<'a>>
-    requires height { is_height height ≡ true }
-    requires width { is_width width ≡ true }
-    ensures { Replies (says Said.Done (public_text height width secret.now ++ codes "\n")).answer
-        (ending_of result) }
+) -> Result<Bytes, Memory>
+    requires { height_of tree ≤ 10 }
+    ensures { IfOk result (λ text. text ≡ public_line tree chains secret.now) }
 {
-    let (tree, chains) = (tree_of_height(height), chains_of_width(width));
     let key = Key::make(alloc, tree, chains, secret, 0)?;
     let text = in_base64(alloc, &key.public())?;
-    Ok(done(format!(in alloc; "{text}\n")?))
+    Ok(Bytes::from_vec(format!(in alloc; "{text}\n")?.into_bytes()))
+}
+
+// The refusal of a file that has not the length of a secret.
+pub(crate) fn refuse_secret<'a>(file: &'a str, length: usize) -> Stop<'a>
+    ensures { end_of result ≡ replied (refused Stopped.BadForm (Some file.now)
+        (if nat_lt length 48 then codes "Short " ++ decimal 0 else codes "Trailing")) }
+{
+    let reason = if length < SECRET_LENGTH {
+        Reason::with_number("Short", 0)
+    } else {
+        Reason::named("Trailing")
+    };
+    refuse_file(Stopped::BadForm, file, reason)
 }
 
 fn answer_of<'a>(
@@ -78,12 +90,13 @@ fn answer_of<'a>(
     requires width { is_width width ≡ true }
     ensures { Replies (keygen_says height width file.now secret.now).answer (ending_of result) }
 {
-    if secret.len() < SECRET_LENGTH {
-        return Err(refuse_file(Stopped::BadForm, file, Reason::with_number("Short", 0)));
-    }
+    let (tree, chains) = (tree_of_height(height), chains_of_width(width));
     match <[u8; SECRET_LENGTH]>::try_from(secret) {
-        Ok(secret) => public_answer(alloc, height, width, &secret),
-        Err(_) => Err(refuse_file(Stopped::BadForm, file, Reason::named("Trailing"))),
+        Ok(secret) => Ok(Answer {
+            status: Said::Done,
+            text: line_of_key(alloc, tree, chains, &secret)?,
+        }),
+        Err(_) => Err(refuse_secret(file, secret.len())),
     }
 }
 

@@ -1,7 +1,7 @@
 use Rattle.std.proofs.Common.{[], ◌∷◌, inl, refl}
 use Rattle.std.proofs.lemmas.Result.{err_from_is_err_and}
-use Rattle.mtc_reads.specs.KeygenOutcome.{keygen_says}
-use Rattle.mtc_reads.proofs.keygen.keygen.Goals as goal
+use Rattle.mtc_cosigner.specs.KeygenOutcome.{keygen_says}
+use Rattle.mtc_cosigner.proofs.keygen.keygen.Goals as goal
 
 pub returns-in_err-secret : goal.returns-in_err-secret
 returns-in_err-secret g c =

@@ -1,0 +1,50 @@
+-- A new cosigner.
+use Rattle.std.proofs.Common.{◌≡◌, ◌≤◌, ℕ, Option, Some, length, ap, ◌∙◌, sym, subst, arith}
+use Rattle.std.proofs.lemmas.Grind.{common_steps}
+use Rattle.byte_forms.specs.Types.{Text}
+use Rattle.lmots_core.specs.declared.parameters.OtsType.{OtsType}
+use Rattle.lms_core.specs.declared.heights.LmsType.{LmsType}
+use Rattle.cosigner_core.specs.Records.{cosigner_record}
+use Rattle.cosigner_core.specs.declared.settings.CosignerSettings.{CosignerSettings}
+use Rattle.mtc_answers.specs.Steps.{Files, Outcome, starts, with_fresh}
+use Rattle.mtc_cosigner.specs.InitOutcome.{init_cosigner_outcome, init_says}
+use Rattle.mtc_cosigner.specs.KeygenOutcome.{lms_type, ots_type, public_line, with_secret}
+use Rattle.mtc_cosigner.proofs.Asked.{read_so}
+
+-- a secret of the right length is taken
+taken : (file secret : Text) (next : Outcome) → length secret ≡ 48
+    → with_secret file secret next ≡ next
+taken file secret next is = grind (arith, common_steps, is)
+
+-- a journal of the first record and with the line of a secret is what is wanted
+pub begun_so : (P : Outcome → Type 0) (name file secret other : Text) (at : Option Text)
+    (s : CosignerSettings) (first text : Text) → length secret ≡ 48 → other ≡ secret
+    → first ≡ cosigner_record s other → text ≡ public_line s.lms s.ots other
+    → P (with_fresh name at (starts first text)) → P (init_says name s file at secret)
+begun_so P name file secret other at s first text long same is line made =
+    subst P (sym (taken file secret (with_fresh name at (starts (cosigner_record s secret)
+    (public_line s.lms s.ots secret))) long))
+    (subst (λ (x : Text). P (with_fresh name at (starts x (public_line s.lms s.ots secret))))
+    (is ∙ ap (cosigner_record s) same)
+    (subst (λ (x : Text). P (with_fresh name at (starts first x)))
+    (line ∙ ap (public_line s.lms s.ots) same) made))
+
+abbrev settings : Text → Text → LmsType → OtsType → CosignerSettings
+settings id log lms ots = record { id = id; log = log; lms = lms; ots = ots }
+
+-- the outcome behind a secret that was read
+pub asked_so : (journal id log file : Text) (height width : ℕ) (files : Files) (bytes other : Text)
+    (at : Option Text) (lms : LmsType) (ots : OtsType) → lms ≡ lms_type height
+    → ots ≡ ots_type width → other ≡ bytes → at ≡ files journal → files file ≡ Some bytes
+    → length bytes ≤ 16777216
+    → init_says journal (record { id = id; log = log; lms = lms; ots = ots }) file at other
+    ≡ init_cosigner_outcome journal id log height width file files
+asked_so journal id log file height width files bytes other at lms ots tall wide same there is few =
+    ap (λ x. init_says journal (settings id log x ots) file at other) tall
+    ∙ ap (λ x. init_says journal (settings id log (lms_type height) x) file at other) wide
+    ∙ ap (λ x. init_says journal (settings id log (lms_type height) (ots_type width)) file x other)
+    there
+    ∙ ap (init_says journal (settings id log (lms_type height) (ots_type width)) file
+    (files journal)) same
+    ∙ sym (read_so file (files file) bytes (init_says journal
+    (settings id log (lms_type height) (ots_type width)) file (files journal)) is few)

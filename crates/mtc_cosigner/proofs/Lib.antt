@@ -1,0 +1,4 @@
+pub mod Opened
+pub mod Stepped
+pub mod Asked
+pub mod Begun

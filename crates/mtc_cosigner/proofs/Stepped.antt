@@ -1,0 +1,94 @@
+-- What comes of a step of a cosigner that was opened just now.
+use Rattle.std.proofs.Common.{◌≡◌, List, Bool, false, Option, None, Some, ◌⊎◌, inr, arith}
+use Rattle.std.proofs.Common.{IfSome, Ok, Err, inl, refl, sym, ap, ◌∙◌, ℕ}
+use Rattle.std.proofs.lemmas.Option.{IfSome_then}
+use Rattle.byte_forms.specs.Types.{Text}
+use Rattle.disk_core.specs.Moments.{LeavesOnly}
+use Rattle.disk_core.specs.declared.disk.Disk.{Ghosts}
+use Rattle.journal_core.specs.Format.{StandsForEither, end_behind}
+use Rattle.journal_core.specs.Words.{AllStandFor}
+use Rattle.journal_core.specs.declared.error.AppendError.TheVariants as append_error
+use Rattle.tree_core.specs.declared.hashing.TreeHash.{Ghosts as Hashes}
+use Rattle.cosigner_core.specs.Folds.{CosignerState}
+use Rattle.cosigner_core.specs.Openings.{FoundCosigner}
+use Rattle.cosigner_core.specs.Refusals.{KeepsTo}
+use Rattle.cosigner_core.specs.Words.{CosignerAppends, CosignerLeaves, cosigner_broken}
+use Rattle.cosigner_core.specs.Words.{cosigner_disk, cosigner_end, cosigner_records, state_of}
+use Rattle.cosigner_core.specs.declared.cosigner.Cosigner.{Cosigner}
+use Rattle.cosigner_core.specs.declared.error.CosignError.{CosignError}
+use Rattle.cosigner_core.specs.declared.error.CosignError.TheVariants.{WrongLog, NotNewer}
+use Rattle.cosigner_core.specs.declared.error.CosignError.TheVariants.{BadSubtree, Beyond, BadProof}
+use Rattle.cosigner_core.specs.declared.error.CosignError.TheVariants.{Exhausted, Append}
+use Rattle.mtc_answers.specs.Answers.{refused, replied, said, stopped_code}
+use Rattle.mtc_answers.specs.Steps.{Outcome}
+use Rattle.mtc_answers.specs.declared.answer.Said.TheVariants.{Done}
+use Rattle.mtc_answers.specs.declared.answer.Stopped.{Stopped}
+use Rattle.mtc_answers.specs.declared.answer.Stopped.TheVariants.{Refused}
+use Rattle.mtc_answers.specs.declared.answer.Stopped.TheVariants.{Beyond as OverLimit}
+use Rattle.mtc_answers.proofs.Works.{appended_on, failed_on, read_on, says_so}
+use Rattle.mtc_cosigner.specs.CosignerOutcomes.{step_ending, step_fault_text, step_stopped, stepped}
+use Rattle.mtc_cosigner.specs.Works.{HasWorked, IsReady, found_cosigner}
+
+-- the statuses of steps that aren't taken
+no_words : (why : Stopped) → (why ≡ Refused) ⊎ (why ≡ OverLimit) → stopped_code why ≡ 1 → ⊥
+no_words why kind one = elim kind [
+  | inl is ↦ omega (arith, ap stopped_code is, one)
+  | inr is ↦ omega (arith, ap stopped_code is, one)
+]
+
+-- A call that appends this record and has this text, by the refusal of a cosigner that no append
+-- has broken and whose journal ends at this place.
+module _ {H D : Type 0} {hashes : Hashes H} {g : Ghosts D} (name : Text)
+    (old new : Cosigner H D hashes g) (ready : IsReady old) (body text : Text)
+    (next : CosignerState) (refusal : Bool → ℕ → Option CosignError) where
+  -- what is wanted of it
+  abbrev pub says : FoundCosigner → Outcome
+  says found = stepped found body text (refusal false (end_behind found.records))
+
+  abbrev pub met : Option CosignError
+  met = refusal (cosigner_broken old) (cosigner_end old)
+
+  same_says : (found : Option CosignError) → met ≡ found
+      → IfSome (cosigner_records old) (λ list.
+      stepped (found_cosigner (state_of old) list) body text found
+      ≡ says (found_cosigner (state_of old) list))
+  same_says found is = IfSome_then (cosigner_records old) ready.end (λ list end.
+      ap (stepped (found_cosigner (state_of old) list) body text) (sym is
+      ∙ ap (λ broken. refusal broken (cosigner_end old)) ready.sound
+      ∙ ap (refusal false) end))
+
+  pub step_made : met ≡ None
+      → CosignerAppends body next old new (Ok tt)
+      → HasWorked name says old new (replied (said Done text))
+  step_made free made = says_so g name (cosigner_records old) (cosigner_disk old)
+      (cosigner_disk new) _ _ _ (same_says None free)
+      (appended_on g name (cosigner_records old) (cosigner_disk old) (cosigner_disk new) body text
+      made.count (made.any_moment ready.sound) made.kept)
+
+  untaken : (why : CosignError) → met ≡ Some why → cosigner_disk new ≡ cosigner_disk old
+      → (step_stopped why ≡ Refused) ⊎ (step_stopped why ≡ OverLimit)
+      → HasWorked name says old new
+      (replied (refused (step_stopped why) None (step_fault_text why)))
+  untaken why is same kind = says_so g name (cosigner_records old) (cosigner_disk old)
+      (cosigner_disk new) _ _ _ (same_says (Some why) is)
+      (read_on g name (cosigner_records old) (cosigner_disk old) (cosigner_disk new)
+      (refused (step_stopped why) None (step_fault_text why)) _ (inl same)
+      (refl, λ one. no_words (step_stopped why) kind one))
+
+  pub step_refused : (why : CosignError) → CosignerAppends body next old new (Err why)
+      → KeepsTo met (Err why) → HasWorked name says old new (step_ending name why)
+  step_refused WrongLog made is = untaken WrongLog is made.leaves.disk (inl refl)
+  step_refused (NotNewer held) made is = untaken (NotNewer held) is made.leaves.disk (inl refl)
+  step_refused BadSubtree made is = untaken BadSubtree is made.leaves.disk (inl refl)
+  step_refused (Beyond held) made is = untaken (Beyond held) is made.leaves.disk (inl refl)
+  step_refused BadProof made is = untaken BadProof is made.leaves.disk (inl refl)
+  step_refused Exhausted made is = untaken Exhausted is made.leaves.disk (inl refl)
+  step_refused (Append append_error.Full) made is =
+      untaken (Append append_error.Full) is made.leaves.disk (inr refl)
+  step_refused (Append append_error.Broken) made is =
+      untaken (Append append_error.Broken) is made.leaves.disk (inr refl)
+  step_refused (Append append_error.Failed) made is =
+      says_so g name (cosigner_records old) (cosigner_disk old) (cosigner_disk new) _ _ _
+      (same_says None is)
+      (failed_on g name (cosigner_records old) (cosigner_disk old) (cosigner_disk new) body text
+      made.leaves.cause made.count (made.any_moment ready.sound) (made.afterwards ready.sound))

@@ -1,0 +1,42 @@
+use Rattle.std.proofs.Common.{[], ◌∷◌, inl, inr, refl}
+use Rattle.std.proofs.lemmas.Result.{err_from_is_err_and}
+use Rattle.mtc_answers.specs.Answers.{ending_of}
+use Rattle.mtc_answers.proofs.Served.{behind}
+use Rattle.mtc_cosigner.specs.InitOutcome.{init_cosigner_outcome, init_says, settings_of}
+use Rattle.mtc_cosigner.proofs.Begun.{asked_so}
+use Rattle.mtc_cosigner.proofs.init_cosigner.init_cosigner.Goals as goal
+
+pub returns-in_err-secret : goal.returns-in_err-secret
+returns-in_err-secret g c =
+    let journal = c.args.journal.now in
+    let file = c.args.file.now in
+    let stopped = err_from_is_err_and c.from_residual.result c.from_residual.ensures.1 in
+    rw (stopped.1, stopped.2) (c.in_err-secret.ensures.stops (journal ∷ (file ∷ []))
+    (journal ∷ []) (init_says journal
+    (settings_of c.args.id c.args.log c.args.height c.args.width) file
+    (g.R.Room.file c.args.room.now journal)) (inr (inl refl)))
+
+pub returns : goal.returns
+returns g c =
+    let rooms = g.R.Room in
+    let journal = c.args.journal.now in
+    let file = c.args.file.now in
+    let old = c.args.room.now in
+    let mid = c.read_input.new.room in
+    let read = c.in_ok-secret.ensures in
+    let id = c.args.id in
+    let log = c.args.log in
+    behind rooms g.R.Dsk.Disk (journal ∷ (file ∷ [])) (journal ∷ (file ∷ [])) (journal ∷ [])
+    (init_cosigner_outcome journal id log c.args.height c.args.width file (rooms.file old))
+    (init_says journal (record {
+      id = id;
+      log = log;
+      lms = c.tree_of_height.result;
+      ots = c.chains_of_width.result;
+    }) file (rooms.file mid journal) c.as_slice.result.now) old mid
+    c.init_with.new.room (ending_of c.init_with.result) read.settled
+    (λ t. asked_so journal id log file c.args.height c.args.width (rooms.file old)
+    c.in_ok-secret.secret c.as_slice.result.now (rooms.file mid journal) c.tree_of_height.result
+    c.chains_of_width.result c.tree_of_height.ensures.is c.chains_of_width.ensures
+    c.as_slice.ensures (read.settled.others journal tt).bytes (read.bytes t).0 (read.bytes t).1)
+    (λ name is. is) c.init_with.ensures

@@ -1,0 +1,70 @@
+use Rattle.std.proofs.Common.{[], ◌∷◌, ◌≡◌, ◌∙◌, Ok, Err, ap, inl, inr, refl, subst, sym}
+use Rattle.std.proofs.lemmas.Result.{err_from_is_err_and}
+use Rattle.byte_forms.specs.Types.{Text}
+use Rattle.cosigner_core.specs.Reading.{advance_in}
+use Rattle.cosigner_core.specs.Requests.{AdvanceParts}
+use Rattle.cosigner_core.specs.Views.{advance_parts}
+use Rattle.mtc_answers.specs.Answers.{ending_of}
+use Rattle.mtc_answers.specs.Steps.{with_form}
+use Rattle.mtc_answers.proofs.Served.{behind}
+use Rattle.mtc_cosigner.specs.CosignerOutcomes.{advance_says, form_fault_text}
+use Rattle.mtc_cosigner.specs.Works.{advance_outcome, journal_outcome, work_says}
+use Rattle.mtc_cosigner.specs.declared.work.Work.TheVariants.{Advance}
+use Rattle.mtc_cosigner.proofs.Asked.{asked_so, no_request}
+use Rattle.mtc_cosigner.proofs.requests.advance.Goals as goal
+
+pub returns-in_err-bytes : goal.returns-in_err-bytes
+unfolding Rattle.mtc_cosigner.specs.Works.advance_outcome
+returns-in_err-bytes g c =
+    let h = g.H.TreeHash.hash in
+    let journal = c.args.journal.now in
+    let file = c.args.file.now in
+    let at = g.R.Room.file c.args.room.now journal in
+    let stopped = err_from_is_err_and c.from_residual.result c.from_residual.ensures.1 in
+    rw (stopped.1, stopped.2) (c.in_err-bytes.ensures.stops (journal ∷ (file ∷ []))
+    (journal ∷ []) (λ bytes. with_form form_fault_text file (advance_in bytes)
+    (λ r. journal_outcome h journal at (advance_says h r))) (inr (inl refl)))
+
+pub returns-in-Ok : goal.returns-in-Ok
+unfolding Rattle.mtc_cosigner.specs.Works.advance_outcome Rattle.mtc_cosigner.specs.Works.work_says
+returns-in-Ok g c =
+    let h = g.H.TreeHash.hash in
+    let rooms = g.R.Room in
+    let journal = c.args.journal.now in
+    let file = c.args.file.now in
+    let old = c.args.room.now in
+    let mid = c.read_input.new.room in
+    let read = c.in_ok-bytes.ensures in
+    let wanted = λ (q : AdvanceParts).
+    journal_outcome h journal (rooms.file old journal) (advance_says h q) in
+    let r = advance_parts c.in-Ok.request in
+    let is : advance_in c.in_ok-bytes.bytes ≡ Ok r =
+    subst (λ (t : Text). advance_in t ≡ Ok r) c.as_slice.ensures c.in-Ok.ensures in
+    behind rooms g.R.Dsk.Disk (journal ∷ (file ∷ [])) (journal ∷ []) (journal ∷ [])
+    (advance_outcome h journal file (rooms.file old))
+    (journal_outcome h journal (rooms.file mid journal) (advance_says h r)) old mid
+    c.on_cosigner.new.room (ending_of c.on_cosigner.result) read.settled
+    (λ t. ap (λ x. journal_outcome h journal x (advance_says h r))
+    (read.settled.others journal tt).bytes
+    ∙ sym (asked_so advance_in
+    wanted file (rooms.file old file) c.in_ok-bytes.bytes r (read.bytes t).0 (read.bytes t).1 is))
+    (λ name among. elim among [ inl same ↦ inl same | inr never ↦ absurd never ])
+    c.on_cosigner.ensures
+
+pub returns : goal.returns
+unfolding Rattle.mtc_cosigner.specs.Works.advance_outcome
+returns g c =
+    let h = g.H.TreeHash.hash in
+    let rooms = g.R.Room in
+    let journal = c.args.journal.now in
+    let file = c.args.file.now in
+    let old = c.args.room.now in
+    let read = c.in_ok-bytes.ensures in
+    let wanted = λ (q : AdvanceParts).
+    journal_outcome h journal (rooms.file old journal) (advance_says h q) in
+    let is : advance_in c.in_ok-bytes.bytes ≡ Err c.in-Err.why =
+    subst (λ (t : Text). advance_in t ≡ Err c.in-Err.why) c.as_slice.ensures c.in-Err.ensures in
+    no_request advance_in wanted
+    file rooms g.R.Dsk.Disk (journal ∷ (file ∷ [])) (journal ∷ []) old c.read_input.new.room
+    c.in_ok-bytes.bytes _ c.in-Err.why _ read.settled g.met.R.Dsk.Disk.only_now read.bytes is
+    c.reason_of.ensures c.refuse_file.ensures

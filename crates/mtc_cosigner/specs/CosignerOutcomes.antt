@@ -1,0 +1,95 @@
+-- The outcomes of `advance` and `cosign` over a cosigner that was found.
+use Rattle.std.specs.Prelude.{ℕ, false, ◌++◌, codes, Option, Some, None}
+use Rattle.std.specs.Fmt.{decimal}
+use Rattle.byte_forms.specs.Types.{HashFunction, Text}
+use Rattle.journal_core.specs.Format.{end_behind}
+use Rattle.journal_core.specs.declared.error.AppendError.TheVariants as append_error
+use Rattle.mtc_proof.specs.Proofs.{signature_text}
+use Rattle.cosigner_core.specs.Folds.{CosignerState}
+use Rattle.cosigner_core.specs.Openings.{FoundCosigner}
+use Rattle.cosigner_core.specs.Records.{advance_record, sign_record}
+use Rattle.cosigner_core.specs.Refusals.{advance_refused, cosign_refused}
+use Rattle.cosigner_core.specs.Requests.{AdvanceParts, SubtreeParts}
+use Rattle.cosigner_core.specs.Signatures.{signature_by}
+use Rattle.cosigner_core.specs.declared.error.CosignError.{CosignError}
+use Rattle.cosigner_core.specs.declared.error.CosignError.TheVariants.{WrongLog, NotNewer}
+use Rattle.cosigner_core.specs.declared.error.CosignError.TheVariants.{BadSubtree, Beyond, BadProof}
+use Rattle.cosigner_core.specs.declared.error.CosignError.TheVariants.{Exhausted, Append}
+use Rattle.cosigner_core.specs.declared.fault.FormError.{FormError}
+use Rattle.cosigner_core.specs.declared.fault.FormError.TheVariants.{Short, HashLength}
+use Rattle.cosigner_core.specs.declared.fault.FormError.TheVariants.{Trailing, EmptyId}
+use Rattle.mtc_answers.specs.Answers.{Ending, replied, room_failed, refused}
+use Rattle.mtc_answers.specs.Steps.{Outcome, appends, stops_on}
+use Rattle.mtc_answers.specs.declared.answer.Stopped.{Stopped}
+use Rattle.mtc_answers.specs.declared.answer.Stopped.TheVariants.{Refused}
+use Rattle.mtc_answers.specs.declared.answer.Stopped.TheVariants.{Beyond as OverLimit}
+
+-- Why a file is no request.
+abbrev pub form_fault_text : FormError → Text
+form_fault_text (Short place) = codes "Short " ++ decimal place
+form_fault_text HashLength = codes "HashLength"
+form_fault_text Trailing = codes "Trailing"
+form_fault_text EmptyId = codes "EmptyId"
+
+-- Why a cosigner takes no step: its state doesn't allow it, or its journal is full.
+abbrev pub step_fault_text : CosignError → Text
+step_fault_text WrongLog = codes "WrongLog"
+step_fault_text (NotNewer held) = codes "NotNewer " ++ decimal held
+step_fault_text BadSubtree = codes "BadSubtree"
+step_fault_text (Beyond held) = codes "Beyond " ++ decimal held
+step_fault_text BadProof = codes "BadProof"
+step_fault_text Exhausted = codes "Exhausted"
+step_fault_text (Append append_error.Failed) = codes "Failed"
+step_fault_text (Append append_error.Broken) = codes "Broken"
+step_fault_text (Append append_error.Full) = codes "JournalFull"
+
+abbrev pub step_stopped : CosignError → Stopped
+step_stopped WrongLog = Refused
+step_stopped (NotNewer held) = Refused
+step_stopped BadSubtree = Refused
+step_stopped (Beyond held) = Refused
+step_stopped BadProof = Refused
+step_stopped Exhausted = Refused
+step_stopped (Append why) = OverLimit
+
+-- What comes of a step that isn't taken.
+abbrev pub step_ending : Text → CosignError → Ending
+step_ending file (Append append_error.Failed) = room_failed file
+step_ending file (Append append_error.Broken) =
+    replied (refused OverLimit None (step_fault_text (Append append_error.Broken)))
+step_ending file (Append append_error.Full) =
+    replied (refused OverLimit None (step_fault_text (Append append_error.Full)))
+step_ending file WrongLog = replied (refused Refused None (step_fault_text WrongLog))
+step_ending file (NotNewer held) = replied (refused Refused None (step_fault_text (NotNewer held)))
+step_ending file BadSubtree = replied (refused Refused None (step_fault_text BadSubtree))
+step_ending file (Beyond held) = replied (refused Refused None (step_fault_text (Beyond held)))
+step_ending file BadProof = replied (refused Refused None (step_fault_text BadProof))
+step_ending file Exhausted = replied (refused Refused None (step_fault_text Exhausted))
+
+-- A record more and its text, unless the step is refused.
+abbrev pub stepped : FoundCosigner → Text → Text → Option CosignError → Outcome
+stepped found body text None = appends found.records body text
+stepped found body text (Some why) =
+    stops_on found.records (step_stopped why) (step_fault_text why)
+
+-- The line of a cosigner that holds a log of this size.
+abbrev pub advanced_text : ℕ → Text
+advanced_text size = codes "advanced " ++ (decimal size ++ codes "\n")
+
+abbrev pub advance_says : HashFunction → AdvanceParts → FoundCosigner → Outcome
+advance_says h r found =
+    stepped found (advance_record r.size r.root r.proof) (advanced_text r.size)
+    (advance_refused h found.state false (end_behind found.records) r)
+
+-- A signature with the id of its cosigner, by the next one-time key.
+abbrev pub cosigned_text : CosignerState → SubtreeParts → Text
+cosigned_text s r = signature_text (record {
+  cosigner = s.id;
+  signature = signature_by s r.start r.end r.hash;
+})
+
+abbrev pub cosign_says : HashFunction → SubtreeParts → FoundCosigner → Outcome
+cosign_says h r found =
+    stepped found (sign_record found.state.key.next r.start r.end r.hash r.proof)
+    (cosigned_text found.state r)
+    (cosign_refused h found.state false (end_behind found.records) r)

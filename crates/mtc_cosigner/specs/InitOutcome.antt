@@ -1,0 +1,23 @@
+-- The outcome of `init-cosigner S ID LOGID HEIGHT WIDTH SECRET`.
+use Rattle.std.specs.Prelude.{ℕ, Option}
+use Rattle.byte_forms.specs.Types.{Text}
+use Rattle.cosigner_core.specs.Records.{cosigner_record}
+use Rattle.cosigner_core.specs.declared.settings.CosignerSettings.{CosignerSettings}
+use Rattle.mtc_answers.specs.Steps.{Outcome, Files, starts, with_bytes, with_fresh}
+use Rattle.mtc_cosigner.specs.KeygenOutcome.{lms_type, ots_type, public_line, with_secret}
+
+-- What a cosigner says of itself from its first record on.
+abbrev pub settings_of : Text → Text → ℕ → ℕ → CosignerSettings
+settings_of id log height width =
+    record { id = id; log = log; lms = lms_type height; ots = ots_type width }
+
+-- The secret is tested, and then a journal of the cosigner's first record is made where its name
+-- has no file.
+abbrev pub init_says : Text → CosignerSettings → Text → Option Text → Text → Outcome
+init_says journal s file at secret = with_secret file secret
+    (with_fresh journal at (starts (cosigner_record s secret) (public_line s.lms s.ots secret)))
+
+abbrev pub init_cosigner_outcome : Text → Text → Text → ℕ → ℕ → Text → Files → Outcome
+init_cosigner_outcome journal id log height width file files =
+    with_bytes 16777216 file (files file)
+    (init_says journal (settings_of id log height width) file (files journal))

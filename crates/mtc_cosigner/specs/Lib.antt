@@ -1,0 +1,4 @@
+pub mod KeygenOutcome
+pub mod InitOutcome
+pub mod CosignerOutcomes
+pub mod Works

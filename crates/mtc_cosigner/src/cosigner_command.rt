@@ -1,0 +1,77 @@
+//! The commands on a cosigner that has a journal: the journal is lent, opened, worked on and given
+//! back.
+ghost use Rattle.std.specs.Prelude.{◌≡◌, ◌<◌, ◌^◌, [], ◌∷◌};
+ghost use Rattle.mtc_answers.specs.Answers.{end_of, ending_of};
+ghost use Rattle.mtc_answers.specs.Served.{HasServed};
+ghost use Rattle.mtc_answers.specs.Works.{HasWorkedOn};
+ghost use Rattle.mtc_cosigner.specs.Works.{bytes_say, journal_outcome, open_ending, work_says};
+
+use crate::work::{Work, carry_out};
+use cosigner_core::{Cosigner, CosignerOpenError};
+use disk_core::Disk;
+use journal_core::{OpenError, Refused};
+use mtc_answers::{Answer, Reason, Stop, Stopped, give_back, lend, refuse_file};
+use mtc_room::Room;
+use std::alloc::Global;
+use tree_core::TreeHash;
+
+// Why a journal isn't opened as a cosigner's.
+fn refuse_cosigner<'a>(journal: &'a str, why: CosignerOpenError) -> Stop<'a>
+    ensures { end_of result ≡ open_ending journal.now why }
+{
+    let bad = Stopped::BadForm;
+    match why {
+        CosignerOpenError::BadRecord(number) => {
+            refuse_file(bad, journal, Reason::with_number("BadRecord", number))
+        }
+        CosignerOpenError::Open(OpenError::NotJournal) => {
+            refuse_file(bad, journal, Reason::named("NotJournal"))
+        }
+        CosignerOpenError::Open(OpenError::BadLength(place)) => {
+            refuse_file(bad, journal, Reason::with_number("BadLength", place))
+        }
+        CosignerOpenError::Open(OpenError::CutShort(place)) => {
+            refuse_file(bad, journal, Reason::with_number("CutShort", place))
+        }
+        CosignerOpenError::Open(OpenError::Failed) => Stop::Room(journal),
+        CosignerOpenError::Open(OpenError::Memory) => Stop::Memory,
+    }
+}
+
+// Opens the cosigner on a device, and works on it.
+fn on_device<'a, H: TreeHash, D: Disk>(
+    alloc: Global,
+    disk: D,
+    journal: &'a str,
+    work: &Work<'_>,
+) -> (D, Result<Answer, Stop<'a>>)
+    ensures { HasWorkedOn D.Disk journal.now (bytes_say H.hash journal.now
+        (work_says H.hash work.now)) disk result.0 (ending_of result.1) }
+{
+    match Cosigner::<H, D>::open(alloc, disk) {
+        Ok(mut cosigner) => {
+            let answer = carry_out(alloc, journal, &mut cosigner, work);
+            (cosigner.into_disk(), answer)
+        }
+        Err(Refused { disk, why }) => (disk, Err(refuse_cosigner(journal, why))),
+    }
+}
+
+/// Lends a journal, opens its cosigner and works on it. Whatever comes of it, the device is given
+/// back.
+pub fn on_cosigner<'a, H: TreeHash, R: Room>(
+    alloc: Global,
+    room: &mut R,
+    journal: &'a str,
+    work: &Work<'_>,
+) -> Result<Answer, Stop<'a>>
+    requires { R.lent room.old < 2 ^ 32 }
+    ensures { HasServed R.Room R.Dsk.Disk (journal.now ∷ []) journal.now
+        (journal_outcome H.hash journal.now (R.file room.old journal.now)
+        (work_says H.hash work.now)) room.old room.new (ending_of result) }
+{
+    let disk = lend(room, journal)?;
+    let (disk, answer) = on_device::<H, R::Dsk>(alloc, disk, journal, work);
+    give_back(room, journal, disk);
+    answer
+}

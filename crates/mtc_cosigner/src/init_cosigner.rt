@@ -1,0 +1,68 @@
+//! The command `init-cosigner`: a new cosigner.
+ghost use Rattle.std.specs.Prelude.{◌≡◌, ◌<◌, ◌≤◌, ◌^◌, true, [], ◌∷◌};
+ghost use Rattle.lms_core.specs.Heights.{height};
+ghost use Rattle.mtc_words.specs.Commands.{is_height, is_width};
+ghost use Rattle.mtc_answers.specs.Answers.{ending_of};
+ghost use Rattle.mtc_answers.specs.Served.{HasServed};
+ghost use Rattle.mtc_cosigner.specs.InitOutcome.{init_cosigner_outcome, init_says};
+
+use crate::keygen::{SECRET_LENGTH, chains_of_width, line_of_key, refuse_secret, tree_of_height};
+use cosigner_core::{CosignerSettings, pack};
+use mtc_answers::{Answer, INPUT_LIMIT, Stop, make_journal, read_input};
+use mtc_room::Room;
+use std::alloc::Global;
+use tls_wire::AnchorId;
+
+// Makes the journal of a cosigner with this secret. All memory is taken before it is made.
+fn init_with<'a, R: Room>(
+    alloc: Global,
+    room: &mut R,
+    journal: &'a str,
+    settings: &CosignerSettings,
+    file: &'a str,
+    secret: &[u8],
+) -> Result<Answer, Stop<'a>>
+    requires lent { R.lent room.old < 2 ^ 32 }
+    requires small { height settings.now.lms ≤ 10 }
+    ensures { HasServed R.Room R.Dsk.Disk (journal.now ∷ (file.now ∷ [])) journal.now
+        (init_says journal.now settings.now file.now (R.file room.old journal.now) secret.now)
+        room.old room.new (ending_of result) }
+{
+    match <[u8; SECRET_LENGTH]>::try_from(secret) {
+        Ok(secret) => {
+            let text = line_of_key(alloc, settings.lms, settings.ots, &secret)?;
+            let first = pack(alloc, settings, &secret)?;
+            make_journal(room, journal, first, text)
+        }
+        Err(_) => Err(refuse_secret(file, secret.len())),
+    }
+}
+
+/// The command `init-cosigner S ID LOGID HEIGHT WIDTH SECRET`. The secret file is read and tested
+/// before the journal is made.
+pub fn init_cosigner<'a, R: Room>(
+    alloc: Global,
+    room: &mut R,
+    journal: &'a str,
+    id: AnchorId,
+    log: AnchorId,
+    height: u64,
+    width: u64,
+    file: &'a str,
+) -> Result<Answer, Stop<'a>>
+    requires lent { R.lent room.old < 2 ^ 32 }
+    requires height { is_height height ≡ true }
+    requires width { is_width width ≡ true }
+    ensures { HasServed R.Room R.Dsk.Disk (journal.now ∷ (file.now ∷ [])) journal.now
+        (init_cosigner_outcome journal.now id log height width file.now (R.file room.old))
+        room.old room.new (ending_of result) }
+{
+    let settings = CosignerSettings {
+        id,
+        log,
+        lms: tree_of_height(height),
+        ots: chains_of_width(width),
+    };
+    let secret = read_input(alloc, room, file, INPUT_LIMIT)?;
+    init_with(alloc, room, journal, &settings, file, secret.as_slice())
+}

@@ -1,0 +1,15 @@
+//! The commands of a cosigner: `keygen`, `init-cosigner`, `advance` and `cosign`.
+//!
+//! A journal is lent by the room, opened as a cosigner's, worked on and given back
+//! ([`on_cosigner`]); what is done with the cosigner is a [`Work`]. What each command has to reply,
+//! and what it does with the journal, are definitions in `specs/`.
+#![tactic(auto)]
+
+mod cosigner_command;
+pub mod init_cosigner;
+pub mod keygen;
+pub mod requests;
+mod work;
+
+pub use cosigner_command::on_cosigner;
+pub use work::Work;

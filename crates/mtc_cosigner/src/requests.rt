@@ -1,0 +1,181 @@
+//! The commands `advance` and `cosign`: requests to a cosigner of a log.
+ghost use Rattle.std.specs.Prelude.{◌≡◌, ◌≢◌, ◌<◌, ◌≤◌, ◌+◌, ◌++◌, ◌^◌, [], ◌∷◌, length, IfOk, vec_len, vec_capacity};
+ghost use Rattle.std.specs.Int.{w8, w16};
+ghost use Rattle.tls_wire.specs.Spelling.{vector};
+ghost use Rattle.cosigner_core.specs.Views.{advance_parts, subtree_parts};
+ghost use Rattle.mtc_answers.specs.Answers.{end_of, ending_of, reason_text};
+ghost use Rattle.mtc_answers.specs.Served.{HasServed};
+ghost use Rattle.mtc_cosigner.specs.CosignerOutcomes.{advance_says, advanced_text, cosign_says, form_fault_text, step_ending};
+ghost use Rattle.mtc_cosigner.specs.Works.{HasWorked, IsReady, advance_outcome, cosign_outcome};
+
+use crate::cosigner_command::on_cosigner;
+use crate::work::Work;
+use cosigner_core::{
+    AdvanceRequest, CosignError, Cosigner, FormError, SubtreeRequest, read_advance, read_subtree,
+};
+use disk_core::Disk;
+use hss_core::SigBuf;
+use journal_core::AppendError;
+use mtc_answers::{
+    Answer, INPUT_LIMIT, Reason, Said, Stop, Stopped, read_input, refuse, refuse_file,
+};
+use mtc_io::{Bytes, Memory};
+use mtc_room::Room;
+use std::alloc::{AllocError, Global};
+use tls_wire::AnchorId;
+use tree_core::TreeHash;
+
+// The room for the text of a signature, whose bytes are fewer than this.
+const ROOM: usize = 16_384;
+
+// Why a file is no request.
+fn reason_of(why: FormError) -> Reason
+    ensures { reason_text result ≡ form_fault_text why }
+{
+    match why {
+        FormError::Short(place) => Reason::with_number("Short", place as u64),
+        FormError::HashLength => Reason::named("HashLength"),
+        FormError::Trailing => Reason::named("Trailing"),
+        FormError::EmptyId => Reason::named("EmptyId"),
+    }
+}
+
+// Why a cosigner that was opened just now takes no step.
+fn refuse_step<'a>(journal: &'a str, why: CosignError) -> Stop<'a>
+    requires { why ≢ CosignError.Append AppendError.Broken }
+    ensures { end_of result ≡ step_ending journal.now why }
+{
+    let refused = Stopped::Refused;
+    match why {
+        CosignError::WrongLog => refuse(refused, Reason::named("WrongLog")),
+        CosignError::NotNewer(held) => refuse(refused, Reason::with_number("NotNewer", held)),
+        CosignError::BadSubtree => refuse(refused, Reason::named("BadSubtree")),
+        CosignError::Beyond(held) => refuse(refused, Reason::with_number("Beyond", held)),
+        CosignError::BadProof => refuse(refused, Reason::named("BadProof")),
+        CosignError::Exhausted => refuse(refused, Reason::named("Exhausted")),
+        CosignError::Append(AppendError::Full) => {
+            refuse(Stopped::Beyond, Reason::named("JournalFull"))
+        }
+        CosignError::Append(AppendError::Failed) => Stop::Room(journal),
+        CosignError::Append(AppendError::Broken) => unreachable!(),
+    }
+}
+
+fn line_of_size(alloc: Global, size: u64) -> Result<Bytes, Memory>
+    ensures { IfOk result (λ text. text ≡ advanced_text size) }
+{
+    Ok(Bytes::from_vec(format!(in alloc; "advanced {size}\n")?.into_bytes()))
+}
+
+/// The work of `advance S REQUEST`. The text is made before the record is added, so that nothing
+/// wants memory behind the append.
+pub(crate) fn advance_on<'a, H: TreeHash, D: Disk>(
+    alloc: Global,
+    journal: &'a str,
+    cosigner: &mut Cosigner<H, D>,
+    request: &AdvanceRequest<'_>,
+) -> Result<Answer, Stop<'a>>
+    requires { IsReady cosigner.old }
+    ensures { HasWorked journal.now (advance_says H.hash (advance_parts request.now))
+        cosigner.old cosigner.new (ending_of result) }
+{
+    let text = line_of_size(alloc, request.size)?;
+    match cosigner.advance(request) {
+        Ok(()) => Ok(Answer {
+            status: Said::Done,
+            text,
+        }),
+        Err(why) => Err(refuse_step(journal, why)),
+    }
+}
+
+// The id of a cosigner behind its length, with room for a signature behind it.
+fn begun_with(alloc: Global, id: &AnchorId) -> Result<Vec<u8>, AllocError>
+    ensures text { IfOk result (λ text. text.items ≡ vector w8 id.now) }
+    ensures room { IfOk result (λ text. vec_len text + 2 + 2 ^ 14 ≤ vec_capacity text) }
+{
+    let id = id.as_bytes();
+    let mut text = Vec::with_capacity(alloc, 1 + id.len() + 2 + ROOM)?;
+    text.push(id.len() as u8)?;
+    text.extend_from_slice(id)?;
+    Ok(text)
+}
+
+// The same with the signature behind its length.
+fn with_signature(mut text: Vec<u8>, signature: &[u8]) -> Bytes
+    requires short { length signature.now < 2 ^ 14 }
+    requires room { vec_len text + 2 + 2 ^ 14 ≤ vec_capacity text }
+    ensures { result ≡ text.items ++ vector w16 signature.now }
+{
+    let length = (signature.len() as u16).to_be_bytes();
+    if text.extend_from_slice(&length).is_err() {
+        unreachable!()
+    }
+    if text.extend_from_slice(signature).is_err() {
+        unreachable!()
+    }
+    Bytes::from_vec(text)
+}
+
+/// The work of `cosign S REQUEST`. All memory is taken before the record is added, and the
+/// signature is made behind it.
+pub(crate) fn cosign_on<'a, H: TreeHash, D: Disk>(
+    alloc: Global,
+    journal: &'a str,
+    cosigner: &mut Cosigner<H, D>,
+    request: &SubtreeRequest<'_>,
+) -> Result<Answer, Stop<'a>>
+    requires { IsReady cosigner.old }
+    ensures { HasWorked journal.now (cosign_says H.hash (subtree_parts request.now))
+        cosigner.old cosigner.new (ending_of result) }
+{
+    let text = begun_with(alloc, cosigner.id())?;
+    let mut signature = SigBuf::new();
+    match cosigner.cosign(request, &mut signature) {
+        Ok(()) => Ok(Answer {
+            status: Said::Done,
+            text: with_signature(text, signature.as_slice()),
+        }),
+        Err(why) => Err(refuse_step(journal, why)),
+    }
+}
+
+/// The command `advance S REQUEST`.
+#[tactic(auto, unfolding(crate::specs::Works::advance_outcome, crate::specs::Works::work_says))]
+pub fn advance<'a, H: TreeHash, R: Room>(
+    alloc: Global,
+    room: &mut R,
+    journal: &'a str,
+    file: &'a str,
+) -> Result<Answer, Stop<'a>>
+    requires { R.lent room.old < 2 ^ 32 }
+    ensures { HasServed R.Room R.Dsk.Disk (journal.now ∷ (file.now ∷ [])) journal.now
+        (advance_outcome H.hash journal.now file.now (R.file room.old))
+        room.old room.new (ending_of result) }
+{
+    let bytes = read_input(alloc, room, file, INPUT_LIMIT)?;
+    match read_advance(bytes.as_slice()) {
+        Ok(request) => on_cosigner::<H, R>(alloc, room, journal, &Work::Advance(request)),
+        Err(why) => Err(refuse_file(Stopped::BadForm, file, reason_of(why))),
+    }
+}
+
+/// The command `cosign S REQUEST`.
+#[tactic(auto, unfolding(crate::specs::Works::cosign_outcome, crate::specs::Works::work_says))]
+pub fn cosign<'a, H: TreeHash, R: Room>(
+    alloc: Global,
+    room: &mut R,
+    journal: &'a str,
+    file: &'a str,
+) -> Result<Answer, Stop<'a>>
+    requires { R.lent room.old < 2 ^ 32 }
+    ensures { HasServed R.Room R.Dsk.Disk (journal.now ∷ (file.now ∷ [])) journal.now
+        (cosign_outcome H.hash journal.now file.now (R.file room.old))
+        room.old room.new (ending_of result) }
+{
+    let bytes = read_input(alloc, room, file, INPUT_LIMIT)?;
+    match read_subtree(bytes.as_slice()) {
+        Ok(request) => on_cosigner::<H, R>(alloc, room, journal, &Work::Cosign(request)),
+        Err(why) => Err(refuse_file(Stopped::BadForm, file, reason_of(why))),
+    }
+}

@@ -1,0 +1,39 @@
+//! The work of a command on a cosigner whose journal is open: its own refusals, its text, and one
+//! append, behind which nothing wants memory.
+ghost use Rattle.mtc_answers.specs.Answers.{ending_of};
+ghost use Rattle.mtc_cosigner.specs.Works.{HasWorked, IsReady, work_says};
+
+use crate::requests::{advance_on, cosign_on};
+use cosigner_core::{AdvanceRequest, Cosigner, SubtreeRequest};
+use disk_core::Disk;
+use mtc_answers::{Answer, Stop};
+use std::alloc::Global;
+use tree_core::TreeHash;
+
+/// What a command does with a cosigner.
+#[derive(Drop)]
+pub enum Work<'r> {
+    /// It holds the root of a larger log.
+    Advance(AdvanceRequest<'r>),
+    /// It signs a subtree.
+    Cosign(SubtreeRequest<'r>),
+}
+
+/// Carries out a command on the cosigner of a journal. A failure of its device is told by the
+/// journal's name.
+#[tactic(auto, unfolding(crate::specs::Works::work_says))]
+pub(crate) fn carry_out<'a, H: TreeHash, D: Disk>(
+    alloc: Global,
+    journal: &'a str,
+    cosigner: &mut Cosigner<H, D>,
+    work: &Work<'_>,
+) -> Result<Answer, Stop<'a>>
+    requires { IsReady cosigner.old }
+    ensures { HasWorked journal.now (work_says H.hash work.now) cosigner.old cosigner.new
+        (ending_of result) }
+{
+    match work {
+        Work::Advance(request) => advance_on(alloc, journal, cosigner, request),
+        Work::Cosign(request) => cosign_on(alloc, journal, cosigner, request),
+    }
+}
