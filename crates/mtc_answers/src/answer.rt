@@ -71,16 +71,6 @@ pub enum Stop<'a> {
     Memory,
 }
 
-impl<'a> From<Refusal<'a>> for Stop<'a> {
-    ghost use Rattle.mtc_answers.specs.declared.answer.Stop.TheVariants.{Refused as IsRefused};
-
-    ghost from_gives = { λ refusal e. e ≡ IsRefused refusal };
-
-    fn from(refusal: Refusal<'a>) -> Stop<'a> {
-        Stop::Refused(refusal)
-    }
-}
-
 impl<'a> From<Memory> for Stop<'a> {
     ghost use Rattle.mtc_answers.specs.declared.answer.Stop.TheVariants.{Memory as NoMemory};
 

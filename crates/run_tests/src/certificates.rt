@@ -367,6 +367,14 @@ $ verify c store 1767225600
 status 7
 ! mtc: verify: store: Absent
 
+case the certificate's first read fails
+file c CERT
+fails 0
+file store
+$ verify c store 1767225600
+status 5
+! mtc: verify: c: Failed
+
 case the store's first read fails
 file c CERT
 file store
@@ -385,6 +393,6 @@ status 1
 #[test]
 fn judges_certificates(rt: HostRuntime) -> Result<(), Fail> {
     let outcome = outcome_of(rt.alloc(), JUDGED)?;
-    assert!(rt; outcome == Outcome::Passed(32), "{outcome:?}");
+    assert!(rt; outcome == Outcome::Passed(33), "{outcome:?}");
     Ok(())
 }

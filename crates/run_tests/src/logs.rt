@@ -104,6 +104,15 @@ $ entries j 3
 status 4
 ! mtc: entries: Beyond 2
 
+case the request's first read fails
+file j NEW
+file r REQUEST
+fails 0
+$ issue j r
+status 5
+! mtc: issue: r: Failed
+left j NEW
+
 case a log that has place for one entry beside the null entry
 file j NEW
 file r REQUEST
@@ -267,6 +276,6 @@ status 2
 #[test]
 fn commands_on_a_log(rt: HostRuntime) -> Result<(), Fail> {
     let outcome = outcome_of(rt.alloc(), SCRIPT)?;
-    assert!(rt; outcome == Outcome::Passed(50), "{outcome:?}");
+    assert!(rt; outcome == Outcome::Passed(51), "{outcome:?}");
     Ok(())
 }
