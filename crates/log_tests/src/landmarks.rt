@@ -19,7 +19,10 @@ fn with_landmarks(alloc: Global) -> Result<Bytes, Memory> {
     let mut wanted = Bytes::copy_of(alloc, &NEW_LOG[..35])?;
     add_landmark(&mut wanted, 1)?;
     wanted.truncate(49);
-    wanted.append(&with_entry(alloc)?.as_slice()[35..220])?;
+    let both = with_entry(alloc)?;
+    if let Some(behind) = both.as_slice().get(35..220) {
+        wanted.append(behind)?;
+    }
     add_landmark(&mut wanted, 2)?;
     Ok(wanted)
 }

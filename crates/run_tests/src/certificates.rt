@@ -1,4 +1,5 @@
-//! What `show` prints of a certificate, and what `verify` answers to one, a store and a moment.
+//! What `cert` writes, what `show` prints of a certificate, and what `verify` answers to one, a
+//! store and a moment.
 use crate::scripts::{Outcome, outcome_of};
 use std::test::Fail;
 
@@ -93,12 +94,63 @@ $ show f
 | path 1
 | signature 32473.2 3
 | signature hex:ff 0
+
+case a certificate is written
+file r
+| not_before = "2026-01-01T00:00:00Z"
+| not_after = "2026-01-08T00:00:00Z"
+| dns = ["a.example"]
+| key = "MCowBQYDK2VwAyEAAAAAAAAAAAAAAAAAAAAAAAAAAAAAAAAAAAAAAAAAAAA="
+file none
+file bad 01610000000000
+file short 0161
+file two SIGNED
+$ init-log j 32473.1 2 64
+| log 32473.1
+$ issue j r
+| issued 1
+$ cert j 1 0 2 none
+  CERT
+$ cert j 0 0 2 none
+status 4
+! mtc: cert: NullEntry
+$ cert j 2 1 3 none
+status 4
+! mtc: cert: NoSuchEntry
+$ cert j 1 1 3 none
+status 4
+! mtc: cert: BadSubtree
+$ cert j 1 2 4 none
+status 4
+! mtc: cert: Outside
+$ cert j 1 0 4 none
+status 4
+! mtc: cert: Beyond 2
+$ cert j 1 0 2 bad
+status 2
+! mtc: cert: bad: EmptyId 4
+$ cert j 1 0 2 short
+status 2
+! mtc: cert: short: Short 2
+$ cert j 1 0 2 gone
+status 7
+! mtc: cert: gone: Absent
+$ cert k 1 0 2 none
+status 7
+! mtc: cert: k: Absent
+$ cert j 1 0 2 two
+  3081f230819ca003020102020101300c060a2b0601040182da4b2f00301931173015060a2b0601040182da4b2f
+  010c0733323437332e31301e170d3236303130313030303030305a170d3236303130383030303030305a300030
+  2a300506032b65700321000000000000000000000000000000000000000000000000000000000000000000a31b
+  301930170603551d110101ff040d300b8209612e6578616d706c65300c060a2b0601040182da4b2f0003430000
+  0000000000000000000000000000020020709e80c88487a2411e1ee4dfb9f22a861492d20c4765150c0c794abd
+  70f8147c000e SIGNED
 "#;
 
 #[test]
-fn shows_certificates(rt: HostRuntime) -> Result<(), Fail> {
+fn shows_and_writes_certificates(rt: HostRuntime) -> Result<(), Fail> {
     let outcome = outcome_of(rt.alloc(), SHOWN)?;
-    assert!(rt; outcome == Outcome::Passed(5), "{outcome:?}");
+    assert!(rt; outcome == Outcome::Passed(18), "{outcome:?}");
     Ok(())
 }
 
