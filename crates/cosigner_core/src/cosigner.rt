@@ -5,11 +5,12 @@ ghost use Rattle.disk_core.specs.Moments.{Looks};
 ghost use Rattle.journal_core.specs.Format.{StandsFor, end_behind};
 ghost use Rattle.journal_core.specs.Words.{is_broken, records, AllStandFor};
 ghost use Rattle.hss_core.specs.Hss.{Verifies, one_level_public};
+ghost use Rattle.mtc_proof.specs.Inputs.{signed_text};
 ghost use Rattle.cosigner_core.specs.Folds.{cosigner_of, having_signed, holding};
 ghost use Rattle.cosigner_core.specs.Openings.{CountsNoOther, HasCauseOf, cosigner_read};
 ghost use Rattle.cosigner_core.specs.Records.{advance_record, sign_record};
 ghost use Rattle.cosigner_core.specs.Refusals.{KeepsTo, advance_refused, cosign_refused};
-ghost use Rattle.cosigner_core.specs.Signatures.{signature_by, signed_text};
+ghost use Rattle.cosigner_core.specs.Signatures.{signature_by};
 ghost use Rattle.cosigner_core.specs.Views.{advance_parts, subtree_parts};
 
 use crate::error::{CosignError, CosignerOpenError, hand_back};
@@ -144,8 +145,8 @@ impl<H: TreeHash, D: Disk> Cosigner<H, D> {
         ensures signature { OnOk result (out.new ≡ signature_by (state_of self.old)
             request.now.start request.now.end request.now.hash) }
         ensures verifies { OnOk result (Verifies (one_level_public (state_of self.old).key.key)
-            (signed_text (state_of self.old) request.now.start request.now.end request.now.hash)
-            out.new) }
+            (signed_text (state_of self.old).id (state_of self.old).log request.now.start
+            request.now.end request.now.hash) out.new) }
         ensures short { OnOk result (length out.new < 2 ^ 14) }
         ensures nothing { OnErr result (out.new ≡ []) }
     {

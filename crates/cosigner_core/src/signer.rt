@@ -1,10 +1,11 @@
 //! A cosigner without its journal.
 ghost use Rattle.std.specs.Prelude.{◌≡◌, ◌<◌, ◌≤◌, ◌^◌, length, IfErr, OnOk};
 ghost use Rattle.hss_core.specs.Hss.{Verifies, one_level_public};
+ghost use Rattle.mtc_proof.specs.Inputs.{signed_text};
 ghost use Rattle.cosigner_core.specs.Folds.{having_signed, holding, key_count};
 ghost use Rattle.cosigner_core.specs.Records.{FitsSign, sign_record};
 ghost use Rattle.cosigner_core.specs.Refusals.{IsOfRequest, advance_refusal, answer_of, subtree_refusal};
-ghost use Rattle.cosigner_core.specs.Signatures.{signature_by, signed_text};
+ghost use Rattle.cosigner_core.specs.Signatures.{signature_by};
 ghost use Rattle.cosigner_core.specs.Views.{advance_parts, subtree_parts};
 
 use crate::checkpoint::Checkpoint;
@@ -151,7 +152,7 @@ impl Signer {
         requires { self.old.key.next < key_count self.old }
         ensures signature { out.new ≡ signature_by self.old start end hash.now }
         ensures verifies { Verifies (one_level_public self.old.key.key)
-            (signed_text self.old start end hash.now) out.new }
+            (signed_text self.old.id self.old.log start end hash.now) out.new }
         ensures short { length out.new < 2 ^ 14 }
         ensures counted { self.new ≡ having_signed self.old }
     {

@@ -27,6 +27,12 @@ input_text p =
     input_label ++ (vector w8 p.cosigner ++ (vector w8 p.log
     ++ (number w64 p.start ++ (number w64 p.end ++ p.hash))))
 
+-- What the cosigner signs of the log's subtree [start, end), where it has this hash.
+abbrev pub signed_text : Text → Text → ℕ → ℕ → Hash → Text
+signed_text cosigner log start end hash =
+    input_text
+    (record { cosigner = cosigner; log = log; start = start; end = end; hash = hash })
+
 pub record IsInput (p : InputParts) : Type 0 where
   pub cosigner : length p.cosigner < 2 ^ 8
   pub log : length p.log < 2 ^ 8

@@ -3,7 +3,7 @@
 ghost use Rattle.std.specs.Prelude.{◌≡◌, ◌+◌, ◌<◌, ◌≤◌, ◌^◌, [], ◌++◌, length};
 ghost use Rattle.std.specs.Int.{w8};
 ghost use Rattle.tls_wire.specs.Spelling.{vector};
-ghost use Rattle.mtc_proof.specs.Inputs.{input_text};
+ghost use Rattle.mtc_proof.specs.Inputs.{signed_text};
 
 use std::marker::Model;
 
@@ -97,13 +97,7 @@ pub fn signature_input(
     requires cosigner_short { length cosigner.now < 2 ^ 8 }
     requires log_some { 0 < length log.now }
     requires log_short { length log.now < 2 ^ 8 }
-    ensures { out.new ≡ input_text (record {
-      cosigner = cosigner.now;
-      log = log.now;
-      start = start;
-      end = end;
-      hash = hash.now;
-    }) }
+    ensures { out.new ≡ signed_text cosigner.now log.now start end hash.now }
 {
     out.clear();
     out.put(&LABEL);

@@ -1,8 +1,8 @@
 -- A certificate is accepted exactly where the grammars, the tree and the store say so.
-use Rattle.std.proofs.Common.{◌≡◌, ℕ, List, ◌∷◌, ◌++◌, length, Option, Some, None, Result, Ok, refl}
-use Rattle.std.proofs.Common.{sym, ap, subst, ◌∙◌, ◌⊎◌, inl, inr}
-use Rattle.std.specs.Prelude.{ℤ}
-use Rattle.std.specs.List.{find}
+use Rattle.std.proofs.Common.{◌≡◌, ℕ, Bool, true, false, List, [], ◌∷◌, ◌++◌, length, Option, Some}
+use Rattle.std.proofs.Common.{None, Result, Ok, refl, sym, ap, subst, ◌∙◌, ◌⊎◌, inl, inr}
+use Rattle.std.specs.Prelude.{ℤ, if◌then◌else◌}
+use Rattle.std.specs.List.{find, list_any}
 use Rattle.std.specs.Str.{bytes_eq}
 use Rattle.std.proofs.lemmas.Slice.Eq.{bytes_eq-Decides}
 use Rattle.byte_forms.specs.Places.{IsBytes}
@@ -11,11 +11,12 @@ use Rattle.byte_forms.proofs.Steps.{bind_ok, lifted_ok, pass_ok, ok_is, IsBytes-
 use Rattle.der_core.specs.Elements.{length_octets, element}
 use Rattle.cert_fields.specs.Certificate.{Parts, parts_of}
 use Rattle.cert_fields.specs.Spelling.{tbs_fields, certificate_fields, certificate}
+use Rattle.cert_fields.specs.Grammar.{IsCertificate}
 use Rattle.cert_fields.proofs.CertificateForm.{parts_only, parts_again}
 use Rattle.tree_core.specs.Evaluation.{evaluation}
 use Rattle.tree_core.specs.Tree.{leaf_hash}
 use Rattle.log_entry.specs.EntryOf.{entry_of}
-use Rattle.mtc_proof.specs.Proofs.{ProofParts}
+use Rattle.mtc_proof.specs.Proofs.{ProofParts, proof_text, IsProof}
 use Rattle.mtc_proof.specs.Reading.{proof_in}
 use Rattle.mtc_proof.proofs.Forms.{proofs_only, proofs_again}
 use Rattle.policy_core.specs.Stores.{IsValid}
@@ -27,18 +28,17 @@ use Rattle.policy_core.specs.declared.store.Store.{Store}
 use Rattle.policy_core.specs.declared.refusal.Refusal.{Refusal}
 use Rattle.policy_core.specs.declared.refusal.Refusal.TheVariants.{Grammar, ProofGrammar}
 use Rattle.policy_core.specs.declared.refusal.Refusal.TheVariants.{ProofShape, LandmarkDiffers}
-use Rattle.policy_core.specs.Acceptance.{IsAmong, IsTrusted, IsCosigned, IsAccepted}
+use Rattle.policy_core.specs.Acceptance.{IsAmong, Trusts, HoldsNoOther, IsTrusted, IsSatisfied}
+use Rattle.policy_core.specs.Acceptance.{IsCosigned, IsAccepted, accepted_by}
 use Rattle.policy_core.specs.Counting.{counted, first_unmet}
 use Rattle.policy_core.specs.Judgement.{admitted, is_of, accepted, by_rules, by_cosigners, by_trust}
 use Rattle.policy_core.specs.Judgement.{decided, judged, judgement}
-use Rattle.policy_core.proofs.Asked.{admitted_only, admitted_again}
+use Rattle.policy_core.proofs.Asked.{IsAdmitted, admitted_only, admitted_again}
 use Rattle.policy_core.proofs.Policies.{all_met, met_all}
-use Rattle.policy_core.proofs.TrustedHash.{find_only, find_again, find_none, none_found}
+use Rattle.policy_core.proofs.TrustedHash.{any_of, any_trusted, find_only, find_again, find_none}
+use Rattle.policy_core.proofs.TrustedHash.{none_found, none_of, trusted_with}
 
 -- ---- the decision
-
-abbrev trusted_with : ℕ → ℕ → List ℕ → Trusted
-trusted_with start end hash = record { start = start; end = end; hash = hash }
 
 pub record IsDecided (store : Store) (index : ℕ) (p : ProofParts) (hash : List ℕ) (a : Accepted)
     : Type 0 where
@@ -69,8 +69,7 @@ cosigned_only store index p hash a none e =
           by = inr (record {
             cosigners = sym (ap (λ (x : Accepted). x.by) same);
             untrusted = find_none p.start p.end store.subtrees none;
-            some = all.0;
-            met = all.1;
+            satisfied = record { some = all.0; met = all.1 };
           });
           known = told (Cosigners set) index p hash a same;
         }
@@ -113,7 +112,7 @@ decided_again store index p hash by valid (inl t) =
 decided_again store index p hash by valid (inr c) =
     rw (
       none_found p.start p.end store.subtrees c.untrusted,
-      met_all (counted store p hash) store.rules c.some c.met,
+      met_all (counted store p hash) store.rules c.satisfied.some c.satisfied.met,
       c.cosigners,
     ) refl
 
@@ -201,3 +200,64 @@ accepted_again h bytes store now a valid f =
     ∙ proofs_again p f.proof_fits in
     let last = decided_again store c.serial p a.hash a.by valid f.by in
     rw (one, two, three, f.evaluates, last) (ap (λ (x : Accepted). Ok x) (sym f.known))
+
+-- ---- a store that holds no other hash
+
+abbrev chosen : ℕ → Bool → By
+chosen set trusted = if trusted then Landmark else Cosigners set
+
+pub by_accepted : (store : Store) (p : ProofParts) (hash : List ℕ)
+    → HoldsNoOther store p.start p.end hash
+    → Trusts store p.start p.end hash ⊎ IsSatisfied store p hash
+    → IsTrusted store p hash (accepted_by store p hash)
+    ⊎ IsCosigned store p hash (accepted_by store p hash)
+unfolding accepted_by
+by_accepted store p hash other by = go (list_any (is_of p.start p.end) store.subtrees) refl by
+  where
+    go : (b : Bool) → list_any (is_of p.start p.end) store.subtrees ≡ b
+        → Trusts store p.start p.end hash ⊎ IsSatisfied store p hash
+        → IsTrusted store p hash (chosen (counted store p hash) b)
+        ⊎ IsCosigned store p hash (chosen (counted store p hash) b)
+    go true any by =
+        inl (record {
+          landmark = refl;
+          among = any_trusted p.start p.end hash store.subtrees other any;
+        })
+    go false none (inl t) =
+        let any = any_of (trusted_with p.start p.end hash) store.subtrees t in absurd cc
+    go false none (inr s) =
+        inr (record {
+          cosigners = refl;
+          untrusted = none_of p.start p.end store.subtrees none;
+          satisfied = s;
+        })
+
+-- A certificate with these parts and this proof is accepted by a store that admits it.
+pub accepted_so : (h : List ℕ → List ℕ) (bytes : List ℕ) (store : Store) (now : ℤ) (c : Parts)
+    (p : ProofParts) (hash : List ℕ)
+    → IsValid store → IsCertificate c → bytes ≡ certificate c → IsAdmitted store now c
+    → IsProof p → c.proof ≡ proof_text p
+    → evaluation h (leaf_hash h (entry_of h c)) c.serial p.start p.end p.path ≡ Ok hash
+    → HoldsNoOther store p.start p.end hash
+    → Trusts store p.start p.end hash ⊎ IsSatisfied store p hash
+    → judgement h bytes store now ≡ Ok (accepted (accepted_by store p hash) c.serial p hash)
+accepted_so h bytes store now c p hash valid fits spelled asked proof_fits proof_spelled value
+    other by =
+    accepted_again h bytes store now (accepted (accepted_by store p hash) c.serial p hash) valid
+    (record {
+      parts = c;
+      fits = fits;
+      spelled = spelled;
+      algorithm = asked.algorithm;
+      issuer = asked.issuer;
+      begun = asked.begun;
+      lasting = asked.lasting;
+      extensions = asked.extensions;
+      not_revoked = asked.not_revoked;
+      proof = p;
+      proof_fits = proof_fits;
+      proof_spelled = proof_spelled;
+      evaluates = value;
+      by = by_accepted store p hash other by;
+      known = refl;
+    })

@@ -1,18 +1,21 @@
 -- The bits of a set.
 use Rattle.std.proofs.Common.{◌≡◌, ℕ, zero, suc, ◌+◌, ◌*◌, ◌/◌, ◌%◌, ◌^◌, ◌<◌, ◌==◌, Bool, true}
-use Rattle.std.proofs.Common.{false, List, [], ◌∷◌, length, get_or, refl, sym, ap, ◌∙◌, arith}
+use Rattle.std.proofs.Common.{false, ◌≤◌, List, [], ◌∷◌, length, get_or, nat_lt, ◌⊎◌, inl, inr}
+use Rattle.std.proofs.Common.{refl, sym, ap, ◌∙◌, arith}
+use Rattle.std.proofs.lemmas.Bool.Decides.{nat_tests}
 use Rattle.std.proofs.lemmas.Grind.{pow_more}
-use Rattle.std.proofs.lemmas.Nat.Bits.{bit_at_lowest, bit_at-suc}
+use Rattle.std.proofs.lemmas.Nat.Bits.{bit_at_lowest, bit_at-suc, bit_at-zero}
 use Rattle.std.specs.Int.{bit_at}
 use Rattle.std.specs.List.{AllByRecursion, flat_map, list_any}
 use Rattle.std.specs.Prelude.{if◌then◌else◌}
 use Rattle.byte_forms.specs.Types.{Hash, Text}
+use Rattle.mtc_proof.specs.Inputs.{signed_text}
 use Rattle.mtc_proof.specs.Proofs.{ProofParts, SigParts, signature_text, IsMtcSignature}
 use Rattle.mtc_proof.proofs.Sequence.{signatures_found}
 use Rattle.policy_core.specs.declared.cosigners.Known.{Known}
 use Rattle.policy_core.specs.declared.store.Store.{Store}
-use Rattle.policy_core.specs.Counting.{counts, set_from, counted, is_in_set, has_signed}
-use Rattle.policy_core.specs.Counting.{is_signature_of, signed_text}
+use Rattle.policy_core.specs.Counting.{counts, set_from, counted, is_in_set, is_named}
+use Rattle.policy_core.specs.Counting.{has_signed, is_signature_of}
 
 abbrev one_if : Bool → ℕ
 one_if b = if b then 1 else 0
@@ -60,6 +63,16 @@ bit_of passes n (x ∷ xs) (suc place) d lt =
     ∙ (bit_of passes (n + 1) xs place d less
     ∙ ap (λ (m : ℕ). one_if (passes m (get_or xs place d))) (sym same)))
 
+bit_beyond : {A : Type 0} (passes : ℕ → A → Bool) (n : ℕ) (xs : List A) (place : ℕ)
+    → length xs ≤ place → bit_at (digits passes n xs) place ≡ 0
+bit_beyond passes n [] place le = bit_at-zero place
+bit_beyond passes n (x ∷ xs) zero le = absurd (omega arith)
+bit_beyond passes n (x ∷ xs) (suc place) le =
+    let less : length xs ≤ place = omega arith in
+    bit_at-suc (digits passes n (x ∷ xs)) place
+    ∙ (ap (λ (m : ℕ). bit_at m place) (higher (passes n x) (digits passes (n + 1) xs))
+    ∙ bit_beyond passes (n + 1) xs place less)
+
 is_one : (b : Bool) → (one_if b == 1) ≡ b
 is_one true = refl
 is_one false = refl
@@ -79,8 +92,38 @@ set_has store p hash place k lt =
     ∙ (ap (λ (n : ℕ). one_if (passes n (get_or store.cosigners place k)) == 1) first
     ∙ is_one (passes place (get_or store.cosigners place k))))
 
+set_beyond : (store : Store) (p : ProofParts) (hash : Hash) (place : ℕ)
+    → length store.cosigners ≤ place → is_in_set (counted store p hash) place ≡ false
+unfolding counted
+set_beyond store p hash place le =
+    let passes : ℕ → Known → Bool = counts store p hash in
+    let whole : set_from passes 0 store.cosigners ≡ digits passes 0 store.cosigners =
+    set_is passes 0 store.cosigners ∙ omega arith in
+    ap (λ (m : ℕ). bit_at m place == 1) whole
+    ∙ ap (λ (bit : ℕ). bit == 1) (bit_beyond passes 0 store.cosigners place le)
+
+-- Each in the set is one of the cosigners, whom some rule names.
+pub none_unnamed : (store : Store) (p : ProofParts) (hash : Hash) (place : ℕ)
+    → (length store.cosigners ≤ place) ⊎ (is_named store.rules place ≡ false)
+    → is_in_set (counted store p hash) place ≡ false
+none_unnamed store p hash place (inl le) = set_beyond store p hash place le
+none_unnamed store p hash place (inr e) =
+    go store.cosigners refl (nat_lt place (length store.cosigners)) refl
+  where
+    go : (ks : List Known) → store.cosigners ≡ ks
+        → (b : Bool) → nat_lt place (length store.cosigners) ≡ b
+        → is_in_set (counted store p hash) place ≡ false
+    go ks is false below = set_beyond store p hash place (grind (arith, nat_tests, below))
+    go [] is true below =
+        let lt : place < length store.cosigners = grind (arith, nat_tests, below) in
+        let none : length store.cosigners ≡ 0 = ap length is in absurd (omega arith)
+    go (k ∷ ks) is true below =
+        let lt : place < length store.cosigners = grind (arith, nat_tests, below) in
+        set_has store p hash place k lt ∙ rw e refl
+
 pub signed_as_spelled : (log : Text) (p : ProofParts) (hash : Hash) (k : Known)
     (xs : List SigParts) → AllByRecursion IsMtcSignature xs
     → p.signatures ≡ flat_map signature_text xs
-    → has_signed log p hash k ≡ list_any (is_signature_of k (signed_text log p hash k)) xs
+    → has_signed log p hash k
+    ≡ list_any (is_signature_of k (signed_text k.id log p.start p.end hash)) xs
 signed_as_spelled log p hash k xs each spelled = rw (spelled, signatures_found xs each) refl

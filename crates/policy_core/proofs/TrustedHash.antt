@@ -2,12 +2,16 @@
 use Rattle.std.proofs.Common.{◌≡◌, ℕ, Bool, true, false, List, [], ◌∷◌, Some, None, cond, refl, sym}
 use Rattle.std.proofs.Common.{ap}
 use Rattle.std.proofs.Common.{subst, ◌∙◌, inl, inr, eq-eqb, eqb-true}
-use Rattle.std.specs.Prelude.{◌==◌, ◌&&◌}
-use Rattle.std.specs.List.{find, AllByRecursion, IsDistinct}
+use Rattle.std.proofs.lemmas.Bool.{or_parts}
+use Rattle.std.specs.Prelude.{◌==◌, ◌&&◌, ◌||◌}
+use Rattle.std.specs.List.{find, list_any, AllByRecursion, IsDistinct}
 use Rattle.policy_core.specs.Stores.{has_same_interval}
 use Rattle.policy_core.specs.declared.lists.Trusted.{Trusted}
 use Rattle.policy_core.specs.Acceptance.{IsAmong}
 use Rattle.policy_core.specs.Judgement.{is_of}
+
+abbrev pub trusted_with : ℕ → ℕ → List ℕ → Trusted
+trusted_with start end hash = record { start = start; end = end; hash = hash }
 
 pub record IsFound (start end : ℕ) (t : Trusted) (xs : List Trusted) : Type 0 where
   pub among : IsAmong t xs
@@ -84,3 +88,47 @@ pub none_found : (start end : ℕ) (xs : List Trusted)
     → AllByRecursion (λ t. is_of start end t ≡ false) xs → find (is_of start end) xs ≡ None
 none_found start end [] all = refl
 none_found start end (x ∷ xs) all = rw all.0 (none_found start end xs all.1)
+
+-- ---- whether there is one
+
+pub none_of : (start end : ℕ) (xs : List Trusted) → list_any (is_of start end) xs ≡ false
+    → AllByRecursion (λ t. is_of start end t ≡ false) xs
+none_of start end [] e = tt
+none_of start end (x ∷ xs) e =
+    let (here, more) = or_parts (is_of start end x) (list_any (is_of start end) xs) e in
+    (here, none_of start end xs more)
+
+pub any_of : (t : Trusted) (xs : List Trusted) → IsAmong t xs
+    → list_any (is_of t.start t.end) xs ≡ true
+any_of t [] among = absurd among
+any_of t (x ∷ xs) (inl same) =
+    let P : Trusted → Type 0 = λ y. list_any (is_of t.start t.end) (y ∷ xs) ≡ true in
+    let here : list_any (is_of t.start t.end) (t ∷ xs) ≡ true = rw (is_itself t) refl in
+    subst P (sym same) here
+any_of t (x ∷ xs) (inr later) = go (is_of t.start t.end x) (any_of t xs later)
+  where
+    go : (b : Bool) → list_any (is_of t.start t.end) xs ≡ true
+        → (b || list_any (is_of t.start t.end) xs) ≡ true
+    go true e = refl
+    go false e = e
+
+-- One that has the interval has the hash, where none has another one.
+pub any_trusted : (start end : ℕ) (hash : List ℕ) (xs : List Trusted)
+    → AllByRecursion (λ t. is_of start end t ≡ true → t.hash ≡ hash) xs
+    → list_any (is_of start end) xs ≡ true
+    → IsAmong (trusted_with start end hash) xs
+any_trusted start end hash [] other e = absurd cc
+any_trusted start end hash (x ∷ xs) other e =
+    go (is_of start end x) refl e (λ h. any_trusted start end hash xs other.1 h)
+  where
+    go : (b : Bool) → is_of start end x ≡ b → (b || list_any (is_of start end) xs) ≡ true
+        → (list_any (is_of start end) xs ≡ true → IsAmong (trusted_with start end hash) xs)
+        → IsAmong (trusted_with start end hash) (x ∷ xs)
+    go true test e later =
+        let two = both_equal x.start start x.end end test in
+        let same : x ≡ trusted_with start end hash =
+        ap (λ (n : ℕ). trusted_with n x.end x.hash) two.0
+        ∙ (ap (λ (n : ℕ). trusted_with start n x.hash) two.1
+        ∙ ap (λ (b : List ℕ). trusted_with start end b) (other.0 test)) in
+        inl same
+    go false test e later = inr (later e)

@@ -11,6 +11,7 @@ use Rattle.tree_core.specs.declared.spans.Span.{Span}
 use Rattle.policy_core.specs.declared.lists.Trusted.{Trusted}
 use Rattle.policy_core.specs.declared.store.Store.{Store}
 use Rattle.policy_core.specs.Files.{are_subtrees, are_inhabited}
+use Rattle.policy_core.specs.Limits.{most_cosigners}
 use Rattle.policy_core.specs.Stores.{has_repeat, has_same_id, has_same_interval, IsRule}
 use Rattle.policy_core.specs.Stores.{IsOfSubtree, IsInhabited, IsValid}
 
@@ -41,7 +42,7 @@ ranges (x ∷ xs) h =
     let (here, more) = and_parts (nat_lt x.start x.end) (are_inhabited xs) h in
     (grind (arith, nat_tests, here), ranges xs more)
 
-pub whole : (s : Store) → s.name ≡ name_with (text_of s.log) → length s.cosigners ≤ 64
+pub whole : (s : Store) → s.name ≡ name_with (text_of s.log) → length s.cosigners ≤ most_cosigners
     → AllByRecursion (IsRule (length s.cosigners)) s.rules
     → has_repeat has_same_id s.cosigners ≡ false
     → has_repeat has_same_interval s.subtrees ≡ false

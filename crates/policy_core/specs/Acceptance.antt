@@ -1,6 +1,7 @@
 -- What it means that a certificate is accepted, in terms of the grammars and of the tree.
-use Rattle.std.specs.Prelude.{◌≡◌, ◌⊎◌, ◌<◌, ◌≤◌, ℕ, false, ℤ, ◌≤ℤ◌, List, [], ◌∷◌, length, Ok}
-use Rattle.std.specs.List.{AllByRecursion, count_by}
+use Rattle.std.specs.Prelude.{◌≡◌, ◌⊎◌, ◌<◌, ◌≤◌, ℕ, true, false, ℤ, ◌≤ℤ◌, List, [], ◌∷◌}
+use Rattle.std.specs.Prelude.{length, Ok, if◌then◌else◌}
+use Rattle.std.specs.List.{AllByRecursion, count_by, list_any}
 use Rattle.byte_forms.specs.Types.{Text, Hash, HashFunction}
 use Rattle.cert_fields.specs.Certificate.{Parts}
 use Rattle.cert_fields.specs.Extensions.{has_unknown_critical}
@@ -25,22 +26,44 @@ abbrev pub IsAmong : Trusted → List Trusted → Type 0
 IsAmong t [] = ⊥
 IsAmong t (x ∷ xs) = (x ≡ t) ⊎ IsAmong t xs
 
--- The store trusts the proof's interval with this hash.
+-- The store trusts the interval [start, end) with this hash.
+abbrev pub Trusts : Store → ℕ → ℕ → Hash → Type 0
+Trusts store start end hash =
+    IsAmong (record { start = start; end = end; hash = hash }) store.subtrees
+
+-- The store trusts the interval [start, end) with no other hash.
+abbrev pub HoldsNoOther : Store → ℕ → ℕ → Hash → Type 0
+HoldsNoOther store start end hash =
+    AllByRecursion (λ t. is_of start end t ≡ true → t.hash ≡ hash) store.subtrees
+
+-- It is accepted since the store trusts the proof's interval with this hash.
 pub record IsTrusted (store : Store) (p : ProofParts) (hash : Hash) (by : By) : Type 0 where
   pub landmark : by ≡ Landmark
-  pub among : IsAmong (record { start = p.start; end = p.end; hash = hash }) store.subtrees
+  pub among : Trusts store p.start p.end hash
 
 -- At least as many of the rule's cosigners are in the set as it asks for.
 abbrev pub IsMet : ℕ → Rule → Type 0
 IsMet set r = r.count ≤ count_by (is_in_set set) r.cosigners
 
--- The store doesn't trust the proof's interval with any hash. It has rules, and those of its
--- cosigners who count for this hash meet each of them.
+-- The store has rules, and those of its cosigners who count for the proof, where its interval has
+-- this hash, meet each of them.
+pub record IsSatisfied (store : Store) (p : ProofParts) (hash : Hash) : Type 0 where
+  pub some : 0 < length store.rules
+  pub met : AllByRecursion (IsMet (counted store p hash)) store.rules
+
+-- It is accepted since the store doesn't trust the proof's interval with any hash, and its rules
+-- are met.
 pub record IsCosigned (store : Store) (p : ProofParts) (hash : Hash) (by : By) : Type 0 where
   pub cosigners : by ≡ Cosigners (counted store p hash)
   pub untrusted : AllByRecursion (λ t. is_of p.start p.end t ≡ false) store.subtrees
-  pub some : 0 < length store.rules
-  pub met : AllByRecursion (IsMet (counted store p hash)) store.rules
+  pub satisfied : IsSatisfied store p hash
+
+-- By what a store accepts, where it does: by a subtree that it trusts in the proof's interval, or,
+-- where there is none, by the cosigners that count.
+unfoldable pub accepted_by : Store → ProofParts → Hash → By
+accepted_by store p hash =
+    if list_any (is_of p.start p.end) store.subtrees then Landmark
+    else Cosigners (counted store p hash)
 
 -- The bytes spell a certificate of the store's log that is valid at the moment, isn't revoked, and
 -- has no critical extension that isn't known; its signature spells a proof, whose path gives the

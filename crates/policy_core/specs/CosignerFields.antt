@@ -15,6 +15,7 @@ use Rattle.policy_core.specs.declared.error.Key.TheVariants.{CosignerId, Cosigne
 use Rattle.policy_core.specs.declared.error.Key.TheVariants.{Cosigners}
 use Rattle.policy_core.specs.declared.error.StoreError.{StoreError}
 use Rattle.policy_core.specs.Fields.{table_with, store_field, id_data, items_at, list_at}
+use Rattle.policy_core.specs.Limits.{most_cosigners}
 use Rattle.policy_core.specs.Stores.{has_repeat, is_same_place}
 
 -- ---- cosigners
@@ -22,9 +23,9 @@ use Rattle.policy_core.specs.Stores.{has_repeat, is_same_place}
 abbrev pub cosigner_keys : List Text
 cosigner_keys = codes "id" ∷ codes "key" ∷ []
 
--- The id of the cosigner at this place, from 0: none is taken at place 64 and behind it.
+-- The id of the cosigner at this place, from 0: none is taken behind the most.
 abbrev pub id_data_at : ℕ → Data → Option Text
-id_data_at place d = if nat_lt place 64 then id_data d else None
+id_data_at place d = if nat_lt place most_cosigners then id_data d else None
 
 -- Bytes that are an HSS public key (RFC 8554, 6.1), and the text of one in base64.
 unfoldable pub public_key : Text → Option Text

@@ -8,18 +8,12 @@ use Rattle.std.specs.Str.{bytes_eq}
 use Rattle.byte_forms.specs.Places.{at}
 use Rattle.byte_forms.specs.Types.{Hash, Text}
 use Rattle.hss_core.specs.Hss.{hss_refusal}
-use Rattle.mtc_proof.specs.Inputs.{input_text}
+use Rattle.mtc_proof.specs.Inputs.{signed_text}
 use Rattle.mtc_proof.specs.Proofs.{SigParts, ProofParts}
 use Rattle.mtc_proof.specs.Reading.{signatures_left}
 use Rattle.policy_core.specs.declared.cosigners.Known.{Known}
 use Rattle.policy_core.specs.declared.rules.Rule.{Rule}
 use Rattle.policy_core.specs.declared.store.Store.{Store}
-
--- What the cosigner signs of the proof's interval in the log, where it has this hash.
-abbrev pub signed_text : Text → ProofParts → Hash → Known → Text
-signed_text log p hash k =
-    input_text
-    (record { cosigner = k.id; log = log; start = p.start; end = p.end; hash = hash })
 
 -- The signature has the cosigner's id, and verifies this text under its key (RFC 8554, 6.3).
 abbrev pub is_signature_of : Known → Text → SigParts → Bool
@@ -29,7 +23,8 @@ is_signature_of k text s =
 -- The proof has a signature of the cosigner over its interval with this hash.
 abbrev pub has_signed : Text → ProofParts → Hash → Known → Bool
 has_signed log p hash k =
-    list_any (is_signature_of k (signed_text log p hash k)) (signatures_left (at p.signatures 0))
+    list_any (is_signature_of k (signed_text k.id log p.start p.end hash))
+    (signatures_left (at p.signatures 0))
 
 -- The cosigner at this place stands in some rule.
 abbrev pub is_named : List Rule → ℕ → Bool

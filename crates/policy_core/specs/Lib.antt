@@ -1,3 +1,4 @@
+pub mod Limits
 pub mod Stores
 pub mod Fields
 pub mod CosignerFields

@@ -7,6 +7,7 @@ use Rattle.cert_names.specs.LogNames.{name_with}
 use Rattle.tls_wire.specs.Anchors.{text_of}
 use Rattle.tree_core.specs.Laws.{IsSubtree}
 use Rattle.tree_core.specs.declared.spans.Span.{Span}
+use Rattle.policy_core.specs.Limits.{most_cosigners}
 use Rattle.policy_core.specs.declared.cosigners.Known.{Known}
 use Rattle.policy_core.specs.declared.lists.Trusted.{Trusted}
 use Rattle.policy_core.specs.declared.rules.Rule.{Rule}
@@ -42,11 +43,11 @@ IsOfSubtree t = IsSubtree t.start t.end
 abbrev pub IsInhabited : Span → Type 0
 IsInhabited r = r.start < r.end
 
--- The name is that of the log, there are at most 64 cosigners, whose ids differ, each rule is one
+-- The name is that of the log, there are not too many cosigners, whose ids differ, each rule is one
 -- over them, each interval is a subtree and is trusted once, and each revoked range holds a number.
 pub record IsValid (s : Store) : Type 0 where
   pub name : s.name ≡ name_with (text_of s.log)
-  pub few : length s.cosigners ≤ 64
+  pub few : length s.cosigners ≤ most_cosigners
   pub cosigners : IsDistinct has_same_id s.cosigners
   pub rules : AllByRecursion (IsRule (length s.cosigners)) s.rules
   pub subtrees : AllByRecursion IsOfSubtree s.subtrees

@@ -6,9 +6,10 @@ ghost use Rattle.toml.specs.Data.{get_member};
 ghost use Rattle.toml.specs.View.{items_view, table_view, view};
 ghost use Rattle.policy_core.specs.declared.error.StoreError.{StoreError};
 ghost use Rattle.policy_core.specs.Fields.{store_field};
+ghost use Rattle.policy_core.specs.Limits.{most_cosigners};
 ghost use Rattle.policy_core.specs.CosignerFields.{cosigner_data, cosigners_at, cosigners_from, id_data_at, key_data, public_key};
 
-use crate::cosigners::{Cosigners, Known};
+use crate::cosigners::{Cosigners, Known, MOST_COSIGNERS};
 use crate::error::{Key, StoreError};
 use crate::fields::{id_of, items_at, table_with};
 use hss_core::{PUBLIC_KEY_LEN, read_key};
@@ -18,20 +19,17 @@ use tls_wire::AnchorId;
 use toml::{Table, Value};
 use toml_fields::{bytes_of, value_at};
 
-// The most cosigners that a store has.
-const MOST: usize = 64;
-
 // The id of the cosigner at this place. It is none from the 65th on.
 fn id_at(alloc: Global, table: &Table, place: usize) -> Result<AnchorId, StoreError>
     ensures exact { Answers StoreError.Memory
         (store_field Key.CosignerId (id_data_at place)
         (get_member (codes "id") (table_view table.now))) result }
-    ensures within { IfOk result (λ _. place < 64) }
+    ensures within { IfOk result (λ _. place < most_cosigners) }
 {
     let Some(value) = value_at(table, "id") else {
         return Err(StoreError::Missing(Key::CosignerId));
     };
-    if place >= MOST {
+    if place >= MOST_COSIGNERS {
         return Err(StoreError::BadValue(Key::CosignerId));
     }
     id_of(alloc, value)?.ok_or(StoreError::BadValue(Key::CosignerId))
@@ -75,7 +73,7 @@ fn key_at(alloc: Global, table: &Table) -> Result<[u8; PUBLIC_KEY_LEN], StoreErr
 #[tactic(auto, unfolding(crate::specs::CosignerFields::cosigner_data))]
 fn cosigner_of(alloc: Global, value: &Value, place: usize) -> Result<Known, StoreError>
     ensures exact { Answers StoreError.Memory (cosigner_data place (view value.now)) result }
-    ensures within { IfOk result (λ _. place < 64) }
+    ensures within { IfOk result (λ _. place < most_cosigners) }
 {
     let table = table_with(value, &["id", "key"])?;
     let id = id_at(alloc, table, place)?;
@@ -88,7 +86,7 @@ fn each_cosigner(alloc: Global, values: &[Value]) -> Result<Vec<Known>, StoreErr
     ensures ok { IfOk result (λ xs. cosigners_from 0 (items_view values.now) ≡ Ok xs.items) }
     ensures err { IfErr result (λ e. e ≢ StoreError.Memory
         → cosigners_from 0 (items_view values.now) ≡ Err e) }
-    ensures few { IfOk result (λ xs. length xs.items ≤ 64) }
+    ensures few { IfOk result (λ xs. length xs.items ≤ most_cosigners) }
 {
     let mut cosigners = Vec::new(alloc);
     for value in values {

@@ -21,7 +21,7 @@ mod store;
 mod whole;
 
 pub use answer::{Accepted, By};
-pub use cosigners::{Cosigners, Known};
+pub use cosigners::{Cosigners, Known, MOST_COSIGNERS};
 pub use error::{Key, StoreError};
 pub use lists::{Revoked, Subtrees, Trusted};
 pub use refusal::Refusal;

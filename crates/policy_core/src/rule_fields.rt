@@ -7,6 +7,7 @@ ghost use Rattle.toml.specs.Data.{get_member};
 ghost use Rattle.toml.specs.View.{items_view, table_view, view};
 ghost use Rattle.policy_core.specs.declared.error.StoreError.{StoreError};
 ghost use Rattle.policy_core.specs.Fields.{each_of, store_field};
+ghost use Rattle.policy_core.specs.Limits.{most_cosigners};
 ghost use Rattle.policy_core.specs.CosignerFields.{count_data, if_different, place_data, place_of, places_data, places_in, rule_data, rules_at};
 ghost use Rattle.policy_core.specs.Stores.{has_repeat, is_same_place, IsRule};
 
@@ -29,7 +30,7 @@ fn index_of(known: &[Known], id: &[u8]) -> Option<usize>
 // The same, as it is kept: a store has few cosigners.
 #[tactic(auto, using(crate::proofs::FileRules::position_below))]
 fn place_of(known: &[Known], id: &[u8]) -> Option<u32>
-    requires { length known.now ≤ 64 }
+    requires { length known.now ≤ most_cosigners }
     ensures { result ≡ place_of known.now id.now }
 {
     match index_of(known, id) {
@@ -41,7 +42,7 @@ fn place_of(known: &[Known], id: &[u8]) -> Option<u32>
 // The place of the cosigner that a value names.
 #[tactic(auto, unfolding(crate::specs::CosignerFields::place_data))]
 fn place_at(alloc: Global, known: &[Known], value: &Value) -> Result<Option<u32>, Memory>
-    requires { length known.now ≤ 64 }
+    requires { length known.now ≤ most_cosigners }
     ensures { IfOk result (λ o. o ≡ place_data known.now (view value.now)) }
 {
     match id_of(alloc, value)? {
@@ -52,7 +53,7 @@ fn place_at(alloc: Global, known: &[Known], value: &Value) -> Result<Option<u32>
 
 // The places that all the values name.
 fn places_in(alloc: Global, known: &[Known], values: &[Value]) -> Result<Option<Places>, Memory>
-    requires { length known.now ≤ 64 }
+    requires { length known.now ≤ most_cosigners }
     ensures { IfOk result (λ o. o ≡ places_in known.now (items_view values.now)) }
 {
     let mut places = Vec::new(alloc);
@@ -110,9 +111,9 @@ fn if_different(places: Places, known: usize) -> Option<Places>
 // The places that a value names, where it is a list of different cosigners.
 #[tactic(auto, unfolding(crate::specs::CosignerFields::places_data))]
 fn places_of(alloc: Global, known: &[Known], value: &Value) -> Result<Option<Places>, Memory>
-    requires { length known.now ≤ 64 }
+    requires { length known.now ≤ most_cosigners }
     ensures exact { IfOk result (λ o. o ≡ places_data known.now (view value.now)) }
-    ensures few { IfOk result (λ o. IfSome o (λ ps. length ps ≤ 64)) }
+    ensures few { IfOk result (λ o. IfSome o (λ ps. length ps ≤ most_cosigners)) }
 {
     let Some(items) = value.as_array() else {
         return Ok(None);
@@ -125,10 +126,10 @@ fn places_of(alloc: Global, known: &[Known], value: &Value) -> Result<Option<Pla
 
 // The cosigners of a rule.
 fn places_at(alloc: Global, known: &[Known], table: &Table) -> Result<Places, StoreError>
-    requires { length known.now ≤ 64 }
+    requires { length known.now ≤ most_cosigners }
     ensures exact { Answers StoreError.Memory (store_field Key.Cosigners (places_data known.now)
         (get_member (codes "cosigners") (table_view table.now))) result }
-    ensures few { IfOk result (λ ps. length ps ≤ 64) }
+    ensures few { IfOk result (λ ps. length ps ≤ most_cosigners) }
 {
     let Some(value) = value_at(table, "cosigners") else {
         return Err(StoreError::Missing(Key::Cosigners));
@@ -142,7 +143,7 @@ fn places_at(alloc: Global, known: &[Known], table: &Table) -> Result<Places, St
 // The number, where it is from 1 to the most.
 #[tactic(auto, unfolding(crate::specs::CosignerFields::count_data))]
 fn count_of(value: &Value, most: usize) -> Option<u32>
-    requires { most ≤ 64 }
+    requires { most ≤ most_cosigners }
     ensures { result ≡ count_data most (view value.now) }
 {
     match number_of(value) {
@@ -153,7 +154,7 @@ fn count_of(value: &Value, most: usize) -> Option<u32>
 
 // How many cosigners a rule asks for, which names so many.
 fn count_at(table: &Table, most: usize) -> Result<u32, StoreError>
-    requires { most ≤ 64 }
+    requires { most ≤ most_cosigners }
     ensures { result ≡ store_field Key.Count (count_data most)
         (get_member (codes "count") (table_view table.now)) }
 {
@@ -166,7 +167,7 @@ fn count_at(table: &Table, most: usize) -> Result<u32, StoreError>
 // One rule over these cosigners.
 #[tactic(auto, unfolding(crate::specs::CosignerFields::rule_data))]
 fn rule_of(alloc: Global, known: &[Known], value: &Value) -> Result<Rule, StoreError>
-    requires { length known.now ≤ 64 }
+    requires { length known.now ≤ most_cosigners }
     ensures { Answers StoreError.Memory (rule_data known.now (view value.now)) result }
 {
     let table = table_with(value, &["cosigners", "count"])?;
@@ -177,7 +178,7 @@ fn rule_of(alloc: Global, known: &[Known], value: &Value) -> Result<Rule, StoreE
 
 // The rules, each in its turn.
 fn each_rule(alloc: Global, known: &[Known], values: &[Value]) -> Result<Vec<Rule>, StoreError>
-    requires { length known.now ≤ 64 }
+    requires { length known.now ≤ most_cosigners }
     ensures ok { IfOk result (λ xs. each_of (rule_data known.now) (items_view values.now)
         ≡ Ok xs.items) }
     ensures err { IfErr result (λ e. e ≢ StoreError.Memory
