@@ -11,7 +11,9 @@ use Rattle.cosigner_core.specs.Checkpoints.{has_subtree, is_front_of}
 use Rattle.cosigner_core.specs.Folds.{CosignerState, after_step, cosigner_of, having_signed}
 use Rattle.cosigner_core.specs.Folds.{holding}
 use Rattle.cosigner_core.specs.Folds.{key_count}
-use Rattle.cosigner_core.specs.Records.{Advance, FitsStep, Sign, Step, step_record}
+use Rattle.cosigner_core.specs.Records.{FitsStep, step_record}
+use Rattle.cosigner_core.specs.declared.step.Step.{Step}
+use Rattle.cosigner_core.specs.declared.step.Step.TheVariants.{Advance, Sign}
 use Rattle.cosigner_core.specs.Refusals.{advance_refusal, earlier, journal_refusal}
 use Rattle.cosigner_core.specs.Refusals.{subtree_refusal}
 use Rattle.cosigner_core.specs.Requests.{AdvanceParts, SubtreeParts}

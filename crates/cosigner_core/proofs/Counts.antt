@@ -13,7 +13,9 @@ use Rattle.cosigner_core.specs.Checkpoints.{has_subtree, is_front_of}
 use Rattle.cosigner_core.specs.Counts.{CountsUp, index_before, indices_in, indices_of}
 use Rattle.cosigner_core.specs.Folds.{CosignerState, after_step, begun, cosigner_fold, cosigner_of}
 use Rattle.cosigner_core.specs.Folds.{having_signed, holding, key_count, new_cosigner, next_state}
-use Rattle.cosigner_core.specs.Records.{Advance, Sign, Step, cosigner_in, step_in}
+use Rattle.cosigner_core.specs.Records.{cosigner_in, step_in}
+use Rattle.cosigner_core.specs.declared.step.Step.{Step}
+use Rattle.cosigner_core.specs.declared.step.Step.TheVariants.{Advance, Sign}
 use Rattle.cosigner_core.specs.declared.settings.CosignerSettings.{CosignerSettings}
 use Rattle.cosigner_core.proofs.Tagged.{some_value, when_some}
 

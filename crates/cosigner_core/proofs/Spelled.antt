@@ -26,8 +26,10 @@ use Rattle.tls_wire.proofs.Vectors.{vector_form}
 use Rattle.cosigner_core.specs.Folds.{CosignerState, after_step, begun, cosigner_fold, cosigner_of}
 use Rattle.cosigner_core.specs.Folds.{new_cosigner, next_state}
 use Rattle.cosigner_core.specs.Reading.{hash_at, proof_at, short_fault, u64_at}
-use Rattle.cosigner_core.specs.Records.{Advance, FitsCosigner, FitsStep, Sign}
-use Rattle.cosigner_core.specs.Records.{Step, advance_record, advance_step_at, cosigner_at}
+use Rattle.cosigner_core.specs.Records.{FitsCosigner, FitsStep}
+use Rattle.cosigner_core.specs.declared.step.Step.TheVariants.{Advance, Sign}
+use Rattle.cosigner_core.specs.Records.{advance_record, advance_step_at, cosigner_at}
+use Rattle.cosigner_core.specs.declared.step.Step.{Step}
 use Rattle.cosigner_core.specs.Records.{cosigner_in, cosigner_record, first_by_tag, founded}
 use Rattle.cosigner_core.specs.Records.{settings_with, sign_record, sign_step_at, signing_type}
 use Rattle.cosigner_core.specs.Records.{step_by_tag, step_in, step_record, advance_of, sign_of}

@@ -2,7 +2,9 @@
 use Rattle.std.specs.Prelude.{◌≡◌, ℕ, ◌≤◌, List, [], ◌∷◌, length, slice_get, Option, Some, None}
 use Rattle.byte_forms.specs.Types.{Text}
 use Rattle.cosigner_core.specs.Folds.{CosignerState, key_count}
-use Rattle.cosigner_core.specs.Records.{Advance, Sign, Step, step_in}
+use Rattle.cosigner_core.specs.Records.{step_in}
+use Rattle.cosigner_core.specs.declared.step.Step.{Step}
+use Rattle.cosigner_core.specs.declared.step.Step.TheVariants.{Advance, Sign}
 
 -- the number in a Sign before other numbers
 abbrev pub index_before : Option Step → List ℕ → List ℕ

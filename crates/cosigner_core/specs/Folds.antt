@@ -1,17 +1,20 @@
 -- What the records of a journal make of a cosigner. The first one begins it, and each later one is
 -- an Advance or a Sign that its state allows.
-use Rattle.std.specs.Prelude.{ℕ, ◌+◌, ◌^◌, ◌==◌, ◌&&◌, nat_lt, List, Option, Some, None, option_map}
-use Rattle.std.specs.Prelude.{option_and_then, Result, if◌then◌else◌}
+use Rattle.std.specs.Prelude.{ℕ, ◌+◌, ◌^◌, List, Option, Some, None, option_map, option_and_then}
+use Rattle.std.specs.Prelude.{Result, if◌then◌else◌}
 use Rattle.byte_forms.specs.Types.{Hash, HashFunction, Text}
 use Rattle.journal_core.specs.Folds.{Fold, state_behind}
 use Rattle.hss_core.specs.Counted.{Counted}
 use Rattle.lms_core.specs.Heights.{height}
 use Rattle.lms_core.specs.Trees.{private_key}
-use Rattle.cosigner_core.specs.Checkpoints.{empty_checkpoint, has_subtree, is_front_of}
-use Rattle.cosigner_core.specs.Records.{Advance, Sign, Step, cosigner_in, step_in}
+use Rattle.cosigner_core.specs.Checkpoints.{empty_checkpoint}
+use Rattle.cosigner_core.specs.Progress.{is_allowed, with_step}
+use Rattle.cosigner_core.specs.Records.{cosigner_in, step_in}
+use Rattle.cosigner_core.specs.declared.step.Step.{Step}
 use Rattle.cosigner_core.specs.declared.checkpoint.Checkpoint.{Checkpoint}
 use Rattle.cosigner_core.specs.declared.error.CosignerOpenError.{CosignerOpenError}
 use Rattle.cosigner_core.specs.declared.error.CosignerOpenError.TheVariants.{BadRecord, Open}
+use Rattle.cosigner_core.specs.declared.progress.Progress.{Progress}
 use Rattle.cosigner_core.specs.declared.settings.CosignerSettings.{CosignerSettings}
 
 -- A cosigner: its id and that of its log, what it holds of the log, and its key, which counts.
@@ -48,17 +51,24 @@ having_signed s = record {
 abbrev pub key_count : CosignerState → ℕ
 key_count s = 2 ^ height s.key.key.lms
 
--- An Advance needs a larger size, and a proof that what is held is the front of that log. A Sign
--- needs the number of the next one-time key, which is there, and a proof of the subtree in what is
--- held.
+-- how far it has come
+abbrev pub progress_of : CosignerState → Progress
+progress_of s = record { held = s.held; next = s.key.next }
+
+-- the same cosigner, having come so far
+abbrev pub with_progress : CosignerState → Progress → CosignerState
+with_progress s p = record {
+  id = s.id;
+  log = s.log;
+  held = p.held;
+  key = record { key = s.key.key; next = p.next };
+}
+
+-- the cosigner behind a step, where it is allowed
 abbrev pub after_step : HashFunction → CosignerState → Step → Option CosignerState
-after_step h s (Advance size root proof) =
-    if nat_lt s.held.size size && is_front_of h s.held size root proof
-    then Some (holding size root s) else None
-after_step h s (Sign index start end hash proof) =
-    if (index == s.key.next) && (nat_lt index (key_count s) && has_subtree h s.held start end
-    hash proof)
-    then Some (having_signed s) else None
+after_step h s step =
+    if is_allowed h (key_count s) (progress_of s) step
+    then Some (with_progress s (with_step (progress_of s) step)) else None
 
 -- the cosigner that a first record begins
 unfoldable pub begun : HashFunction → Text → Option CosignerState

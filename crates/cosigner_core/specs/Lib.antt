@@ -3,6 +3,7 @@ pub mod Counts
 pub mod Faults
 pub mod Folds
 pub mod Openings
+pub mod Progress
 pub mod Reading
 pub mod Records
 pub mod Refusals

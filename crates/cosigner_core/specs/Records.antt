@@ -20,13 +20,8 @@ use Rattle.tls_wire.specs.declared.fault.AnchorBytesError.{AnchorBytesError}
 use Rattle.cosigner_core.specs.Reading.{hash_at, proof_at, short_fault, u64_at}
 use Rattle.cosigner_core.specs.declared.fault.FormError.{FormError}
 use Rattle.cosigner_core.specs.declared.settings.CosignerSettings.{CosignerSettings}
-
--- What a record behind the first one says. Advance: a larger size of the log, its root, and the
--- consistency proof of what was held. Sign: the number of the one-time key, the interval of the
--- subtree, its hash, and its consistency proof.
-pub data Step : Type 0 where
-  Advance : ℕ → Hash → List Hash → Step
-  Sign : ℕ → ℕ → ℕ → Hash → List Hash → Step
+use Rattle.cosigner_core.specs.declared.step.Step.{Step}
+use Rattle.cosigner_core.specs.declared.step.Step.TheVariants.{Advance, Sign}
 
 -- ---- spelled
 

@@ -1,9 +1,10 @@
 -- Parts of the code's values as contracts see them: slices as their bytes.
 use Rattle.cosigner_core.specs.declared.requests.AdvanceRequest.{AdvanceRequest}
 use Rattle.cosigner_core.specs.declared.requests.SubtreeRequest.{SubtreeRequest}
-use Rattle.cosigner_core.specs.declared.step.Step.{Step as StepRead}
-use Rattle.cosigner_core.specs.declared.step.Step.TheVariants as step_read
-use Rattle.cosigner_core.specs.Records.{Advance, Sign, Step}
+use Rattle.cosigner_core.specs.declared.step.StepRef.{StepRef}
+use Rattle.cosigner_core.specs.declared.step.StepRef.TheVariants as step_ref
+use Rattle.cosigner_core.specs.declared.step.Step.{Step}
+use Rattle.cosigner_core.specs.declared.step.Step.TheVariants.{Advance, Sign}
 use Rattle.cosigner_core.specs.Requests.{AdvanceParts, SubtreeParts}
 
 abbrev pub advance_parts : AdvanceRequest → AdvanceParts
@@ -19,6 +20,6 @@ subtree_parts r = record {
 }
 
 -- what a record says
-abbrev pub step_said : StepRead → Step
-step_said (step_read.Advance size root proof) = Advance size root proof.now
-step_said (step_read.Sign index start end hash proof) = Sign index start end hash proof.now
+abbrev pub step_said : StepRef → Step
+step_said (step_ref.Advance size root proof) = Advance size root proof.now
+step_said (step_ref.Sign index start end hash proof) = Sign index start end hash proof.now

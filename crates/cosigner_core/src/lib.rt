@@ -21,7 +21,9 @@ mod creation;
 mod error;
 mod fault;
 mod laws;
+mod lists;
 mod opening;
+mod progress;
 mod reading;
 mod record;
 mod requests;
@@ -40,7 +42,9 @@ pub use laws::{
     first_records_are_read_as_spelled, one_time_keys_sign_once, steps_are_read_as_spelled,
     subtree_requests_are_read_as_spelled,
 };
+pub use lists::{Hashes, StepList};
 pub use reading::{read_advance, read_subtree};
 pub use requests::{AdvanceRequest, SubtreeRequest};
 pub use settings::CosignerSettings;
+pub use step::Step;
 pub use writing::{write_advance, write_subtree};

@@ -10,7 +10,7 @@ ghost use Rattle.cosigner_core.specs.Views.{step_said};
 use crate::error::RecordError;
 use crate::fault::FormError;
 use crate::settings::CosignerSettings;
-use crate::step::Step;
+use crate::step::StepRef;
 use hss_core::{LmsType, OtsType};
 use std::alloc::Global;
 use tls_wire::{AnchorId, Cursor, Short};
@@ -75,7 +75,7 @@ fn sign_fields<'a>(
 }
 
 // An Advance that ends where the record does.
-fn advance_step(mut cursor: Cursor<'_>) -> Result<Step<'_>, RecordError>
+fn advance_step(mut cursor: Cursor<'_>) -> Result<StepRef<'_>, RecordError>
     ensures { Finds step_said (option_map advance_of (whole_of (advance_step_at cursor.entry)))
         result }
 {
@@ -83,18 +83,18 @@ fn advance_step(mut cursor: Cursor<'_>) -> Result<Step<'_>, RecordError>
     if cursor.left() != 0 {
         return Err(RecordError::Unfit);
     }
-    Ok(Step::Advance { size, root, proof })
+    Ok(StepRef::Advance { size, root, proof })
 }
 
 // A Sign that ends where the record does.
-fn sign_step(mut cursor: Cursor<'_>) -> Result<Step<'_>, RecordError>
+fn sign_step(mut cursor: Cursor<'_>) -> Result<StepRef<'_>, RecordError>
     ensures { Finds step_said (option_map sign_of (whole_of (sign_step_at cursor.entry))) result }
 {
     let (index, start, end, hash, proof) = sign_fields(&mut cursor)?;
     if cursor.left() != 0 {
         return Err(RecordError::Unfit);
     }
-    Ok(Step::Sign {
+    Ok(StepRef::Sign {
         index,
         start,
         end,
@@ -105,7 +105,7 @@ fn sign_step(mut cursor: Cursor<'_>) -> Result<Step<'_>, RecordError>
 
 /// What an Advance or a Sign says, in the body of a record behind the first one.
 #[tactic(auto, unfolding(crate::specs::Records::step_in))]
-pub(crate) fn read_step(body: &[u8]) -> Result<Step<'_>, RecordError>
+pub(crate) fn read_step(body: &[u8]) -> Result<StepRef<'_>, RecordError>
     ensures { Finds step_said (step_in body.now) result }
 {
     let mut cursor = Cursor::new(body);

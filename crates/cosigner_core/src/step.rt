@@ -1,9 +1,32 @@
 //! What the records of a cosigner's journal say behind the first one.
 
-/// What a record says. The hashes of the proof lie in the record.
+use crate::lists::Hashes;
+
+/// A step of a cosigner: what a record behind the first one says.
+#[derive(Debug, Drop)]
+pub enum Step {
+    /// A larger log is held: the number of its entries, their tree hash, and the consistency proof
+    /// of what was held, the lowest hash first.
+    Advance {
+        size: u64,
+        root: [u8; 32],
+        proof: Hashes,
+    },
+    /// A one-time key signs the subtree `[start, end)` of what is held: the number of the key,
+    /// the hash of the subtree, and its consistency proof, the lowest hash first.
+    Sign {
+        index: u32,
+        start: u64,
+        end: u64,
+        hash: [u8; 32],
+        proof: Hashes,
+    },
+}
+
+/// A step as it is read. The hashes of the proof lie in the record.
 #[derive(Clone, Copy, Debug)]
-pub(crate) enum Step<'a> {
-    /// A larger checkpoint is held.
+pub(crate) enum StepRef<'a> {
+    /// A larger log is held.
     Advance {
         size: u64,
         root: [u8; 32],

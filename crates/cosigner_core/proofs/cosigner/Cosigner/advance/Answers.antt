@@ -1,5 +1,6 @@
 use Rattle.std.proofs.Common.{refl, ◌∙◌}
-use Rattle.cosigner_core.specs.Records.{Advance, advance_record}
+use Rattle.cosigner_core.specs.Records.{advance_record}
+use Rattle.cosigner_core.specs.declared.step.Step.TheVariants.{Advance}
 use Rattle.cosigner_core.specs.Folds.{holding}
 use Rattle.cosigner_core.specs.Refusals.{advance_refusal}
 use Rattle.cosigner_core.specs.Views.{advance_parts}

@@ -1,5 +1,6 @@
 use Rattle.std.proofs.Common.{refl, ◌∙◌}
-use Rattle.cosigner_core.specs.Records.{Sign, sign_record}
+use Rattle.cosigner_core.specs.Records.{sign_record}
+use Rattle.cosigner_core.specs.declared.step.Step.TheVariants.{Sign}
 use Rattle.cosigner_core.specs.Folds.{having_signed}
 use Rattle.cosigner_core.specs.Refusals.{subtree_refusal}
 use Rattle.cosigner_core.specs.Views.{subtree_parts}

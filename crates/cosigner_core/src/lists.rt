@@ -1,0 +1,83 @@
+//! The lists of an export.
+
+use crate::step::Step;
+use std::marker::Model;
+
+/// The hashes of a proof. Contracts see the list of them.
+#[derive(Debug, Drop)]
+pub struct Hashes {
+    items: Vec<[u8; 32]>,
+}
+
+impl Model for Hashes {
+    ghost use Rattle.std.specs.Prelude.{List, ℕ};
+
+    ghost Value = { List (List ℕ) };
+
+    ghost view = { λ h. h.items.items };
+}
+
+impl Hashes {
+    ghost use Rattle.std.specs.Prelude.{◌≡◌};
+
+    /// The hashes of a vector, without a copy.
+    pub fn from_vec(items: Vec<[u8; 32]>) -> Hashes
+        ensures { result ≡ items.items }
+    {
+        Hashes { items }
+    }
+
+    /// The hashes as a vector, without a copy.
+    pub fn into_vec(self) -> Vec<[u8; 32]>
+        ensures { result.items ≡ self }
+    {
+        self.items
+    }
+
+    /// The hashes, in their order.
+    pub fn as_slice(&self) -> &[[u8; 32]]
+        ensures { result.now ≡ self.now }
+    {
+        self.items.as_slice()
+    }
+}
+
+/// Steps of a cosigner. Contracts see the list of them.
+#[derive(Debug, Drop)]
+pub struct StepList {
+    items: Vec<Step>,
+}
+
+impl Model for StepList {
+    ghost use Rattle.std.specs.Prelude.{List};
+    ghost use Rattle.cosigner_core.specs.declared.step.Step.{Step};
+
+    ghost Value = { List Step };
+
+    ghost view = { λ s. s.items.items };
+}
+
+impl StepList {
+    ghost use Rattle.std.specs.Prelude.{◌≡◌};
+
+    /// The steps of a vector, without a copy.
+    pub fn from_vec(items: Vec<Step>) -> StepList
+        ensures { result ≡ items.items }
+    {
+        StepList { items }
+    }
+
+    /// The steps as a vector, without a copy.
+    pub fn into_vec(self) -> Vec<Step>
+        ensures { result.items ≡ self }
+    {
+        self.items
+    }
+
+    /// The steps, in their order.
+    pub fn as_slice(&self) -> &[Step]
+        ensures { result.now ≡ self.now }
+    {
+        self.items.as_slice()
+    }
+}
