@@ -1,14 +1,18 @@
 -- The bits of a set.
 use Rattle.std.proofs.Common.{◌≡◌, ℕ, zero, suc, ◌+◌, ◌*◌, ◌/◌, ◌%◌, ◌^◌, ◌<◌, ◌==◌, Bool, true}
 use Rattle.std.proofs.Common.{false, ◌≤◌, List, [], ◌∷◌, length, get_or, nat_lt, ◌⊎◌, inl, inr}
-use Rattle.std.proofs.Common.{refl, sym, ap, ◌∙◌, arith}
+use Rattle.std.proofs.Common.{slice_get, Some, refl, sym, ap, ◌∙◌, arith}
 use Rattle.std.proofs.lemmas.Bool.Decides.{nat_tests}
 use Rattle.std.proofs.lemmas.Grind.{pow_more}
+use Rattle.std.proofs.lemmas.List.Folds.{list_any_at}
 use Rattle.std.proofs.lemmas.Nat.Bits.{bit_at_lowest, bit_at-suc, bit_at-zero}
+use Rattle.std.proofs.lemmas.Option.{get_or_from_slice_get, slice_get_within}
+use Rattle.std.proofs.lemmas.Slice.Eq.{bytes_eq-Decides}
 use Rattle.std.specs.Int.{bit_at}
-use Rattle.std.specs.List.{AllByRecursion, flat_map, list_any}
+use Rattle.std.specs.List.{AllByRecursion, Contains, flat_map, list_any}
 use Rattle.std.specs.Prelude.{if◌then◌else◌}
 use Rattle.byte_forms.specs.Types.{Hash, Text}
+use Rattle.hss_core.specs.Hss.{Verifies}
 use Rattle.mtc_proof.specs.Inputs.{signed_text}
 use Rattle.mtc_proof.specs.Proofs.{ProofParts, SigParts, signature_text, IsMtcSignature}
 use Rattle.mtc_proof.proofs.Sequence.{signatures_found}
@@ -127,3 +131,31 @@ pub signed_as_spelled : (log : Text) (p : ProofParts) (hash : Hash) (k : Known)
     → has_signed log p hash k
     ≡ list_any (is_signature_of k (signed_text k.id log p.start p.end hash)) xs
 signed_as_spelled log p hash k xs each spelled = rw (spelled, signatures_found xs each) refl
+
+one_signed : (k : Known) (text signature : Text) → Verifies k.key text signature
+    → is_signature_of k text (record { cosigner = k.id; signature = signature }) ≡ true
+one_signed k text signature verifies = rw ((bytes_eq-Decides k.id k.id).1 refl, verifies) refl
+
+-- A signature under its id that verifies counts.
+pub signed_counts : (store : Store) (p : ProofParts) (hash : Hash) (place : ℕ) (k : Known)
+    (xs : List SigParts) (signature : Text)
+    → slice_get store.cosigners place ≡ Some k → is_named store.rules place ≡ true
+    → AllByRecursion IsMtcSignature xs → p.signatures ≡ flat_map signature_text xs
+    → Contains xs (record { cosigner = k.id; signature = signature })
+    → Verifies k.key (signed_text k.id store.log p.start p.end hash) signature
+    → is_in_set (counted store p hash) place ≡ true
+signed_counts store p hash place k xs signature there named each spelled among verifies =
+    let one : SigParts = record { cosigner = k.id; signature = signature } in
+    let text : Text = signed_text k.id store.log p.start p.end hash in
+    let test : SigParts → Bool = is_signature_of k text in
+    let passes : test one ≡ true = one_signed k text signature verifies in
+    let here : test (get_or xs among.0 one) ≡ true =
+    ap (λ (s : SigParts). test s) among.2 ∙ passes in
+    let some : list_any test xs ≡ true = list_any_at test xs among.0 one among.1 here in
+    let signed : has_signed store.log p hash k ≡ true =
+    signed_as_spelled store.log p hash k xs each spelled ∙ some in
+    let below : place < length store.cosigners = slice_get_within store.cosigners place k there in
+    let same : get_or store.cosigners place k ≡ k =
+    get_or_from_slice_get store.cosigners place k k there in
+    set_has store p hash place k below
+    ∙ (ap (λ (x : Known). counts store p hash place x) same ∙ rw (named, signed) refl)

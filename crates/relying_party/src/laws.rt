@@ -1,9 +1,10 @@
 //! Laws of judgements: the clauses are the laws, and the functions do nothing.
 
-ghost use Rattle.std.specs.Prelude.{◌≡◌, ◌⊎◌, ℕ, ◌<◌, ◌≤◌, false, ℤ, List, length, slice_index_or, Ok};
-ghost use Rattle.std.specs.List.{AllByRecursion, flat_map, list_any};
+ghost use Rattle.std.specs.Prelude.{◌≡◌, ◌⊎◌, ℕ, ◌<◌, ◌≤◌, true, false, ℤ, List, length, slice_get, slice_index_or, Some, Ok};
+ghost use Rattle.std.specs.List.{AllByRecursion, Contains, flat_map, list_any};
 ghost use Rattle.byte_forms.specs.Places.{IsBytes};
 ghost use Rattle.byte_forms.specs.Types.{Hash, HashFunction, Text};
+ghost use Rattle.hss_core.specs.Hss.{Verifies};
 ghost use Rattle.mtc_proof.specs.Inputs.{signed_text};
 ghost use Rattle.mtc_proof.specs.Proofs.{IsMtcSignature, ProofParts, SigParts, signature_text};
 ghost use Rattle.policy_core.specs.Counting.{counted, counts, has_signed, is_in_set, is_named, is_signature_of};
@@ -48,4 +49,17 @@ pub fn counted_cosigners()
         → AllByRecursion IsMtcSignature xs → p.signatures ≡ flat_map signature_text xs
         → has_signed log p hash k
         ≡ list_any (is_signature_of k (signed_text k.id log p.start p.end hash)) xs }
+{}
+
+/// A cosigner of the store whom some rule names counts where a signature in the proof has its id
+/// and verifies, under its key, what it signs of the proof's interval in the store's log. So what a
+/// cosigner answers counts for each store that has its id and public key.
+pub fn cosignatures_count()
+    ensures { (store : Store) (p : ProofParts) (hash : Hash) (place : ℕ) (k : Known)
+        (xs : List SigParts) (signature : Text)
+        → slice_get store.cosigners place ≡ Some k → is_named store.rules place ≡ true
+        → AllByRecursion IsMtcSignature xs → p.signatures ≡ flat_map signature_text xs
+        → Contains xs (record { cosigner = k.id; signature = signature })
+        → Verifies k.key (signed_text k.id store.log p.start p.end hash) signature
+        → is_in_set (counted store p hash) place ≡ true }
 {}

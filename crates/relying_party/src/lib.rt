@@ -15,4 +15,4 @@ mod rules;
 mod trust;
 
 pub use judging::judge;
-pub use laws::{accepted_certificates, counted_cosigners};
+pub use laws::{accepted_certificates, cosignatures_count, counted_cosigners};
