@@ -1,0 +1,4 @@
+pub mod Halving
+pub mod Hashed
+pub mod Compared
+pub mod Evaluated

@@ -1,0 +1,33 @@
+//! Two strings with one hash, found where two computations of one tree hash disagree: of a list of
+//! entries and of an inclusion path, or of two lists.
+//!
+//! Whoever shows an inclusion path that gives the tree hash of a list, for an entry that the list
+//! does not have there, shows two different strings with one hash. [`in_list`] tells the one case
+//! from the other, and [`two_lists`] does the same for two lists with one tree hash.
+//! Each entry is hashed at most once, and beside the two strings only one hash of each level is
+//! kept.
+//!
+//! ```rust
+//! use collide::{Finding, in_list};
+//! use tree_core::Sha;
+//!
+//! // the path was tested: it gives the tree hash of the list's entries 4 and 5
+//! match in_list::<Sha, _>(alloc, entries, 4, 6, 5, entry, path)? {
+//!     Finding::Same => println!(rt; "the list has the entry")?,
+//!     Finding::Pair(first, second) => println!(rt; "two strings with one hash")?,
+//! }
+//! ```
+#![tactic(auto)]
+
+mod comparing;
+mod entry;
+mod finding;
+mod laws;
+mod lists;
+mod paths;
+
+pub use entry::{AsEntry, list_hash};
+pub use finding::Finding;
+pub use laws::inputs_by_clauses;
+pub use lists::two_lists;
+pub use paths::in_list;
