@@ -1,0 +1,294 @@
+-- Files of entries: what is read is the text of its items, and that text is read as them.
+use Rattle.std.proofs.Common.{◌≡◌, ℕ, zero, suc, ◌+◌, ◌<◌, ◌≤◌, true, List, [], ◌∷◌, ◌++◌, length}
+use Rattle.std.proofs.Common.{get_or, map, take, Result, Ok, refl, sym, ap, subst, ◌∙◌}
+use Rattle.std.proofs.Common.{append-nil, arith, eqb-true, inl, inr}
+use Rattle.std.specs.Prelude.{◌==◌}
+use Rattle.std.specs.Int.{w16, to_be_bytes}
+use Rattle.std.specs.List.{concat, range_with_len, flat_map}
+use Rattle.std.proofs.lemmas.List.{get_or-map, get_or-take, length-append, length-map}
+use Rattle.std.proofs.lemmas.List.{length-take-le, nil_from_length, take-map}
+use Rattle.std.proofs.Math.Seq.{take-length}
+use Rattle.byte_forms.specs.Types.{HashFunction, Text}
+use Rattle.byte_forms.specs.Places.{At, IsBytes, at}
+use Rattle.byte_forms.specs.Readings.{◌>>=◌, both_at}
+use Rattle.byte_forms.specs.Forms.{Anything, FitsBoth, FitsEach, IsForm, Nothing, both}
+use Rattle.byte_forms.specs.Lists.{each_at}
+use Rattle.byte_forms.proofs.Forms.{both_form, lifted_form, tested_form}
+use Rattle.byte_forms.proofs.Lists.{each_form}
+use Rattle.byte_forms.proofs.Steps.{bind_ok, chosen, ok_is}
+use Rattle.tls_wire.specs.Reading.{vector_at}
+use Rattle.tls_wire.specs.Spelling.{vector}
+use Rattle.tls_wire.proofs.Numbers.{wide16}
+use Rattle.tls_wire.proofs.Vectors.{vector_form}
+use Rattle.entry_list.proofs.Forward.{item_forward}
+use Rattle.entry_list.specs.Items.{AreItems, FitsFile, ItemLists, file_text, first_items}
+use Rattle.entry_list.specs.Items.{is_key_of, listed_text, lists_of}
+use Rattle.entry_list.specs.Reading.{listed_at, item_behind, all_listed_at, items_in, short_item}
+use Rattle.entry_list.specs.Reading.{vector_item}
+use Rattle.entry_list.specs.declared.error.ItemsError.{ItemsError}
+use Rattle.entry_list.specs.declared.error.ItemsError.TheVariants.{BadItem}
+
+-- ---- one item
+
+abbrev Pair : Type 0
+Pair = Text × Text
+
+abbrev IsShort : Text → Type 0
+IsShort bytes = length bytes < 65536
+
+abbrev pair_text : Pair → Text
+pair_text = both (vector w16) (vector w16)
+
+abbrev Fits : HashFunction → Pair → Type 0
+Fits h x = FitsBoth IsShort IsShort x × (is_key_of h x.0 x.1 ≡ true)
+
+vector_item_form : IsForm (vector w16) IsShort Anything vector_item
+vector_item_form =
+    lifted_form (vector w16) IsShort Anything (vector_at w16) short_item
+    (vector_form w16 65536 wide16)
+
+item_form : (h : HashFunction) (n : ℕ) → IsForm pair_text (Fits h) Anything (listed_at h n)
+unfolding listed_at
+item_form h n =
+    tested_form pair_text (FitsBoth IsShort IsShort) Anything (both_at vector_item vector_item)
+    (λ x. is_key_of h x.0 x.1) (BadItem n)
+    (both_form (vector w16) IsShort Anything vector_item (vector w16) IsShort Anything vector_item
+    vector_item_form vector_item_form (λ y rest f q. tt))
+
+some_bytes : (x : Pair) → 0 < length (pair_text x)
+some_bytes x =
+    let head : length (to_be_bytes w16 (length x.0)) ≡ 2 = refl in
+    omega (
+      arith,
+      head,
+      length-append (vector w16 x.0) (vector w16 x.1),
+      length-append (to_be_bytes w16 (length x.0)) x.0,
+    )
+
+-- ---- all of them
+
+abbrev itself : Pair → Pair
+itself x = x
+
+abbrev EachFits : HashFunction → List Pair → List Pair → Type 0
+EachFits h = FitsEach itself (λ seen. Fits h)
+
+items_form : (h : HashFunction) → IsForm (flat_map pair_text) (EachFits h []) Nothing
+    (λ a. each_at itself (item_behind h) (length a.rest) [] a)
+items_form h =
+    each_form itself pair_text (λ seen. Fits h) (item_behind h) [] (λ seen x f. some_bytes x)
+    (λ seen. item_form h (length seen))
+
+drains : (h : HashFunction) (n : ℕ) (seen : List Pair) (a : At) (xs : List Pair) (b : At)
+    → length a.rest ≤ n → each_at itself (item_behind h) n seen a ≡ Ok (xs, b) → b.rest ≡ []
+unfolding each_at
+drains h zero seen a xs b le e =
+    let P : List Pair × At → Type 0 = λ v. v.1.rest ≡ [] in
+    subst P (ok_is ItemsError ([], a) (xs, b) e) (nil_from_length a.rest (omega arith))
+drains h (suc n) seen a xs b le e =
+    let P : List Pair × At → Type 0 = λ v. v.1.rest ≡ [] in
+    let more : Result (List Pair × At) ItemsError =
+    listed_at h (length seen) a >>= λ (x : Pair × At). each_at itself (item_behind h) n (seen
+    ++ x.0 ∷ []) x.1 >>= λ (ys : List Pair × At). Ok (x.0 ∷ ys.0, ys.1) in
+    elim (chosen (length a.rest == 0) (Ok ([], a)) more (Ok (xs, b)) e) [
+      | inl c ↦
+          subst P (ok_is ItemsError ([], a) (xs, b) c.1)
+          (nil_from_length a.rest (eqb-true (length a.rest) 0 c.0))
+      | inr c ↦
+          let s = bind_ok (listed_at h (length seen) a) (λ (x : Pair
+          × At). each_at itself (item_behind h) n (seen ++ x.0 ∷ []) x.1 >>= λ (ys : List Pair
+          × At). Ok (x.0 ∷ ys.0, ys.1)) (xs, b) c.1 in
+          let t = bind_ok (each_at itself (item_behind h) n (seen ++ s.0.0 ∷ []) s.0.1) (λ (ys
+          : List Pair × At). Ok (s.0.0 ∷ ys.0, ys.1)) (xs, b) s.2 in
+          let less : length s.0.1.rest < length a.rest =
+          item_forward h (length seen) a s.0 s.1 in
+          subst P (ok_is ItemsError (s.0.0 ∷ t.0.0, t.0.1) (xs, b) t.2)
+          (drains h n (seen ++ s.0.0 ∷ []) s.0.1 t.0.0 t.0.1 (omega arith) t.1)
+    ]
+
+-- ---- two lists as one of pairs
+
+abbrev none : Pair
+none = ([], [])
+
+pub pairs_of : List Text → List Text → List Pair
+pairs_of [] keys = []
+pairs_of (entry ∷ entries) [] = []
+pairs_of (entry ∷ entries) (key ∷ keys) = (entry, key) ∷ pairs_of entries keys
+
+lists_again : (entries keys : List Text) → length keys ≡ length entries
+    → lists_of (pairs_of entries keys) ≡ record { entries = entries; keys = keys }
+unfolding pairs_of
+lists_again [] [] even = refl
+lists_again [] (key ∷ keys) even = absurd (omega arith)
+lists_again (entry ∷ entries) [] even = absurd (omega arith)
+lists_again (entry ∷ entries) (key ∷ keys) even =
+    ap (λ (l : ItemLists). record { entries = entry ∷ l.entries; keys = key ∷ l.keys })
+    (lists_again entries keys (omega arith))
+
+-- ---- the text
+
+listed_text_is : (pairs : List Pair) (i : ℕ) → i < length pairs
+    → listed_text (lists_of pairs) i ≡ pair_text (get_or pairs i none)
+listed_text_is pairs i below =
+    rw (
+      get_or-map (λ (x : Pair). x.0) pairs i none [] below,
+      get_or-map (λ (x : Pair). x.1) pairs i none [] below,
+    ) refl
+
+text_from : (items : ItemLists) (pairs : List Pair) (k : ℕ)
+    → ((i : ℕ) → i < length pairs → listed_text items (k + i) ≡ pair_text (get_or pairs i none))
+    → concat (map (listed_text items) (range_with_len k (length pairs))) ≡ flat_map pair_text pairs
+text_from items [] k each = refl
+text_from items (x ∷ xs) k each =
+    let here : k + 0 ≡ k = omega arith in
+    let one : listed_text items k ≡ pair_text x =
+    ap (listed_text items) (sym here) ∙ each 0 (omega arith) in
+    let others : (i : ℕ) → i < length xs
+    → listed_text items (k + 1 + i) ≡ pair_text (get_or xs i none) = λ i below.
+    let next : k + 1 + i ≡ k + suc i = omega arith in
+    ap (listed_text items) next ∙ each (suc i) (omega arith) in
+    let behind : Text = concat (map (listed_text items) (range_with_len (k + 1) (length xs))) in
+    ap (λ (t : Text). t ++ behind) one
+    ∙ ap (λ (t : Text). pair_text x ++ t) (text_from items xs (k + 1) others)
+
+text_is : (pairs : List Pair) (count : ℕ) → count ≤ length pairs
+    → file_text (lists_of pairs) count ≡ flat_map pair_text (take count pairs)
+text_is pairs count le =
+    let long : length (take count pairs) ≡ count = length-take-le count pairs le in
+    let each : (i : ℕ) → i < length (take count pairs)
+    → listed_text (lists_of pairs) (0 + i) ≡ pair_text (get_or (take count pairs) i none) =
+    λ i below.
+    let small : i < count = omega arith in
+    let here : 0 + i ≡ i = omega arith in
+    let inside : i < length pairs = omega arith in
+    ap (listed_text (lists_of pairs)) here
+    ∙ (listed_text_is pairs i inside
+    ∙ ap pair_text (sym (get_or-take count pairs i none small))) in
+    ap (λ (n : ℕ). concat (map (listed_text (lists_of pairs)) (range_with_len 0 n))) (sym long)
+    ∙ text_from (lists_of pairs) (take count pairs) 0 each
+
+-- ---- what fits
+
+each_fits : (h : HashFunction) (seen pairs : List Pair)
+    → ((i : ℕ) → i < length pairs → Fits h (get_or pairs i none)) → EachFits h seen pairs
+each_fits h seen [] each = tt
+each_fits h seen (x ∷ xs) each =
+    (each 0 (omega arith), each_fits h (seen ++ x ∷ []) xs (λ i below. each (suc i) (omega arith)))
+
+fits_at : (h : HashFunction) (seen pairs : List Pair) → EachFits h seen pairs
+    → (i : ℕ) → i < length pairs → Fits h (get_or pairs i none)
+fits_at h seen [] each i below = absurd (omega arith)
+fits_at h seen (x ∷ xs) each zero below = each.0
+fits_at h seen (x ∷ xs) each (suc i) below =
+    fits_at h (seen ++ x ∷ []) xs each.1 i (omega arith)
+
+-- ---- both ways
+
+are_items : (h : HashFunction) (pairs : List Pair) → EachFits h [] pairs
+    → AreItems h (lists_of pairs) × FitsFile (lists_of pairs)
+are_items h pairs each =
+    let count : length (map (λ (x : Pair). x.0) pairs) ≡ length pairs =
+    length-map pairs (λ (x : Pair). x.0) in
+    let other : length (map (λ (x : Pair). x.1) pairs) ≡ length pairs =
+    length-map pairs (λ (x : Pair). x.1) in
+    let entry : (i : ℕ) → i < length pairs
+    → get_or (map (λ (x : Pair). x.0) pairs) i [] ≡ (get_or pairs i none).0 = λ i below.
+    get_or-map (λ (x : Pair). x.0) pairs i none [] below in
+    let key : (i : ℕ) → i < length pairs
+    → get_or (map (λ (x : Pair). x.1) pairs) i [] ≡ (get_or pairs i none).1 = λ i below.
+    get_or-map (λ (x : Pair). x.1) pairs i none [] below in (
+      record {
+        even = other ∙ sym count;
+        each = λ i below.
+            let inside : i < length pairs = omega arith in
+            rw (entry i inside, key i inside) (fits_at h [] pairs each i inside).1;
+      },
+      record {
+        entries = λ i below.
+            let inside : i < length pairs = omega arith in
+            rw (entry i inside) (fits_at h [] pairs each i inside).0.0;
+        keys = λ i below.
+            let inside : i < length pairs = omega arith in
+            rw (key i inside) (fits_at h [] pairs each i inside).0.1;
+      },
+    )
+
+pub items_only : (h : HashFunction) (bytes : Text) (items : ItemLists) → IsBytes bytes
+    → items_in h bytes ≡ Ok items
+    → (bytes ≡ file_text items (length items.entries)) × (AreItems h items × FitsFile items)
+unfolding items_in all_listed_at
+items_only h bytes items are e =
+    let a : At = at bytes 0 in
+    let s = bind_ok (each_at itself (item_behind h) (length a.rest) [] a) (λ (x : List Pair
+    × At). Ok (lists_of x.0)) items e in
+    let pairs : List Pair = s.0.0 in
+    let known = (items_form h).takes a pairs s.0.1 are s.1 in
+    let none_left = drains h (length a.rest) [] a pairs s.0.1 (omega arith) s.1 in
+    let whole : bytes ≡ flat_map pair_text pairs = known.0.parts
+    ∙ (ap (λ (t : Text). flat_map pair_text pairs ++ t) none_left
+    ∙ append-nil (flat_map pair_text pairs)) in
+    let count : length (map (λ (x : Pair). x.0) pairs) ≡ length pairs =
+    length-map pairs (λ (x : Pair). x.0) in
+    let text : file_text (lists_of pairs) (length (lists_of pairs).entries)
+    ≡ flat_map pair_text pairs =
+    ap (λ (n : ℕ). file_text (lists_of pairs) n) count
+    ∙ (text_is pairs (length pairs) (omega arith)
+    ∙ ap (flat_map pair_text) (take-length pairs)) in
+    let P : ItemLists → Type 0 = λ l. (bytes ≡ file_text l (length l.entries))
+    × (AreItems h l × FitsFile l) in
+    subst P (ok_is ItemsError (lists_of pairs) items s.2)
+    (whole ∙ sym text, are_items h pairs known.1)
+
+fits_all : (h : HashFunction) (pairs : List Pair) → AreItems h (lists_of pairs)
+    → FitsFile (lists_of pairs) → (i : ℕ) → i < length pairs → Fits h (get_or pairs i none)
+fits_all h pairs are short i below =
+    let inside : i < length (map (λ (x : Pair). x.0) pairs) =
+    omega (arith, length-map pairs (λ (x : Pair). x.0)) in
+    let entry = get_or-map (λ (x : Pair). x.0) pairs i none [] below in
+    let key = get_or-map (λ (x : Pair). x.1) pairs i none [] below in
+    let E : Text → Type 0 = λ e. length e < 65536 in
+    let B : Text → Text → Type 0 = λ e k. is_key_of h e k ≡ true in (
+      (subst E entry (short.entries i inside), subst E key (short.keys i inside)),
+      subst (λ (k : Text). B (get_or pairs i none).0 k) key
+          (subst (λ (e : Text). B e (get_or (map (λ (x : Pair). x.1) pairs) i [])) entry
+          (are.each i inside)),
+    )
+
+again_pairs : (h : HashFunction) (pairs : List Pair) (count : ℕ) → AreItems h (lists_of pairs)
+    → FitsFile (lists_of pairs) → count ≤ length pairs
+    → items_in h (file_text (lists_of pairs) count) ≡ Ok (first_items count (lists_of pairs))
+unfolding items_in all_listed_at
+again_pairs h pairs count are short le =
+    let first : List Pair = take count pairs in
+    let long : length first ≡ count = length-take-le count pairs le in
+    let fits : EachFits h [] first = each_fits h [] first (λ i below.
+    let small : i < count = omega arith in
+    let inside : i < length pairs = omega arith in
+    subst (Fits h) (sym (get_or-take count pairs i none small))
+    (fits_all h pairs are short i inside)) in
+    let read = (items_form h).again first 0 [] fits refl in
+    let same : flat_map pair_text first ++ [] ≡ file_text (lists_of pairs) count =
+    append-nil (flat_map pair_text first) ∙ sym (text_is pairs count le) in
+    let whole = ap (λ (t : Text). each_at itself (item_behind h) (length t) [] (record {
+      place = 0;
+      rest = t;
+    })) (sym same) ∙ read in
+    ap (λ (r : Result (List Pair × At) ItemsError). r >>= λ (x : List Pair
+    × At). Ok (lists_of x.0)) whole
+    ∙ rw (take-map (λ (x : Pair). x.0) count pairs, take-map (λ (x : Pair). x.1) count pairs) refl
+
+pub items_again : (h : HashFunction) (items : ItemLists) (count : ℕ) → AreItems h items
+    → FitsFile items → count ≤ length items.entries
+    → items_in h (file_text items count) ≡ Ok (first_items count items)
+items_again h items count are short le =
+    let pairs = pairs_of items.entries items.keys in
+    let same = lists_again items.entries items.keys are.even in
+    let long : count ≤ length pairs = omega (
+      arith,
+      length-map pairs (λ (x : Pair). x.0),
+      ap (λ (l : ItemLists). length l.entries) same,
+    ) in
+    let P : ItemLists → Type 0 = λ l. AreItems h l → FitsFile l
+    → items_in h (file_text l count) ≡ Ok (first_items count l) in
+    subst P same (λ a s. again_pairs h pairs count a s long) are short
