@@ -10,7 +10,7 @@ use Rattle.tls_wire.specs.Arcs.{IsAnchorId}
 use Rattle.tls_wire.specs.Anchors.{text_of}
 use Rattle.tls_wire.proofs.AnchorTexts.{text-short}
 use Rattle.der_core.specs.Elements.{element}
-use Rattle.der_core.specs.Forms.{IsElement, IsSubidentifier, IsOid, IsRisen}
+use Rattle.der_core.specs.Forms.{IsElement, IsOid, IsRisen}
 use Rattle.der_core.proofs.Elements.{element-longer, element-short}
 use Rattle.der_core.proofs.Fields.{tag_of}
 use Rattle.cert_names.specs.LogNames.{log_id, name_with}
@@ -34,62 +34,9 @@ use Rattle.authority_core.specs.Hosts.{IsHostName}
 use Rattle.authority_core.specs.Requests.{IsCommonName, CanBeIssued, RequestParts}
 use Rattle.authority_core.specs.Issuing.{common_name_id, subject_of, dns_names, alt_name_of}
 use Rattle.authority_core.specs.Issuing.{extensions_of, tbs_for, entry_for}
+use Rattle.authority_core.proofs.Identifiers.{common_name_oid, alt_name_oid, log_oid}
 use Rattle.authority_core.proofs.Labels.{host-short, host-ascii}
 use Rattle.authority_core.proofs.Sizes.{one_extension, names-short, contents-short, extension-short}
-
--- ---- object identifiers
-
--- An arc of one byte.
-short_arc : (b : ℕ) → b < 128 → IsSubidentifier (b ∷ [])
-short_arc b small = record { ends = small; fewest = λ same. absurd (omega (arith, small, same)) }
-
-common_name_oid : IsOid common_name_id
-common_name_oid = record {
-  arcs = (85 ∷ []) ∷ (4 ∷ []) ∷ (3 ∷ []) ∷ [];
-  are_arcs = (short_arc 85 (lit< tt), (short_arc 4 (lit< tt), (short_arc 3 (lit< tt), tt)));
-  spelled = refl;
-  some = lit< tt;
-}
-
-alt_name_oid : IsOid subject_alt_name
-alt_name_oid = record {
-  arcs = (85 ∷ []) ∷ (29 ∷ []) ∷ (17 ∷ []) ∷ [];
-  are_arcs = (short_arc 85 (lit< tt), (short_arc 29 (lit< tt), (short_arc 17 (lit< tt), tt)));
-  spelled = refl;
-  some = lit< tt;
-}
-
--- The arc 44363.
-long_arc : IsSubidentifier (130 ∷ 218 ∷ 75 ∷ [])
-long_arc = record {
-  ends = (omega arith, (omega arith, lit< tt));
-  fewest =
-      λ same. absurd (omega (arith, same));
-}
-
-log_oid : IsOid log_id
-log_oid = record {
-  arcs = (43 ∷ []) ∷ (6 ∷ []) ∷ (1 ∷ []) ∷ (4 ∷ []) ∷ (1 ∷ []) ∷ (130 ∷ 218 ∷ 75 ∷ []) ∷ (47 ∷ [])
-      ∷ (1 ∷ []) ∷ [];
-  are_arcs = (
-    short_arc 43 (lit< tt),
-    (
-      short_arc 6 (lit< tt),
-      (
-        short_arc 1 (lit< tt),
-        (
-          short_arc 4 (lit< tt),
-          (
-            short_arc 1 (lit< tt),
-            (long_arc, (short_arc 47 (lit< tt), (short_arc 1 (lit< tt), tt))),
-          ),
-        ),
-      ),
-    ),
-  );
-  spelled = refl;
-  some = lit< tt;
-}
 
 -- ---- names of one attribute
 

@@ -1,5 +1,7 @@
 mod Certificates
+mod Identifiers
 mod Labels
 mod Items
+mod Marks
 mod Sizes
 mod Issued

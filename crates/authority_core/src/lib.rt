@@ -18,4 +18,4 @@ pub use issuing::{
 pub use requests::{
     Field, Names, Request, RequestError, host_names_are_joined_labels, is_host, read_request,
 };
-pub use writing::{WriteError, cert};
+pub use writing::{WriteError, cert, light_cert};

@@ -2,7 +2,10 @@
 
 mod certificate;
 mod error;
+mod item;
+mod light;
 mod proof;
 
 pub use certificate::cert;
 pub use error::WriteError;
+pub use light::light_cert;

@@ -46,6 +46,7 @@ cert_refused write_error.NullEntry = not_allowed (codes "NullEntry")
 cert_refused write_error.BadSubtree = not_allowed (codes "BadSubtree")
 cert_refused write_error.Outside = not_allowed (codes "Outside")
 cert_refused (write_error.Beyond size) = beyond size
+cert_refused write_error.NotCovered = not_allowed (codes "NotCovered")
 cert_refused write_error.TooManySignatures = refused Beyond None (codes "TooManySignatures")
 cert_refused write_error.Memory = refused Beyond None (codes "Memory")
 

@@ -72,6 +72,7 @@ fn refuse_certificate<'a>(why: WriteError) -> Stop<'a>
         WriteError::BadSubtree => refuse(not_allowed, Reason::named("BadSubtree")),
         WriteError::Outside => refuse(not_allowed, Reason::named("Outside")),
         WriteError::Beyond(size) => refuse(not_allowed, Reason::with_number("Beyond", size)),
+        WriteError::NotCovered => refuse(not_allowed, Reason::named("NotCovered")),
         WriteError::TooManySignatures => {
             refuse(Stopped::Beyond, Reason::named("TooManySignatures"))
         }

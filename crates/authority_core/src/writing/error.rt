@@ -5,7 +5,8 @@ ghost use Rattle.authority_core.specs.declared.writing.error.WriteError.TheVaria
 
 use mtc_io::Memory;
 
-/// Why no certificate is written, in the order of the tests.
+/// Why no certificate is written, in the order of the tests. With signatures, `NotCovered` doesn't
+/// come; without them, `BadSubtree` to `Beyond` and `TooManySignatures` don't.
 #[derive(Clone, Copy, Debug, PartialEq, Eq)]
 pub enum WriteError {
     /// The log has no entry at this index.
@@ -18,6 +19,8 @@ pub enum WriteError {
     Outside,
     /// The interval ends above the size of the log, which is told.
     Beyond(u64),
+    /// No active landmark covers the entry.
+    NotCovered,
     /// The signatures have more than 65,535 bytes.
     TooManySignatures,
     /// Memory was refused.

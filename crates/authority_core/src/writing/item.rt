@@ -1,0 +1,99 @@
+//! The certificate of an item of a log.
+
+ghost use Rattle.std.specs.Prelude.{◌≡◌, ◌^◌, ◌<◌, ◌≤◌, length, true, IfOk};
+ghost use Rattle.cert_fields.specs.Given.{given};
+ghost use Rattle.issuance_log.specs.Records.{IsShort};
+ghost use Rattle.issuance_log.specs.Words.{state_of};
+ghost use Rattle.log_entry.specs.Matching.{matches};
+ghost use Rattle.log_entry.specs.Views.{tbs_parts};
+ghost use Rattle.mtc_proof.specs.Proofs.{AreSignatures};
+ghost use Rattle.tree_core.specs.Subtree.{is_subtree};
+ghost use Rattle.authority_core.specs.Certificates.{IsCertificateOf, IsWritten, parts_with};
+
+use crate::writing::proof::proof_of;
+use cert_fields::{CertParts, write};
+use disk_core::Disk;
+use issuance_log::Log;
+use log_entry::{Entry, TbsEntry, read_entry};
+use mtc_io::{Bytes, Memory};
+use std::alloc::Global;
+use tree_core::TreeHash;
+
+// What the certificate of an entry says, with its key, index and proof.
+fn parts_with(
+    alloc: Global,
+    index: u64,
+    entry: &TbsEntry,
+    key: &[u8],
+    proof: Bytes,
+) -> Result<CertParts, Memory>
+    ensures { IfOk result (λ parts. given parts
+        ≡ parts_with index (tbs_parts entry.now) key.now proof) }
+{
+    Ok(CertParts {
+        serial: index,
+        issuer: Bytes::copy_of(alloc, entry.issuer)?,
+        validity: entry.validity,
+        subject: Bytes::copy_of(alloc, entry.subject)?,
+        spki: Bytes::copy_of(alloc, key)?,
+        extensions: Bytes::copy_of(alloc, entry.extensions)?,
+        proof,
+    })
+}
+
+// The certificate of an entry with its key, index and proof.
+fn certificate_of<H: TreeHash>(
+    alloc: Global,
+    index: u64,
+    entry: &[u8],
+    key: &[u8],
+    proof: Bytes,
+) -> Result<Bytes, Memory>
+    requires some { 1 ≤ index }
+    requires belongs { matches H.hash entry.now key.now ≡ true }
+    requires short_entry { IsShort entry.now }
+    requires short_key { IsShort key.now }
+    requires short_proof { length proof ≤ 200000 }
+    ensures { IfOk result (IsCertificateOf H.hash index entry.now key.now proof) }
+{
+    match read_entry(entry) {
+        Ok(Entry::Tbs(tbs)) => {
+            let parts = parts_with(alloc, index, &tbs, key, proof)?;
+            write(alloc, &parts)
+        }
+        // A key belongs to the entry, so that it is one of type 1.
+        Ok(Entry::Null) => unreachable!(),
+        Err(_) => unreachable!(),
+    }
+}
+
+/// The certificate of the entry at an index, with its path in this subtree.
+pub fn written<H: TreeHash, D: Disk>(
+    alloc: Global,
+    log: &mut Log<H, D>,
+    index: u64,
+    start: u64,
+    end: u64,
+    signatures: &[u8],
+) -> Result<Bytes, Memory>
+    requires some { 1 ≤ index }
+    requires valid { is_subtree start end ≡ true }
+    requires from { start ≤ index }
+    requires below { index < end }
+    requires within { end ≤ length (state_of log.old).entries }
+    requires signed { AreSignatures signatures.now }
+    requires short { length signatures.now < 2 ^ 16 }
+    ensures written { IfOk result
+        (IsWritten H.hash (state_of log.old) index start end signatures.now) }
+    ensures same { log.new ≡ log.old }
+{
+    log.sound();
+    let proof = proof_of(alloc, log, index, start, end, signatures)?;
+    let mut entry = Bytes::new(alloc);
+    let mut key = Bytes::new(alloc);
+    match log.entry(index, &mut entry, &mut key) {
+        Ok(()) => certificate_of::<H>(alloc, index, entry.as_slice(), key.as_slice(), proof),
+        // The log has the entry, so memory was refused.
+        Err(_) => Err(Memory),
+    }
+}

@@ -1,0 +1,59 @@
+//! Certificates of the entries of a log by its landmarks, without signatures.
+
+ghost use Rattle.std.specs.Prelude.{◌≡◌, length, IfOk, IfSome};
+ghost use Rattle.issuance_log.specs.Words.{state_of, view_of};
+ghost use Rattle.authority_core.specs.Certificates.{covering_in, HoldsEntry, IsLightlyWritten, KeepsToLightRefusal, light_refusal};
+
+use crate::writing::error::WriteError;
+use crate::writing::item::written;
+use disk_core::Disk;
+use issuance_log::Log;
+use landmarks::{covering, of_marks};
+use mtc_io::{Bytes, Memory};
+use std::alloc::Global;
+use tree_core::{Span, TreeHash};
+
+// The subtree of an active landmark of the log that holds the entry.
+fn covering_subtree<H: TreeHash, D: Disk>(
+    alloc: Global,
+    log: &Log<H, D>,
+    index: u64,
+) -> Result<Option<Span>, Memory>
+    ensures exact { IfOk result (λ span. span ≡ covering_in (view_of log.now) index) }
+    ensures holds { IfOk result (λ span. IfSome span
+        (HoldsEntry (length (state_of log.now).entries) index)) }
+{
+    log.sound();
+    let landmarks = of_marks(alloc, log.marks(), log.settings().max_active)?;
+    Ok(covering(&landmarks, index))
+}
+
+/// Writes the certificate of an entry that needs no signature: its fields, its key, its index as
+/// the serial number, and as the signature its path in the subtree that holds it, of the least
+/// landmark of the log above it (the draft on Merkle Tree Certificates, where it defines
+/// landmarks). The log stays as it was.
+///
+/// Errors, in the order of the tests: `NoSuchEntry`, `NullEntry`, and `NotCovered` where no
+/// landmark is above the entry, or the least one isn't active any more. `Memory` may come before
+/// `NotCovered`.
+#[tactic(auto, unfolding(crate::specs::Certificates::light_refusal))]
+pub fn light_cert<H: TreeHash, D: Disk>(
+    alloc: Global,
+    log: &mut Log<H, D>,
+    index: u64,
+) -> Result<Bytes, WriteError>
+    ensures answer { KeepsToLightRefusal (light_refusal (view_of log.old) index) result }
+    ensures written { IfOk result (IsLightlyWritten H.hash (state_of log.old) index) }
+    ensures same { log.new ≡ log.old }
+{
+    if log.size() <= index {
+        return Err(WriteError::NoSuchEntry);
+    }
+    if index == 0 {
+        return Err(WriteError::NullEntry);
+    }
+    match covering_subtree(alloc, log, index)? {
+        Some(span) => Ok(written(alloc, log, index, span.start, span.end, &[])?),
+        None => Err(WriteError::NotCovered),
+    }
+}
