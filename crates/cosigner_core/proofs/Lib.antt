@@ -1,6 +1,8 @@
 pub mod Adds
 pub mod Allowed
+pub mod Copies
 pub mod Counts
+pub mod Exported
 pub mod FirstRecords
 pub mod Forms
 pub mod Lengths

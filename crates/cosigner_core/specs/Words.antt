@@ -43,6 +43,13 @@ module _ {H D : Type 0} {hashes : Hashes H} {g : Ghosts D} where
     pub end : cosigner_end new ≡ cosigner_end old
     pub broken : cosigner_broken new ≡ cosigner_broken old
 
+  -- the cosigner shows what it showed before
+  pub record IsShown (old new : Cosigner H D hashes g) : Type 0 where
+    pub list : cosigner_records new ≡ cosigner_records old
+    pub state : state_of new ≡ state_of old
+    pub end : cosigner_end new ≡ cosigner_end old
+    pub broken : cosigner_broken new ≡ cosigner_broken old
+
   -- a call of the disk failed: the cosigner is to be opened again, and shows what it showed before
   pub record CosignerHasBroken (old new : Cosigner H D hashes g) : Type 0 where
     pub cause : Rose (g.faults (cosigner_disk old)) (g.faults (cosigner_disk new))

@@ -7,14 +7,14 @@ use tree_proofs::check;
 
 /// The number of entries of a log at some time, and their tree hash.
 #[derive(Clone, Copy, Debug)]
-pub(crate) struct Checkpoint {
-    pub(crate) size: u64,
-    pub(crate) root: [u8; 32],
+pub struct Checkpoint {
+    pub size: u64,
+    pub root: [u8; 32],
 }
 
 impl Checkpoint {
     /// The checkpoint of a log without entries.
-    pub(crate) fn empty<H: TreeHash>() -> Checkpoint
+    pub fn empty<H: TreeHash>() -> Checkpoint
         ensures { result ≡ empty_checkpoint H.hash }
     {
         Checkpoint {

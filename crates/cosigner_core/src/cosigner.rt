@@ -1,11 +1,14 @@
 //! A cosigner that is open for requests.
 ghost use Rattle.std.specs.Prelude.{◌≡◌, ◌<◌, ◌^◌, ◌++◌, [], ◌∷◌, length, false, None, Ok, IfSome, IfOk, IfErr, OnOk, OnErr};
 ghost use Rattle.std.proofs.Props.{props};
+ghost use Rattle.std.specs.Io.KnownBytes.{Appends};
+ghost use Rattle.mtc_io.specs.Streams.{AppendsPrefix};
 ghost use Rattle.disk_core.specs.Moments.{Looks};
 ghost use Rattle.journal_core.specs.Format.{StandsFor, end_behind};
 ghost use Rattle.journal_core.specs.Words.{is_broken, records, AllStandFor};
 ghost use Rattle.hss_core.specs.Hss.{Verifies, one_level_public};
 ghost use Rattle.mtc_proof.specs.Inputs.{signed_text};
+ghost use Rattle.cosigner_core.specs.Exports.{HasExportCause, export_text};
 ghost use Rattle.cosigner_core.specs.Folds.{cosigner_of, having_signed, holding};
 ghost use Rattle.cosigner_core.specs.Openings.{CountsNoOther, HasCauseOf, cosigner_read};
 ghost use Rattle.cosigner_core.specs.Records.{advance_record, sign_record};
@@ -13,7 +16,8 @@ ghost use Rattle.cosigner_core.specs.Refusals.{KeepsTo, advance_refused, cosign_
 ghost use Rattle.cosigner_core.specs.Signatures.{signature_by};
 ghost use Rattle.cosigner_core.specs.Views.{advance_parts, subtree_parts};
 
-use crate::error::{CosignError, CosignerOpenError, hand_back};
+use crate::error::{CosignError, CosignerOpenError, ExportError, hand_back};
+use crate::export::{copy_records, second_gate, write_front};
 use crate::opening::read_signer;
 use crate::requests::{AdvanceRequest, SubtreeRequest};
 use crate::signer::Signer;
@@ -21,6 +25,7 @@ use crate::step_record::StepRecord;
 use disk_core::Disk;
 use hss_core::{PUBLIC_KEY_LEN, SigBuf};
 use journal_core::{Journal, Opening, Refused};
+use mtc_io::{Failed, Sink};
 use std::alloc::Global;
 use std::marker::PhantomData;
 use tls_wire::AnchorId;
@@ -39,7 +44,7 @@ pub struct Cosigner<H: TreeHash, D: Disk> {
 }
 
 impl<H: TreeHash, D: Disk> Cosigner<H, D> {
-    ghost use Rattle.cosigner_core.specs.Words.{cosigner_disk, cosigner_records, cosigner_end, cosigner_broken, state_of, CosignerAppends};
+    ghost use Rattle.cosigner_core.specs.Words.{cosigner_disk, cosigner_records, cosigner_end, cosigner_broken, state_of, CosignerAppends, IsShown};
 
     /// Opens the cosigner in a journal. Its records are read and tested one by one, and then its
     /// key is made anew: the one-time keys that have signed by these records are used.
@@ -157,6 +162,36 @@ impl<H: TreeHash, D: Disk> Cosigner<H, D> {
         self.signer
             .sign(request.start, request.end, &request.hash, out);
         Ok(())
+    }
+
+    /// Writes what others may know of the cosigner: its id and that of its log, each behind its
+    /// length of one byte, its public key behind its length of two bytes, and each record but the
+    /// first behind its length of four bytes. It never writes the secret. It writes while it reads,
+    /// takes no memory, and leaves the cosigner as it was.
+    ///
+    /// Errors: `Read` where the disk fails, and `Write` where the sink does. A prefix of the export
+    /// is written then.
+    pub fn export<O: Sink>(&mut self, out: &mut O) -> Result<(), ExportError>
+        ensures written { cosigner_broken self.old ≡ false → OnOk result
+            (IfSome (cosigner_records self.old) (λ list. Appends (O.taken out.old) (O.taken out.new)
+            (export_text (state_of self.old) list))) }
+        ensures prefix { cosigner_broken self.old ≡ false → IfSome (cosigner_records self.old)
+            (λ list. AppendsPrefix (O.taken out.old) (O.taken out.new)
+            (export_text (state_of self.old) list)) }
+        ensures looks { Looks D.Disk (cosigner_disk self.old) (cosigner_disk self.new) }
+        ensures same { IsShown self.old self.new }
+        ensures cause { HasExportCause (D.faults (cosigner_disk self.old)) (O.faults out.old)
+            (D.faults (cosigner_disk self.new)) (O.faults out.new) result }
+    {
+        match write_front(&self.signer, out) {
+            Ok(()) => {}
+            Err(Failed) => return Err(ExportError::Write),
+        }
+        let gate = match second_gate(&mut self.journal) {
+            Ok(gate) => gate,
+            Err(Failed) => return Err(ExportError::Read),
+        };
+        copy_records(&mut self.journal, gate, out)
     }
 
     /// The size of the log that is held, and its root.

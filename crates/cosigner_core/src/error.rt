@@ -46,6 +46,15 @@ pub enum CosignError {
     Append(AppendError),
 }
 
+/// Why an export was not written to its end.
+#[derive(Clone, Copy, Debug, PartialEq, Eq)]
+pub enum ExportError {
+    /// The disk failed.
+    Read,
+    /// The sink failed.
+    Write,
+}
+
 /// Why a record is not taken.
 #[derive(Clone, Copy, Debug, PartialEq, Eq)]
 pub(crate) enum RecordError {

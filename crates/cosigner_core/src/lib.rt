@@ -11,6 +11,9 @@
 //! it: unless an append has failed, what it holds and its next one-time key are what the records on
 //! its disk make.
 //!
+//! [`Cosigner::export`] writes what others may know of a cosigner: its records, but for the first
+//! one, which holds the secret.
+//!
 //! Requests are bytes in the presentation language of TLS (RFC 8446, section 3).
 #![tactic(auto)]
 
@@ -19,6 +22,7 @@ mod contents;
 mod cosigner;
 mod creation;
 mod error;
+mod export;
 mod fault;
 mod laws;
 mod lists;
@@ -33,9 +37,10 @@ mod step;
 mod step_record;
 mod writing;
 
+pub use checkpoint::Checkpoint;
 pub use cosigner::Cosigner;
 pub use creation::{create, pack};
-pub use error::{CosignError, CosignerOpenError};
+pub use error::{CosignError, CosignerOpenError, ExportError};
 pub use fault::FormError;
 pub use laws::{
     advance_requests_are_read_as_spelled, cosigners_are_read_from_their_journals,
@@ -43,6 +48,7 @@ pub use laws::{
     subtree_requests_are_read_as_spelled,
 };
 pub use lists::{Hashes, StepList};
+pub use progress::Progress;
 pub use reading::{read_advance, read_subtree};
 pub use requests::{AdvanceRequest, SubtreeRequest};
 pub use settings::CosignerSettings;

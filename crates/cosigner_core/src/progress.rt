@@ -9,9 +9,9 @@ use tree_core::TreeHash;
 
 /// What a cosigner holds of its log, and the number of the one-time key that signs next.
 #[derive(Clone, Copy, Debug)]
-pub(crate) struct Progress {
-    pub(crate) held: Checkpoint,
-    pub(crate) next: u32,
+pub struct Progress {
+    pub held: Checkpoint,
+    pub next: u32,
 }
 
 impl Progress {

@@ -57,6 +57,12 @@ impl Signer {
         &self.settings.id
     }
 
+    pub(crate) fn log(&self) -> &AnchorId
+        ensures { result.now ≡ self.now.log }
+    {
+        &self.settings.log
+    }
+
     /// The size that is held, and the root.
     pub(crate) fn held(&self) -> (u64, [u8; 32])
         ensures { result ≡ (self.now.held.size, self.now.held.root) }

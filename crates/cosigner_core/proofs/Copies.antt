@@ -1,0 +1,281 @@
+-- Records that are copied from a journal, one behind the other.
+use Rattle.std.proofs.Common.{◌≡◌, ℕ, ◌+◌, ◌-◌, ◌<◌, ◌≤◌, List, [], ◌∷◌, ◌++◌, length, take, drop}
+use Rattle.std.proofs.Common.{Option, Some, None, IfSome, subst, sym, ap, ◌∙◌, refl, arith}
+use Rattle.std.proofs.Common.{append_assoc, append-nil}
+use Rattle.std.specs.Int.{w32, to_be_bytes}
+use Rattle.std.specs.Io.KnownBytes.{Appends}
+use Rattle.std.proofs.KnownBytes.{Appends-trans, Appends-nil}
+use Rattle.std.proofs.Math.Seq.{take-add}
+use Rattle.std.proofs.lemmas.List.{drop-drop}
+use Rattle.byte_forms.specs.Types.{Text}
+use Rattle.disk_core.specs.Disk.{part}
+use Rattle.journal_core.specs.Format.{AreRecordsAt, IsRecordAt, behind}
+use Rattle.journal_core.proofs.Records.{behind_later}
+use Rattle.mtc_io.specs.Streams.{AppendsPrefix}
+use Rattle.mtc_io.proofs.Streams.{prefix_more, prefix_whole}
+use Rattle.tls_wire.specs.Spelling.{vector}
+use Rattle.cosigner_core.specs.Exports.{records_text}
+
+-- ---- facts where a disk tells its bytes
+
+pub any_some : {X : Type 0} (P : X → Type 0) (told : Option X) → ((x : X) → P x) → IfSome told P
+any_some P None is = tt
+any_some P (Some x) is = is x
+
+-- ---- prefixes
+
+-- nothing yet
+pub prefix_none : (a : Option (List ℕ)) (xs : List ℕ) → AppendsPrefix a a xs
+prefix_none a xs = (0, Appends-nil a)
+
+-- a prefix of the front
+pub prefix_front : (a b : Option (List ℕ)) (xs ys : List ℕ) → AppendsPrefix a b xs
+    → AppendsPrefix a b (xs ++ ys)
+prefix_front a b xs ys is = prefix_more a a b [] xs ys (Appends-nil a) is
+
+-- the front, and a prefix of what is behind it
+pub prefix_behind : (a b c : Option (List ℕ)) (xs ys : List ℕ) → Appends a b xs
+    → AppendsPrefix b c ys → AppendsPrefix a c (xs ++ ys)
+prefix_behind a b c xs ys first second =
+    subst (λ (zs : List ℕ). AppendsPrefix a c (xs ++ zs)) (append-nil ys)
+    (prefix_more a b c xs ys [] first second)
+
+-- ---- parts of a file
+
+-- One part behind the other.
+pub part-more : (place done more : ℕ) (bytes : Text)
+    → part place (done + more) bytes ≡ part place done bytes ++ part (place + done) more bytes
+part-more place done more bytes =
+    take-add done more (drop place bytes)
+    ∙ ap (λ (rest : Text). part place done bytes ++ take more rest) (drop-drop done place bytes)
+
+-- A part of it was written, and then a prefix of the next part.
+pub part_prefix : (place done more count : ℕ) (bytes : Text) (a b c : Option (List ℕ))
+    → done + more ≤ count → Appends a b (part place done bytes)
+    → AppendsPrefix b c (part (place + done) more bytes)
+    → AppendsPrefix a c (part place count bytes)
+part_prefix place done more count bytes a b c within first second =
+    let left = count - done - more in
+    let rest : done + (more + left) ≡ count = omega arith in
+    let all : part place count bytes ≡ part place done bytes
+    ++ (part (place + done) more bytes ++ part (place + done + more) left bytes) =
+    ap (λ (n : ℕ). part place n bytes) (sym rest) ∙ part-more place done (more + left) bytes
+    ∙ ap (λ (ys : Text). part place done bytes ++ ys) (part-more (place + done) more left bytes) in
+    subst (AppendsPrefix a c) (sym all) (prefix_more a b c _ _ _ first second)
+
+-- Two parts, one behind the other.
+pub part_whole : (place done more : ℕ) (bytes : Text) (a b c : Option (List ℕ))
+    → Appends a b (part place done bytes) → Appends b c (part (place + done) more bytes)
+    → Appends a c (part place (done + more) bytes)
+part_whole place done more bytes a b c first second =
+    subst (Appends a c) (sym (part-more place done more bytes))
+    (Appends-trans a b c _ _ first second)
+
+-- The same of the bytes that a disk tells, also after it was looked at.
+module _ (told later : Option Text) (same : later ≡ told) (place done more count : ℕ)
+    (a b c : Option (List ℕ)) (first : IfSome told (λ bytes. Appends a b (part place done bytes)))
+  where
+    pub told_prefix : done + more ≤ count
+        → IfSome later (λ bytes. AppendsPrefix b c (part (place + done) more bytes))
+        → IfSome told (λ bytes. AppendsPrefix a c (part place count bytes))
+    told_prefix within second = go told first
+        (subst (λ (o : Option Text). IfSome o (λ bytes. AppendsPrefix b c
+        (part (place + done) more bytes))) same second)
+      where
+        go : (o : Option Text) → IfSome o (λ bytes. Appends a b (part place done bytes))
+            → IfSome o (λ bytes. AppendsPrefix b c (part (place + done) more bytes))
+            → IfSome o (λ bytes. AppendsPrefix a c (part place count bytes))
+        go None p q = tt
+        go (Some bytes) p q = part_prefix place done more count bytes a b c within p q
+
+    pub told_whole : IfSome later (λ bytes. Appends b c (part (place + done) more bytes))
+        → IfSome told (λ bytes. Appends a c (part place (done + more) bytes))
+    told_whole second = go told first
+        (subst (λ (o : Option Text). IfSome o (λ bytes. Appends b c
+        (part (place + done) more bytes))) same second)
+      where
+        go : (o : Option Text) → IfSome o (λ bytes. Appends a b (part place done bytes))
+            → IfSome o (λ bytes. Appends b c (part (place + done) more bytes))
+            → IfSome o (λ bytes. Appends a c (part place (done + more) bytes))
+        go None p q = tt
+        go (Some bytes) p q = part_whole place done more bytes a b c p q
+
+-- ---- records
+
+-- The part of the file that a record of an export is.
+pub record_part : (bytes body : Text) (gate : ℕ) → IsRecordAt bytes gate body
+    → part (gate + 1) (4 + length body) bytes ≡ vector w32 body
+record_part bytes body gate is =
+    part-more (gate + 1) 4 (length body) bytes
+    ∙ ap (λ (size : Text). size ++ part (gate + 1 + 4) (length body) bytes) is.size
+    ∙ ap (λ (rest : Text). to_be_bytes w32 (length body) ++ rest)
+    (let same : gate + 1 + 4 ≡ gate + 5 = omega arith in
+    ap (λ (n : ℕ). part n (length body) bytes) same ∙ is.body_is)
+
+-- a fact of the record at a gate that ends before an end, in the bytes that a disk tells
+abbrev pub AtRecord : Option Text → ℕ → ℕ → (Text → Type 0) → Type 0
+AtRecord told gate end P = IfSome told (λ bytes. (body : Text) → IsRecordAt bytes gate body
+    → gate + 6 + length body ≤ end → P body)
+
+-- What was written of the part is written of the record.
+pub record_of_part : (P : Text → Type 0) (told later : Option Text) → later ≡ told
+    → (gate end size : ℕ) → AtRecord told gate end (λ body. size ≡ length body)
+    → IfSome later (λ bytes. P (part (gate + 1) (4 + size) bytes))
+    → AtRecord told gate end (λ body. P (vector w32 body))
+record_of_part P told later same gate end size long is = go told long
+    (subst (λ (o : Option Text). IfSome o (λ bytes. P (part (gate + 1) (4 + size) bytes))) same is)
+  where
+    go : (o : Option Text) → AtRecord o gate end (λ body. size ≡ length body)
+        → IfSome o (λ bytes. P (part (gate + 1) (4 + size) bytes))
+        → AtRecord o gate end (λ body. P (vector w32 body))
+    go None long is = tt
+    go (Some bytes) long is = λ body there within.
+        subst P (record_part bytes body gate there)
+        (subst (λ (n : ℕ). P (part (gate + 1) (4 + n) bytes)) (long body there within) is)
+
+-- nothing was written of any record
+pub record_none : (told : Option Text) (gate end : ℕ) (a : Option (List ℕ))
+    → AtRecord told gate end (λ body. AppendsPrefix a a (vector w32 body))
+record_none None gate end a = tt
+record_none (Some bytes) gate end a = λ body there within. prefix_none a (vector w32 body)
+
+-- Up to this gate the records were written; these are left.
+pub record IsCopied (bytes whole : Text) (gate end : ℕ) (old now : Option Text) : Type 0 where
+  pub written : Text
+  pub rest : List Text
+  pub there : AreRecordsAt bytes gate rest
+  pub last : end ≡ behind gate rest + 1
+  pub appended : Appends old now written
+  pub made : written ++ records_text rest ≡ whole
+
+-- none was written yet
+pub copied_none : (bytes : Text) (bodies : List Text) (gate end : ℕ) (a : Option Text)
+    → AreRecordsAt bytes gate bodies → end ≡ behind gate bodies + 1
+    → IsCopied bytes (records_text bodies) gate end a a
+copied_none bytes bodies gate end a there last = record {
+  written = [];
+  rest = bodies;
+  there = there;
+  last = last;
+  appended = Appends-nil a;
+  made = refl;
+}
+
+-- all were written
+pub copied_all : (bytes whole : Text) (gate end : ℕ) (a b : Option Text)
+    → end - gate < 6 → IsCopied bytes whole gate end a b → Appends a b whole
+copied_all bytes whole gate end a b few is = go is.rest is.last is.made
+  where
+    go : (rest : List Text) → end ≡ behind gate rest + 1
+        → is.written ++ records_text rest ≡ whole → Appends a b whole
+    go [] last made = subst (Appends a b) (sym (append-nil is.written) ∙ made) is.appended
+    go (body ∷ rest) last made =
+        let later = behind_later (gate + 5 + length body) rest in absurd (omega arith)
+
+module _ (bytes whole : Text) (gate end : ℕ) (a b c : Option Text) (some : 6 ≤ end - gate) where
+  -- a prefix of one record more
+  pub copied_prefix : IsCopied bytes whole gate end a b
+      → ((body : Text) → IsRecordAt bytes gate body → gate + 6 + length body ≤ end
+      → AppendsPrefix b c (vector w32 body))
+      → AppendsPrefix a c whole
+  copied_prefix is more = go is.rest is.there is.last is.made
+    where
+      go : (rest : List Text) → AreRecordsAt bytes gate rest → end ≡ behind gate rest + 1
+          → is.written ++ records_text rest ≡ whole → AppendsPrefix a c whole
+      go [] there last made = absurd (omega arith)
+      go (body ∷ rest) there last made =
+          let later = behind_later (gate + 5 + length body) rest in
+          subst (AppendsPrefix a c) made
+          (prefix_more a b c is.written (vector w32 body) (records_text rest) is.appended
+          (more body there.0 (omega arith)))
+
+  -- one record more
+  pub copied_more : (next : ℕ) → IsCopied bytes whole gate end a b
+      → ((body : Text) → IsRecordAt bytes gate body → gate + 6 + length body ≤ end
+      → next ≡ gate + 5 + length body)
+      → ((body : Text) → IsRecordAt bytes gate body → gate + 6 + length body ≤ end
+      → Appends b c (vector w32 body))
+      → IsCopied bytes whole next end a c
+  copied_more next is far more = go is.rest is.there is.last is.made
+    where
+      go : (rest : List Text) → AreRecordsAt bytes gate rest → end ≡ behind gate rest + 1
+          → is.written ++ records_text rest ≡ whole → IsCopied bytes whole next end a c
+      go [] there last made = absurd (omega arith)
+      go (body ∷ rest) there last made =
+          let later = behind_later (gate + 5 + length body) rest in
+          let here : next ≡ gate + 5 + length body = far body there.0 (omega arith) in
+          record {
+            written = is.written ++ vector w32 body;
+            rest = rest;
+            there = subst (λ (n : ℕ). AreRecordsAt bytes n rest) (sym here) there.1;
+            last = last ∙ ap (λ (n : ℕ). behind n rest + 1) (sym here);
+            appended = Appends-trans a b c _ _ is.appended (more body there.0 (omega arith));
+            made = append_assoc is.written (vector w32 body) (records_text rest) ∙ made;
+          }
+
+-- a fact of the records from a gate to an end, in the bytes that a disk tells
+abbrev pub OfRecords : Option Text → ℕ → ℕ → (Text → List Text → Type 0) → Type 0
+OfRecords told first end P = IfSome told (λ bytes. (bodies : List Text)
+    → AreRecordsAt bytes first bodies → end ≡ behind first bodies + 1 → P bytes bodies)
+
+pub records_none : (told : Option Text) (first end : ℕ) (a : Option (List ℕ))
+    → OfRecords told first end
+    (λ bytes bodies. IsCopied bytes (records_text bodies) first end a a)
+records_none None first end a = tt
+records_none (Some bytes) first end a = λ bodies there last.
+    copied_none bytes bodies first end a there last
+
+pub records_all : (told : Option Text) (first gate end : ℕ) (a b : Option (List ℕ))
+    → end - gate < 6 → OfRecords told first end
+    (λ bytes bodies. IsCopied bytes (records_text bodies) gate end a b)
+    → OfRecords told first end (λ bytes bodies. Appends a b (records_text bodies))
+records_all None first gate end a b few is = tt
+records_all (Some bytes) first gate end a b few is = λ bodies there last.
+    copied_all bytes (records_text bodies) gate end a b few (is bodies there last)
+
+pub records_whole : (told : Option Text) (first end : ℕ) (a b : Option (List ℕ))
+    → OfRecords told first end (λ bytes bodies. Appends a b (records_text bodies))
+    → OfRecords told first end (λ bytes bodies. AppendsPrefix a b (records_text bodies))
+records_whole None first end a b is = tt
+records_whole (Some bytes) first end a b is = λ bodies there last.
+    prefix_whole a b (records_text bodies) (is bodies there last)
+
+module _ (told later : Option Text) (same : later ≡ told) (first gate end : ℕ)
+    (a b c : Option (List ℕ)) (some : 6 ≤ end - gate)
+    (copied : OfRecords told first end
+    (λ bytes bodies. IsCopied bytes (records_text bodies) gate end a b)) where
+  pub records_prefix : AtRecord later gate end (λ body. AppendsPrefix b c (vector w32 body))
+      → OfRecords told first end (λ bytes bodies. AppendsPrefix a c (records_text bodies))
+  records_prefix more = go told copied
+      (subst (λ (o : Option Text). AtRecord o gate end
+      (λ body. AppendsPrefix b c (vector w32 body))) same more)
+    where
+      go : (o : Option Text) → OfRecords o first end
+          (λ bytes bodies. IsCopied bytes (records_text bodies) gate end a b)
+          → AtRecord o gate end (λ body. AppendsPrefix b c (vector w32 body))
+          → OfRecords o first end (λ bytes bodies. AppendsPrefix a c (records_text bodies))
+      go None is more = tt
+      go (Some bytes) is more = λ bodies there last.
+          copied_prefix bytes (records_text bodies) gate end a b c some (is bodies there last) more
+
+  pub records_more : (next : ℕ)
+      → AtRecord later gate end (λ body. next ≡ gate + 5 + length body)
+      → AtRecord later gate end (λ body. Appends b c (vector w32 body))
+      → OfRecords told first end
+      (λ bytes bodies. IsCopied bytes (records_text bodies) next end a c)
+  records_more next far more = go told copied
+      (subst (λ (o : Option Text). AtRecord o gate end
+      (λ body. next ≡ gate + 5 + length body)) same far)
+      (subst (λ (o : Option Text). AtRecord o gate end
+      (λ body. Appends b c (vector w32 body))) same more)
+    where
+      go : (o : Option Text) → OfRecords o first end
+          (λ bytes bodies. IsCopied bytes (records_text bodies) gate end a b)
+          → AtRecord o gate end (λ body. next ≡ gate + 5 + length body)
+          → AtRecord o gate end (λ body. Appends b c (vector w32 body))
+          → OfRecords o first end
+          (λ bytes bodies. IsCopied bytes (records_text bodies) next end a c)
+      go None is far more = tt
+      go (Some bytes) is far more = λ bodies there last.
+          copied_more bytes (records_text bodies) gate end a b c some next (is bodies there last)
+          far more

@@ -1,0 +1,34 @@
+use Rattle.std.proofs.Common.{arith, ◌∙◌}
+use Rattle.disk_core.proofs.Moments.{looked_on}
+use Rattle.journal_core.specs.Words.{disk_of}
+use Rattle.cosigner_core.proofs.Copies.{told_prefix, told_whole}
+use Rattle.cosigner_core.proofs.export.copy.Goals as goal
+
+pub returns-in_err-copy_piece-clause-prefix : goal.returns-in_err-copy_piece-clause-prefix
+returns-in_err-copy_piece-clause-prefix g c =
+    told_prefix (g.D.Disk.told (disk_of c.args.journal.now))
+    (g.D.Disk.told (disk_of c.loop-done.journal)) c.loop-done.invariant.kept.looks.told
+    c.args.place c.loop-done.done c.min-length.result c.args.count
+    (g.O.Sink.taken c.args.out.now) (g.O.Sink.taken c.loop-done.out)
+    (g.O.Sink.taken c.copy_piece.new.out) c.loop-done.invariant.written
+    (omega arith) c.copy_piece.ensures.prefix
+
+pub loop-done-preserved : goal.loop-done-preserved
+loop-done-preserved g c = record {
+  within = omega arith;
+  written = told_whole (g.D.Disk.told (disk_of c.args.journal.now))
+      (g.D.Disk.told (disk_of c.loop-done.journal)) c.loop-done.invariant.kept.looks.told
+      c.args.place c.loop-done.done c.min-length.result c.args.count
+      (g.O.Sink.taken c.args.out.now) (g.O.Sink.taken c.loop-done.out)
+      (g.O.Sink.taken c.copy_piece.new.out) c.loop-done.invariant.written
+      c.in_ok-copy_piece.ensures.ok;
+  kept = record {
+    list = c.copy_piece.ensures.kept.list ∙ c.loop-done.invariant.kept.list;
+    end = c.copy_piece.ensures.kept.end ∙ c.loop-done.invariant.kept.end;
+    broken = c.copy_piece.ensures.kept.broken ∙ c.loop-done.invariant.kept.broken;
+    looks = looked_on g.D.Disk _ _ _ c.loop-done.invariant.kept.looks
+        c.copy_piece.ensures.kept.looks;
+  };
+  read = c.in_ok-copy_piece.ensures.cause.0 ∙ c.loop-done.invariant.read;
+  took = c.in_ok-copy_piece.ensures.cause.1 ∙ c.loop-done.invariant.took;
+}

@@ -1,0 +1,31 @@
+use Rattle.std.specs.Io.KnownBytes.{Appends}
+use Rattle.mtc_io.specs.Streams.{AppendsPrefix}
+use Rattle.journal_core.specs.Words.{disk_of, end_of}
+use Rattle.cosigner_core.proofs.Copies.{record_none, record_of_part}
+use Rattle.cosigner_core.proofs.export.copy_record.Goals as goal
+
+pub returns-in-Err-clause-prefix : goal.returns-in-Err-clause-prefix
+returns-in-Err-clause-prefix g c =
+    record_none (g.D.Disk.told (disk_of c.args.journal.now)) c.args.gate
+    (end_of c.args.journal.now) (g.O.Sink.taken c.args.out.now)
+
+pub returns-in_err-copy-clause-prefix : goal.returns-in_err-copy-clause-prefix
+returns-in_err-copy-clause-prefix g c =
+    record_of_part (AppendsPrefix (g.O.Sink.taken c.args.out.now) (g.O.Sink.taken c.copy.new.out))
+    (g.D.Disk.told (disk_of c.args.journal.now)) (g.D.Disk.told (disk_of c.body_size.new.journal))
+    c.body_size.ensures.kept.looks.told c.args.gate (end_of c.args.journal.now) c.in-Ok.size
+    c.in-Ok.ensures.size c.copy.ensures.prefix
+
+pub returns-clause-ok : goal.returns-clause-ok
+returns-clause-ok g c =
+    record_of_part (Appends (g.O.Sink.taken c.args.out.now) (g.O.Sink.taken c.copy.new.out))
+    (g.D.Disk.told (disk_of c.args.journal.now)) (g.D.Disk.told (disk_of c.body_size.new.journal))
+    c.body_size.ensures.kept.looks.told c.args.gate (end_of c.args.journal.now) c.in-Ok.size
+    c.in-Ok.ensures.size c.in_ok-copy.ensures.ok
+
+pub returns-clause-prefix : goal.returns-clause-prefix
+returns-clause-prefix g c =
+    record_of_part (AppendsPrefix (g.O.Sink.taken c.args.out.now) (g.O.Sink.taken c.copy.new.out))
+    (g.D.Disk.told (disk_of c.args.journal.now)) (g.D.Disk.told (disk_of c.body_size.new.journal))
+    c.body_size.ensures.kept.looks.told c.args.gate (end_of c.args.journal.now) c.in-Ok.size
+    c.in-Ok.ensures.size c.copy.ensures.prefix
