@@ -1,6 +1,7 @@
 -- Certificates of the entries of a log.
 use Rattle.std.proofs.Common.{◌≡◌, ℕ, ◌+◌, ◌*◌, ◌^◌, ◌<◌, ◌≤◌, ◌&&◌, true, List, [], ◌∷◌, length}
-use Rattle.std.proofs.Common.{slice_index_or, Option, Some, None, IfOk, Result, Ok, Err, refl, sym, ap}
+use Rattle.std.proofs.Common.{slice_index_or, Option, Some, None, IfOk, Result, Ok, Err, refl}
+use Rattle.std.proofs.Common.{sym, ap}
 use Rattle.std.proofs.Common.{◌∙◌, subst, arith}
 use Rattle.std.specs.List.{AllByRecursion, concat}
 use Rattle.std.proofs.lemmas.Grind.{common_steps}
@@ -15,7 +16,7 @@ use Rattle.cert_fields.specs.Keys.{is_public_key}
 use Rattle.cert_fields.specs.Spelling.{certificate, certificate_fields}
 use Rattle.cert_fields.specs.declared.parts.CertParts.{CertParts}
 use Rattle.cert_fields.proofs.Sizes.{given-short}
-use Rattle.mtc_proof.specs.Proofs.{ProofParts, proof_text}
+use Rattle.mtc_proof.specs.Proofs.{ProofParts, IsProof, proof_text}
 use Rattle.log_entry.specs.Entries.{TbsParts, tbs_text, entry_text, IsTbs}
 use Rattle.log_entry.specs.Matching.{holds, matches}
 use Rattle.log_entry.specs.Reading.{entry_in}
@@ -95,7 +96,18 @@ parts_few index entry key proof e t p one is same short_entry short_key short_pr
     let spki = ap (λ (x : Parts). length x.spki) same in
     let extensions = ap (λ (x : Parts). length x.extensions) same in
     let last = ap (λ (x : Parts). length x.proof) same in
-    omega (arith, fields, issuer, subject, spki, extensions, last, short_entry, short_key, short_proof)
+    omega (
+      arith,
+      fields,
+      issuer,
+      subject,
+      spki,
+      extensions,
+      last,
+      short_entry,
+      short_key,
+      short_proof,
+    )
 
 length-hashes : (items : List Text) → AllByRecursion (λ hash. length hash ≡ 32) items
     → length (concat items) ≡ length items * 32
@@ -113,6 +125,11 @@ pub short_so : {E : Type 0} (r : Result Text E) (p : ProofParts)
     → IfOk r (λ bytes. length bytes ≤ 200000)
 short_so {E} (Ok bytes) p is few = subst (λ (b : Text). length b ≤ 200000) (sym is) few
 short_so {E} (Err e) p is few = tt
+
+pub fits_so : {E : Type 0} (r : Result Text E) (p : ProofParts) → IsProof p
+    → IfOk r (λ bytes. IsProof p)
+fits_so {E} (Ok bytes) p is = is
+fits_so {E} (Err e) p is = tt
 
 -- ---- a certificate that is written is one, and the entry is its entry
 
@@ -174,8 +191,8 @@ pub certified_so : {E : Type 0} (r : Result Text E) (h : HashFunction) (index : 
 certified_so {E} (Ok bytes) h index entry key proof t p of_entry of_key belongs read some below same
     few is =
     certified h index entry key proof bytes t p of_entry of_key belongs read some below same few is
-certified_so {E} (Err e) h index entry key proof t p of_entry of_key belongs read some below same few
-    is = tt
+certified_so {E} (Err e) h index entry key proof t p of_entry of_key belongs read some below same
+    few is = tt
 
 -- ---- the certificate of an item that was given
 

@@ -1,6 +1,8 @@
 -- What is issued is an entry of the log, to which the key of the request belongs.
 use Rattle.std.proofs.Common.{◌≡◌, ℕ, ◌<◌, ◌≤◌, true, false, List, [], ◌∷◌, length, Option, Some}
-use Rattle.std.proofs.Common.{None, IfSome, Ok, refl, sym, ap, ◌∙◌, append-nil, arith, lit<, inr}
+use Rattle.std.proofs.Common.{None, IfSome, Ok, refl, sym, ap, subst, ◌∙◌, ◌++◌, get_or, append-nil}
+use Rattle.std.proofs.Common.{arith, lit<, inr}
+use Rattle.std.proofs.Math.Seq.{get_or-append_seam}
 use Rattle.std.specs.Prelude.{is_none, map}
 use Rattle.std.specs.List.{flat_map, list_any, AllByRecursion}
 use Rattle.std.proofs.lemmas.List.{length-append}
@@ -30,6 +32,8 @@ use Rattle.log_entry.specs.Reading.{entry_in}
 use Rattle.log_entry.specs.Matching.{matches}
 use Rattle.log_entry.proofs.EntryForm.{entries_again}
 use Rattle.log_entry.proofs.Matches.{written_matches}
+use Rattle.issuance_log.specs.Folds.{LogState, with_item}
+use Rattle.authority_core.specs.Acceptance.{IsOwnEntry}
 use Rattle.authority_core.specs.Hosts.{IsHostName}
 use Rattle.authority_core.specs.Requests.{IsCommonName, CanBeIssued, RequestParts}
 use Rattle.authority_core.specs.Issuing.{common_name_id, subject_of, dns_names, alt_name_of}
@@ -276,3 +280,28 @@ all_known r f = ap (list_any is_unknown_critical) (alone_found r f) ∙ alone_kn
         } ∷ []) ≡ false
     alone_known None = refl
     alone_known (Some name) = refl
+
+-- ---- an entry of the log
+
+pub own_entry : (h : List ℕ → List ℕ) (id : List ℕ) (r : RequestParts)
+    → ((bytes : List ℕ) → length (h bytes) ≡ 32) → IsAnchorId id → CanBeIssued r
+    → IsOwnEntry id (entry_for h id r)
+own_entry h id r sized anchor f = record {
+  fields = tbs_for h id r;
+  read = entry_read h id r sized anchor f;
+  issuer = refl;
+  known = all_known r f;
+}
+
+-- and the log has it, at the index where it was added
+pub own_added : (s t : LogState) (id entry key : List ℕ) (index : ℕ) → t ≡ with_item entry key s
+    → index ≡ length s.entries → id ≡ s.settings.id → IsOwnEntry id entry
+    → IsOwnEntry t.settings.id (get_or t.entries index [])
+own_added s t id entry key index grown last same own =
+    let at : get_or t.entries index [] ≡ entry =
+    ap (λ (x : LogState). get_or x.entries index []) grown
+    ∙ ap (λ (n : ℕ). get_or (s.entries ++ entry ∷ []) n []) last
+    ∙ get_or-append_seam s.entries entry [] [] in
+    let named : id ≡ t.settings.id = same ∙ sym (ap (λ (x : LogState). x.settings.id) grown) in
+    subst (IsOwnEntry t.settings.id) (sym at)
+    (subst (λ (name : List ℕ). IsOwnEntry name entry) named own)

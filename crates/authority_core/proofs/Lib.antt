@@ -5,3 +5,4 @@ mod Items
 mod Marks
 mod Sizes
 mod Issued
+mod Accepted

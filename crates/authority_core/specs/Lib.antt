@@ -1,4 +1,5 @@
 pub mod Certificates
+pub mod Acceptance
 pub mod Hosts
 pub mod Requests
 pub mod Files

@@ -1,8 +1,9 @@
 //! Issuing: the entry of a request is added to the log.
 
-ghost use Rattle.std.specs.Prelude.{◌≡◌, length, IfOk};
+ghost use Rattle.std.specs.Prelude.{◌≡◌, [], length, slice_index_or, IfOk};
 ghost use Rattle.issuance_log.specs.Refusals.{add_refusal};
 ghost use Rattle.issuance_log.specs.Words.{log_end, log_broken, state_of, view_of, LogAppends};
+ghost use Rattle.authority_core.specs.Acceptance.{IsOwnEntry};
 ghost use Rattle.authority_core.specs.Issues.{KeepsToOrMemory, issued_entry, issued_log, issued_record, of_log};
 
 use crate::issuing::entry::entry_of_request;
@@ -14,8 +15,9 @@ use std::alloc::Global;
 use tree_core::TreeHash;
 
 /// Issues a request: makes its entry under the id of the log, adds it with the key of the request,
-/// and answers its index. At Ok a crash leaves the records with that of the entry; at any moment of
-/// the call it leaves the old records, or these and that one.
+/// and answers its index, at which the log then has an entry with its own name as issuer and no
+/// critical extension that is unknown. At Ok a crash leaves the records with that of the entry; at
+/// any moment of the call it leaves the old records, or these and that one.
 ///
 /// Errors: what [`Log::add`] refuses. Its own memory is taken before the log is touched, so
 /// `Log(Memory)` may come before any test, and leaves the log as it was.
@@ -27,6 +29,8 @@ pub fn issue<H: TreeHash, D: Disk>(
     ensures appends { LogAppends (issued_record H.hash (state_of log.old) request.now)
         (issued_log H.hash (state_of log.old) request.now) log.old log.new (of_log result) }
     ensures index { IfOk result (λ index. index ≡ length (state_of log.old).entries) }
+    ensures own { IfOk result (λ index. IsOwnEntry (state_of log.new).settings.id
+        (slice_index_or (state_of log.new).entries index [])) }
     ensures answer { KeepsToOrMemory
         (add_refusal (view_of log.old) (log_broken log.old) (log_end log.old)
         (issued_entry H.hash (state_of log.old) request.now) request.now.key)

@@ -2,6 +2,7 @@
 
 ghost use Rattle.std.specs.Prelude.{◌≡◌, true, IfOk};
 ghost use Rattle.log_entry.specs.Matching.{matches};
+ghost use Rattle.authority_core.specs.Acceptance.{IsOwnEntry};
 ghost use Rattle.authority_core.specs.Issuing.{entry_for};
 
 use crate::issuing::extensions::extensions_of;
@@ -46,10 +47,11 @@ pub fn entry_of_request<H: TreeHash>(
     request: &Request,
 ) -> Result<Bytes, Memory>
     ensures bytes { IfOk result (λ bytes. bytes ≡ entry_for H.hash id.now request.now) }
+    ensures own { IsOwnEntry id.now (entry_for H.hash id.now request.now) }
     ensures belongs { matches H.hash (entry_for H.hash id.now request.now) request.now.key ≡ true }
 {
-    // The key belongs to the entry since these bytes are an anchor id, whose text is short enough
-    // for a name, and since the request can be issued.
+    // The entry is one of the log, and the key belongs to it, since these bytes are an anchor id,
+    // whose text is short enough for a name, and since the request can be issued.
     let _bytes = id.as_bytes();
     let _key = &request.key;
     written::<H>(alloc, id, request)

@@ -10,13 +10,14 @@ ghost use Rattle.log_entry.specs.Matching.{matches};
 ghost use Rattle.log_entry.specs.Reading.{entry_in};
 ghost use Rattle.issuance_log.specs.Folds.{LogState, log_of, with_item};
 ghost use Rattle.issuance_log.specs.Settings.{most_item};
+ghost use Rattle.authority_core.specs.Acceptance.{IsOwnEntry};
 ghost use Rattle.authority_core.specs.Issues.{issued_entry, issued_record};
 ghost use Rattle.authority_core.specs.Issuing.{entry_for, tbs_for};
 ghost use Rattle.authority_core.specs.Requests.{CanBeIssued, RequestParts};
 
 /// The entry of a request is read as its fields; its issuer names the log, its names are those of
 /// the request in their order, it has no critical extension that is unknown, and the key of the
-/// request belongs to it.
+/// request belongs to it. So stores that are set up for the log accept its certificates.
 pub fn entries_say_what_was_asked()
     ensures read { (h : HashFunction) (id : Text) (r : RequestParts)
         → ((bytes : Text) → length (h bytes) ≡ 32) → IsAnchorId id → CanBeIssued r
@@ -30,6 +31,9 @@ pub fn entries_say_what_was_asked()
         → dns_names_in (tbs_for h id r).extensions ≡ r.names }
     ensures known { (h : HashFunction) (id : Text) (r : RequestParts) → CanBeIssued r
         → has_unknown_critical (tbs_for h id r).extensions ≡ false }
+    ensures own { (h : HashFunction) (id : Text) (r : RequestParts)
+        → ((bytes : Text) → length (h bytes) ≡ 32) → IsAnchorId id → CanBeIssued r
+        → IsOwnEntry id (entry_for h id r) }
 {}
 
 /// The record of what is issued keeps to the rules of a log's journal. Behind records that make a

@@ -3,6 +3,7 @@
 ghost use Rattle.std.specs.Prelude.{◌≡◌, IfOk};
 ghost use Rattle.issuance_log.specs.Words.{state_of, view_of};
 ghost use Rattle.mtc_proof.specs.Proofs.{AreSignatures};
+ghost use Rattle.authority_core.specs.Acceptance.{StoresAccept};
 ghost use Rattle.authority_core.specs.Certificates.{cert_refusal, IsWritten, KeepsToRefusal};
 
 use crate::writing::error::WriteError;
@@ -21,6 +22,10 @@ const MOST_SIGNATURES: usize = 65_535;
 /// cosigners, or none (the draft on Merkle Tree Certificates, where it defines MTCProof). The log
 /// stays as it was.
 ///
+/// Each store that is set up for the log and this entry accepts it, at each moment of the entry's
+/// validity. It is so where the store holds no other hash for the subtree, and trusts it with the
+/// log's, or has rules which the signatures meet.
+///
 /// Errors, in the order of the tests: those of [`WriteError`] but `NotCovered`. Want of memory
 /// comes last.
 #[tactic(auto, unfolding(crate::specs::Certificates::cert_refusal))]
@@ -37,6 +42,8 @@ pub fn cert<H: TreeHash, D: Disk>(
         (cert_refusal (view_of log.old) index start end signatures.now) result }
     ensures written { IfOk result
         (IsWritten H.hash (state_of log.old) index start end signatures.now) }
+    ensures accepted { IfOk result
+        (StoresAccept H.hash (state_of log.old) index start end signatures.now) }
     ensures same { log.new ≡ log.old }
 {
     if log.size() <= index {

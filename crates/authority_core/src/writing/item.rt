@@ -8,6 +8,7 @@ ghost use Rattle.log_entry.specs.Matching.{matches};
 ghost use Rattle.log_entry.specs.Views.{tbs_parts};
 ghost use Rattle.mtc_proof.specs.Proofs.{AreSignatures};
 ghost use Rattle.tree_core.specs.Subtree.{is_subtree};
+ghost use Rattle.authority_core.specs.Acceptance.{StoresAccept};
 ghost use Rattle.authority_core.specs.Certificates.{IsCertificateOf, IsWritten, parts_with};
 
 use crate::writing::proof::proof_of;
@@ -85,6 +86,8 @@ pub fn written<H: TreeHash, D: Disk>(
     requires short { length signatures.now < 2 ^ 16 }
     ensures written { IfOk result
         (IsWritten H.hash (state_of log.old) index start end signatures.now) }
+    ensures accepted { IfOk result
+        (StoresAccept H.hash (state_of log.old) index start end signatures.now) }
     ensures same { log.new ≡ log.old }
 {
     log.sound();

@@ -2,6 +2,7 @@
 
 ghost use Rattle.std.specs.Prelude.{◌≡◌, length, IfOk, IfSome};
 ghost use Rattle.issuance_log.specs.Words.{state_of, view_of};
+ghost use Rattle.authority_core.specs.Acceptance.{StoresAcceptLightly};
 ghost use Rattle.authority_core.specs.Certificates.{covering_in, HoldsEntry, IsLightlyWritten, KeepsToLightRefusal, light_refusal};
 
 use crate::writing::error::WriteError;
@@ -33,6 +34,9 @@ fn covering_subtree<H: TreeHash, D: Disk>(
 /// landmark of the log above it (the draft on Merkle Tree Certificates, where it defines
 /// landmarks). The log stays as it was.
 ///
+/// Each store for the log that trusts this subtree with the log's hash, and doesn't revoke the
+/// index, accepts it at each moment of the entry's validity.
+///
 /// Errors, in the order of the tests: `NoSuchEntry`, `NullEntry`, and `NotCovered` where no
 /// landmark is above the entry, or the least one isn't active any more. `Memory` may come before
 /// `NotCovered`.
@@ -44,6 +48,7 @@ pub fn light_cert<H: TreeHash, D: Disk>(
 ) -> Result<Bytes, WriteError>
     ensures answer { KeepsToLightRefusal (light_refusal (view_of log.old) index) result }
     ensures written { IfOk result (IsLightlyWritten H.hash (state_of log.old) index) }
+    ensures accepted { IfOk result (StoresAcceptLightly H.hash (state_of log.old) index) }
     ensures same { log.new ≡ log.old }
 {
     if log.size() <= index {

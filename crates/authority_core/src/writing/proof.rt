@@ -3,7 +3,7 @@
 ghost use Rattle.std.specs.Prelude.{◌≡◌, ◌^◌, ◌<◌, ◌≤◌, length, true, IfOk};
 ghost use Rattle.tls_wire.specs.Spelling.{AreHashes};
 ghost use Rattle.issuance_log.specs.Words.{state_of};
-ghost use Rattle.mtc_proof.specs.Proofs.{AreSignatures, proof_text};
+ghost use Rattle.mtc_proof.specs.Proofs.{AreSignatures, IsProof, proof_text};
 ghost use Rattle.tree_core.specs.Subtree.{is_subtree};
 ghost use Rattle.authority_core.specs.Certificates.{proof_for};
 
@@ -42,6 +42,8 @@ pub fn proof_of<H: TreeHash, D: Disk>(
     requires short { length signatures.now < 2 ^ 16 }
     ensures proof { IfOk result (λ bytes. bytes
         ≡ proof_text (proof_for H.hash (state_of log.old) index start end signatures.now)) }
+    ensures fits { IfOk result (λ _. IsProof
+        (proof_for H.hash (state_of log.old) index start end signatures.now)) }
     ensures few { IfOk result (λ bytes. length bytes ≤ 200000) }
     ensures same { log.new ≡ log.old }
 {

@@ -1,12 +1,14 @@
-use Rattle.std.proofs.Common.{◌≡◌, Ok, ap, subst, ◌∙◌}
+use Rattle.std.proofs.Common.{◌≡◌, Ok, ap, subst, sym, ◌∙◌}
 use Rattle.byte_forms.specs.Types.{Text}
 use Rattle.issuance_log.specs.Folds.{with_item}
 use Rattle.issuance_log.specs.Records.{entry_record}
 use Rattle.issuance_log.specs.Words.{state_of, LogAppends}
 use Rattle.issuance_log.specs.Settings.{Settings}
+use Rattle.authority_core.specs.Acceptance.{IsOwnEntry}
 use Rattle.authority_core.specs.Issuing.{entry_for}
 use Rattle.authority_core.specs.Issues.{issued_entry}
 use Rattle.authority_core.specs.Requests.{RequestParts}
+use Rattle.authority_core.proofs.Issued.{own_added}
 use Rattle.authority_core.proofs.issuing.adding.issue.Goals as goal
 
 -- The same entry and key.
@@ -28,3 +30,13 @@ returns-clause-appends g c =
     ∙ c.settings-settings.ensures.value))
     (c.as_slice-2.ensures ∙ ap (λ (q : RequestParts). q.key) c.request.view_is)
     c.in_ok-index.ensures.appends
+
+pub returns-clause-own : goal.returns-clause-own
+returns-clause-own g c =
+    let log = c.args.log.now in
+    own_added (state_of log) (state_of c.add.new.self) _ c.as_slice.result.now
+    c.as_slice-2.result.now
+    c.in_ok-index.index c.in_ok-index.ensures.appends.leaves.state c.in_ok-index.ensures.index
+    (ap (λ (s : Settings). s.id) (c.settings.view_is ∙ c.settings-settings.ensures.value))
+    (subst (IsOwnEntry _) (sym (c.as_slice.ensures ∙ c.in_ok-entry.ensures.bytes))
+    c.in_ok-entry.ensures.own)

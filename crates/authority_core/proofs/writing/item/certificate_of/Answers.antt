@@ -5,11 +5,14 @@ use Rattle.authority_core.proofs.Certificates.{no_null, no_fault, parts_few, cer
 use Rattle.authority_core.proofs.writing.item.certificate_of.Goals as goal
 
 pub write-requires : goal.write-requires
-write-requires g c = record {
-  short = parts_few c.args.index c.args.entry.now c.args.key.now c.args.proof c.in-Ok-Tbs.field-0
-      c.in-Ok-Tbs.tbs c.in_ok-parts-in-Ok-Tbs.parts c.in-Ok-Tbs.field-0-is c.in-Ok-Tbs.ensures.found.0
-      c.in_ok-parts-in-Ok-Tbs.ensures c.requires.short_entry c.requires.short_key c.requires.short_proof;
-}
+write-requires g c =
+    let made = c.in_ok-parts-in-Ok-Tbs in
+    record {
+      short = parts_few c.args.index c.args.entry.now c.args.key.now c.args.proof
+          c.in-Ok-Tbs.field-0 c.in-Ok-Tbs.tbs made.parts c.in-Ok-Tbs.field-0-is
+          c.in-Ok-Tbs.ensures.found.0 made.ensures c.requires.short_entry c.requires.short_key
+          c.requires.short_proof;
+    }
 
 pub unreachable-requires : goal.unreachable-requires
 unreachable-requires g c =
@@ -23,12 +26,13 @@ unreachable-requires-in-Err g c =
 
 pub returns : goal.returns
 returns g c =
+    let made = c.in_ok-parts-in-Ok-Tbs in
     certified_so c.write.result g.H.TreeHash.hash c.args.index c.args.entry.now c.args.key.now
-    c.args.proof (tbs_parts c.in-Ok-Tbs.tbs) c.in_ok-parts-in-Ok-Tbs.parts (λ i. (c.type_inv.entry i).fits)
+    c.args.proof (tbs_parts c.in-Ok-Tbs.tbs) made.parts (λ i. (c.type_inv.entry i).fits)
     (λ i. (c.type_inv.key i).fits) c.requires.belongs
     (c.in-Ok-Tbs.ensures.exact ∙ ap (λ (e : Entry). Ok (entry_parts e)) c.in-Ok-Tbs.field-0-is)
-    c.requires.some c.ranges.index.fits c.in_ok-parts-in-Ok-Tbs.ensures
+    c.requires.some c.ranges.index.fits made.ensures
     (parts_few c.args.index c.args.entry.now c.args.key.now c.args.proof c.in-Ok-Tbs.field-0
-    c.in-Ok-Tbs.tbs c.in_ok-parts-in-Ok-Tbs.parts c.in-Ok-Tbs.field-0-is c.in-Ok-Tbs.ensures.found.0
-    c.in_ok-parts-in-Ok-Tbs.ensures c.requires.short_entry c.requires.short_key c.requires.short_proof)
+    c.in-Ok-Tbs.tbs made.parts c.in-Ok-Tbs.field-0-is c.in-Ok-Tbs.ensures.found.0 made.ensures
+    c.requires.short_entry c.requires.short_key c.requires.short_proof)
     c.write.ensures.exact

@@ -1,6 +1,7 @@
 use Rattle.std.proofs.Common.{◌≡◌, Ok, sym, subst, ◌∙◌, arith}
 use Rattle.issuance_log.specs.Refusals.{item_at}
 use Rattle.issuance_log.specs.Words.{state_of}
+use Rattle.authority_core.proofs.Accepted.{accepts_so}
 use Rattle.authority_core.proofs.Certificates.{item_is, item_given, written_so}
 use Rattle.authority_core.proofs.writing.item.written.Goals as goal
 
@@ -42,3 +43,18 @@ returns-in-Ok-clause-written g c =
     c.args.end c.args.signatures.now c.as_slice.result.now c.as_slice-in-Ok.result.now
     c.in_ok-proof.proof (c.as_slice.ensures ∙ sym same.0) (c.as_slice-in-Ok.ensures ∙ sym same.1)
     c.in_ok-proof.ensures.proof c.certificate_of.ensures
+
+pub returns-in-Ok-clause-accepted : goal.returns-in-Ok-clause-accepted
+returns-in-Ok-clause-accepted g c =
+    let log = c.args.log.now in
+    let found = subst (λ l. item_at (state_of l) c.args.index
+    ≡ Ok (c.entry.new.entry, c.entry.new.spki)) c.proof_of.ensures.same c.in-Ok.ensures.item in
+    let same = item_is (state_of log) c.args.index c.entry.new.entry c.entry.new.spki (omega arith)
+    found in
+    accepts_so c.certificate_of.result g.H.TreeHash.hash (state_of log) c.args.index c.args.start
+    c.args.end c.args.signatures.now c.requires.valid c.requires.from c.requires.below
+    c.requires.within c.in_ok-proof.ensures.fits
+    (written_so c.certificate_of.result g.H.TreeHash.hash (state_of log) c.args.index c.args.start
+    c.args.end c.args.signatures.now c.as_slice.result.now c.as_slice-in-Ok.result.now
+    c.in_ok-proof.proof (c.as_slice.ensures ∙ sym same.0) (c.as_slice-in-Ok.ensures ∙ sym same.1)
+    c.in_ok-proof.ensures.proof c.certificate_of.ensures)
