@@ -2,6 +2,7 @@ pub mod Adds
 pub mod Allowed
 pub mod Copies
 pub mod Counts
+pub mod ExportLoops
 pub mod Exported
 pub mod FirstRecords
 pub mod Forms

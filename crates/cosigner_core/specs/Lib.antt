@@ -1,5 +1,6 @@
 pub mod Checkpoints
 pub mod Counts
+pub mod ExportReading
 pub mod Exports
 pub mod Faults
 pub mod Folds

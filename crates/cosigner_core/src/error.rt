@@ -2,6 +2,7 @@
 ghost use Rattle.std.specs.Prelude.{◌≡◌};
 ghost use Rattle.cosigner_core.specs.declared.error.CosignError.TheVariants.{Append as NotAppended};
 ghost use Rattle.cosigner_core.specs.declared.error.RecordError.TheVariants.{Unfit, Memory as RecordMemory};
+ghost use Rattle.cosigner_core.specs.declared.error.ReadExportError.TheVariants.{Memory as ExportMemory, Short as ExportShort};
 ghost use Rattle.cosigner_core.specs.Faults.{of_id};
 
 use crate::fault::FormError;
@@ -55,6 +56,21 @@ pub enum ExportError {
     Write,
 }
 
+/// Why bytes are no export. They are read from the left, and the first fault is answered.
+#[derive(Clone, Copy, Debug, PartialEq, Eq)]
+pub enum ReadExportError {
+    /// The id, the key or the record that begins at this offset doesn't fit.
+    Short(usize),
+    /// The public key is none of a cosigner.
+    BadKey,
+    /// An id is no anchor id.
+    BadId,
+    /// The record of this number, counted from 1, breaks the rules of a cosigner's records.
+    BadRecord(u64),
+    /// Memory was refused.
+    Memory,
+}
+
 /// Why a record is not taken.
 #[derive(Clone, Copy, Debug, PartialEq, Eq)]
 pub(crate) enum RecordError {
@@ -104,5 +120,21 @@ impl From<AnchorBytesError> for RecordError {
             AnchorBytesError::Memory => RecordError::Memory,
             _ => RecordError::Unfit,
         }
+    }
+}
+
+impl From<Memory> for ReadExportError {
+    ghost from_gives = { λ _ e. e ≡ ExportMemory };
+
+    fn from(_: Memory) -> Self {
+        ReadExportError::Memory
+    }
+}
+
+impl From<Short> for ReadExportError {
+    ghost from_gives = { λ short e. e ≡ ExportShort short.place };
+
+    fn from(short: Short) -> Self {
+        ReadExportError::Short(short.place)
     }
 }

@@ -12,7 +12,7 @@
 //! its disk make.
 //!
 //! [`Cosigner::export`] writes what others may know of a cosigner: its records, but for the first
-//! one, which holds the secret.
+//! one, which holds the secret; and [`read_export`] reads it, and tests its records one by one.
 //!
 //! Requests are bytes in the presentation language of TLS (RFC 8446, section 3).
 #![tactic(auto)]
@@ -23,6 +23,7 @@ mod cosigner;
 mod creation;
 mod error;
 mod export;
+mod export_reading;
 mod fault;
 mod laws;
 mod lists;
@@ -40,14 +41,15 @@ mod writing;
 pub use checkpoint::Checkpoint;
 pub use cosigner::Cosigner;
 pub use creation::{create, pack};
-pub use error::{CosignError, CosignerOpenError, ExportError};
+pub use error::{CosignError, CosignerOpenError, ExportError, ReadExportError};
+pub use export_reading::read_export;
 pub use fault::FormError;
 pub use laws::{
     advance_requests_are_read_as_spelled, cosigners_are_read_from_their_journals,
     first_records_are_read_as_spelled, one_time_keys_sign_once, steps_are_read_as_spelled,
     subtree_requests_are_read_as_spelled,
 };
-pub use lists::{Hashes, StepList};
+pub use lists::{Export, Hashes, StepList};
 pub use progress::Progress;
 pub use reading::{read_advance, read_subtree};
 pub use requests::{AdvanceRequest, SubtreeRequest};

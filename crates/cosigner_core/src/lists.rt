@@ -1,7 +1,9 @@
-//! The lists of an export.
+//! An export, and its lists.
 
 use crate::step::Step;
+use hss_core::PUBLIC_KEY_LEN;
 use std::marker::Model;
+use tls_wire::AnchorId;
 
 /// The hashes of a proof. Contracts see the list of them.
 #[derive(Debug, Drop)]
@@ -80,4 +82,17 @@ impl StepList {
     {
         self.items.as_slice()
     }
+}
+
+/// What others may know of a cosigner.
+#[derive(Debug, Drop)]
+pub struct Export {
+    /// The name of the cosigner.
+    pub cosigner: AnchorId,
+    /// The name of the log whose subtrees it signs.
+    pub log: AnchorId,
+    /// The public key of its signatures.
+    pub public: [u8; PUBLIC_KEY_LEN],
+    /// Its steps, in their order.
+    pub steps: StepList,
 }

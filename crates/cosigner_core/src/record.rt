@@ -1,10 +1,11 @@
 //! Reading the bodies of a cosigner's records.
-ghost use Rattle.std.specs.Prelude.{◌≡◌, ◌≤◌, option_map, option_and_then, IfSome, IfOk};
+ghost use Rattle.std.specs.Prelude.{◌≡◌, ◌≢◌, ◌≤◌, Err, option_map, option_and_then, IfSome, IfOk};
 ghost use Rattle.byte_forms.specs.Readings.{Moves};
 ghost use Rattle.lms_core.specs.Heights.{height};
 ghost use Rattle.tls_wire.specs.Reading.{bytes_at};
 ghost use Rattle.cosigner_core.specs.Records.{advance_step_at, cosigner_at, cosigner_in, founded, settings_with, sign_step_at, signing_type, step_in, advance_of, sign_of, whole_of};
 ghost use Rattle.cosigner_core.specs.Results.{Finds};
+ghost use Rattle.cosigner_core.specs.declared.error.RecordError.TheVariants.{Memory as RecordMemory};
 ghost use Rattle.cosigner_core.specs.Views.{step_said};
 
 use crate::error::RecordError;
@@ -76,8 +77,9 @@ fn sign_fields<'a>(
 
 // An Advance that ends where the record does.
 fn advance_step(mut cursor: Cursor<'_>) -> Result<StepRef<'_>, RecordError>
-    ensures { Finds step_said (option_map advance_of (whole_of (advance_step_at cursor.entry)))
-        result }
+    ensures found { Finds step_said
+        (option_map advance_of (whole_of (advance_step_at cursor.entry))) result }
+    ensures never { result ≢ Err RecordMemory }
 {
     let (size, root, proof) = advance_fields(&mut cursor)?;
     if cursor.left() != 0 {
@@ -88,7 +90,9 @@ fn advance_step(mut cursor: Cursor<'_>) -> Result<StepRef<'_>, RecordError>
 
 // A Sign that ends where the record does.
 fn sign_step(mut cursor: Cursor<'_>) -> Result<StepRef<'_>, RecordError>
-    ensures { Finds step_said (option_map sign_of (whole_of (sign_step_at cursor.entry))) result }
+    ensures found { Finds step_said (option_map sign_of (whole_of (sign_step_at cursor.entry)))
+        result }
+    ensures never { result ≢ Err RecordMemory }
 {
     let (index, start, end, hash, proof) = sign_fields(&mut cursor)?;
     if cursor.left() != 0 {
@@ -106,7 +110,8 @@ fn sign_step(mut cursor: Cursor<'_>) -> Result<StepRef<'_>, RecordError>
 /// What an Advance or a Sign says, in the body of a record behind the first one.
 #[tactic(auto, unfolding(crate::specs::Records::step_in))]
 pub(crate) fn read_step(body: &[u8]) -> Result<StepRef<'_>, RecordError>
-    ensures { Finds step_said (step_in body.now) result }
+    ensures found { Finds step_said (step_in body.now) result }
+    ensures never { result ≢ Err RecordMemory }
 {
     let mut cursor = Cursor::new(body);
     match cursor.u8()? {
