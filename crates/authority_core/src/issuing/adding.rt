@@ -1,8 +1,10 @@
 //! Issuing: the entry of a request is added to the log.
 
-ghost use Rattle.std.specs.Prelude.{◌≡◌, [], length, slice_index_or, IfOk};
+ghost use Rattle.std.specs.Prelude.{◌≡◌, ◌≢◌, ◌++◌, ◌∷◌, [], length, slice_index_or, None, Ok, Err, IfOk, IfSome};
+ghost use Rattle.issuance_log.specs.Folds.{log_of};
+ghost use Rattle.issuance_log.specs.declared.error.LogError.TheVariants.{Memory as NoMemory};
 ghost use Rattle.issuance_log.specs.Refusals.{add_refusal};
-ghost use Rattle.issuance_log.specs.Words.{log_end, log_broken, state_of, view_of, LogAppends};
+ghost use Rattle.issuance_log.specs.Words.{log_end, log_broken, log_records, state_of, view_of, LogAppends};
 ghost use Rattle.authority_core.specs.Acceptance.{IsOwnEntry};
 ghost use Rattle.authority_core.specs.Issues.{KeepsToOrMemory, issued_entry, issued_log, issued_record, of_log};
 
@@ -35,6 +37,12 @@ pub fn issue<H: TreeHash, D: Disk>(
         (add_refusal (view_of log.old) (log_broken log.old) (log_end log.old)
         (issued_entry H.hash (state_of log.old) request.now) request.now.key)
         (of_log result) }
+    ensures valid { result ≢ Err (IssueError.Log NoMemory)
+        → add_refusal (view_of log.old) (log_broken log.old) (log_end log.old)
+        (issued_entry H.hash (state_of log.old) request.now) request.now.key ≡ None
+        → IfSome (log_records log.old) (λ list. log_of H.hash
+        (list ++ issued_record H.hash (state_of log.old) request.now ∷ [])
+        ≡ Ok (issued_log H.hash (state_of log.old) request.now)) }
 {
     let settings = log.settings();
     let entry = entry_of_request::<H>(alloc, &settings.id, request)?;

@@ -1,8 +1,10 @@
-use Rattle.std.proofs.Common.{◌≡◌, Ok, ap, subst, sym, ◌∙◌}
+use Rattle.std.proofs.Common.{◌≡◌, ◌++◌, ◌∷◌, [], IfSome, None, Ok, ap, subst, sym, ◌∙◌}
 use Rattle.byte_forms.specs.Types.{Text}
-use Rattle.issuance_log.specs.Folds.{with_item}
+use Rattle.issuance_log.specs.Folds.{log_of, with_item}
 use Rattle.issuance_log.specs.Records.{entry_record}
-use Rattle.issuance_log.specs.Words.{state_of, LogAppends}
+use Rattle.issuance_log.specs.Words.{log_broken, log_end, log_records, state_of, view_of}
+use Rattle.issuance_log.specs.Words.{LogAppends}
+use Rattle.issuance_log.specs.Refusals.{add_refusal}
 use Rattle.issuance_log.specs.Settings.{Settings}
 use Rattle.authority_core.specs.Acceptance.{IsOwnEntry}
 use Rattle.authority_core.specs.Issuing.{entry_for}
@@ -40,3 +42,18 @@ returns-clause-own g c =
     (ap (λ (s : Settings). s.id) (c.settings.view_is ∙ c.settings-settings.ensures.value))
     (subst (IsOwnEntry _) (sym (c.as_slice.ensures ∙ c.in_ok-entry.ensures.bytes))
     c.in_ok-entry.ensures.own)
+
+pub returns-clause-valid : goal.returns-clause-valid
+returns-clause-valid g c = λ made.
+    let log = c.args.log.now in
+    let h = g.H.TreeHash.hash in
+    let r = c.args.request.now in
+    of_same (λ (entry key : Text). add_refusal (view_of log) (log_broken log) (log_end log) entry
+    key ≡ None → IfSome (log_records log) (λ list. log_of h (list ++ entry_record entry key ∷ [])
+    ≡ Ok (with_item entry key (state_of log)))) _ _
+    (issued_entry h (state_of log) r) r.key
+    (c.as_slice.ensures ∙ c.in_ok-entry.ensures.bytes
+    ∙ ap (λ (s : Settings). entry_for h s.id r) (c.settings.view_is
+    ∙ c.settings-settings.ensures.value))
+    (c.as_slice-2.ensures ∙ ap (λ (q : RequestParts). q.key) c.request.view_is)
+    c.in_ok-index.ensures.valid
