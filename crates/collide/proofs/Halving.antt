@@ -1,7 +1,7 @@
 -- The parts of a list, and of the entries of its items.
 use Rattle.std.proofs.Common.{◌≡◌, ℕ, ◌+◌, ◌-◌, ◌*◌, ◌%◌, ◌^◌, ◌<◌, ◌≤◌, List, [], ◌++◌}
 use Rattle.std.proofs.Common.{length, take, drop}
-use Rattle.std.proofs.Common.{get_or, sym, ◌∙◌, ap, arith}
+use Rattle.std.proofs.Common.{get_or, sym, ◌∙◌, ap, refl, arith}
 use Rattle.std.specs.Prelude.{map}
 use Rattle.std.proofs.lemmas.List.{drop-map, length-drop, length-map, length-take, take-map}
 use Rattle.std.proofs.lemmas.List.{get_or-drop, get_or-take, take-append-drop}
@@ -30,6 +30,24 @@ halves_by items left right e more fits low high left_is right_is =
     record {
       left = front;
       right = back;
+      count = omega arith;
+      some = omega arith;
+      rest = omega arith;
+      all = omega arith;
+    }
+
+-- every list of more than one item has both
+pub halves_of : {T : Type 0} (items : List T) → 1 < length items
+    → AreHalves items (take (split_of (length items)) items) (drop (split_of (length items)) items)
+halves_of items more =
+    let bounds = split_bounds (length items) in
+    let positive = bounds.positive in
+    let below = bounds.below in
+    let front = length-take (split_of (length items)) items in
+    let back = length-drop (split_of (length items)) items in
+    record {
+      left = refl;
+      right = refl;
       count = omega arith;
       some = omega arith;
       rest = omega arith;

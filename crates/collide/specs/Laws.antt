@@ -1,9 +1,14 @@
 -- What holds of the texts that are hashed, for a hash function h.
-use Rattle.std.specs.Prelude.{◌≡◌, ℕ, List, [], ◌∷◌, ◌++◌, length, take, drop}
-use Rattle.byte_forms.specs.Types.{HashFunction, Text}
+use Rattle.std.specs.Prelude.{◌≡◌, ℕ, ◌⊎◌, List, [], ◌∷◌, ◌++◌, length, take}
+use Rattle.std.specs.Prelude.{drop, true}
+use Rattle.std.specs.List.{AllByRecursion}
+use Rattle.byte_forms.specs.Types.{Hash, HashFunction, Text}
 use Rattle.tree_core.specs.Laws.{IsLargestPowerBelow}
+use Rattle.tree_core.specs.Path.{part_of}
 use Rattle.tree_core.specs.Tree.{tree_hash}
-use Rattle.collide.specs.Inputs.{inputs_of, leaf_input, pair_input}
+use Rattle.tree_proofs.specs.Consistency.{Checks}
+use Rattle.collide.specs.Extraction.{HasCollision}
+use Rattle.collide.specs.Inputs.{inputs_of, leaf_input, open_inputs_of, pair_input}
 
 -- The texts in the tree hash of no entries: the empty one; of one: that of the leaf; of more, for k
 -- the largest power of two below their number: that of both tree hashes, and those in both.
@@ -14,3 +19,12 @@ pub record AreInputs (h : HashFunction) : Type 0 where
       → inputs_of h entries
       ≡ pair_input (tree_hash h (take k entries)) (tree_hash h (drop k entries))
       ∷ inputs_of h (take k entries) ++ inputs_of h (drop k entries)
+
+-- A proof of 32-byte hashes that checks for a list's length and tree hash checks for the tree hash
+-- of the list's own subtree, or the list and the proof show two texts with one hash.
+abbrev pub ProofsExtract : HashFunction → Type 0
+ProofsExtract h = (entries : List Text) (start end : ℕ) (node : Hash) (proof : List Hash)
+    → AllByRecursion (λ hash. length hash ≡ 32) proof
+    → Checks h start end (length entries) node (tree_hash h entries) proof
+    → (tree_hash h (part_of entries start end) ≡ node) ⊎ HasCollision h (inputs_of h entries)
+    (open_inputs_of h start end (length entries) true node proof)

@@ -1,11 +1,12 @@
 //! Two strings with one hash, found where two computations of one tree hash disagree: of a list of
-//! entries and of an inclusion path, or of two lists.
+//! entries and of an inclusion path, of a list and of a consistency proof, or of two lists.
 //!
 //! Whoever shows an inclusion path that gives the tree hash of a list, for an entry that the list
 //! does not have there, shows two different strings with one hash. [`in_list`] tells the one case
-//! from the other, and [`two_lists`] does the same for two lists with one tree hash.
-//! Each entry is hashed at most once, and beside the two strings only one hash of each level is
-//! kept.
+//! from the other; [`in_consistency`] does it for the consistency proof of a subtree that checks
+//! for a list's length and tree hash, and [`two_lists`] for two lists with one tree hash. Each entry
+//! is hashed once, or twice in [`in_consistency`], and beside the two strings only one hash of each
+//! level is kept.
 //!
 //! ```rust
 //! use collide::{Finding, in_list};
@@ -20,14 +21,16 @@
 #![tactic(auto)]
 
 mod comparing;
+mod consistency;
 mod entry;
 mod finding;
 mod laws;
 mod lists;
 mod paths;
 
+pub use consistency::in_consistency;
 pub use entry::{AsEntry, list_hash};
 pub use finding::Finding;
-pub use laws::inputs_by_clauses;
+pub use laws::{inputs_by_clauses, proofs_extract};
 pub use lists::two_lists;
 pub use paths::in_list;

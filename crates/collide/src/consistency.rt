@@ -1,0 +1,120 @@
+//! A list and a consistency proof with one root.
+
+ghost use Rattle.std.specs.Prelude.{◌≡◌, ◌<◌, ◌≤◌, true, length, map, IfOk, IsSome, Some};
+ghost use Rattle.tree_core.specs.Path.{part_of};
+ghost use Rattle.tree_core.specs.Tree.{tree_hash};
+ghost use Rattle.tree_proofs.specs.Consistency.{Checks};
+ghost use Rattle.tree_proofs.specs.Open.{open_of};
+ghost use Rattle.tree_proofs.specs.declared.outcome.Opened.{Opened};
+ghost use Rattle.collide.specs.Comparison.{Compares};
+ghost use Rattle.collide.specs.Extraction.{Extracts};
+ghost use Rattle.collide.specs.Halves.{IsBehind};
+ghost use Rattle.collide.specs.Inputs.{inputs_of, open_inputs_of};
+
+use crate::comparing::{Halt, Roots, compare_pairs};
+use crate::entry::{halves, part_between};
+use crate::{AsEntry, Finding, list_hash};
+use mtc_io::Memory;
+use std::alloc::Global;
+use tree_core::TreeHash;
+use tree_proofs::opened;
+
+// What an interval that ends behind a split is there, counted from the split, and whether its hash
+// is still known.
+fn behind(middle: u64, start: u64, end: u64, known: bool) -> (u64, u64, bool)
+    requires { middle < end }
+    ensures { IsBehind middle start end known result.0 result.1 result.2 }
+{
+    if middle <= start {
+        (start - middle, end - middle, known)
+    } else {
+        (0, end - middle, false)
+    }
+}
+
+// The tree hash of a list, and the root that the consistency proof of its part `[start, end)`
+// gives, whose hash is `node` where it is `known`.
+fn compare_proof<H: TreeHash, T: AsEntry>(
+    alloc: Global,
+    items: &[T],
+    start: u64,
+    end: u64,
+    known: bool,
+    node: &[u8; 32],
+    proof: &[[u8; 32]],
+) -> Result<Roots, Halt>
+    requires order { start < end }
+    requires within { end ≤ length items.now }
+    requires gives { IsSome
+        (open_of H.hash start end (length items.now) known node.now proof.now) }
+    ensures { (given : Opened)
+        → open_of H.hash start end (length items.now) known node.now proof.now ≡ Some given
+        → Compares H.hash
+        (tree_hash H.hash (part_of (map T.entry items.now) start end) ≡ given.subtree)
+        (tree_hash H.hash (map T.entry items.now)) given.root
+        (inputs_of H.hash (map T.entry items.now))
+        (open_inputs_of H.hash start end (length items.now) known node.now proof.now) result }
+{
+    let size = items.len() as u64;
+    if start == 0 && end == size {
+        let Some(given) = opened::<H>(start, end, size, known, node, proof) else {
+            unreachable!()
+        };
+        let root = given.root;
+        return Ok(Roots {
+            first: list_hash::<H, T>(items),
+            second: root,
+        });
+    }
+    let Some((sibling, rest)) = proof.split_last() else {
+        unreachable!()
+    };
+    let (left, right) = halves(items);
+    let middle = left.len() as u64;
+    if end <= middle {
+        let beside = Roots {
+            first: list_hash::<H, T>(right),
+            second: *sibling,
+        };
+        let below = compare_proof::<H, T>(alloc, left, start, end, known, node, rest)?;
+        return compare_pairs::<H>(alloc, &below, &beside);
+    }
+    let beside = Roots {
+        first: list_hash::<H, T>(left),
+        second: *sibling,
+    };
+    let (from, to, still) = behind(middle, start, end, known);
+    let below = compare_proof::<H, T>(alloc, right, from, to, still, node, rest)?;
+    compare_pairs::<H>(alloc, &beside, &below)
+}
+
+/// Whether the list's own items in the subtree `[start, end)` have this tree hash, where the
+/// subtree's consistency proof checks for it and for the list's length and tree hash, or else two
+/// different strings with one hash, the first hashed in the tree hash of the list and the second in
+/// the opening of the proof. The proof's lowest hash comes first.
+///
+/// Each item is hashed at most twice.
+pub fn in_consistency<H: TreeHash, T: AsEntry>(
+    alloc: Global,
+    items: &[T],
+    start: u64,
+    end: u64,
+    node: &[u8; 32],
+    proof: &[[u8; 32]],
+) -> Result<Finding, Memory>
+    requires { Checks H.hash start end (length items.now) node.now
+        (tree_hash H.hash (map T.entry items.now)) proof.now }
+    ensures { IfOk result (Extracts H.hash
+        (tree_hash H.hash (part_of (map T.entry items.now) start end) ≡ node.now)
+        (inputs_of H.hash (map T.entry items.now))
+        (open_inputs_of H.hash start end (length items.now) true node.now proof.now)) }
+{
+    if list_hash::<H, T>(part_between(items, start, end)) == *node {
+        return Ok(Finding::Same);
+    }
+    match compare_proof::<H, T>(alloc, items, start, end, true, node, proof) {
+        Ok(_roots) => Ok(Finding::Same),
+        Err(Halt::Found(one, other)) => Ok(Finding::Pair(one, other)),
+        Err(Halt::Memory) => Err(Memory),
+    }
+}
