@@ -1,0 +1,121 @@
+#!/usr/bin/env python3
+"""Has OpenSSL and Python's cryptography read certificates whole, and compares each field.
+
+One is of the first entry of a small log, without signatures; one is of a log of 1,024 entries, with
+those of three cosigners. Needs both; where one isn't there it says so, and ends with status 0.
+Usage: tests/certificates.py [PROGRAM]
+"""
+
+import base64
+import shutil
+import subprocess
+import sys
+from itertools import islice
+from pathlib import Path
+
+from cosignatures import KEY, ROOT, Folder, items
+from cosigned_log import DATES, FIRST, LAST, LOG, CosignedLog, p256_keys, parts, path_of, proof_of
+
+ALGORITHM, ISSUER = "1.3.6.1.4.1.44363.47.0", "1.3.6.1.4.1.44363.47.1"
+NAMES = "X509v3 Subject Alternative Name"
+MOMENTS = ["notBefore=Jan  1 00:00:00 2026 GMT", "notAfter=Jan  8 00:00:00 2026 GMT"]
+
+
+class Wanted:
+    """What a certificate is to say."""
+
+    def __init__(self, serial, names, key, proof):
+        self.serial, self.names, self.key, self.proof = serial, names, key, proof
+
+
+def small(program):
+    """The certificate of the one entry of a log, and what it is to say."""
+    folder = Folder(program)
+    folder.run("init-log", "j", LOG, "2", "64")
+    (folder.path / "r").write_text(f'{DATES}dns = ["a.example"]\nkey = "{KEY}"\n')
+    folder.run("issue", "j", "r")
+    (folder.path / "empty").write_bytes(b"")
+    cert = folder.run("cert", "j", "1", "0", "2", "empty")
+    path = path_of(1, items(folder.run("entries", "j", "2")))
+    shutil.rmtree(folder.path)
+    return cert, Wanted(1, ["a.example"], base64.b64decode(KEY), proof_of(2, path, b""))
+
+
+def large(program, size=1024, index=1000):
+    """A certificate with signatures of three cosigners, and what it is to say."""
+    log = CosignedLog(program, size)
+    cert = log.cert(index, b"".join(log.signatures))
+    [key] = islice(p256_keys(), index - 1, index)
+    proof = proof_of(size, path_of(index, log.entries), b"".join(log.signatures))
+    shutil.rmtree(log.path)
+    return cert, Wanted(index, [f"n{index}.example", f"www.n{index}.example"], key, proof)
+
+
+def by_cryptography(cert, wanted):
+    """Each field as Python's cryptography reads it, and as it is to be."""
+    from cryptography import x509
+    from cryptography.hazmat.primitives.serialization import Encoding, PublicFormat
+
+    read = x509.load_der_x509_certificate(cert)
+    [names] = read.extensions
+    spki = Encoding.DER, PublicFormat.SubjectPublicKeyInfo
+    hosts = names.value.get_values_for_type(x509.DNSName)
+    yield "bytes", read.public_bytes(Encoding.DER), cert
+    yield "signed part", read.tbs_certificate_bytes, parts(cert)[0]
+    yield "version", read.version, x509.Version.v3
+    yield "serial", read.serial_number, wanted.serial
+    yield "issuer", [(one.oid.dotted_string, one.value) for one in read.issuer], [(ISSUER, LOG)]
+    yield "subject", [*read.subject], []
+    yield "begin", read.not_valid_before_utc.timestamp(), FIRST
+    yield "end", read.not_valid_after_utc.timestamp(), LAST
+    yield "key", read.public_key().public_bytes(*spki), wanted.key
+    yield "names", (names.critical, hosts), (True, wanted.names)
+    yield "algorithm", read.signature_algorithm_oid.dotted_string, ALGORITHM
+    yield "signature", read.signature, wanted.proof
+
+
+def by_openssl(cert, wanted):
+    """Each field as OpenSSL reads it, and as it is to be."""
+    def read(*words):
+        words = ["openssl", "x509", "-inform", "DER", *words]
+        return subprocess.run(words, input=cert, capture_output=True, check=True).stdout
+
+    def lines(*words):
+        return [line.strip() for line in read("-noout", *words).decode().splitlines() if line]
+
+    serial = wanted.serial.to_bytes(wanted.serial.bit_length() // 8 + 1, "big").hex().upper()
+    fields = ["-serial", "-issuer", "-subject", "-startdate", "-enddate", "-nameopt", "oid"]
+    hosts = ", ".join(f"DNS:{name}" for name in wanted.names)
+    key = "".join(lines("-pubkey")[1:-1])
+    text = lines("-text", "-certopt", "ca_default,no_header")
+    signature = "".join(text[text.index("Signature Value:") + 1:])
+    yield "bytes", read("-outform", "DER"), cert
+    names = [f"serial={serial}", f"issuer={ISSUER}={LOG}", "subject="]
+    yield "fields", lines(*fields), [*names, *MOMENTS]
+    yield "names", lines("-ext", "subjectAltName"), [f"{NAMES}: critical", hosts]
+    yield "key", base64.b64decode(key), wanted.key
+    yield "algorithms", text.count(f"Signature Algorithm: {ALGORITHM}"), 2
+    yield "signature", bytes.fromhex(signature.replace(":", "")), wanted.proof
+
+
+def main():
+    try:
+        import cryptography
+    except ImportError:
+        cryptography = None
+    if not (cryptography and shutil.which("openssl")):
+        print("left out: OpenSSL or Python's cryptography isn't here")
+        return 0
+    program = Path(sys.argv[1] if len(sys.argv) > 1 else ROOT / "crates/mtc_main/out/mtc_main")
+    wrong = []
+    for cert, wanted in (small(program.resolve()), large(program.resolve())):
+        for reader in (by_cryptography, by_openssl):
+            wrong += [f"wrong: {reader.__name__}: {name}: {found} in place of {asked}"
+                      for name, found, asked in reader(cert, wanted) if found != asked]
+        print(f"a certificate of {len(cert)} bytes is read")
+    print(*wrong, sep="\n", end="\n" if wrong else "")
+    return bool(wrong)
+
+
+if __name__ == "__main__":
+    sys.exit(main())

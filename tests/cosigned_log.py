@@ -1,0 +1,242 @@
+#!/usr/bin/env python3
+"""Has three cosigners sign a log, and compares what `verify` says of its certificates.
+
+The keys of the entries are points of P-256, and each entry has two names. Over real files.
+Usage: tests/cosigned_log.py [ENTRIES]   a power of two from 32 on; the gate takes 64
+"""
+
+import base64
+import hashlib
+import shutil
+import subprocess
+import sys
+
+from cosignatures import ROOT, Folder, items, tree_hash
+
+LOG = "32473.1"
+COSIGNERS = ["32473.2", "32473.3", "32473.4"]
+FIRST, LAST = 1767225600, 1767830400
+DATES = 'not_before = "2026-01-01T00:00:00Z"\nnot_after = "2026-01-08T00:00:00Z"\n'
+# The bytes that `cosign` writes with a key of height 10 and width 4, and the most of a certificate.
+COSIGNATURE, MOST = 2519, 65535
+
+# The field and the generator of P-256, and what its keys begin with (RFC 5480).
+PRIME = 2**256 - 2**224 + 2**192 + 2**96 - 1
+GENERATOR = (0x6B17D1F2E12C4247F8BCE6E563A440F277037D812DEB33A0F4A13945D898C296,
+             0x4FE342E2FE1A7F9B8EE7EB4A7C0F9E162BCE33576B315ECECBB6406837BF51F5)
+KEY_FRONT = bytes.fromhex("3059301306072a8648ce3d020106082a8648ce3d03010703420004")
+
+
+def added(one, other):
+    """The sum of two points of P-256 that are no inverses."""
+    (x, y), (u, v) = one, other
+    rise, run = (3 * x * x - 3, 2 * y) if one == other else (v - y, u - x)
+    slope = rise * pow(run, -1, PRIME)
+    w = (slope * slope - x - u) % PRIME
+    return w, (slope * (x - w) - y) % PRIME
+
+
+def p256_keys():
+    """The public keys of the secrets 1, 2 and so on."""
+    point = GENERATOR
+    while True:
+        yield KEY_FRONT + point[0].to_bytes(32, "big") + point[1].to_bytes(32, "big")
+        point = added(point, GENERATOR)
+
+
+def element(tag, contents):
+    """A DER element."""
+    size = len(contents)
+    if size < 128:
+        return bytes([tag, size]) + contents
+    octets = size.to_bytes((size.bit_length() + 7) // 8, "big")
+    return bytes([tag, 128 + len(octets)]) + octets + contents
+
+
+def head(text, place):
+    """The lengths of an element's head and of its contents."""
+    size = text[place + 1]
+    if size < 128:
+        return 2, size
+    return 2 + size - 128, int.from_bytes(text[place + 2:place + 2 + size - 128], "big")
+
+
+def parts(text):
+    """The elements within a DER element."""
+    place, found = head(text, 0)[0], []
+    while place < len(text):
+        end = place + sum(head(text, place))
+        found.append(text[place:end])
+        place = end
+    return found
+
+
+def with_serial(cert, serial):
+    """The certificate with another serial number."""
+    tbs, *behind = parts(cert)
+    version, _, *fields = parts(tbs)
+    number = element(0x02, serial.to_bytes(serial.bit_length() // 8 + 1, "big"))
+    changed = element(0x30, b"".join([version, number, *fields]))
+    return element(0x30, b"".join([changed, *behind]))
+
+
+def with_proof(cert, proof):
+    """The certificate with another proof."""
+    return element(0x30, b"".join([*parts(cert)[:2], element(0x03, b"\0" + proof)]))
+
+
+def vector(text):
+    return len(text).to_bytes(2, "big") + text
+
+
+def path_of(index, entries):
+    """The inclusion path of an entry (RFC 9162, section 2.1.3.1)."""
+    if len(entries) == 1:
+        return []
+    split = 1 << (len(entries) - 1).bit_length() - 1
+    if index < split:
+        return [*path_of(index, entries[:split]), tree_hash(entries[split:])]
+    return [*path_of(index - split, entries[split:]), tree_hash(entries[:split])]
+
+
+def proof_of(end, path, signatures):
+    """The bytes of a proof in the subtree from 0 on."""
+    span = (0).to_bytes(8, "big") + end.to_bytes(8, "big")
+    return span + vector(b"".join(path)) + vector(signatures)
+
+
+class CosignedLog(Folder):
+    """A log with its cosigners, and what they have signed of the whole of it."""
+
+    def __init__(self, program, size):
+        super().__init__(program)
+        self.size, self.wrong = size, []
+        self.run("init-log", "j", LOG, "2", str(size))
+        keys = p256_keys()
+        for number in range(1, size):
+            self.issue(number, next(keys))
+        self.entries = items(self.run("entries", "j", str(size)))
+        self.run("consist", "j", "0", str(size), into="advance")
+        self.run("subtree", "j", "0", str(size), str(size), into="subtree")
+        self.keys, self.signatures = zip(*map(self.cosigned, COSIGNERS))
+
+    def issue(self, number, key):
+        names = f'dns = ["n{number}.example", "www.n{number}.example"]\n'
+        text = f'{DATES}{names}key = "{base64.b64encode(key).decode()}"\n'
+        self.write("request", text.encode())
+        told = self.run("issue", "j", "request")
+        self.expect(f"issue {number}", told, f"issued {number}\n".encode())
+
+    def cosigned(self, cosigner):
+        """The public key of a new cosigner, and its signature as `cosign` writes it."""
+        self.write("secret", hashlib.sha384(cosigner.encode()).digest())
+        words = ("init-cosigner", cosigner, cosigner, LOG, "10", "4", "secret")
+        key = self.run(*words).decode().strip()
+        self.run("advance", cosigner, "advance")
+        return key, self.run("cosign", cosigner, "subtree")
+
+    def write(self, name, text):
+        (self.path / name).write_bytes(text)
+
+    def cert(self, index, signatures):
+        """The certificate of an entry with these signatures."""
+        self.write("signatures", signatures)
+        return self.run("cert", "j", str(index), "0", str(self.size), "signatures")
+
+    def store(self, count, more=""):
+        """A store of the three cosigners, of which so many have to sign."""
+        tables = "".join(f'[[cosigner]]\nid = "{one}"\nkey = "{key}"\n'
+                         for one, key in zip(COSIGNERS, self.keys))
+        rule = f"[[rule]]\ncosigners = {COSIGNERS}\ncount = {count}\n"
+        return f'[log]\nid = "{LOG}"\n{tables}{rule}{more}'.encode()
+
+    def judged(self, cert, store, moment=FIRST):
+        """The status of `verify`, and the line that it writes."""
+        self.write("c", cert)
+        self.write("store", store)
+        words = [self.program, "verify", "c", "store", str(moment)]
+        ended = subprocess.run(words, cwd=self.path, capture_output=True)
+        return f"{ended.returncode} {(ended.stdout + ended.stderr).decode()}".strip()
+
+    def expect(self, name, found, wanted):
+        if found != wanted:
+            self.wrong.append(f"wrong: {name}: {found} in place of {wanted}")
+
+
+def check_lengths(log, index, whole):
+    """How long signatures and proof are; the proof is made anew from the entries."""
+    for cosigner, signature in zip(COSIGNERS, log.signatures):
+        log.expect(f"{cosigner} has signed", len(signature), COSIGNATURE)
+    proof = proof_of(log.size, path_of(index, log.entries), b"".join(log.signatures))
+    levels = log.size.bit_length() - 1
+    log.expect("the length of the proof", len(proof), 20 + 32 * levels + 3 * COSIGNATURE)
+    log.expect("the signature", parts(whole)[2], element(0x03, b"\0" + proof))
+
+
+def check_signatures(log, index, _whole):
+    """Certificates by the signatures that they have."""
+    accepted, few = f"0 accepted {index}", "3 refused TooFewCosigners 1"
+    first, second, third = log.signatures
+    for name, signatures, count, wanted in (
+            ("all, two wanted", first + second + third, 2, accepted),
+            ("all, three wanted", first + second + third, 3, accepted),
+            ("two, three wanted", first + third, 3, few),
+            ("two, two wanted", second + third, 2, accepted),
+            ("one twice, two wanted", second + second, 2, few),
+            ("one twice, one wanted", second + second, 1, accepted),
+            ("none, one wanted", b"", 1, few)):
+        log.expect(name, log.judged(log.cert(index, signatures), log.store(count)), wanted)
+
+
+def check_certificates(log, index, whole):
+    """A certificate that is changed, at its moments, and by what is revoked."""
+    accepted, path = f"0 accepted {index}", path_of(index, log.entries)
+    longer = with_proof(whole, proof_of(log.size, [*path, path[0]], b"".join(log.signatures)))
+    other, store = with_serial(whole, index + 1), log.store(2)
+    revoked = "[[revoked]]\nstart = {}\nend = {}\n"
+    this, before = revoked.format(index, index + 1), revoked.format(index - 1, index)
+    for name, cert, store, moment, wanted in (
+            ("serial 0", with_serial(whole, 0), store, FIRST, "2 mtc: verify: c: BadSerial"),
+            ("the next serial", other, store, FIRST, "3 refused TooFewCosigners 1"),
+            ("one hash more", longer, store, FIRST, "3 refused ProofShape WrongLength"),
+            ("no proof", with_proof(whole, b""), store, FIRST, "2 mtc: verify: c: Short 0"),
+            ("a second early", whole, store, FIRST - 1, "3 refused NotYet"),
+            ("the last second", whole, store, LAST, accepted),
+            ("a second late", whole, store, LAST + 1, "3 refused Expired"),
+            ("revoked", whole, log.store(2, this), FIRST, "3 refused Revoked"),
+            ("revoked, and no proof", with_proof(whole, b""), log.store(2, this), FIRST,
+             "3 refused Revoked"),
+            ("the one before is revoked", whole, log.store(2, before), FIRST, accepted)):
+        log.expect(name, log.judged(cert, store, moment), wanted)
+
+
+def check_most(log, index, _whole):
+    """The most signatures that a certificate takes, and a byte more."""
+    def filled(size):
+        return b"\1a" + vector(bytes(size - 4))
+
+    cert = log.cert(index, filled(MOST))
+    log.expect("the most", log.judged(cert, log.store(1)), "3 refused TooFewCosigners 1")
+    log.write("signatures", filled(MOST + 1))
+    found = log.refusal("cert", "j", str(index), "0", str(log.size), "signatures")
+    log.expect("one byte more", found, (9, b"", "mtc: cert: TooManySignatures\n"))
+
+
+def main():
+    size = int(sys.argv[1]) if len(sys.argv) > 1 else 64
+    built = subprocess.run([ROOT / "mtc", "member", ROOT / "examples/first.member"],
+                           stdout=subprocess.DEVNULL)
+    if built.returncode:
+        return 70
+    log, index = CosignedLog(ROOT / "crates/mtc_main/out/mtc_main", size), size - 24
+    whole = log.cert(index, b"".join(log.signatures))
+    for check in (check_lengths, check_signatures, check_certificates, check_most):
+        check(log, index, whole)
+    shutil.rmtree(log.path)
+    print(*log.wrong, f"certificates of a log of {size} entries and three cosigners are judged",
+          sep="\n")
+    return bool(log.wrong)
+
+
+if __name__ == "__main__":
+    sys.exit(main())
