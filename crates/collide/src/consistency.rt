@@ -6,7 +6,7 @@ ghost use Rattle.tree_core.specs.Tree.{tree_hash};
 ghost use Rattle.tree_proofs.specs.Consistency.{Checks};
 ghost use Rattle.tree_proofs.specs.Open.{open_of};
 ghost use Rattle.tree_proofs.specs.declared.outcome.Opened.{Opened};
-ghost use Rattle.collide.specs.Comparison.{Compares};
+ghost use Rattle.collide.specs.Comparison.{AreRoots, Compares};
 ghost use Rattle.collide.specs.Extraction.{Extracts};
 ghost use Rattle.collide.specs.Halves.{IsBehind};
 ghost use Rattle.collide.specs.Inputs.{inputs_of, open_inputs_of};
@@ -29,6 +29,36 @@ fn behind(middle: u64, start: u64, end: u64, known: bool) -> (u64, u64, bool)
         (start - middle, end - middle, known)
     } else {
         (0, end - middle, false)
+    }
+}
+
+// The tree hash of a list, and the root that the consistency proof of the whole list gives.
+fn compare_whole<H: TreeHash, T: AsEntry>(
+    items: &[T],
+    start: u64,
+    end: u64,
+    known: bool,
+    node: &[u8; 32],
+    proof: &[[u8; 32]],
+) -> Roots
+    requires some { 0 < length items.now }
+    requires first { start ≡ 0 }
+    requires last { end ≡ length items.now }
+    requires gives { IsSome
+        (open_of H.hash start end (length items.now) known node.now proof.now) }
+    ensures { (given : Opened)
+        → open_of H.hash start end (length items.now) known node.now proof.now ≡ Some given
+        → AreRoots
+        (tree_hash H.hash (part_of (map T.entry items.now) start end) ≡ given.subtree)
+        (tree_hash H.hash (map T.entry items.now)) given.root result }
+{
+    let Some(given) = opened::<H>(start, end, items.len() as u64, known, node, proof) else {
+        unreachable!()
+    };
+    let root = given.root;
+    Roots {
+        first: list_hash::<H, T>(items),
+        second: root,
     }
 }
 
@@ -55,16 +85,8 @@ fn compare_proof<H: TreeHash, T: AsEntry>(
         (inputs_of H.hash (map T.entry items.now))
         (open_inputs_of H.hash start end (length items.now) known node.now proof.now) result }
 {
-    let size = items.len() as u64;
-    if start == 0 && end == size {
-        let Some(given) = opened::<H>(start, end, size, known, node, proof) else {
-            unreachable!()
-        };
-        let root = given.root;
-        return Ok(Roots {
-            first: list_hash::<H, T>(items),
-            second: root,
-        });
+    if start == 0 && end == items.len() as u64 {
+        return Ok(compare_whole::<H, T>(items, start, end, known, node, proof));
     }
     let Some((sibling, rest)) = proof.split_last() else {
         unreachable!()

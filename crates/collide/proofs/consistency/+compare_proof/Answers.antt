@@ -1,5 +1,5 @@
-use Rattle.std.proofs.Common.{◌≡◌, ◌<◌, length, Some, Err, sym, ◌∙◌, ap}
-use Rattle.std.proofs.Common.{refl, subst, rules}
+use Rattle.std.proofs.Common.{◌≡◌, ◌<◌, length, Err, sym, ◌∙◌, ap}
+use Rattle.std.proofs.Common.{subst, rules}
 use Rattle.std.specs.Prelude.{IsSome, is_some, map}
 use Rattle.std.proofs.lemmas.Bool.{false≢true}
 use Rattle.std.proofs.lemmas.List.{length-map}
@@ -7,22 +7,11 @@ use Rattle.tree_proofs.proofs.Opens.{open_of-short, part_from}
 use Rattle.tree_proofs.specs.Open.{open_of}
 use Rattle.collide.proofs.Halving.{halves_map}
 use Rattle.collide.proofs.OpenSteps.{ComparesProof, behind_order, proof_found, proof_left}
-use Rattle.collide.proofs.OpenSteps.{proof_right, proof_whole, step_behind, step_left, step_some}
+use Rattle.collide.proofs.OpenSteps.{proof_right, step_behind, step_left, step_some}
 use Rattle.collide.proofs.consistency.+compare_proof.Goals as goal
 
-pub returns-then-end-size : goal.returns-then-end-size
-returns-then-end-size g t c =
-    let h = g.H.TreeHash.hash in
-    let f = g.T.AsEntry.entry in
-    let is : open_of h c.args.start c.args.end (length c.args.items.now) c.args.known
-    c.args.node.now c.args.proof.now ≡ Some c.in-Some.given = search rules in
-    proof_whole h (map f c.args.items.now) c.args.start c.args.end (length c.args.items.now)
-    c.args.known c.args.node.now c.args.proof.now _ c.in-Some.given
-    (sym (length-map c.args.items.now f)) c.if-start-eq0.true c.if-end-size.true
-    c.list_hash.ensures refl is
-
-pub unreachable-requires-in_default-split_last : goal.unreachable-requires-in_default-split_last
-unreachable-requires-in_default-split_last g t c =
+pub unreachable-requires : goal.unreachable-requires
+unreachable-requires g t c =
     let part = part_from c.args.start c.args.end (length c.args.items.now) c.requires.within
     c.else-start-eq0.either in
     let none : length c.args.proof.now ≡ 0 = search rules in
@@ -35,13 +24,13 @@ compare_proof-requires g t c κs within =
     let h = g.H.TreeHash.hash in
     let f = g.T.AsEntry.entry in
     let some : IsSome (open_of h c.args.start c.args.end (length c.halves.result.0.now)
-    c.args.known c.args.node.now c.in-Some-split_last.rest.now) =
+    c.args.known c.args.node.now c.in-Some.rest.now) =
     step_some _ _ (λ given gives.
     let step = step_left h _ _ _ c.args.start c.args.end (length c.args.items.now)
-    (length c.halves.result.0.now) c.args.known c.args.node.now c.in-Some-split_last.sibling.now
-    c.args.proof.now c.in-Some-split_last.rest.now
+    (length c.halves.result.0.now) c.args.known c.args.node.now c.in-Some.sibling.now
+    c.args.proof.now c.in-Some.rest.now
     (halves_map f c.args.items.now c.halves.result.0.now c.halves.result.1.now c.halves.ensures)
-    c.in-Some-split_last.ensures.cases.0 (sym (length-map c.args.items.now f))
+    c.in-Some.ensures.cases.0 (sym (length-map c.args.items.now f))
     (sym (length-map c.halves.result.0.now f)) c.requires.order c.if-end-middle.true given gives in
     (step.below, step.gives)) c.requires.gives in
     search rules
@@ -55,10 +44,10 @@ returns-in_err-below g t c =
     (length c.args.items.now) c.args.known c.args.node.now c.args.proof.now) is
     (proof_found h _ _ _ _ _ _ _ _ _ _ _ _ _ _ _ _ _ c.in_err-below.field-0.0
     (step_left h _ _ _ c.args.start c.args.end (length c.args.items.now)
-    (length c.halves.result.0.now) c.args.known c.args.node.now c.in-Some-split_last.sibling.now
-    c.args.proof.now c.in-Some-split_last.rest.now
+    (length c.halves.result.0.now) c.args.known c.args.node.now c.in-Some.sibling.now
+    c.args.proof.now c.in-Some.rest.now
     (halves_map f c.args.items.now c.halves.result.0.now c.halves.result.1.now c.halves.ensures)
-    c.in-Some-split_last.ensures.cases.0 (sym (length-map c.args.items.now f))
+    c.in-Some.ensures.cases.0 (sym (length-map c.args.items.now f))
     (sym (length-map c.halves.result.0.now f)) c.requires.order c.if-end-middle.true)
     c.in_err-below.ensures)
 
@@ -66,15 +55,15 @@ pub returns-then-end-middle : goal.returns-then-end-middle
 returns-then-end-middle g t c =
     let h = g.H.TreeHash.hash in
     let f = g.T.AsEntry.entry in
-    proof_left h _ _ _ _ _ _ _ _ _ c.list_hash-then-end-middle.result
-    c.in-Some-split_last.sibling.now _ _ c.in_ok-below.below _
+    proof_left h _ _ _ _ _ _ _ _ _ c.list_hash.result
+    c.in-Some.sibling.now _ _ c.in_ok-below.below _
     (step_left h _ _ _ c.args.start c.args.end (length c.args.items.now)
-    (length c.halves.result.0.now) c.args.known c.args.node.now c.in-Some-split_last.sibling.now
-    c.args.proof.now c.in-Some-split_last.rest.now
+    (length c.halves.result.0.now) c.args.known c.args.node.now c.in-Some.sibling.now
+    c.args.proof.now c.in-Some.rest.now
     (halves_map f c.args.items.now c.halves.result.0.now c.halves.result.1.now c.halves.ensures)
-    c.in-Some-split_last.ensures.cases.0 (sym (length-map c.args.items.now f))
+    c.in-Some.ensures.cases.0 (sym (length-map c.args.items.now f))
     (sym (length-map c.halves.result.0.now f)) c.requires.order c.if-end-middle.true)
-    c.list_hash-then-end-middle.ensures c.in_ok-below.ensures c.compare_pairs.ensures
+    c.list_hash.ensures c.in_ok-below.ensures c.compare_pairs.ensures
 
 pub compare_proof-requires-2 : goal.compare_proof-requires-2
 compare_proof-requires-2 g t c κs within =
@@ -85,14 +74,14 @@ compare_proof-requires-2 g t c κs within =
     let all = c.halves.ensures.all in
     let some : IsSome (open_of h c.behind-from.result.0 c.behind-from.result.1
     (length c.halves.result.1.now) c.behind-from.result.2 c.args.node.now
-    c.in-Some-split_last.rest.now) =
+    c.in-Some.rest.now) =
     step_some _ _ (λ given gives.
     let step = step_behind h _ _ _ c.args.start c.args.end (length c.args.items.now)
     (length c.halves.result.0.now) (length c.halves.result.1.now) c.behind-from.result.0
     c.behind-from.result.1 c.args.known c.behind-from.result.2 c.args.node.now
-    c.in-Some-split_last.sibling.now c.args.proof.now c.in-Some-split_last.rest.now
+    c.in-Some.sibling.now c.args.proof.now c.in-Some.rest.now
     (halves_map f c.args.items.now c.halves.result.0.now c.halves.result.1.now c.halves.ensures)
-    c.in-Some-split_last.ensures.cases.0 (sym (length-map c.args.items.now f))
+    c.in-Some.ensures.cases.0 (sym (length-map c.args.items.now f))
     (sym (length-map c.halves.result.0.now f)) (sym (length-map c.halves.result.1.now f))
     c.requires.within c.if-end-middle.false part c.behind-from.ensures given gives in
     (step.below, step.gives)) c.requires.gives in
@@ -115,9 +104,9 @@ returns-in_err-below-2 g t c =
     (step_behind h _ _ _ c.args.start c.args.end (length c.args.items.now)
     (length c.halves.result.0.now) (length c.halves.result.1.now) c.behind-from.result.0
     c.behind-from.result.1 c.args.known c.behind-from.result.2 c.args.node.now
-    c.in-Some-split_last.sibling.now c.args.proof.now c.in-Some-split_last.rest.now
+    c.in-Some.sibling.now c.args.proof.now c.in-Some.rest.now
     (halves_map f c.args.items.now c.halves.result.0.now c.halves.result.1.now c.halves.ensures)
-    c.in-Some-split_last.ensures.cases.0 (sym (length-map c.args.items.now f))
+    c.in-Some.ensures.cases.0 (sym (length-map c.args.items.now f))
     (sym (length-map c.halves.result.0.now f)) (sym (length-map c.halves.result.1.now f))
     c.requires.within c.if-end-middle.false part c.behind-from.ensures)
     c.in_err-below-2.ensures)
@@ -129,13 +118,13 @@ returns g t c =
     let part = part_from c.args.start c.args.end (length c.args.items.now) c.requires.within
     c.else-start-eq0.either in
     proof_right h _ _ _ _ _ _ _ _ _ _ _ _ c.list_hash-2.result
-    c.in-Some-split_last.sibling.now _ _ c.in_ok-below-2.below _
+    c.in-Some.sibling.now _ _ c.in_ok-below-2.below _
     (step_behind h _ _ _ c.args.start c.args.end (length c.args.items.now)
     (length c.halves.result.0.now) (length c.halves.result.1.now) c.behind-from.result.0
     c.behind-from.result.1 c.args.known c.behind-from.result.2 c.args.node.now
-    c.in-Some-split_last.sibling.now c.args.proof.now c.in-Some-split_last.rest.now
+    c.in-Some.sibling.now c.args.proof.now c.in-Some.rest.now
     (halves_map f c.args.items.now c.halves.result.0.now c.halves.result.1.now c.halves.ensures)
-    c.in-Some-split_last.ensures.cases.0 (sym (length-map c.args.items.now f))
+    c.in-Some.ensures.cases.0 (sym (length-map c.args.items.now f))
     (sym (length-map c.halves.result.0.now f)) (sym (length-map c.halves.result.1.now f))
     c.requires.within c.if-end-middle.false part c.behind-from.ensures)
     c.list_hash-2.ensures c.in_ok-below-2.ensures c.compare_pairs-2.ensures
