@@ -29,7 +29,7 @@ use Rattle.cosigner_core.proofs.Spelled.{CosignerFields, FitCosigner, cosigner_f
 use Rattle.cosigner_core.proofs.Spelled.{cosigner_form}
 use Rattle.cosigner_core.proofs.Tagged.{some_value, tag_takes, when_some, whole_takes}
 
-then_some : {X Y : Type 0} (f : X → Option Y) (o : Option X) (y : Y)
+pub then_some : {X Y : Type 0} (f : X → Option Y) (o : Option X) (y : Y)
     → option_and_then f o ≡ Some y → (x : X) × (o ≡ Some x) × (f x ≡ Some y)
 then_some {X} {Y} f None y is = let wrong : None ≡ Some y = is in cc
 then_some {X} {Y} f (Some x) y is = (x, refl, is)

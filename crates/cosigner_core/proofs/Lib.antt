@@ -2,6 +2,8 @@ pub mod Adds
 pub mod Allowed
 pub mod Copies
 pub mod Counts
+pub mod ExportAgain
+pub mod ExportForm
 pub mod ExportLoops
 pub mod Exported
 pub mod FirstRecords

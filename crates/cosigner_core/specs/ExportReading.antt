@@ -1,12 +1,12 @@
 -- Reading an export, with its faults in their order.
 use Rattle.std.specs.Prelude.{◌≡◌, ◌≢◌, ℕ, zero, suc, ◌+◌, ◌^◌, ◌==◌, ◌&&◌, nat_le, List, [], ◌∷◌}
 use Rattle.std.specs.Prelude.{length, Option, Some, None, option_and_then, Result, Ok, Err}
-use Rattle.std.specs.Prelude.{if◌then◌else◌}
+use Rattle.std.specs.Prelude.{if◌then◌else◌, map, ◌++◌}
 use Rattle.std.specs.Int.{w8, w16, w32}
 use Rattle.byte_forms.specs.Types.{HashFunction, Text}
 use Rattle.byte_forms.specs.Places.{At, at}
 use Rattle.byte_forms.specs.Readings.{Reading, ◌>>=◌, blamed, both_at, lifted_at, some_or}
-use Rattle.hss_core.specs.Hss.{hss_key_types}
+use Rattle.hss_core.specs.Hss.{hss_key_types, one_level_public}
 use Rattle.lmots_core.specs.declared.parameters.OtsType.{OtsType}
 use Rattle.lms_core.specs.Heights.{height}
 use Rattle.lms_core.specs.declared.heights.LmsType.{LmsType}
@@ -14,8 +14,10 @@ use Rattle.tls_wire.specs.Anchors.{anchor_of}
 use Rattle.tls_wire.specs.Arcs.{IsAnchorId}
 use Rattle.tls_wire.specs.Reading.{vector_at}
 use Rattle.tls_wire.specs.declared.cursor.Short.{Short as ShortForm}
+use Rattle.cosigner_core.specs.Exports.{front_text, records_text}
+use Rattle.cosigner_core.specs.Folds.{CosignerState}
 use Rattle.cosigner_core.specs.Progress.{first_progress, is_allowed, progress_by, with_step}
-use Rattle.cosigner_core.specs.Records.{step_in}
+use Rattle.cosigner_core.specs.Records.{step_in, step_record}
 use Rattle.cosigner_core.specs.declared.error.ReadExportError.{ReadExportError}
 use Rattle.cosigner_core.specs.declared.error.ReadExportError.TheVariants.{BadId, BadKey}
 use Rattle.cosigner_core.specs.declared.error.ReadExportError.TheVariants.{BadRecord, Short}
@@ -90,6 +92,20 @@ export_in h bytes =
     if length bytes == 0 then Ok None
     else (export_front_at (at bytes 0)
     >>= λ x. steps_left h x.0.1.1.1 x.1 >>= λ steps. Ok (Some (export_with x.0 steps)))
+
+-- How an export is spelled: the ids, the public key, and the record of each step.
+abbrev pub exported_text : Export → Text
+exported_text e =
+    front_text e.cosigner e.log e.public ++ records_text (map step_record e.steps)
+
+-- The export of a cosigner with these steps.
+abbrev pub export_of : CosignerState → List Step → Export
+export_of s steps = record {
+  cosigner = s.id;
+  log = s.log;
+  public = one_level_public s.key.key;
+  steps = steps;
+}
 
 -- How far its steps bring the cosigner of an export, where each is allowed.
 abbrev pub export_progress : HashFunction → Export → Option Progress

@@ -1,11 +1,15 @@
 //! Laws of requests and records: the clauses are the laws, and the functions do nothing.
 
-ghost use Rattle.std.specs.Prelude.{◌≡◌, List, Some, Ok};
+ghost use Rattle.std.specs.Prelude.{◌≡◌, List, Some, Ok, drop};
 ghost use Rattle.byte_forms.specs.Types.{HashFunction, Text};
 ghost use Rattle.byte_forms.specs.Forms.{Anything, IsForm};
 ghost use Rattle.byte_forms.specs.Places.{IsBytes};
 ghost use Rattle.journal_core.specs.Format.{StandsFor};
 ghost use Rattle.cosigner_core.specs.Counts.{CountsUp};
+ghost use Rattle.cosigner_core.specs.ExportReading.{IsExport, export_in, export_of, exported_text};
+ghost use Rattle.cosigner_core.specs.Exports.{export_text};
+ghost use Rattle.cosigner_core.specs.Progress.{steps_in};
+ghost use Rattle.cosigner_core.specs.declared.lists.Export.{Export};
 ghost use Rattle.cosigner_core.specs.Folds.{CosignerState, cosigner_of};
 ghost use Rattle.cosigner_core.specs.Openings.{FoundCosigner, cosigner_read};
 ghost use Rattle.cosigner_core.specs.Records.{FitsCosigner, FitsStep, cosigner_in, cosigner_record, step_in, step_record};
@@ -63,4 +67,15 @@ pub fn cosigners_are_read_from_their_journals()
 pub fn one_time_keys_sign_once()
     ensures { (h : HashFunction) (list : List Text) (s : CosignerState)
         → cosigner_of h list ≡ Ok s → CountsUp list s }
+{}
+
+/// What is read as an export is spelled as one, and its steps are those of a cosigner. What a
+/// cosigner exports of a file that stands for its records is read as their steps.
+pub fn exports_are_read_as_spelled()
+    ensures only { (h : HashFunction) (bytes : Text) (e : Export) → IsBytes bytes
+        → export_in h bytes ≡ Ok (Some e) → (bytes ≡ exported_text e) × IsExport h e }
+    ensures again { (h : HashFunction) (bytes : Text) (list : List Text) (s : CosignerState)
+        → IsBytes bytes → StandsFor bytes list → cosigner_of h list ≡ Ok s
+        → (steps : List Step) × (steps_in (drop 1 list) ≡ Some steps)
+        × (export_in h (export_text s list) ≡ Ok (Some (export_of s steps))) }
 {}

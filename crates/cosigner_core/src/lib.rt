@@ -46,8 +46,8 @@ pub use export_reading::read_export;
 pub use fault::FormError;
 pub use laws::{
     advance_requests_are_read_as_spelled, cosigners_are_read_from_their_journals,
-    first_records_are_read_as_spelled, one_time_keys_sign_once, steps_are_read_as_spelled,
-    subtree_requests_are_read_as_spelled,
+    exports_are_read_as_spelled, first_records_are_read_as_spelled, one_time_keys_sign_once,
+    steps_are_read_as_spelled, subtree_requests_are_read_as_spelled,
 };
 pub use lists::{Export, Hashes, StepList};
 pub use progress::Progress;

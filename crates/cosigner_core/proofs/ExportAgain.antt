@@ -1,0 +1,282 @@
+-- What a cosigner exports is read as the steps of its journal.
+use Rattle.std.proofs.Common.{◌≡◌, ◌≢◌, ℕ, zero, suc, ◌+◌, ◌^◌, ◌<◌, ◌≤◌, true, List, [], ◌∷◌, ◌++◌}
+use Rattle.std.proofs.Common.{length, Option, Some, None, Ok, Err, refl, sym, ap, ◌∙◌, take}
+use Rattle.std.proofs.Common.{subst, append_assoc, arith, ne_eqb, drop}
+use Rattle.std.specs.Prelude.{option_map}
+use Rattle.std.specs.Int.{w8, w16, w32, to_be_bytes}
+use Rattle.std.specs.List.{AllByRecursion}
+use Rattle.std.proofs.lemmas.Bool.{le-leb}
+use Rattle.std.proofs.lemmas.List.{length-append, length-take-le}
+use Rattle.byte_forms.specs.Types.{HashFunction, Text}
+use Rattle.byte_forms.specs.Places.{At, IsBytes, at}
+use Rattle.byte_forms.specs.Readings.{some_or}
+use Rattle.byte_forms.proofs.Steps.{IsBytes-drop, IsBytes-take, bind_ok, ok_is, some_or_ok}
+use Rattle.journal_core.specs.Folds.{state_behind, taken_from}
+use Rattle.journal_core.specs.Format.{AreRecordsAt, IsRecordAt, StandsFor}
+use Rattle.lmots_core.specs.Strings.{u32_at}
+use Rattle.lms_core.specs.Heights.{height}
+use Rattle.lms_core.specs.Trees.{lms_public}
+use Rattle.lms_core.specs.declared.private_key.PrivateKey.{PrivateKey}
+use Rattle.lms_core.proofs.Verifies.{key_types-lms_public, length-lms_public}
+use Rattle.hss_core.specs.Hss.{hss_key_types, one_level_public}
+use Rattle.tls_wire.specs.Arcs.{IsAnchorId}
+use Rattle.tls_wire.specs.Spelling.{vector}
+use Rattle.tls_wire.proofs.AnchorForm.{anchor_again}
+use Rattle.tls_wire.proofs.Numbers.{wide8, wide16, wide32}
+use Rattle.tls_wire.proofs.Vectors.{vector_form}
+use Rattle.cosigner_core.specs.ExportReading.{all_exported_at, export_front_at, export_id_at}
+use Rattle.cosigner_core.specs.ExportReading.{export_in, export_key_at, export_of, exported_at}
+use Rattle.cosigner_core.specs.ExportReading.{signing_keys, steps_left}
+use Rattle.cosigner_core.specs.Exports.{export_text, front_text, records_text}
+use Rattle.cosigner_core.specs.Folds.{CosignerState, after_step, begun, cosigner_fold, cosigner_of}
+use Rattle.cosigner_core.specs.Folds.{key_count, new_cosigner, next_state, progress_of}
+use Rattle.cosigner_core.specs.Folds.{with_progress}
+use Rattle.cosigner_core.specs.Progress.{first_progress, is_allowed, steps_in, with_step}
+use Rattle.cosigner_core.specs.Records.{cosigner_in, step_in}
+use Rattle.cosigner_core.specs.declared.progress.Progress.{Progress}
+use Rattle.cosigner_core.specs.declared.settings.CosignerSettings.{CosignerSettings}
+use Rattle.cosigner_core.specs.declared.step.Step.{Step}
+use Rattle.cosigner_core.proofs.FirstRecords.{cosigner_takes, then_some}
+use Rattle.cosigner_core.proofs.Tagged.{some_value, when_some}
+
+-- ---- the records
+
+exported_again : (h : HashFunction) (keys k place : ℕ) (p : Progress) (body rest : Text) (x : Step)
+    → length body < 2 ^ 32 → step_in body ≡ Some x → is_allowed h keys p x ≡ true
+    → exported_at h keys k p (record { place = place; rest = vector w32 body ++ rest })
+    ≡ Ok (x, record { place = place + length (vector w32 body); rest = rest })
+unfolding exported_at
+exported_again h keys k place p body rest x short said fits =
+    let one = (vector_form w32 (2 ^ 32) wide32).again body place rest short tt in
+    rw (one, said, fits) refl
+
+-- The records of a cosigner, from one of its states to a later one, are read as their steps.
+record IsAgain (h : HashFunction) (s t : CosignerState) (bodies : List Text)
+    (most k place : ℕ) : Type 0 where
+  pub steps : List Step
+  pub said : steps_in bodies ≡ Some steps
+  pub end : At
+  pub read : all_exported_at h (key_count s) most k (progress_of s)
+      (record { place = place; rest = records_text bodies }) ≡ Ok (steps, end)
+  pub id : t.id ≡ s.id
+  pub log : t.log ≡ s.log
+  pub key : t.key.key ≡ s.key.key
+
+abbrev AreShort : List Text → Type 0
+AreShort = AllByRecursion (λ body. length body < 2 ^ 32)
+
+again_none : (h : HashFunction) (s t : CosignerState) (most k place : ℕ) → s ≡ t
+    → IsAgain h s t [] most k place
+unfolding all_exported_at steps_in
+again_none h s t zero k place same = record {
+  steps = [];
+  said = refl;
+  end = record { place = place; rest = [] };
+  read = refl;
+  id = ap (λ (u : CosignerState). u.id) (sym same);
+  log = ap (λ (u : CosignerState). u.log) (sym same);
+  key = ap (λ (u : CosignerState). u.key.key) (sym same);
+}
+again_none h s t (suc most) k place same = record {
+  steps = [];
+  said = refl;
+  end = record { place = place; rest = [] };
+  read = refl;
+  id = ap (λ (u : CosignerState). u.id) (sym same);
+  log = ap (λ (u : CosignerState). u.log) (sym same);
+  key = ap (λ (u : CosignerState). u.key.key) (sym same);
+}
+
+again_more : (h : HashFunction) (s t : CosignerState) (most k place : ℕ) (body : Text)
+    (bodies : List Text) (x : Step) → length body < 2 ^ 32 → step_in body ≡ Some x
+    → is_allowed h (key_count s) (progress_of s) x ≡ true
+    → IsAgain h (with_progress s (with_step (progress_of s) x)) t bodies most (k + 1)
+    (place + length (vector w32 body))
+    → IsAgain h s t (body ∷ bodies) (suc most) k place
+unfolding all_exported_at steps_in
+again_more h s t most k place body bodies x short said fits rest = record {
+  steps = x ∷ rest.steps;
+  said = rw (said, rest.said) refl;
+  end = rest.end;
+  read =
+      let one = exported_again h (key_count s) k place (progress_of s) body (records_text bodies) x
+      short said fits in
+      let long : length (vector w32 body ++ records_text bodies) ≢ 0 = omega (
+        arith,
+        length-append (vector w32 body) (records_text bodies),
+        length-append (to_be_bytes w32 (length body)) body,
+      ) in
+      rw (ne_eqb (length (vector w32 body ++ records_text bodies)) 0 long, one, rest.read) refl;
+  id = rest.id;
+  log = rest.log;
+  key = rest.key;
+}
+
+steps_again : (h : HashFunction) (s t : CosignerState) (n most k place : ℕ) (bodies : List Text)
+    → AreShort bodies → taken_from (cosigner_fold h) n s bodies ≡ Ok t
+    → length (records_text bodies) ≤ most → IsAgain h s t bodies most k place
+unfolding taken_from next_state
+steps_again h s t n most k place [] short is le =
+    again_none h s t most k place (ok_is ℕ s t is)
+steps_again h s t n zero k place (body ∷ bodies) short is le =
+    absurd (omega (
+      arith,
+      length-append (vector w32 body) (records_text bodies),
+      length-append (to_be_bytes w32 (length body)) body,
+    ))
+steps_again h s t n (suc most) k place (body ∷ bodies) short is le =
+    let step = bind_ok (some_or n (next_state h s body))
+    (λ (u : CosignerState). taken_from (cosigner_fold h) (n + 1) u bodies) t is in
+    let said = then_some (after_step h s) (step_in body) step.0
+    (some_or_ok n (next_state h s body) step.0 step.1) in
+    let next : CosignerState = with_progress s (with_step (progress_of s) said.0) in
+    let made = when_some (is_allowed h (key_count s) (progress_of s) said.0) (Some next) step.0
+    said.2 in
+    let less : length (records_text bodies) ≤ most = omega (
+      arith,
+      length-append (vector w32 body) (records_text bodies),
+      length-append (to_be_bytes w32 (length body)) body,
+    ) in
+    let rest = steps_again h step.0 t (n + 1) most (k + 1) (place + length (vector w32 body)) bodies
+    short.1 step.2 less in
+    again_more h s t most k place body bodies said.0 short.0 said.1 made.0
+    (subst (λ (u : CosignerState). IsAgain h u t bodies most (k + 1)
+    (place + length (vector w32 body))) (sym (some_value next step.0 made.1)) rest)
+
+-- ---- the front
+
+id_again : (place : ℕ) (id rest : Text) → IsAnchorId id
+    → export_id_at (record { place = place; rest = vector w8 id ++ rest })
+    ≡ Ok (id, record { place = place + length (vector w8 id); rest = rest })
+unfolding export_id_at
+id_again place id rest fits =
+    let short : length id < 2 ^ 8 = let most = fits.short in omega arith in
+    let one = (vector_form w8 (2 ^ 8) wide8).again id place rest short tt in
+    rw (one, anchor_again id fits) refl
+
+key_again : (place keys : ℕ) (key rest : Text) → length key < 2 ^ 16
+    → signing_keys key ≡ Some keys
+    → export_key_at (record { place = place; rest = vector w16 key ++ rest })
+    ≡ Ok ((key, keys), record { place = place + length (vector w16 key); rest = rest })
+unfolding export_key_at
+key_again place keys key rest short is =
+    let one = (vector_form w16 (2 ^ 16) wide16).again key place rest short tt in
+    rw (one, is) refl
+
+front_again : (id log key rest : Text) (keys : ℕ) → IsAnchorId id → IsAnchorId log
+    → length key < 2 ^ 16 → signing_keys key ≡ Some keys
+    → (place : ℕ) × (export_front_at (at (front_text id log key ++ rest) 0)
+    ≡ Ok ((id, (log, (key, keys))), record { place = place; rest = rest }))
+unfolding export_front_at
+front_again id log key rest keys fits other short is =
+    let grouped : front_text id log key ++ rest
+    ≡ vector w8 id ++ (vector w8 log ++ (vector w16 key ++ rest)) =
+    append_assoc (vector w8 id) (vector w8 log ++ vector w16 key) rest
+    ∙ ap (λ (t : Text). vector w8 id ++ t) (append_assoc (vector w8 log) (vector w16 key) rest) in
+    let one = id_again 0 id (vector w8 log ++ (vector w16 key ++ rest)) fits in
+    let two = id_again (0 + length (vector w8 id)) log (vector w16 key ++ rest) other in
+    let three = key_again (0 + length (vector w8 id) + length (vector w8 log)) keys key rest short
+    is in (
+      0 + length (vector w8 id) + length (vector w8 log) + length (vector w16 key),
+      ap (λ (t : Text). export_front_at (record { place = 0; rest = t })) grouped
+          ∙ rw (one, two, three) refl,
+    )
+
+public_keys : (k : PrivateKey) → length k.id ≡ 16 → height k.lms ≤ 10
+    → signing_keys (one_level_public k) ≡ Some (2 ^ height k.lms)
+unfolding signing_keys hss_key_types one_level_public u32_at
+public_keys k size small =
+    let all : length (to_be_bytes w32 1 ++ lms_public k) ≡ 60 =
+    omega (arith, length-append (to_be_bytes w32 1) (lms_public k), length-lms_public k size) in
+    rw (all, key_types-lms_public k size, le-leb (height k.lms) 10 small) refl
+
+public_size : (k : PrivateKey) → length k.id ≡ 16 → length (one_level_public k) ≡ 60
+unfolding one_level_public
+public_size k size =
+    omega (arith, length-append (to_be_bytes w32 1) (lms_public k), length-lms_public k size)
+
+-- ---- the whole
+
+body_bytes : (bytes body : Text) (place : ℕ) → IsBytes bytes → IsRecordAt bytes place body
+    → IsBytes body
+body_bytes bytes body place are is =
+    subst IsBytes is.body_is
+    (IsBytes-take (length body) (drop (place + 5) bytes) (IsBytes-drop (place + 5) bytes are))
+
+are_short : (bytes : Text) (place : ℕ) (bodies : List Text) → AreRecordsAt bytes place bodies
+    → AreShort bodies
+are_short bytes place [] there = tt
+are_short bytes place (body ∷ bodies) there =
+    let few = there.0.few in
+    (omega arith, are_short bytes (place + 5 + length body) bodies there.1)
+
+read_whole : (h : HashFunction) (s u : CosignerState) (bodies : List Text)
+    → IsAnchorId u.id → IsAnchorId u.log → length u.key.key.id ≡ 16 → height u.key.key.lms ≤ 10
+    → progress_of u ≡ first_progress h
+    → ((place : ℕ) → IsAgain h u s bodies (length (records_text bodies)) 1 place)
+    → (steps : List Step) × (steps_in bodies ≡ Some steps)
+    × (export_in h (front_text s.id s.log (one_level_public s.key.key) ++ records_text bodies)
+    ≡ Ok (Some (export_of s steps)))
+unfolding export_in steps_left
+read_whole h s u bodies id log size small begins again =
+    let there = again 0 in
+    let public : Text = one_level_public s.key.key in
+    let own : IsAnchorId s.id = subst IsAnchorId (sym there.id) id in
+    let other : IsAnchorId s.log = subst IsAnchorId (sym there.log) log in
+    let keys : signing_keys public ≡ Some (key_count u) =
+    ap (λ (k : PrivateKey). signing_keys (one_level_public k)) there.key
+    ∙ public_keys u.key.key size small in
+    let short : length public < 2 ^ 16 =
+    let sixty : length public ≡ 60 =
+    ap (λ (k : PrivateKey). length (one_level_public k)) there.key ∙ public_size u.key.key size in
+    omega arith in
+    let text : Text = records_text bodies in
+    let front = front_again s.id s.log public text (key_count u) own other short keys in
+    let here = again front.0 in
+    let read : all_exported_at h (key_count u) (length text) 1 (first_progress h)
+    (record { place = front.0; rest = text }) ≡ Ok (here.steps, here.end) =
+    ap (λ (p : Progress). all_exported_at h (key_count u) (length text) 1 p
+    (record { place = front.0; rest = text })) (sym begins) ∙ here.read in
+    let long : length (front_text s.id s.log public ++ text) ≢ 0 = omega (
+      arith,
+      length-append (front_text s.id s.log public) text,
+      length-append (vector w8 s.id) (vector w8 s.log ++ vector w16 public),
+      length-append (to_be_bytes w8 (length s.id)) s.id,
+    ) in (
+      here.steps,
+      here.said,
+      rw (ne_eqb (length (front_text s.id s.log public ++ text)) 0 long, front.1, read) refl,
+    )
+
+pub export_again : (h : HashFunction) (bytes : Text) (list : List Text) (s : CosignerState)
+    → IsBytes bytes → StandsFor bytes list → cosigner_of h list ≡ Ok s
+    → (steps : List Step) × (steps_in (drop 1 list) ≡ Some steps)
+    × (export_in h (export_text s list) ≡ Ok (Some (export_of s steps)))
+unfolding state_behind begun
+export_again h bytes [] s are stands is =
+    let wrong : Err 0 ≡ Ok s = is in absurd cc
+export_again h bytes (first ∷ bodies) s are stands is =
+    let step = bind_ok (some_or 0 (begun h first))
+    (λ (u : CosignerState). taken_from (cosigner_fold h) 1 u bodies) s is in
+    go (cosigner_in first) refl step.0 (some_or_ok 0 (begun h first) step.0 step.1) step.2
+  where
+    go : (o : Option (CosignerSettings × Text)) → cosigner_in first ≡ o → (u : CosignerState)
+        → option_map (λ x. new_cosigner h x.0 x.1) o ≡ Some u
+        → taken_from (cosigner_fold h) 1 u bodies ≡ Ok s
+        → (steps : List Step) × (steps_in bodies ≡ Some steps)
+        × (export_in h (front_text s.id s.log (one_level_public s.key.key) ++ records_text bodies)
+        ≡ Ok (Some (export_of s steps)))
+    go None was u made rest = let wrong : None ≡ Some u = made in absurd cc
+    go (Some x) was u made rest =
+        let fits = (cosigner_takes first x.0 x.1 (body_bytes bytes first 16 are stands.holds.0)
+        was).1 in
+        let new : CosignerState = new_cosigner h x.0 x.1 in
+        let same : new ≡ u = some_value new u made in
+        let size : length (take 16 x.1) ≡ 16 =
+        let all = fits.sized in length-take-le 16 x.1 (omega arith) in
+        let taken : taken_from (cosigner_fold h) 1 new bodies ≡ Ok s =
+        subst (λ (v : CosignerState). taken_from (cosigner_fold h) 1 v bodies ≡ Ok s) (sym same)
+        rest in
+        read_whole h s new bodies fits.id fits.log size fits.small refl
+        (λ place. steps_again h new s 1 (length (records_text bodies)) 1 place bodies
+        (are_short bytes (16 + 5 + length first) bodies stands.holds.1) taken (omega arith))
