@@ -1,5 +1,7 @@
 pub mod Adds
+pub mod Behind
 mod Growth
+pub mod Ids
 pub mod Leaves
 mod Readings
 mod Rules

@@ -1,9 +1,9 @@
 -- What the records of a journal make of a log. The first one begins it, and each later one changes
 -- it by what it says.
 use Rattle.std.specs.Prelude.{ℕ, ◌==◌, ◌&&◌, nat_lt, List, [], ◌∷◌, ◌++◌, length, Option, Some}
-use Rattle.std.specs.Prelude.{None, option_map, option_and_then, Result, if◌then◌else◌}
+use Rattle.std.specs.Prelude.{None, option_map, option_and_then, Result, is_ok, if◌then◌else◌, Bool}
 use Rattle.byte_forms.specs.Types.{Text, HashFunction}
-use Rattle.journal_core.specs.Folds.{Fold, state_behind}
+use Rattle.journal_core.specs.Folds.{Fold, state_behind, taken_from}
 use Rattle.log_entry.specs.Matching.{matches}
 use Rattle.issuance_log.specs.Marks.{last_mark}
 use Rattle.issuance_log.specs.Records.{settings_in, item_in, mark_in}
@@ -83,3 +83,12 @@ log_fold h =
 -- Without a record the first one is missing.
 abbrev pub log_of : HashFunction → List Text → Result LogState ℕ
 log_of h list = state_behind (log_fold h) list
+
+-- The log that these records make behind a first one with these settings, or the number of the
+-- first record that breaks the rules.
+abbrev pub log_behind : HashFunction → Settings → List Text → Result LogState ℕ
+log_behind h settings bodies = taken_from (log_fold h) 1 (new_log settings) bodies
+
+-- They may stand behind a first record with these settings.
+abbrev pub may_follow_log : HashFunction → Settings → List Text → Bool
+may_follow_log h settings bodies = is_ok (log_behind h settings bodies)

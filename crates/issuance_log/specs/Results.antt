@@ -1,5 +1,5 @@
 -- What a call that takes a record answers, and what it leaves of the log.
-use Rattle.std.specs.Prelude.{◌≡◌, Option, Some, None, Result, Ok, Err}
+use Rattle.std.specs.Prelude.{◌≡◌, Bool, true, false, Option, Some, None, Result, Ok, Err}
 use Rattle.issuance_log.specs.Folds.{LogState}
 use Rattle.issuance_log.specs.declared.error.RecordError.{RecordError}
 use Rattle.issuance_log.specs.declared.error.RecordError.TheVariants.{Unfit, Memory}
@@ -15,3 +15,9 @@ abbrev pub Takes : Option LogState → LogState → Result (Unit {0}) RecordErro
 Takes wanted old (Ok done) new = wanted ≡ Some new
 Takes wanted old (Err Unfit) new = (wanted ≡ None) × (new ≡ old)
 Takes wanted old (Err Memory) new = new ≡ old
+
+-- the log is what was wanted, or there is none, by the answer
+abbrev pub HasTried : {E : Type 0} → Option LogState → LogState → Result Bool E → Type 0
+HasTried wanted new (Ok true) = wanted ≡ Some new
+HasTried wanted new (Ok false) = wanted ≡ None
+HasTried wanted new (Err refused) = Unit {0}

@@ -1,6 +1,6 @@
 //! What the records of a journal make of a log, with the leaf hashes of its entries.
 ghost use Rattle.std.specs.Prelude.{◌≡◌, ◌<◌, ◌≤◌, [], ◌∷◌, ◌++◌, length, map, nat_lt, not, option_and_then, vec_len, vec_capacity, IfOk, OnOk};
-ghost use Rattle.issuance_log.specs.Folds.{begun, next_log, with_entry, with_item, with_landmark, with_mark};
+ghost use Rattle.issuance_log.specs.Folds.{begun, new_log, next_log, with_entry, with_item, with_landmark, with_mark};
 ghost use Rattle.issuance_log.specs.Marks.{last_mark, AreRising};
 ghost use Rattle.issuance_log.specs.Records.{IsShort, mark_in};
 ghost use Rattle.issuance_log.specs.Settings.{AreAllowed};
@@ -84,6 +84,14 @@ impl<H: TreeHash> Contents<H> {
         ensures { Finds (λ c. c.state) (begun body.now) result }
     {
         let settings = read_settings(alloc, body)?;
+        let contents = Contents::new(alloc, settings)?;
+        Ok(contents)
+    }
+
+    /// A new log with these settings.
+    pub(crate) fn new(alloc: Global, settings: LogSettings) -> Result<Contents<H>, Memory>
+        ensures { IfOk result (λ c. c.state ≡ new_log settings) }
+    {
         let items = Items::begin(alloc)?;
         let mut leaves = Listed::new(alloc);
         leaves.push(&leaf::<H>(&NULL_ENTRY))?;

@@ -1,12 +1,13 @@
 //! Laws of a log's records: the clauses are the laws, and the functions do nothing.
-ghost use Rattle.std.specs.Prelude.{◌≡◌, ◌<◌, ◌^◌, ℕ, List, Some, Ok};
+ghost use Rattle.std.specs.Prelude.{◌≡◌, ◌<◌, ◌^◌, ℕ, List, ◌∷◌, Some, Ok};
 ghost use Rattle.byte_forms.specs.Types.{Text, HashFunction};
 ghost use Rattle.byte_forms.specs.Places.{IsBytes};
 ghost use Rattle.journal_core.specs.Format.{StandsFor};
-ghost use Rattle.issuance_log.specs.Folds.{LogState, begun, next_log, log_of};
+ghost use Rattle.issuance_log.specs.Folds.{LogState, begun, next_log, log_behind, log_of};
 ghost use Rattle.issuance_log.specs.Openings.{FoundLog, log_read};
-ghost use Rattle.issuance_log.specs.Records.{IsShort, entry_record, item_in, landmark_record, mark_in};
+ghost use Rattle.issuance_log.specs.Records.{IsShort, entry_record, item_in, landmark_record, mark_in, settings_in};
 ghost use Rattle.issuance_log.specs.Rules.{IsFirst, IsNext};
+ghost use Rattle.issuance_log.specs.Settings.{Settings};
 
 /// The body of an Entry is read as the entry and the key that it spells, and only what is spelled
 /// so is read.
@@ -45,4 +46,14 @@ pub fn logs_are_read_from_their_journals()
     ensures only { (h : HashFunction) (bytes : Text) (found : FoundLog) → IsBytes bytes
         → log_read h bytes ≡ Ok found
         → StandsFor bytes found.records × (log_of h found.records ≡ Ok found.state) }
+{}
+
+/// Records make a log exactly where the first one has settings, and the others may stand behind
+/// it: then the log is the one that these make of the settings.
+pub fn logs_begin_with_their_settings()
+    ensures behind { (h : HashFunction) (first : Text) (s : Settings) (bodies : List Text)
+        → settings_in first ≡ Some s → log_of h (first ∷ bodies) ≡ log_behind h s bodies }
+    ensures only { (h : HashFunction) (list : List Text) (t : LogState) → log_of h list ≡ Ok t
+        → (first : Text) × ((bodies : List Text) × ((list ≡ first ∷ bodies)
+        × (settings_in first ≡ Some t.settings) × (log_behind h t.settings bodies ≡ Ok t))) }
 {}

@@ -16,6 +16,7 @@
 mod contents;
 mod creation;
 mod error;
+mod following;
 mod items;
 mod laws;
 mod log;
@@ -26,9 +27,10 @@ mod settings;
 
 pub use creation::{create, pack};
 pub use error::{LogError, LogOpenError, LogRefused};
+pub use following::may_follow;
 pub use laws::{
     items_are_read_as_spelled, landmarks_are_read_as_spelled, logs_are_read_from_their_journals,
-    records_keep_to_the_rules,
+    logs_begin_with_their_settings, records_keep_to_the_rules,
 };
 pub use log::Log;
 pub use settings::{LogSettings, MOST_ACTIVE, MOST_ENTRIES};

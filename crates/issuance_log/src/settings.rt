@@ -1,4 +1,8 @@
 //! What is settled when a log begins.
+ghost use Rattle.std.specs.Prelude.{◌≡◌, IfOk};
+
+use mtc_io::Memory;
+use std::alloc::Global;
 use std::marker::Model;
 use tls_wire::AnchorId;
 
@@ -27,4 +31,22 @@ impl Model for LogSettings {
     ghost view = { λ s. record { id = s.id; max_active = s.max_active; limit = s.limit } };
 
     ghost invariant = { λ s. AreAllowed s.max_active s.limit };
+}
+
+impl LogSettings {
+    /// The same settings once more.
+    pub fn copy(&self, alloc: Global) -> Result<LogSettings, Memory>
+        ensures { IfOk result (λ copy. copy ≡ self.now) }
+    {
+        // An id is read again, unless memory is refused.
+        let id = match AnchorId::from_bytes(alloc, self.id.as_bytes()) {
+            Ok(id) => id,
+            Err(_) => return Err(Memory),
+        };
+        Ok(LogSettings {
+            id,
+            max_active: self.max_active,
+            limit: self.limit,
+        })
+    }
 }

@@ -1,6 +1,7 @@
 pub mod Append
 pub mod Appends
 pub mod Begun
+pub mod Bodies
 pub mod OpeningSteps
 pub mod ReadOn
 pub mod Records

@@ -1,0 +1,171 @@
+-- Records that are taken one by one behind the first record of a log.
+use Rattle.std.proofs.Common.{◌≡◌, ℕ, suc, ◌+◌, ◌<◌, ◌≤◌, ◌==◌, ◌&&◌, nat_lt, Bool, true, false}
+use Rattle.std.proofs.Common.{List, [], ◌∷◌, ◌++◌, length, drop, get_or, Option, Some, None, Result}
+use Rattle.std.proofs.Common.{Ok, Err, IfOk, is_ok, option_map, option_and_then, refl, ap, sym, ◌∙◌}
+use Rattle.std.proofs.Common.{arith}
+use Rattle.std.specs.Prelude.{if◌then◌else◌}
+use Rattle.byte_forms.specs.Types.{Text, HashFunction}
+use Rattle.byte_forms.specs.Readings.{◌>>=◌, some_or}
+use Rattle.byte_forms.proofs.Steps.{bind_ok, ok_is, some_or_ok}
+use Rattle.journal_core.specs.Folds.{Fold, state_behind, taken_from}
+use Rattle.journal_core.proofs.Bodies.{none_left, rest_at}
+use Rattle.log_entry.specs.Matching.{matches}
+use Rattle.issuance_log.specs.Folds.{LogState, begun, changed, log_behind, log_fold, log_of}
+use Rattle.issuance_log.specs.Folds.{new_log, next_log, with_entry, with_item, with_landmark}
+use Rattle.issuance_log.specs.Folds.{with_mark}
+use Rattle.issuance_log.specs.Marks.{last_mark}
+use Rattle.issuance_log.specs.Records.{item_in, mark_in, settings_in}
+use Rattle.issuance_log.specs.Results.{HasTried}
+use Rattle.issuance_log.specs.Settings.{Settings}
+
+module _ {S E : Type 0} (fold : Fold S E) where
+  -- the first of these records is taken, or breaks the rules
+  taken_on : (k : ℕ) (s t : S) (x : List ℕ) (rest : List (List ℕ)) → fold.takes s x ≡ Some t
+      → taken_from fold k s (x ∷ rest) ≡ taken_from fold (k + 1) t rest
+  unfolding taken_from
+  taken_on k s t x rest next =
+      ap (λ (o : Option S). some_or k o >>= λ (u : S). taken_from fold (k + 1) u rest) next
+
+  taken_none : (k : ℕ) (s : S) (x : List ℕ) (rest : List (List ℕ)) → fold.takes s x ≡ None
+      → taken_from fold k s (x ∷ rest) ≡ Err k
+  unfolding taken_from
+  taken_none k s x rest next =
+      ap (λ (o : Option S). some_or k o >>= λ (u : S). taken_from fold (k + 1) u rest) next
+
+  taken_end : (k : ℕ) (s : S) → taken_from fold k s [] ≡ Ok s
+  unfolding taken_from
+  taken_end k s = refl
+
+  -- The record at this place is taken, or breaks the rules.
+  pub follows_on : (wanted : Result S ℕ) (j k : ℕ) (s t : S) (bodies : List (List ℕ)) (i : ℕ)
+      (x body : List ℕ) → j ≡ k + 1 → i < length bodies → x ≡ get_or bodies i x
+      → taken_from fold k s (drop i bodies ++ body ∷ []) ≡ wanted → fold.takes s x ≡ Some t
+      → taken_from fold j t (drop (i + 1) bodies ++ body ∷ []) ≡ wanted
+  follows_on wanted j k s t bodies i x body number there is so_far next =
+      let rest = drop (i + 1) bodies ++ body ∷ [] in
+      ap (λ (n : ℕ). taken_from fold n t rest) number
+      ∙ sym (taken_on k s t x rest next)
+      ∙ ap (taken_from fold k s) (sym (rest_at bodies i x body there is))
+      ∙ so_far
+
+  pub follows_not : (wanted : Result S ℕ) (k : ℕ) (s : S) (bodies : List (List ℕ)) (i : ℕ)
+      (x body : List ℕ) → i < length bodies → x ≡ get_or bodies i x
+      → taken_from fold k s (drop i bodies ++ body ∷ []) ≡ wanted → fold.takes s x ≡ None
+      → false ≡ is_ok wanted
+  follows_not wanted k s bodies i x body there is so_far next =
+      let rest = drop (i + 1) bodies ++ body ∷ [] in
+      ap (λ (r : Result S ℕ). is_ok r) (sym (taken_none k s x rest next)
+      ∙ ap (taken_from fold k s) (sym (rest_at bodies i x body there is)) ∙ so_far)
+
+  -- so is the last one
+  pub last_follows : (wanted : Result S ℕ) (k : ℕ) (s t : S) (bodies : List (List ℕ)) (i : ℕ)
+      (body : List ℕ) → length bodies ≤ i
+      → taken_from fold k s (drop i bodies ++ body ∷ []) ≡ wanted → fold.takes s body ≡ Some t
+      → true ≡ is_ok wanted
+  last_follows wanted k s t bodies i body past so_far next =
+      ap (λ (r : Result S ℕ). is_ok r) (sym (taken_end (k + 1) t)
+      ∙ sym (taken_on k s t body [] next)
+      ∙ ap (taken_from fold k s) (sym (none_left bodies i body past)) ∙ so_far)
+
+  pub last_not : (wanted : Result S ℕ) (k : ℕ) (s : S) (bodies : List (List ℕ)) (i : ℕ)
+      (body : List ℕ) → length bodies ≤ i
+      → taken_from fold k s (drop i bodies ++ body ∷ []) ≡ wanted → fold.takes s body ≡ None
+      → false ≡ is_ok wanted
+  last_not wanted k s bodies i body past so_far next =
+      ap (λ (r : Result S ℕ). is_ok r) (sym (taken_none k s body [] next)
+      ∙ ap (taken_from fold k s) (sym (none_left bodies i body past)) ∙ so_far)
+
+pub last_tried : {E : Type 0} (h : HashFunction) (wanted : Result LogState ℕ) (k : ℕ)
+    (s t : LogState) (bodies : List Text) (i : ℕ) (body : Text) (result : Result Bool E)
+    → length bodies ≤ i
+    → taken_from (log_fold h) k s (drop i bodies ++ body ∷ []) ≡ wanted
+    → HasTried (next_log h s body) t result → IfOk result (λ may. may ≡ is_ok wanted)
+last_tried h wanted k s t bodies i body (Ok true) past so_far tried =
+    last_follows (log_fold h) wanted k s t bodies i body past so_far tried
+last_tried h wanted k s t bodies i body (Ok false) past so_far tried =
+    last_not (log_fold h) wanted k s bodies i body past so_far tried
+last_tried h wanted k s t bodies i body (Err refused) past so_far tried = tt
+
+-- what a record that was tried says
+pub was_taken : (wanted : Option LogState) (t : LogState) (E : Type 0) (b : Bool)
+    → HasTried {E = E} wanted t (Ok b) → b ≡ true → wanted ≡ Some t
+was_taken wanted t E true tried is = tried
+was_taken wanted t E false tried is = let wrong : false ≡ true = is in absurd cc
+
+pub was_not : (wanted : Option LogState) (t : LogState) (E : Type 0) (b : Bool)
+    → HasTried {E = E} wanted t (Ok b) → b ≡ false → wanted ≡ None
+was_not wanted t E false tried is = tried
+was_not wanted t E true tried is = let wrong : true ≡ false = is in absurd cc
+
+-- ---- the first record
+
+pub begins_so : (h : HashFunction) (first : Text) (s : Settings) (bodies : List Text)
+    → settings_in first ≡ Some s → log_of h (first ∷ bodies) ≡ log_behind h s bodies
+unfolding state_behind begun
+begins_so h first s bodies is =
+    ap (λ (o : Option Settings). some_or 0 (option_map new_log o)
+    >>= λ (u : LogState). taken_from (log_fold h) 1 u bodies) is
+
+-- the settings stay
+some_is : (s t : LogState) → Some s ≡ Some t → s ≡ t
+some_is s t is = cc
+
+when : (b : Bool) (s t : LogState) → (if b then Some s else None) ≡ Some t → s ≡ t
+when true s t is = some_is s t is
+when false s t is = let wrong : None ≡ Some t = is in absurd cc
+
+by_item : (h : HashFunction) (s t : LogState) (item : Option (Text × Text)) (mark : Option ℕ)
+    → changed h s item mark ≡ Some t → t.settings ≡ s.settings
+by_item h s t (Some x) mark is =
+    sym (ap (λ (u : LogState). u.settings)
+    (when (nat_lt (length s.entries) s.settings.limit && matches h x.0 x.1)
+    (with_item x.0 x.1 s) t is))
+by_item h s t None None is = let wrong : None ≡ Some t = is in absurd cc
+by_item h s t None (Some size) is =
+    sym (ap (λ (u : LogState). u.settings)
+    (when (size == length s.entries && nat_lt (last_mark s.marks) size) (with_mark s) t is))
+
+next_keeps : (h : HashFunction) (s t : LogState) (body : Text) → next_log h s body ≡ Some t
+    → t.settings ≡ s.settings
+unfolding next_log
+next_keeps h s t body is = by_item h s t (item_in body) (mark_in body) is
+
+behind_keeps : (h : HashFunction) (k : ℕ) (s t : LogState) (bodies : List Text)
+    → taken_from (log_fold h) k s bodies ≡ Ok t → t.settings ≡ s.settings
+unfolding taken_from
+behind_keeps h k s t [] is = sym (ap (λ (u : LogState). u.settings) (ok_is ℕ s t is))
+behind_keeps h k s t (body ∷ bodies) is =
+    let step = bind_ok (some_or k (next_log h s body))
+    (λ (u : LogState). taken_from (log_fold h) (k + 1) u bodies) t is in
+    behind_keeps h (k + 1) step.0 t bodies step.2
+    ∙ next_keeps h s step.0 body (some_or_ok k (next_log h s body) step.0 step.1)
+
+-- what stands behind settings that were read
+has_begun : (h : HashFunction) (first : Text) (bodies : List Text) (s t : LogState)
+    (o : Option Settings) → settings_in first ≡ o → option_map new_log o ≡ Some s
+    → taken_from (log_fold h) 1 s bodies ≡ Ok t
+    → (settings_in first ≡ Some t.settings) × (log_behind h t.settings bodies ≡ Ok t)
+has_begun h first bodies s t None found is rest = let wrong : None ≡ Some s = is in absurd cc
+has_begun h first bodies s t (Some x) found is rest =
+    let made = some_is (new_log x) s is in
+    let rest_is : taken_from (log_fold h) 1 (new_log x) bodies ≡ Ok t
+    = ap (λ (u : LogState). taken_from (log_fold h) 1 u bodies) made ∙ rest in
+    let same : t.settings ≡ x = behind_keeps h 1 (new_log x) t bodies rest_is in (
+      found ∙ ap Some (sym same),
+      ap (λ (y : Settings). taken_from (log_fold h) 1 (new_log y) bodies) same ∙ rest_is,
+    )
+
+no_log : (k : ℕ) (t : LogState) → Err k ≡ Ok t → ⊥
+no_log k t is = cc
+
+pub only_begins : (h : HashFunction) (list : List Text) (t : LogState) → log_of h list ≡ Ok t
+    → (first : Text) × ((bodies : List Text) × ((list ≡ first ∷ bodies)
+    × (settings_in first ≡ Some t.settings) × (log_behind h t.settings bodies ≡ Ok t)))
+unfolding state_behind begun
+only_begins h [] t is = absurd (no_log 0 t is)
+only_begins h (first ∷ bodies) t is =
+    let step = bind_ok (some_or 0 (begun first))
+    (λ (u : LogState). taken_from (log_fold h) 1 u bodies) t is in
+    let facts = has_begun h first bodies step.0 t (settings_in first) refl
+    (some_or_ok 0 (begun first) step.0 step.1) step.2 in
+    (first, (bodies, (refl, facts.0, facts.1)))

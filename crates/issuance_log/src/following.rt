@@ -1,0 +1,42 @@
+//! Which records may stand behind the first one of a log's journal.
+ghost use Rattle.std.specs.Prelude.{◌≡◌, [], ◌∷◌, ◌++◌, IfOk};
+ghost use Rattle.issuance_log.specs.Folds.{may_follow_log, next_log};
+ghost use Rattle.issuance_log.specs.Results.{HasTried};
+
+use crate::contents::Contents;
+use crate::error::RecordError;
+use crate::settings::LogSettings;
+use mtc_io::{Bytes, Memory};
+use std::alloc::Global;
+use tree_core::TreeHash;
+
+// Takes one record more: whether it keeps to the rules.
+fn try_take<H: TreeHash>(contents: &mut Contents<H>, body: &[u8]) -> Result<bool, Memory>
+    ensures { HasTried (next_log H.hash contents.old.state body.now) contents.new.state result }
+{
+    match contents.take(body) {
+        Ok(()) => Ok(true),
+        Err(RecordError::Unfit) => Ok(false),
+        Err(RecordError::Memory) => Err(Memory),
+    }
+}
+
+/// Whether these records, and one more behind them, may stand behind the first record of a log with
+/// these settings.
+pub fn may_follow<H: TreeHash>(
+    alloc: Global,
+    settings: &LogSettings,
+    bodies: &[Bytes],
+    body: &[u8],
+) -> Result<bool, Memory>
+    ensures { IfOk result (λ may. may
+        ≡ may_follow_log H.hash settings.now (bodies.now ++ body.now ∷ [])) }
+{
+    let mut contents = Contents::<H>::new(alloc, settings.copy(alloc)?)?;
+    for earlier in bodies {
+        if !try_take(&mut contents, earlier.as_slice())? {
+            return Ok(false);
+        }
+    }
+    try_take(&mut contents, body)
+}
