@@ -152,8 +152,8 @@ octets_are r f =
     flat_map-map itself (element dns_name) r.names in (
       map (element dns_name) r.names,
       (
-        (hosts_are r.names f.names, omega (arith, ap length same, names-some r.names f.some)),
-        omega (arith, ap length same, names-short r.names f.names f.few),
+        (hosts_are r.names f.names.each, omega (arith, ap length same, names-some r.names f.some)),
+        omega (arith, ap length same, names-short r.names f.names),
       ),
       ap (element 48) (sym same),
     )
@@ -261,10 +261,10 @@ names_asked r f =
     let texts = name_texts r.names in
     ap (λ (xs : List ExtensionFields). names_in (alt_name_octets xs)) (alone_found r f)
     ∙ ap (λ (t : List ℕ). names_in (element 48 t)) (sym texts)
-    ∙ names_found (map as_name r.names) (names_fit r.names f.names) (omega (
+    ∙ names_found (map as_name r.names) (names_fit r.names f.names.each) (omega (
       arith,
       ap length texts,
-      names-short r.names f.names f.few,
+      names-short r.names f.names,
     ))
     ∙ only_names r.names
 

@@ -7,7 +7,7 @@ use Rattle.der_core.specs.Elements.{element}
 use Rattle.der_core.proofs.Elements.{element-short}
 use Rattle.cert_fields.specs.Extensions.{ExtensionFields}
 use Rattle.cert_fields.specs.Grammar.{mark, extension, extension_contents}
-use Rattle.authority_core.specs.Hosts.{IsHostName}
+use Rattle.authority_core.specs.Hosts.{AreHostNames, IsHostName}
 use Rattle.authority_core.specs.Requests.{CanBeIssued, RequestParts}
 use Rattle.authority_core.specs.Issuing.{dns_names, alt_name_of}
 use Rattle.authority_core.proofs.Labels.{host-short}
@@ -28,15 +28,15 @@ names-size (name ∷ names) hosts =
       length-append (element 130 name) (dns_names names),
     )
 
-pub names-short : (names : List (List ℕ)) → AllByRecursion IsHostName names → length names ≤ 100
+pub names-short : (names : List (List ℕ)) → AreHostNames names
     → length (dns_names names) ≤ 25800
-names-short names hosts few = omega (arith, names-size names hosts, few)
+names-short names hosts = omega (arith, names-size names hosts.each, hosts.few)
 
-pub octets-short : (names : List (List ℕ)) → AllByRecursion IsHostName names → length names ≤ 100
+pub octets-short : (names : List (List ℕ)) → AreHostNames names
     → length (element 48 (dns_names names)) ≤ 25805
-octets-short names hosts few = omega (
+octets-short names hosts = omega (
   arith,
-  names-short names hosts few,
+  names-short names hosts,
   element-short 48 (dns_names names),
 )
 
@@ -48,7 +48,7 @@ pub contents-short : (r : RequestParts) → CanBeIssued r
     → length (extension_contents (alt_name_of r)) ≤ 26000
 contents-short r f =
     let x : ExtensionFields = alt_name_of r in
-    let octets = octets-short r.names f.names f.few in
+    let octets = octets-short r.names f.names in
     omega (
       arith,
       octets,

@@ -2,7 +2,7 @@
 -- which the first may be a star (RFC 6125, section 6.4.3).
 use Rattle.std.specs.Prelude.{◌≡◌, ℕ, ◌-◌, ◌≤◌, ◌==◌, ◌&&◌, ◌||◌, not, nat_le, Bool, true, false}
 use Rattle.std.specs.Prelude.{List, [], ◌∷◌, length, codes, bytes_eq, slice_index}
-use Rattle.std.specs.List.{join_with_byte, list_all, slice_split}
+use Rattle.std.specs.List.{AllByRecursion, join_with_byte, list_all, slice_split}
 use Rattle.std.specs.Char.{is_ascii_alphanumeric}
 use Rattle.byte_forms.specs.Types.{Text}
 
@@ -41,6 +41,11 @@ is_host_name text =
 -- The text is a host name.
 pub record IsHostName (text : Text) : Type 0 where
   pub labels : is_host_name text ≡ true
+
+-- At most 100 host names.
+pub record AreHostNames (names : List Text) : Type 0 where
+  pub few : length names ≤ 100
+  pub each : AllByRecursion IsHostName names
 
 -- The text is labels, one or more, with dots between them: 1 to 253 bytes.
 pub record AreJoined (text : Text) : Type 0 where

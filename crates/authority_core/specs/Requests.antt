@@ -1,11 +1,10 @@
 -- Requests, and which can be issued.
 use Rattle.std.specs.Prelude.{◌≤◌, ◌≤ℤ◌, List, length, Option}
-use Rattle.std.specs.List.{AllByRecursion}
 use Rattle.std.specs.Option.{IfSome}
 use Rattle.byte_forms.specs.Types.{Text}
 use Rattle.cert_fields.specs.Grammar.{IsPublicKey}
 use Rattle.cert_time.specs.Calendar.{IsPeriod, Period}
-use Rattle.authority_core.specs.Hosts.{IsHostName}
+use Rattle.authority_core.specs.Hosts.{AreHostNames}
 
 -- What is asked for: the period, the host names, a common name or none, and the public key.
 pub record RequestParts : Type 0 where
@@ -24,7 +23,6 @@ pub record CanBeIssued (r : RequestParts) : Type 0 where
   pub validity : IsPeriod r.validity
   pub dates : r.validity.not_before ≤ℤ r.validity.not_after
   pub some : 1 ≤ length r.names
-  pub few : length r.names ≤ 100
-  pub names : AllByRecursion IsHostName r.names
+  pub names : AreHostNames r.names
   pub common_name : IfSome r.common_name IsCommonName
   pub key : IsPublicKey r.key

@@ -1,10 +1,8 @@
 //! The extensions of what is issued: subjectAltName alone (RFC 5280, section 4.2.1.6).
 
 ghost use Rattle.std.specs.Prelude.{◌≡◌, ◌≤◌, ◌++◌, length, is_none, IfOk, OnOk};
-ghost use Rattle.std.specs.List.{AllByRecursion};
 ghost use Rattle.der_core.specs.Elements.{element};
 ghost use Rattle.cert_fields.specs.Grammar.{extension, extension_contents, mark};
-ghost use Rattle.authority_core.specs.Hosts.{IsHostName};
 ghost use Rattle.authority_core.specs.Issuing.{alt_name_of, dns_names, extensions_of};
 ghost use Rattle.authority_core.specs.Requests.{CanBeIssued};
 
@@ -21,8 +19,8 @@ const CRITICAL: [u8; 3] = [0x01, 0x01, 0xFF];
 
 // The names as dNSNames, in their order.
 fn dns_names(alloc: Global, names: &Names) -> Result<Bytes, Memory>
-    requires { AllByRecursion IsHostName names.now }
-    ensures { IfOk result (λ bytes. bytes ≡ dns_names names.now) }
+    ensures names { IfOk result (λ bytes. bytes ≡ dns_names names.now) }
+    ensures short { IfOk result (λ bytes. length bytes ≤ 25800) }
 {
     let mut out = Bytes::new(alloc);
     for name in names.as_slice() {
@@ -33,8 +31,6 @@ fn dns_names(alloc: Global, names: &Names) -> Result<Bytes, Memory>
 
 // The names in their SEQUENCE.
 fn general_names(alloc: Global, names: &Names) -> Result<Bytes, Memory>
-    requires hosts { AllByRecursion IsHostName names.now }
-    requires few { length names.now ≤ 100 }
     ensures { IfOk result (λ bytes. bytes ≡ element 0x30 (dns_names names.now)) }
 {
     let names = dns_names(alloc, names)?;

@@ -1,9 +1,12 @@
 //! The names of a request.
 
+ghost use Rattle.std.specs.Prelude.{◌≡◌, ◌==◌, length};
+ghost use Rattle.authority_core.specs.Hosts.{AreHostNames};
+
 use mtc_io::Bytes;
 use std::marker::Model;
 
-/// Names. Contracts see the list of them, each as its bytes.
+/// Host names, at most 100. Contracts see the list of them, each as its bytes.
 #[derive(Debug, Drop)]
 pub struct Names {
     items: Vec<Bytes>,
@@ -11,17 +14,19 @@ pub struct Names {
 
 impl Model for Names {
     ghost use Rattle.std.specs.Prelude.{ℕ, List};
+    ghost use Rattle.authority_core.specs.Hosts.{AreHostNames};
 
     ghost Value = { List (List ℕ) };
 
     ghost view = { λ n. n.items.items };
+
+    ghost invariant = { λ n. AreHostNames n.items.items };
 }
 
 impl Names {
-    ghost use Rattle.std.specs.Prelude.{◌≡◌, ◌==◌, length};
-
     /// The names of a vector, without a copy.
     pub fn from_vec(items: Vec<Bytes>) -> Names
+        requires { AreHostNames items.items }
         ensures { result ≡ items.items }
     {
         Names { items }
@@ -35,13 +40,15 @@ impl Names {
     }
 
     pub fn as_slice(&self) -> &[Bytes]
-        ensures { result.now ≡ self.now }
+        ensures value { result.now ≡ self.now }
+        ensures hosts { AreHostNames self.now }
     {
         self.items.as_slice()
     }
 
     pub fn is_empty(&self) -> bool
-        ensures { result ≡ (length self.now == 0) }
+        ensures value { result ≡ (length self.now == 0) }
+        ensures hosts { AreHostNames self.now }
     {
         self.items.is_empty()
     }

@@ -1,7 +1,6 @@
 //! The values of a request's fields.
 
 ghost use Rattle.std.specs.Prelude.{◌≡◌, ◌≤◌, length, codes, IfOk, IfSome};
-ghost use Rattle.std.specs.List.{AllByRecursion};
 ghost use Rattle.byte_forms.specs.Readings.{Answers};
 ghost use Rattle.cert_fields.specs.Grammar.{IsPublicKey};
 ghost use Rattle.cert_time.specs.Calendar.{IsMoment};
@@ -63,9 +62,8 @@ fn host_of(alloc: Global, value: &Value) -> Result<Option<Bytes>, Memory>
 
 // The host names that the items are, each of them.
 fn hosts_of(alloc: Global, values: &[Value]) -> Result<Option<Names>, Memory>
-    ensures value { IfOk result (λ o. o ≡ hosts_in (items_view values.now)) }
-    ensures hosts { IfOk result (λ o. IfSome o (λ names.
-        AllByRecursion IsHostName names × (length names ≡ length values.now))) }
+    requires { length values.now ≤ 100 }
+    ensures { IfOk result (λ o. o ≡ hosts_in (items_view values.now)) }
 {
     let mut items = Vec::new(alloc);
     for value in values {
@@ -80,9 +78,7 @@ fn hosts_of(alloc: Global, values: &[Value]) -> Result<Option<Names>, Memory>
 // An array of at most 100 host names.
 #[tactic(auto, using(crate::proofs::Items::item_count_of_view), unfolding(crate::specs::Files::names_data))]
 fn names_of(alloc: Global, value: &Value) -> Result<Option<Names>, Memory>
-    ensures value { IfOk result (λ o. o ≡ names_data (view value.now)) }
-    ensures hosts { IfOk result (λ o. IfSome o (λ names.
-        AllByRecursion IsHostName names × (length names ≤ 100))) }
+    ensures { IfOk result (λ o. o ≡ names_data (view value.now)) }
 {
     let Some(values) = value.as_array() else {
         return Ok(None);
@@ -95,9 +91,8 @@ fn names_of(alloc: Global, value: &Value) -> Result<Option<Names>, Memory>
 
 /// The names of a request.
 pub fn names_at(alloc: Global, table: &Table) -> Result<Names, RequestError>
-    ensures value { Answers RequestError.Memory
+    ensures { Answers RequestError.Memory
         (field Field.Dns names_data (get_member (codes "dns") (table_view table.now))) result }
-    ensures hosts { IfOk result (λ names. AllByRecursion IsHostName names × (length names ≤ 100)) }
 {
     let Some(value) = value_at(table, "dns") else {
         return Err(RequestError::Missing(Field::Dns));

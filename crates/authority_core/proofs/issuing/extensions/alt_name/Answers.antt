@@ -7,5 +7,5 @@ put-requires-2-clause-short c =
     omega (
       arith,
       ap length (c.as_slice.ensures ∙ c.in_ok-octets.ensures),
-      octets-short c.request.inside.names c.request.invariant.names c.request.invariant.few,
+      octets-short c.request.inside.names c.request.invariant.names,
     )
