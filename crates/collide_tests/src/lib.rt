@@ -1,0 +1,5 @@
+//! Tests of two strings with one hash.
+#![tactic(auto)]
+
+#[cfg(test)]
+mod finding;
