@@ -18,7 +18,7 @@ figures() {
 
 # Lines SCRIPT|WORK|AGAINST|LOW|HIGH|as it is shown, of lines SCRIPT|WORK|AGAINST|RATIO ..|DAY.
 ranges() {
-    figures hashes signatures proofs | awk -F '|' '
+    figures hashes signatures judging proofs | awk -F '|' '
         function shown(ratio) { return ratio < 1000 ? ratio : sprintf("%d,000", ratio / 1000 + 0.5) }
         {
             count = split($4, ratio, " ")
@@ -41,7 +41,7 @@ ranges >"$folder/ranges"
 {
     echo "| Work | Of | Seconds | Memory | Script |"
     echo "|---|---|---|---|---|"
-    figures log extensions | awk -F '|' '{ print "| " $2 " | " $3 " | " $4 " | " $5 " | `bench/" $1 ".sh` |" }' |
+    figures log cosigners extensions | awk -F '|' '{ print "| " $2 " | " $3 " | " $4 " | " $5 " | `bench/" $1 ".sh` |" }' |
         sed -E ':again; s/([0-9])([0-9]{3})($|[^0-9])/\1,\2\3/; t again'
 } >"$folder/times"
 

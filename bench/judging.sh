@@ -1,0 +1,38 @@
+#!/bin/bash
+# How long a certificate is judged that three cosigners have signed, of a log of 1,024 entries, and
+# how long `advance` and `cosign` take on real files, each against as many hashes of one block by the
+# kit's sha2: as the judgement takes, and as making a key of height 10 and width 4 takes, which each of
+# these commands does anew. Times are processor times, so that no wait for a disk is in them. Needs
+# python3. Not part of the gate.
+# Usage: bench/judging.sh [--write]   with --write the ratios go into bench/judging/figures.txt
+# The variable PROGRAM names another program than that of ./mtc.
+set -eu
+root=$(cd "$(dirname "$0")/.." && pwd)
+work=$(mktemp -d)
+trap 'rm -rf "$work"' EXIT
+# shellcheck source=bench/program.sh
+. "$root/bench/program.sh"
+
+[ -n "${PROGRAM-}" ] || "$root/mtc" member "$root/examples/first.member" >/dev/null || exit 70
+program=${PROGRAM:-$root/crates/mtc_main/out/mtc_main}
+python3 -B "$root/bench/judging/make_files.py" "$program" "$work"
+build_and_run judging relying_party policy_core tree_core sha2 hex anyhow <"$work/line"
+
+for _ in 1 2 3 4 5; do
+    run_again judging <"$work/line"
+done >>"$work/printed"
+python3 -B "$root/bench/judging/commands.py" "$program" "$work" >"$work/commands"
+
+# The least of several times, since work can only be held up. Making a key of height 10 and width 4
+# takes as many blocks as bench/signatures counts.
+awk -v against="as many bare hashes of \`sha2\`" -v blocks="$(cut -d ' ' -f 4 "$work/line")" -v key=1135614 '
+    { each = NF == 2 ? $2 : $2 / $3 }
+    !($1 in least) || each < least[$1] { least[$1] = each }
+    END {
+        printf "judging a certificate with three cosignatures|%s|%.2f\n", against, least["judge"] / (blocks * least["bare"])
+        printf "`advance` on a real file|%s|%.2f\n", against, least["advance"] / (key * least["bare"])
+        printf "`cosign` on a real file|%s|%.2f\n", against, least["cosign"] / (key * least["bare"])
+    }' "$work/printed" "$work/commands" | tee "$work/figures"
+if [ "${1-}" = --write ]; then
+    keep_figures judging "WORK|AGAINST|RATIOS" <"$work/figures"
+fi

@@ -1,0 +1,85 @@
+"""Makes the files of bench/judging.sh in a folder: make_files.py PROGRAM FOLDER.
+
+A log of 1,024 entries, signed by three cosigners; the line that main.rattle reads; and the journal
+of a cosigner that has signed each entry of the log alone, so that no one-time key is left.
+"""
+
+import base64
+import hashlib
+import shutil
+import struct
+import sys
+from pathlib import Path
+
+sys.path.insert(0, str(Path(__file__).resolve().parents[2] / "tests"))
+from cosigned_log import COSIGNERS, FIRST, CosignedLog, path_of  # noqa: E402
+from cosignatures import tree_hash  # noqa: E402
+
+SIZE, INDEX = 1024, 1000
+IDS = [bytes.fromhex(f"81fd590{number}") for number in (2, 3, 4)]
+LOG_ID = bytes.fromhex("81fd5901")
+
+
+def blocks(length):
+    """How many blocks of 64 bytes SHA-256 takes of so many bytes."""
+    return (length + 9 + 63) // 64
+
+
+def verify_blocks(key, message, cosignature):
+    """The blocks of verifying one signature (RFC 8554, 4.6 and 5.4.2), of height 10 and width 4."""
+    signature = cosignature[len(IDS[0]) + 1 + 2 + 4:]
+    tree = key[12:28]
+    number, randomizer = signature[:4], signature[8:40]
+    digest = hashlib.sha256(tree + number + b"\x81\x81" + randomizer + message).digest()
+    digits = [digit for byte in digest for digit in (byte >> 4, byte & 15)]
+    checksum = sum(15 - digit for digit in digits) << 4
+    digits += [checksum >> 12 & 15, checksum >> 8 & 15, checksum >> 4 & 15]
+    steps = sum(15 - digit for digit in digits)
+    return blocks(54 + len(message)) + steps + blocks(22 + 67 * 32) + blocks(54) + 10 * blocks(86)
+
+
+def judge_blocks(log, keys):
+    """The blocks of the judgement: of the signatures, of the key and the entry, and of the path."""
+    root = tree_hash(log.entries)
+    both = struct.pack(">QQ", 0, SIZE)
+    signed = [b"mtc-subtree/v1\n\0\4" + one + b"\4" + LOG_ID + both + root for one in IDS]
+    verified = sum(map(verify_blocks, keys, signed, log.signatures))
+    return verified + blocks(91) + blocks(1 + len(log.entries[INDEX])) + 10 * blocks(65)
+
+
+def full_journal(path, log):
+    """The journal of the first cosigner where each one-time key has signed."""
+    with open(path, "wb") as journal:
+        def record(body):
+            journal.write(b"\1" + struct.pack(">I", len(body)) + body)
+
+        def hashes(items):
+            return struct.pack(">H", 32 * len(items)) + b"".join(items)
+
+        journal.write(b"mtc-journal/v1\n\0")
+        secret = hashlib.sha384(COSIGNERS[0].encode()).digest()
+        record(b"\x11\4" + IDS[0] + b"\4" + LOG_ID + struct.pack(">II", 6, 3) + secret)
+        record(b"\x12" + struct.pack(">Q", SIZE) + tree_hash(log.entries) + hashes([]))
+        for index, entry in enumerate(log.entries):
+            front = b"\x13" + struct.pack(">IQQ", index, index, index + 1)
+            record(front + tree_hash([entry]) + hashes(path_of(index, log.entries)))
+        journal.write(b"\0")
+
+
+def main():
+    program, folder = Path(sys.argv[1]).resolve(), Path(sys.argv[2])
+    log = CosignedLog(program, SIZE)
+    keys = [base64.b64decode(key) for key in log.keys]
+    cert, store = log.cert(INDEX, b"".join(log.signatures)), log.store(2)
+    (folder / "line").write_text(f"{cert.hex()} {store.hex()} {FIRST} {judge_blocks(log, keys)}\n")
+    for name in ("advance", "subtree"):
+        shutil.copy(log.path / name, folder / name)
+    secret = hashlib.sha384(COSIGNERS[0].encode()).digest()
+    for name, text in (("c", cert), ("store", store), ("secret", secret)):
+        (folder / name).write_bytes(text)
+    full_journal(folder / "full", log)
+    shutil.rmtree(log.path)
+
+
+if __name__ == "__main__":
+    main()
