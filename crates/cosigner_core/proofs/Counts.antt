@@ -116,3 +116,12 @@ counts_up h (first ∷ bodies) s is =
       count = let e = counts.count in omega (arith, e);
       few = counts.few (omega arith);
     }
+
+-- So do those of the records behind a new cosigner.
+pub indices_count_up : (h : HashFunction) (s : CosignerSettings) (secret : Text)
+    (bodies : List Text) (t : CosignerState)
+    → taken_from (cosigner_fold h) 1 (new_cosigner h s secret) bodies ≡ Ok t
+    → (i index : ℕ) → slice_get (indices_in bodies) i ≡ Some index → index ≡ i
+indices_count_up h s secret bodies t is i index found =
+    let e = (counts_from h 1 (new_cosigner h s secret) bodies t is).each i index found in
+    omega arith

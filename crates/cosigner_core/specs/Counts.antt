@@ -22,6 +22,11 @@ unfoldable pub indices_of : List Text → List ℕ
 indices_of [] = []
 indices_of (first ∷ bodies) = indices_in bodies
 
+-- The i-th Sign record among these, counted from 0, has the number i, so no number stands twice.
+abbrev pub AreCounted : List Text → Type 0
+AreCounted bodies =
+    (i index : ℕ) → slice_get (indices_in bodies) i ≡ Some index → index ≡ i
+
 -- The i-th Sign record, counted from 0, has the number i, so no number stands twice. The next
 -- one-time key follows them, and there are no more than the key has.
 pub record CountsUp (list : List Text) (s : CosignerState) : Type 0 where

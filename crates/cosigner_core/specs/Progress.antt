@@ -1,7 +1,7 @@
 -- How far its steps bring a cosigner: what it holds of its log, and the number of the one-time key
 -- that signs next. It is the same of the records of a journal and of the steps of an export.
 use Rattle.std.specs.Prelude.{ℕ, ◌+◌, ◌==◌, ◌&&◌, nat_lt, Bool, List, [], ◌∷◌, Option, Some, None}
-use Rattle.std.specs.Prelude.{option_map, option_and_then, if◌then◌else◌}
+use Rattle.std.specs.Prelude.{option_map, option_and_then, is_some, if◌then◌else◌}
 use Rattle.byte_forms.specs.Types.{HashFunction, Text}
 use Rattle.cosigner_core.specs.Checkpoints.{empty_checkpoint, has_subtree, is_front_of}
 use Rattle.cosigner_core.specs.Records.{step_in}
@@ -49,3 +49,7 @@ steps_in (body ∷ bodies) =
 unfoldable pub progress_in : HashFunction → ℕ → List Text → Option Progress
 progress_in h keys bodies =
     option_and_then (progress_by h keys (first_progress h)) (steps_in bodies)
+
+-- These records may stand behind the first one of a cosigner with so many one-time keys.
+abbrev pub may_follow_cosigner : HashFunction → ℕ → List Text → Bool
+may_follow_cosigner h keys bodies = is_some (progress_in h keys bodies)

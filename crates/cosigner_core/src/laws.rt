@@ -1,17 +1,18 @@
 //! Laws of requests and records: the clauses are the laws, and the functions do nothing.
 
-ghost use Rattle.std.specs.Prelude.{◌≡◌, List, Some, Ok, drop};
+ghost use Rattle.std.specs.Prelude.{◌≡◌, ◌^◌, true, List, ◌∷◌, drop, is_ok, Some, Ok};
+ghost use Rattle.lms_core.specs.Heights.{height};
 ghost use Rattle.byte_forms.specs.Types.{HashFunction, Text};
 ghost use Rattle.byte_forms.specs.Forms.{Anything, IsForm};
 ghost use Rattle.byte_forms.specs.Places.{IsBytes};
 ghost use Rattle.journal_core.specs.Format.{StandsFor};
-ghost use Rattle.cosigner_core.specs.Counts.{CountsUp};
+ghost use Rattle.cosigner_core.specs.Counts.{AreCounted, CountsUp};
 ghost use Rattle.cosigner_core.specs.ExportReading.{IsExport, export_in, export_of, exported_text};
 ghost use Rattle.cosigner_core.specs.Exports.{export_text};
-ghost use Rattle.cosigner_core.specs.Progress.{steps_in};
 ghost use Rattle.cosigner_core.specs.declared.lists.Export.{Export};
 ghost use Rattle.cosigner_core.specs.Folds.{CosignerState, cosigner_of};
 ghost use Rattle.cosigner_core.specs.Openings.{FoundCosigner, cosigner_read};
+ghost use Rattle.cosigner_core.specs.Progress.{may_follow_cosigner, steps_in};
 ghost use Rattle.cosigner_core.specs.Records.{FitsCosigner, FitsStep, cosigner_in, cosigner_record, step_in, step_record};
 ghost use Rattle.cosigner_core.specs.declared.step.Step.{Step};
 ghost use Rattle.cosigner_core.specs.declared.settings.CosignerSettings.{CosignerSettings};
@@ -78,4 +79,21 @@ pub fn exports_are_read_as_spelled()
         → IsBytes bytes → StandsFor bytes list → cosigner_of h list ≡ Ok s
         → (steps : List Step) × (steps_in (drop 1 list) ≡ Some steps)
         × (export_in h (export_text s list) ≡ Ok (Some (export_of s steps))) }
+{}
+
+/// Records make a cosigner exactly where the first one has settings and a secret, and the others
+/// may stand behind it. The secret has no part in it, but for the key. No two of these have the
+/// number of one one-time key: the i-th number among them is i.
+pub fn cosigners_begin_with_their_settings()
+    ensures behind { (h : HashFunction) (first : Text) (s : CosignerSettings) (secret : Text)
+        (bodies : List Text) → cosigner_in first ≡ Some (s, secret)
+        → is_ok (cosigner_of h (first ∷ bodies))
+        ≡ may_follow_cosigner h (2 ^ height s.lms) bodies }
+    ensures only { (h : HashFunction) (list : List Text) (t : CosignerState)
+        → cosigner_of h list ≡ Ok t → (first : Text) × ((bodies : List Text)
+        × ((s : CosignerSettings) × ((secret : Text) × ((list ≡ first ∷ bodies)
+        × (cosigner_in first ≡ Some (s, secret))
+        × (may_follow_cosigner h (2 ^ height s.lms) bodies ≡ true))))) }
+    ensures once { (h : HashFunction) (s : CosignerSettings) (bodies : List Text)
+        → may_follow_cosigner h (2 ^ height s.lms) bodies ≡ true → AreCounted bodies }
 {}

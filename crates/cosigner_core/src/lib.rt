@@ -25,6 +25,7 @@ mod error;
 mod export;
 mod export_reading;
 mod fault;
+mod following;
 mod laws;
 mod lists;
 mod opening;
@@ -44,10 +45,12 @@ pub use creation::{create, pack};
 pub use error::{CosignError, CosignerOpenError, ExportError, ReadExportError};
 pub use export_reading::read_export;
 pub use fault::FormError;
+pub use following::may_follow;
 pub use laws::{
     advance_requests_are_read_as_spelled, cosigners_are_read_from_their_journals,
-    exports_are_read_as_spelled, first_records_are_read_as_spelled, one_time_keys_sign_once,
-    steps_are_read_as_spelled, subtree_requests_are_read_as_spelled,
+    cosigners_begin_with_their_settings, exports_are_read_as_spelled,
+    first_records_are_read_as_spelled, one_time_keys_sign_once, steps_are_read_as_spelled,
+    subtree_requests_are_read_as_spelled,
 };
 pub use lists::{Export, Hashes, StepList};
 pub use progress::Progress;
