@@ -1,8 +1,10 @@
-//! Cases over logs.
+//! Cases over logs, and over histories of logs and cosigners.
 #![tactic(auto)]
 
 #[cfg(test)]
 mod appends;
+#[cfg(test)]
+mod histories;
 #[cfg(test)]
 mod journals;
 #[cfg(test)]

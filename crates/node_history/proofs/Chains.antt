@@ -1,0 +1,163 @@
+-- What each step keeps holds behind all steps of a history.
+use Rattle.std.proofs.Common.{◌≡◌, ℕ, zero, suc, ◌+◌, ◌⊎◌, inl, inr, List, [], ◌∷◌, ◌++◌}
+use Rattle.std.proofs.Common.{length, map, Option, Some, None, Ok, refl, ap, sym, ◌∙◌}
+use Rattle.std.proofs.Common.{option_map, option_and_then, subst, arith, append_assoc, slice_get}
+use Rattle.std.proofs.lemmas.List.{append-nil}
+use Rattle.std.proofs.lemmas.Option.{slice_get-get_or, slice_get_within, slice_get-map}
+use Rattle.std.proofs.Math.ListN.{set, length-set}
+use Rattle.std.specs.Prelude.{slice_set}
+use Rattle.byte_forms.specs.Readings.{some_or}
+use Rattle.byte_forms.proofs.Steps.{bind_ok, ok_is, some_or_ok}
+use Rattle.node_history.specs.Histories.{Valid, moved, states_after, states_from}
+use Rattle.node_history.specs.Laws.{LeadsTo}
+use Rattle.node_history.specs.Nodes.{HistoryState, fresh_node, node_of_step}
+use Rattle.node_history.specs.declared.start.NodeStart.{NodeStart}
+use Rattle.node_history.specs.declared.step.NodeStep.{NodeStep}
+use Rattle.node_history.proofs.Steps.{some_is}
+
+no_some : {X Y : Type 0} (x : X) → None ≡ Some x → Y
+no_some {X} x is = absurd cc
+
+-- an option that was taken on
+pub and_then_some : {X Y : Type 0} (f : X → Option Y) (o : Option X) (y : Y)
+    → option_and_then f o ≡ Some y → (x : X) × (o ≡ Some x) × (f x ≡ Some y)
+and_then_some f None y is = no_some y is
+and_then_some f (Some x) y is = (x, refl, is)
+
+pub map_some : {X Y : Type 0} (f : X → Y) (o : Option X) (y : Y) → option_map f o ≡ Some y
+    → (x : X) × (o ≡ Some x) × (f x ≡ y)
+map_some f None y is = no_some y is
+map_some f (Some x) y is = (x, refl, some_is (f x) y is)
+
+-- an item of a list of which one was set
+at_set : {X : Type 0} (xs : List X) (i j : ℕ) (a y : X) → slice_get (slice_set xs i a) j ≡ Some y
+    → ((j ≡ i) × (a ≡ y)) ⊎ (slice_get xs j ≡ Some y)
+at_set [] i j a y is = no_some y is
+at_set (x ∷ xs) zero zero a y is = inl (refl, some_is a y is)
+at_set (x ∷ xs) zero (suc j) a y is = inr is
+at_set (x ∷ xs) (suc i) zero a y is = inr is
+at_set (x ∷ xs) (suc i) (suc j) a y is =
+    elim (at_set xs i j a y is) [ inl p ↦ inl (ap suc p.0, p.1) | inr p ↦ inr p ]
+
+module _ (valid : Valid) where
+  -- a step of one node
+  record HasStepped (states : List HistoryState) (step : NodeStep)
+      (next : List HistoryState) : Type 0 where
+    pub old : HistoryState
+    pub was : slice_get states (node_of_step step) ≡ Some old
+    pub new : HistoryState
+    pub moves : moved valid old step ≡ Some new
+    pub all : slice_set states (node_of_step step) new ≡ next
+
+  stepped : (states : List HistoryState) (step : NodeStep) (next : List HistoryState)
+      → states_after valid states step ≡ Some next → HasStepped states step next
+  stepped states step next is =
+      let found = and_then_some (λ (s : HistoryState). option_map
+      (slice_set states (node_of_step step)) (moved valid s step))
+      (slice_get states (node_of_step step)) next is in
+      let made = map_some (slice_set states (node_of_step step)) (moved valid found.0 step) next
+      found.2 in
+      record { old = found.0; was = found.1; new = made.0; moves = made.1; all = made.2 }
+
+  -- the first step, and the rest
+  first_step : (k : ℕ) (states : List HistoryState) (step : NodeStep) (steps : List NodeStep)
+      (ends : List HistoryState) → states_from valid k states (step ∷ steps) ≡ Ok ends
+      → (next : List HistoryState) × (states_after valid states step ≡ Some next)
+      × (states_from valid (k + 1) next steps ≡ Ok ends)
+  unfolding states_from
+  first_step k states step steps ends is =
+      let found = bind_ok (some_or k (states_after valid states step))
+      (λ (next : List HistoryState). states_from valid (k + 1) next steps) ends is in
+      (found.0, some_or_ok k (states_after valid states step) found.0 found.1, found.2)
+
+  no_steps : (k : ℕ) (states ends : List HistoryState) → states_from valid k states [] ≡ Ok ends
+      → states ≡ ends
+  unfolding states_from
+  no_steps k states ends is = ok_is ℕ states ends is
+
+  -- there are as many nodes behind the steps
+  as_many : (k : ℕ) (states : List HistoryState) (steps : List NodeStep)
+      (ends : List HistoryState) → states_from valid k states steps ≡ Ok ends
+      → length ends ≡ length states
+  as_many k states [] ends is = sym (ap (λ (l : List HistoryState). length l)
+      (no_steps k states ends is))
+  as_many k states (step ∷ steps) ends is =
+      let first = first_step k states step steps ends is in
+      let taken = stepped states step first.0 first.1 in
+      as_many (k + 1) first.0 steps ends first.2
+      ∙ sym (ap (λ (l : List HistoryState). length l) taken.all)
+      ∙ length-set states (node_of_step step) taken.new
+
+  -- What each step keeps. It may speak of the steps so far.
+  module _ (P : List NodeStep → ℕ → HistoryState → Type 0)
+      (stays : (done : List NodeStep) (step : NodeStep) (place : ℕ) (s : HistoryState)
+      → P done place s → P (done ++ step ∷ []) place s)
+      (moves : (done : List NodeStep) (step : NodeStep) (s t : HistoryState)
+      → P done (node_of_step step) s → moved valid s step ≡ Some t
+      → P (done ++ step ∷ []) (node_of_step step) t) where
+    abbrev Holds : List NodeStep → List HistoryState → Type 0
+    Holds done states = (place : ℕ) (s : HistoryState) → slice_get states place ≡ Some s
+        → P done place s
+
+    holds_after : (done : List NodeStep) (states : List HistoryState) (step : NodeStep)
+        (next : List HistoryState) → Holds done states → HasStepped states step next
+        → Holds (done ++ step ∷ []) next
+    holds_after done states step next all taken place s there =
+        elim (at_set states (node_of_step step) place taken.new s
+        (ap (λ (l : List HistoryState). slice_get l place) taken.all ∙ there)) [
+          | inl p ↦ subst (λ (x : ℕ). P (done ++ step ∷ []) x s) (sym p.0)
+              (subst (P (done ++ step ∷ []) (node_of_step step)) p.1
+              (moves done step taken.old taken.new (all (node_of_step step) taken.old taken.was)
+              taken.moves))
+          | inr p ↦ stays done step place s (all place s p)
+        ]
+
+    pub holds_on : (k : ℕ) (done : List NodeStep) (states : List HistoryState)
+        (steps : List NodeStep) (ends : List HistoryState) → Holds done states
+        → states_from valid k states steps ≡ Ok ends → Holds (done ++ steps) ends
+    holds_on k done states [] ends all is =
+        subst (λ (l : List NodeStep). Holds l ends) (sym (append-nil done))
+        (subst (Holds done) (no_steps k states ends is) all)
+    holds_on k done states (step ∷ steps) ends all is =
+        let first = first_step k states step steps ends is in
+        subst (λ (l : List NodeStep). Holds l ends) (append_assoc done (step ∷ []) steps)
+        (holds_on (k + 1) (done ++ step ∷ []) first.0 steps ends (holds_after done states step
+        first.0 all (stepped states step first.0 first.1)) first.2)
+
+    -- so of each state to which a history leads
+    pub holds_of : (starts : List NodeStart) (steps : List NodeStep) (place : ℕ)
+        (s : HistoryState) → ((place : ℕ) (start : NodeStart) → slice_get starts place ≡ Some start
+        → P [] place (fresh_node start)) → LeadsTo valid starts steps place s → P steps place s
+    holds_of starts steps place s begins leads =
+        holds_on 0 [] (map fresh_node starts) steps leads.states (λ place s there.
+        let found = map_some fresh_node (slice_get starts place) s
+        (sym (slice_get-map fresh_node starts place) ∙ there) in
+        subst (P [] place) found.2 (begins place found.0 found.1)) leads.allowed place s leads.there
+
+  -- a history behind a history
+  pub between : (k : ℕ) (states : List HistoryState) (earlier later : List NodeStep)
+      (olds news : List HistoryState) → states_from valid k states earlier ≡ Ok olds
+      → states_from valid k states (earlier ++ later) ≡ Ok news
+      → (j : ℕ) × (states_from valid j olds later ≡ Ok news)
+  between k states [] later olds news is whole = (
+    k,
+    ap (λ (l : List HistoryState). states_from valid k l later)
+        (sym (no_steps k states olds is)) ∙ whole,
+  )
+  between k states (step ∷ earlier) later olds news is whole =
+      let first = first_step k states step earlier olds is in
+      let other = first_step k states step (earlier ++ later) news whole in
+      let same : other.0 ≡ first.0 = some_is other.0 first.0 (sym other.1 ∙ first.1) in
+      between (k + 1) first.0 earlier later olds news first.2
+      (ap (λ (l : List HistoryState). states_from valid (k + 1) l (earlier ++ later)) (sym same)
+      ∙ other.2)
+
+  -- a node that was there is there behind more steps
+  pub still_there : (k : ℕ) (states : List HistoryState) (steps : List NodeStep)
+      (ends : List HistoryState) (place : ℕ) (s : HistoryState)
+      → states_from valid k states steps ≡ Ok ends → slice_get states place ≡ Some s
+      → (t : HistoryState) × (slice_get ends place ≡ Some t)
+  still_there k states steps ends place s is there =
+      let within = slice_get_within states place s there in
+      let count = as_many k states steps ends is in
+      (_, slice_get-get_or ends place s (omega arith))

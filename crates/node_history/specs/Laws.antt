@@ -1,0 +1,63 @@
+-- What holds in every history.
+use Rattle.std.specs.Prelude.{◌≡◌, ℕ, ◌+◌, ◌<◌, ◌≤◌, true, List, [], ◌∷◌, ◌++◌, length, slice_get}
+use Rattle.std.specs.Prelude.{Some, IfSome, Contains, Ok}
+use Rattle.byte_forms.specs.Types.{Text}
+use Rattle.node_history.specs.Histories.{Valid, history_of}
+use Rattle.node_history.specs.Nodes.{HistoryState}
+use Rattle.node_history.specs.declared.start.NodeStart.{NodeStart}
+use Rattle.node_history.specs.declared.step.NodeStep.{NodeStep}
+use Rattle.node_history.specs.declared.step.NodeStep.TheVariants.{Begin}
+
+-- the numbers rise strictly, and the first is above `low`
+abbrev pub RisesFrom : ℕ → List ℕ → Type 0
+RisesFrom low [] = Unit {0}
+RisesFrom low (n ∷ ns) = (low < n) × RisesFrom n ns
+
+-- none of the numbers is above `high`
+abbrev pub AreAtMost : ℕ → List ℕ → Type 0
+AreAtMost high [] = Unit {0}
+AreAtMost high (n ∷ ns) = (n ≤ high) × AreAtMost high ns
+
+-- The first list is a front of the second.
+abbrev pub Begins : {T : Type 0} → List T → List T → Type 0
+Begins {T} xs ys = (rest : List T) × (xs ++ rest ≡ ys)
+
+-- The records of a node are valid, with the pending one and without it. The numbers that were
+-- handed out rise strictly, and are those of settled records; where the last settled record may be
+-- handed out, it was not yet.
+pub record IsSoundNode (valid : Valid) (s : HistoryState) : Type 0 where
+  pub settled : valid s.start s.settled ≡ true
+  pub pending : IfSome s.pending (λ body. valid s.start (s.settled ++ body ∷ []) ≡ true)
+  pub rise : RisesFrom 0 s.handed
+  pub there : AreAtMost (length s.settled) s.handed
+  pub some : s.may_hand ≡ true → 0 < length s.settled
+  pub may : s.may_hand ≡ true → (before : ℕ) → before + 1 ≡ length s.settled
+      → AreAtMost before s.handed
+
+-- A node behind more steps: it began so, and what was settled and what was handed out stay.
+pub record HasGrown (old new : HistoryState) : Type 0 where
+  pub start : new.start ≡ old.start
+  pub settled : Begins old.settled new.settled
+  pub handed : Begins old.handed new.handed
+
+-- Each body of the node with this place is one that a step of it began.
+pub record WereBegun (steps : List NodeStep) (place : ℕ) (s : HistoryState) : Type 0 where
+  pub settled : (body : Text) → Contains s.settled body → Contains steps (Begin place body)
+  pub pending : IfSome s.pending (λ body. Contains steps (Begin place body))
+
+-- A number that was handed out is that of a settled record, which a step of the node began: record
+-- 0 is the first one of its journal, and the settled ones follow it.
+pub record IsOfSettled (steps : List NodeStep) (place : ℕ) (s : HistoryState)
+    (number : ℕ) : Type 0 where
+  pub before : ℕ
+  pub is : number ≡ before + 1
+  pub body : Text
+  pub settled : slice_get s.settled before ≡ Some body
+  pub began : Contains steps (Begin place body)
+
+-- These steps of nodes that begin so are allowed, and leave the node with this place so.
+pub record LeadsTo (valid : Valid) (starts : List NodeStart) (steps : List NodeStep) (place : ℕ)
+    (s : HistoryState) : Type 0 where
+  pub states : List HistoryState
+  pub allowed : history_of valid starts steps ≡ Ok states
+  pub there : slice_get states place ≡ Some s

@@ -1,0 +1,5 @@
+pub mod Nodes
+pub mod Histories
+pub mod Rules
+pub mod Laws
+pub mod Results

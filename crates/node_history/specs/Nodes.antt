@@ -1,0 +1,73 @@
+-- A node and its steps: a log or a cosigner with its journal, and what becomes of its records.
+use Rattle.std.specs.Prelude.{ℕ, Bool, true, false, List, [], ◌∷◌, ◌++◌, length, Option, Some}
+use Rattle.std.specs.Prelude.{None, if◌then◌else◌}
+use Rattle.byte_forms.specs.Types.{Text}
+use Rattle.node_history.specs.declared.start.NodeStart.{NodeStart}
+use Rattle.node_history.specs.declared.step.NodeStep.{NodeStep}
+use Rattle.node_history.specs.declared.step.NodeStep.TheVariants.{Begin, Settle, Hand, Stop}
+
+-- How it began, the records that are settled behind its first one, at most one that is pending, the
+-- numbers of those that were handed out, and whether the last settled one may be. The first record
+-- has number 0, so the last settled one has as number how many are settled.
+pub record HistoryState : Type 0 where
+  pub start : NodeStart
+  pub settled : List Text
+  pub pending : Option Text
+  pub handed : List ℕ
+  pub may_hand : Bool
+
+-- it has begun, and no more
+abbrev pub fresh_node : NodeStart → HistoryState
+fresh_node start =
+    record { start = start; settled = []; pending = None; handed = []; may_hand = false }
+
+abbrev pub with_pending : List Text → Option Text → List Text
+with_pending list None = list
+with_pending list (Some body) = list ++ body ∷ []
+
+-- a record is begun
+abbrev pub begin : Text → HistoryState → HistoryState
+begin body s = record {
+  start = s.start;
+  settled = s.settled;
+  pending = Some body;
+  handed = s.handed;
+  may_hand = s.may_hand;
+}
+
+-- the pending record is settled
+abbrev pub settle : HistoryState → HistoryState
+settle s = record {
+  start = s.start;
+  settled = with_pending s.settled s.pending;
+  pending = None;
+  handed = s.handed;
+  may_hand = true;
+}
+
+-- the last settled record is handed out
+abbrev pub hand : HistoryState → HistoryState
+hand s = record {
+  start = s.start;
+  settled = s.settled;
+  pending = s.pending;
+  handed = s.handed ++ length s.settled ∷ [];
+  may_hand = false;
+}
+
+-- it stops: a pending record is settled or gone
+abbrev pub stop : Bool → HistoryState → HistoryState
+stop kept s = record {
+  start = s.start;
+  settled = if kept then with_pending s.settled s.pending else s.settled;
+  pending = None;
+  handed = s.handed;
+  may_hand = false;
+}
+
+-- the node that takes a step
+abbrev pub node_of_step : NodeStep → ℕ
+node_of_step (Begin node body) = node
+node_of_step (Settle node) = node
+node_of_step (Hand node) = node
+node_of_step (Stop node kept) = node

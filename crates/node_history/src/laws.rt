@@ -1,0 +1,61 @@
+//! Laws of histories: the clauses are the laws, and the functions do nothing.
+ghost use Rattle.std.specs.Prelude.{◌≡◌, ℕ, true, List, [], ◌∷◌, ◌++◌, slice_get, Some, IfSome, Contains, Ok};
+ghost use Rattle.byte_forms.specs.Types.{HashFunction, Text};
+ghost use Rattle.cosigner_core.specs.Counts.{AreCounted};
+ghost use Rattle.cosigner_core.specs.declared.settings.CosignerSettings.{CosignerSettings};
+ghost use Rattle.journal_core.specs.Format.{StandsFor};
+ghost use Rattle.node_history.specs.Histories.{history_of};
+ghost use Rattle.node_history.specs.Laws.{HasGrown, IsOfSettled, IsSoundNode, LeadsTo, WereBegun};
+ghost use Rattle.node_history.specs.Nodes.{HistoryState};
+ghost use Rattle.node_history.specs.Rules.{AreRecords, IsReadAs, StartsWith, may_follow as valid};
+ghost use Rattle.node_history.specs.declared.start.NodeStart.{NodeStart};
+ghost use Rattle.node_history.specs.declared.start.NodeStart.TheVariants.{Cosigner};
+ghost use Rattle.node_history.specs.declared.step.NodeStep.{NodeStep};
+
+/// In each state to which a history leads, the records of a node are valid with the pending one and
+/// without it; each body is one that a step of the node began; and the numbers that were handed out
+/// rise strictly, each that of a settled record of a body that was begun.
+pub fn histories_keep_to_the_rules()
+    ensures sound { (h : HashFunction) (starts : List NodeStart) (steps : List NodeStep) (place : ℕ)
+        (s : HistoryState) → LeadsTo (valid h) starts steps place s → IsSoundNode (valid h) s }
+    ensures begun { (h : HashFunction) (starts : List NodeStart) (steps : List NodeStep) (place : ℕ)
+        (s : HistoryState) → LeadsTo (valid h) starts steps place s → WereBegun steps place s }
+    ensures handed { (h : HashFunction) (starts : List NodeStart) (steps : List NodeStep)
+        (place : ℕ) (s : HistoryState) → LeadsTo (valid h) starts steps place s
+        → (number : ℕ) → Contains s.handed number → IsOfSettled steps place s number }
+{}
+
+/// What is settled at an earlier moment is a front of what is settled at each later one, and so are
+/// the numbers that were handed out. A node is as it began.
+pub fn states_only_grow()
+    ensures grown { (h : HashFunction) (starts : List NodeStart) (earlier later : List NodeStep)
+        (place : ℕ) (old : HistoryState) (news : List HistoryState)
+        → LeadsTo (valid h) starts earlier place old
+        → history_of (valid h) starts (earlier ++ later) ≡ Ok news
+        → (new : HistoryState) × ((slice_get news place ≡ Some new) × HasGrown old new) }
+    ensures begins { (h : HashFunction) (starts : List NodeStart) (steps : List NodeStep)
+        (place : ℕ) (s : HistoryState) → LeadsTo (valid h) starts steps place s
+        → slice_get starts place ≡ Some s.start }
+{}
+
+/// In no history two records of a cosigner have the number of one one-time key, the pending record
+/// among them: the i-th Sign record, counted from 0, has the number i.
+pub fn one_time_keys_are_used_once()
+    ensures { (h : HashFunction) (starts : List NodeStart) (steps : List NodeStep) (place : ℕ)
+        (s : HistoryState) (settings : CosignerSettings) (public : Text)
+        → LeadsTo (valid h) starts steps place s → s.start ≡ Cosigner settings public
+        → AreCounted s.settled × IfSome s.pending (λ body. AreCounted (s.settled ++ body ∷ [])) }
+{}
+
+/// Bodies may stand behind the first record of a node's journal exactly where a history may begin
+/// them, and each file that stands for such records is opened with them.
+pub fn journals_and_histories_agree()
+    ensures alone { (h : HashFunction) (start : NodeStart) → valid h start [] ≡ true }
+    ensures agree { (h : HashFunction) (start : NodeStart) (first : Text) (bodies : List Text)
+        → StartsWith start first → AreRecords h (first ∷ bodies) → valid h start bodies ≡ true }
+    ensures back { (h : HashFunction) (start : NodeStart) (first : Text) (bodies : List Text)
+        → StartsWith start first → valid h start bodies ≡ true → AreRecords h (first ∷ bodies) }
+    ensures read { (h : HashFunction) (start : NodeStart) (first : Text) (bodies : List Text)
+        (bytes : Text) → StartsWith start first → valid h start bodies ≡ true
+        → StandsFor bytes (first ∷ bodies) → IsReadAs h start bytes (first ∷ bodies) }
+{}

@@ -1,0 +1,77 @@
+//! The states of nodes behind a list of steps.
+ghost use Rattle.std.specs.Prelude.{◌≡◌, map, IfOk};
+ghost use Rattle.node_history.specs.Histories.{history_of, states_after};
+ghost use Rattle.node_history.specs.Nodes.{fresh_node, node_of_step};
+ghost use Rattle.node_history.specs.Results.{AnswersHistory, HasMoved};
+ghost use Rattle.node_history.specs.Rules.{may_follow as valid};
+
+use crate::error::HistoryError;
+use crate::moves::take_step;
+use crate::start::NodeStart;
+use crate::state::NodeState;
+use crate::step::NodeStep;
+use mtc_io::Memory;
+use std::alloc::Global;
+use tree_core::TreeHash;
+
+// The node that takes a step.
+fn node_of(step: &NodeStep) -> u32
+    ensures { result ≡ node_of_step step.now }
+{
+    match step {
+        NodeStep::Begin { node, body: _ } => *node,
+        NodeStep::Settle { node } => *node,
+        NodeStep::Hand { node } => *node,
+        NodeStep::Stop { node, kept: _ } => *node,
+    }
+}
+
+// All nodes as they begin.
+fn fresh_nodes(alloc: Global, starts: &[NodeStart]) -> Result<Vec<NodeState>, Memory>
+    ensures { IfOk result (λ states. states.items ≡ map fresh_node starts.now) }
+{
+    let mut states = Vec::new(alloc);
+    for start in starts {
+        states.push(NodeState::fresh(alloc, start.copy(alloc)?))?;
+    }
+    Ok(states)
+}
+
+// Takes a step of one of the nodes. Answers whether it is allowed.
+fn take_next<H: TreeHash>(
+    alloc: Global,
+    states: &mut Vec<NodeState>,
+    step: &NodeStep,
+) -> Result<bool, Memory>
+    ensures { IfOk result (HasMoved (states_after (valid H.hash) states.old.items step.now)
+        states.new.items) }
+{
+    match states.get_mut(node_of(step) as usize) {
+        None => Ok(false),
+        Some(state) => take_step::<H>(alloc, state, step),
+    }
+}
+
+/// The states of all nodes behind these steps. `NotAStep` comes exactly where a step is not
+/// allowed, with the number of the first one. A step needs that its node is there. A record is
+/// begun where none is pending, and the journal may hold it behind the settled ones; it is settled
+/// where it is pending; and the last settled record is handed out where it was not handed out yet
+/// and no stop came since it was settled.
+pub fn history<H: TreeHash>(
+    alloc: Global,
+    starts: &[NodeStart],
+    steps: &[NodeStep],
+) -> Result<Vec<NodeState>, HistoryError>
+    ensures { AnswersHistory (λ states. states.items)
+        (history_of (valid H.hash) starts.now steps.now) result }
+{
+    let mut states = fresh_nodes(alloc, starts)?;
+    let mut number = 0;
+    for step in steps {
+        if !take_next::<H>(alloc, &mut states, step)? {
+            return Err(HistoryError::NotAStep(number));
+        }
+        number += 1;
+    }
+    Ok(states)
+}

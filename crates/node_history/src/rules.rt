@@ -1,0 +1,28 @@
+//! The rules of a node's records.
+ghost use Rattle.std.specs.Prelude.{◌≡◌, [], ◌∷◌, ◌++◌, IfOk};
+ghost use Rattle.node_history.specs.Rules.{may_follow};
+
+use crate::start::NodeStart;
+use mtc_io::{Bytes, Memory};
+use std::alloc::Global;
+use tree_core::TreeHash;
+
+/// Whether these bodies, and one more behind them, may stand behind the record with which a node
+/// begins.
+pub(crate) fn may_follow<H: TreeHash>(
+    alloc: Global,
+    start: &NodeStart,
+    bodies: &[Bytes],
+    body: &[u8],
+) -> Result<bool, Memory>
+    ensures { IfOk result (λ may. may
+        ≡ may_follow H.hash start.now (bodies.now ++ body.now ∷ [])) }
+{
+    match start {
+        NodeStart::Log(settings) => { issuance_log::may_follow::<H>(alloc, settings, bodies, body) }
+        NodeStart::Cosigner {
+            settings,
+            public: _,
+        } => { cosigner_core::may_follow::<H>(settings, bodies, body) }
+    }
+}
