@@ -4,7 +4,8 @@ use Rattle.std.proofs.Common.{sym, ap, ◌∙◌}
 use Rattle.byte_forms.specs.Types.{HashFunction, Text}
 use Rattle.mtc_proof.specs.Proofs.{proof_text}
 use Rattle.issuance_log.specs.Folds.{LogState, view_in}
-use Rattle.authority_core.specs.Certificates.{IsWritten, cert_refusal, proof_for}
+use Rattle.authority_core.specs.Certificates.{IsLightlyWritten, IsWritten, cert_refusal}
+use Rattle.authority_core.specs.Certificates.{covering_in, light_refusal, proof_for}
 use Rattle.authority_core.specs.declared.writing.error.WriteError.{WriteError}
 use Rattle.mtc_answers.specs.Answers.{replied, said}
 use Rattle.mtc_answers.specs.Endings.{Replies}
@@ -13,7 +14,7 @@ use Rattle.mtc_answers.specs.Wanted.{exactly}
 use Rattle.mtc_answers.specs.declared.answer.Said.TheVariants.{Done}
 use Rattle.mtc_logs.specs.CertCommand.{cert_outcome, signed_says}
 use Rattle.mtc_logs.specs.CertOutcome.{certificate_in, certificate_with, cert_replies, cert_reply}
-use Rattle.mtc_logs.specs.CertOutcome.{signatures_fault_text, signatures_in}
+use Rattle.mtc_logs.specs.CertOutcome.{light_reply, light_text, signatures_fault_text, signatures_in}
 use Rattle.mtc_logs.specs.Works.{journal_outcome}
 use Rattle.mtc_logs.specs.declared.work.Work.TheVariants.{Cert}
 use Rattle.mtc_logs.proofs.Reading.{bytes_read}
@@ -36,6 +37,18 @@ certified h s index start end signatures bytes none is = (
   ap (said Done) (certificate_is h s index start end signatures bytes is)
       ∙ ap (λ (o : Option WriteError). cert_replies o
       (certificate_in h index start end signatures s)) (sym none),
+  λ e. absurd cc,
+)
+
+-- what was written without signatures is that certificate
+pub lightly_certified : (h : HashFunction) (s : LogState) (index : ℕ) (bytes : Text)
+    → light_refusal (view_in s) index ≡ None → IsLightlyWritten h s index bytes
+    → Replies (exactly (light_reply h index s)) (replied (said Done bytes))
+lightly_certified h s index bytes none is = (
+  ap (said Done) (certificate_is h s index is.span.start is.span.end [] bytes is.written
+      ∙ ap (light_text h index s) (sym is.covering))
+      ∙ ap (λ (o : Option WriteError). cert_replies o
+      (light_text h index s (covering_in (view_in s) index))) (sym none),
   λ e. absurd cc,
 )
 

@@ -1,6 +1,9 @@
 pub mod Items
 pub mod Asked
 pub mod Opened
+pub mod Rising
+pub mod Appends
 pub mod Issued
+pub mod Marked
 pub mod Reading
 pub mod Certified

@@ -1,4 +1,4 @@
--- The outcome of `cert J INDEX START END SIGNATURES`.
+-- The outcomes of `cert J INDEX START END SIGNATURES` and `light-cert J INDEX`.
 use Rattle.std.specs.Prelude.{ℕ, [], ◌++◌, codes, slice_index_or, Option, Some, None, Result, Ok}
 use Rattle.std.specs.Prelude.{Err}
 use Rattle.std.specs.Fmt.{decimal}
@@ -16,9 +16,11 @@ use Rattle.mtc_proof.specs.declared.fault.ProofError.TheVariants.{Short, HashLen
 use Rattle.mtc_proof.specs.declared.fault.ProofError.TheVariants.{EmptyId}
 use Rattle.issuance_log.specs.Folds.{LogState, view_in}
 use Rattle.issuance_log.specs.Openings.{FoundLog}
-use Rattle.authority_core.specs.Certificates.{cert_refusal, parts_with, proof_for}
+use Rattle.authority_core.specs.Certificates.{cert_refusal, covering_in, light_refusal, parts_with}
+use Rattle.authority_core.specs.Certificates.{proof_for}
 use Rattle.authority_core.specs.declared.writing.error.WriteError.{WriteError}
 use Rattle.authority_core.specs.declared.writing.error.WriteError.TheVariants as write_error
+use Rattle.tree_core.specs.declared.spans.Span.{Span}
 use Rattle.mtc_answers.specs.declared.answer.Said.TheVariants.{Done}
 use Rattle.mtc_answers.specs.declared.answer.Stopped.TheVariants.{Beyond, BadForm}
 use Rattle.mtc_answers.specs.Answers.{Reply, Ending, replied, no_memory, said, refused}
@@ -79,6 +81,18 @@ abbrev pub cert_reply : HashFunction → ℕ → ℕ → ℕ → Text → LogSta
 cert_reply h index start end signatures s =
     cert_replies (cert_refusal (view_in s) index start end signatures)
     (certificate_in h index start end signatures s)
+
+-- The certificate of an entry without signatures, in the subtree that covers it, if one does.
+abbrev pub light_text : HashFunction → ℕ → LogState → Option Span → Text
+light_text h index s None = []
+light_text h index s (Some span) = certificate_in h index span.start span.end [] s
+
+abbrev pub light_reply : HashFunction → ℕ → LogState → Reply
+light_reply h index s = cert_replies (light_refusal (view_in s) index)
+    (light_text h index s (covering_in (view_in s) index))
+
+abbrev pub light_says : HashFunction → ℕ → FoundLog → Outcome
+light_says h index found = answers_on found.records (light_reply h index found.state)
 
 abbrev pub cert_says : HashFunction → ℕ → ℕ → ℕ → Text → FoundLog → Outcome
 cert_says h index start end signatures found =

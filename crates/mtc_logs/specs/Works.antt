@@ -16,13 +16,15 @@ use Rattle.mtc_answers.specs.Answers.{Ending, replied, room_failed, no_memory, r
 use Rattle.mtc_answers.specs.Steps.{Outcome, with_file, with_form}
 use Rattle.mtc_answers.specs.Works.{HasWorked as HasWorkedWith}
 use Rattle.mtc_answers.specs.declared.answer.Stopped.TheVariants.{BadForm}
-use Rattle.mtc_logs.specs.CertOutcome.{cert_says}
+use Rattle.mtc_logs.specs.CertOutcome.{cert_says, light_says}
 use Rattle.mtc_logs.specs.IssueOutcome.{issue_says}
+use Rattle.mtc_logs.specs.LandmarkOutcomes.{landmark_says, landmarks_says}
 use Rattle.mtc_logs.specs.LogOutcomes.{checkpoint_says, entries_says}
 use Rattle.mtc_logs.specs.RequestOutcomes.{consist_says, subtree_says}
 use Rattle.mtc_logs.specs.declared.work.Work.{Work}
 use Rattle.mtc_logs.specs.declared.work.Work.TheVariants.{Checkpoint, Entries, Issue, Consist}
-use Rattle.mtc_logs.specs.declared.work.Work.TheVariants.{Subtree, Cert}
+use Rattle.mtc_logs.specs.declared.work.Work.TheVariants.{Subtree, Landmark, Landmarks, LightCert}
+use Rattle.mtc_logs.specs.declared.work.Work.TheVariants.{Cert}
 
 -- Why a file is no log.
 abbrev pub open_fault_text : LogOpenError → Text
@@ -51,6 +53,9 @@ work_says h (Entries size) found = entries_says size found
 work_says h (Issue request) found = issue_says h request found
 work_says h (Consist old new) found = consist_says h old new found
 work_says h (Subtree start end size) found = subtree_says h start end size found
+work_says h Landmark found = landmark_says found
+work_says h Landmarks found = landmarks_says found
+work_says h (LightCert index) found = light_says h index found
 work_says h (Cert index start end signatures) found =
     cert_says h index start end signatures found
 

@@ -1,4 +1,4 @@
-//! The command `cert`: the certificate of an entry.
+//! The commands `cert` and `light-cert`: the certificate of an entry.
 ghost use Rattle.std.specs.Prelude.{◌≡◌, ◌<◌, ◌^◌, [], ◌∷◌};
 ghost use Rattle.byte_forms.specs.Readings.{Gives};
 ghost use Rattle.issuance_log.specs.Words.{state_of};
@@ -7,7 +7,7 @@ ghost use Rattle.mtc_answers.specs.Endings.{Replies};
 ghost use Rattle.mtc_answers.specs.Served.{HasServed};
 ghost use Rattle.mtc_answers.specs.Wanted.{exactly};
 ghost use Rattle.mtc_proof.specs.Proofs.{AreSignatures};
-ghost use Rattle.mtc_logs.specs.CertOutcome.{cert_ending, cert_reply, signatures_ending, signatures_in};
+ghost use Rattle.mtc_logs.specs.CertOutcome.{cert_ending, cert_reply, light_reply, signatures_ending, signatures_in};
 ghost use Rattle.mtc_logs.specs.CertCommand.{cert_outcome};
 
 use crate::log_command::on_log;
@@ -95,6 +95,25 @@ pub(crate) fn certificate<'a, H: TreeHash, D: Disk>(
     ensures same { log.new ≡ log.old }
 {
     match authority_core::cert(alloc, log, index, start, end, signatures.as_slice()) {
+        Ok(text) => Ok(Answer {
+            status: Said::Done,
+            text,
+        }),
+        Err(why) => Err(refuse_certificate(why)),
+    }
+}
+
+/// The work of `light-cert J INDEX`.
+pub(crate) fn light_certificate<'a, H: TreeHash, D: Disk>(
+    alloc: Global,
+    log: &mut Log<H, D>,
+    index: u64,
+) -> Result<Answer, Stop<'a>>
+    ensures reply { Replies (exactly (light_reply H.hash index (state_of log.old)))
+        (ending_of result) }
+    ensures same { log.new ≡ log.old }
+{
+    match authority_core::light_cert(alloc, log, index) {
         Ok(text) => Ok(Answer {
             status: Said::Done,
             text,

@@ -1,5 +1,5 @@
 //! The commands on the journal of a log: `init-log`, `issue`, `checkpoint`, `entries`, `consist`,
-//! `subtree` and `cert`.
+//! `subtree`, `landmark`, `landmarks`, `light-cert` and `cert`.
 //!
 //! A journal is lent by the room, opened as a log, worked on and put back ([`on_log`]); what is
 //! done with the log is a [`Work`]. What each command has to answer, and what it leaves of the
@@ -11,6 +11,7 @@ mod checkpoint;
 pub mod init_log;
 pub mod issue;
 mod log_command;
+mod marks;
 mod requests;
 mod tree;
 mod work;

@@ -3,9 +3,10 @@
 ghost use Rattle.mtc_logs.specs.Works.{HasWorked, IsReady, work_says};
 ghost use Rattle.mtc_answers.specs.Answers.{ending_of};
 
-use crate::cert::{Signatures, certificate};
+use crate::cert::{Signatures, certificate, light_certificate};
 use crate::checkpoint::{checkpoint, entries};
 use crate::issue::issue_on;
+use crate::marks::{list_landmarks, set_landmark};
 use crate::requests::{consist, subtree};
 use authority_core::Request;
 use disk_core::Disk;
@@ -28,6 +29,13 @@ pub enum Work {
     /// The request to sign the subtree from the first number up to the second one, of so many of
     /// the first entries.
     Subtree(u64, u64, u64),
+    /// A landmark more, at the size.
+    Landmark,
+    /// The list of the active landmarks.
+    Landmarks,
+    /// The certificate of the entry at this index without signatures, in the subtree that an active
+    /// landmark has for it.
+    LightCert(u64),
     /// The certificate of the entry at the first number, in the subtree from the second number up
     /// to the third one, with these signatures.
     Cert(u64, u64, u64, Signatures),
@@ -51,6 +59,9 @@ pub fn carry_out<'a, H: TreeHash, D: Disk>(
         Work::Issue(request) => issue_on(alloc, journal, log, &request),
         Work::Consist(old, new) => consist(alloc, log, old, new),
         Work::Subtree(start, end, size) => subtree(alloc, log, start, end, size),
+        Work::Landmark => set_landmark(alloc, journal, log),
+        Work::Landmarks => list_landmarks(alloc, log),
+        Work::LightCert(index) => light_certificate(alloc, log, index),
         Work::Cert(index, start, end, signatures) => {
             certificate(alloc, log, index, start, end, &signatures)
         }

@@ -5,7 +5,8 @@ use Rattle.std.specs.Prelude.{ℕ, List, [], ◌∷◌, Result, Ok, Err}
 use Rattle.mtc_words.specs.declared.error.WordError.{WordError}
 use Rattle.mtc_words.specs.Commands.{CommandValue, member, show, verify, init_log, issue}
 use Rattle.mtc_words.specs.Commands.{checkpoint, entries, consist, subtree, keygen}
-use Rattle.mtc_words.specs.Commands.{init_cosigner, advance, cosign, cert}
+use Rattle.mtc_words.specs.Commands.{init_cosigner, advance, cosign, landmark, landmarks}
+use Rattle.mtc_words.specs.Commands.{light_cert, cert}
 use Rattle.mtc_words.specs.Words.{command_of}
 use Rattle.mtc_logs.specs.IssueCommand.{issue_outcome}
 use Rattle.mtc_logs.specs.CertCommand.{cert_outcome}
@@ -20,6 +21,7 @@ use Rattle.mtc_reads.specs.VerifyOutcome.{verify_outcome}
 use Rattle.mtc_top.specs.WordsOutcome.{words_say}
 use Rattle.mtc_logs.specs.Works.{journal_outcome}
 use Rattle.mtc_logs.specs.declared.work.Work.TheVariants.{Checkpoint, Entries, Consist, Subtree}
+use Rattle.mtc_logs.specs.declared.work.Work.TheVariants.{Landmark, Landmarks, LightCert}
 
 -- What a command answers over these files.
 abbrev pub command_outcome : (List ℕ → List ℕ) → CommandValue → Files → Outcome
@@ -43,6 +45,10 @@ command_outcome h (init_cosigner journal id log height width file) files =
     init_cosigner_outcome journal id log height width file files
 command_outcome h (advance journal request) files = advance_outcome h journal request files
 command_outcome h (cosign journal request) files = cosign_outcome h journal request files
+command_outcome h (landmark journal) files = journal_outcome h journal (files journal) Landmark
+command_outcome h (landmarks journal) files = journal_outcome h journal (files journal) Landmarks
+command_outcome h (light_cert journal index) files =
+    journal_outcome h journal (files journal) (LightCert index)
 command_outcome h (cert journal index start end file) files =
     cert_outcome h journal index start end file files
 
@@ -61,6 +67,9 @@ files_of (keygen height width file) = file ∷ []
 files_of (init_cosigner journal id log height width file) = journal ∷ (file ∷ [])
 files_of (advance journal request) = journal ∷ (request ∷ [])
 files_of (cosign journal request) = journal ∷ (request ∷ [])
+files_of (landmark journal) = journal ∷ []
+files_of (landmarks journal) = journal ∷ []
+files_of (light_cert journal index) = journal ∷ []
 files_of (cert journal index start end file) = journal ∷ (file ∷ [])
 
 -- The journals that it works on.
@@ -78,6 +87,9 @@ journals_of (keygen height width file) = []
 journals_of (init_cosigner journal id log height width file) = journal ∷ []
 journals_of (advance journal request) = journal ∷ []
 journals_of (cosign journal request) = journal ∷ []
+journals_of (landmark journal) = journal ∷ []
+journals_of (landmarks journal) = journal ∷ []
+journals_of (light_cert journal index) = journal ∷ []
 journals_of (cert journal index start end file) = journal ∷ []
 
 -- The same where the words say this.

@@ -47,15 +47,13 @@ fn perform<'a, H: TreeHash, R: Room>(
             init_log(alloc, room, journal, id, max_active, limit)
         }
         Command::Issue(journal, request) => issue::<H, R>(alloc, room, journal, request),
-        Command::Checkpoint(journal) => on_log::<H, R>(alloc, room, journal, Work::Checkpoint),
-        Command::Entries(journal, size) => {
-            on_log::<H, R>(alloc, room, journal, Work::Entries(size))
+        Command::Checkpoint(log) => on_log::<H, R>(alloc, room, log, Work::Checkpoint),
+        Command::Entries(log, size) => on_log::<H, R>(alloc, room, log, Work::Entries(size)),
+        Command::Consist(log, old, new) => {
+            on_log::<H, R>(alloc, room, log, Work::Consist(old, new))
         }
-        Command::Consist(journal, old, new) => {
-            on_log::<H, R>(alloc, room, journal, Work::Consist(old, new))
-        }
-        Command::Subtree(journal, start, end, size) => {
-            on_log::<H, R>(alloc, room, journal, Work::Subtree(start, end, size))
+        Command::Subtree(log, start, end, size) => {
+            on_log::<H, R>(alloc, room, log, Work::Subtree(start, end, size))
         }
         Command::Keygen(height, width, secret) => keygen(alloc, room, height, width, secret),
         Command::InitCosigner(journal, id, log, height, width, secret) => {
@@ -63,6 +61,9 @@ fn perform<'a, H: TreeHash, R: Room>(
         }
         Command::Advance(journal, request) => advance::<H, R>(alloc, room, journal, request),
         Command::Cosign(journal, request) => cosign::<H, R>(alloc, room, journal, request),
+        Command::Landmark(log) => on_log::<H, R>(alloc, room, log, Work::Landmark),
+        Command::Landmarks(log) => on_log::<H, R>(alloc, room, log, Work::Landmarks),
+        Command::LightCert(log, index) => on_log::<H, R>(alloc, room, log, Work::LightCert(index)),
         Command::Cert(journal, index, start, end, signatures) => {
             cert::<H, R>(alloc, room, journal, index, start, end, signatures)
         }

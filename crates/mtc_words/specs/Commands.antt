@@ -5,6 +5,7 @@ use Rattle.mtc_words.specs.declared.command.Command.TheVariants.{Member, Show, V
 use Rattle.mtc_words.specs.declared.command.Command.TheVariants.{Issue, Checkpoint, Entries}
 use Rattle.mtc_words.specs.declared.command.Command.TheVariants.{Consist, Subtree, Keygen}
 use Rattle.mtc_words.specs.declared.command.Command.TheVariants.{InitCosigner, Advance, Cosign}
+use Rattle.mtc_words.specs.declared.command.Command.TheVariants.{Landmark, Landmarks, LightCert}
 use Rattle.mtc_words.specs.declared.command.Command.TheVariants.{Cert}
 use Rattle.mtc_words.specs.declared.error.WordError.{WordError}
 
@@ -23,6 +24,9 @@ pub data CommandValue : Type 0 where
   init_cosigner : List ℕ → List ℕ → List ℕ → ℕ → ℕ → List ℕ → CommandValue
   advance : List ℕ → List ℕ → CommandValue
   cosign : List ℕ → List ℕ → CommandValue
+  landmark : List ℕ → CommandValue
+  landmarks : List ℕ → CommandValue
+  light_cert : List ℕ → ℕ → CommandValue
   cert : List ℕ → ℕ → ℕ → ℕ → List ℕ → CommandValue
 
 -- The values of a command's words.
@@ -41,6 +45,9 @@ command_value (InitCosigner journal id log height width secret) =
     init_cosigner journal.now id log height width secret.now
 command_value (Advance journal request) = advance journal.now request.now
 command_value (Cosign journal request) = cosign journal.now request.now
+command_value (Landmark journal) = landmark journal.now
+command_value (Landmarks journal) = landmarks journal.now
+command_value (LightCert journal index) = light_cert journal.now index
 command_value (Cert journal index start end signatures) =
     cert journal.now index start end signatures.now
 
@@ -96,4 +103,7 @@ IsInRange (init_cosigner journal id log height width secret) =
     (is_height height ≡ true) × (is_width width ≡ true)
 IsInRange (advance journal request) = Unit {0}
 IsInRange (cosign journal request) = Unit {0}
+IsInRange (landmark journal) = Unit {0}
+IsInRange (landmarks journal) = Unit {0}
+IsInRange (light_cert journal index) = Unit {0}
 IsInRange (cert journal index start end signatures) = Unit {0}

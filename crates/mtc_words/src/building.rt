@@ -152,6 +152,15 @@ fn entries<'a>(words: &'a [String]) -> Result<Command<'a>, WordError>
     Ok(Command::Entries(words[0].as_str(), size))
 }
 
+fn light_cert<'a>(words: &'a [String]) -> Result<Command<'a>, WordError>
+    requires { length words.now ≡ word_count Name.LightCert }
+    ensures exact { said result ≡ command_from Name.LightCert (map string_bytes words.now) }
+    ensures range { IfOk result (λ command. IsInRange (command_value command)) }
+{
+    let index = number(2, words[1].as_str())?;
+    Ok(Command::LightCert(words[0].as_str(), index))
+}
+
 // The words of `init-cosigner`.
 fn init_cosigner<'a>(alloc: Global, words: &'a [String]) -> Result<Command<'a>, WordError>
     requires { length words.now ≡ word_count Name.InitCosigner }
@@ -205,6 +214,9 @@ pub fn build<'a>(alloc: Global, name: Name, words: &'a [String]) -> Result<Comma
         Name::InitCosigner => init_cosigner(alloc, words),
         Name::Advance => Ok(Command::Advance(words[0].as_str(), words[1].as_str())),
         Name::Cosign => Ok(Command::Cosign(words[0].as_str(), words[1].as_str())),
+        Name::Landmark => Ok(Command::Landmark(words[0].as_str())),
+        Name::Landmarks => Ok(Command::Landmarks(words[0].as_str())),
+        Name::LightCert => light_cert(words),
         Name::Cert => cert(words),
     }
 }

@@ -37,6 +37,13 @@ pub enum Command<'a> {
     Advance(&'a str, &'a str),
     /// `cosign S REQUEST`: sign the subtree of a request.
     Cosign(&'a str, &'a str),
+    /// `landmark J`: set a landmark at the size of the log.
+    Landmark(&'a str),
+    /// `landmarks J`: write the list of the active landmarks.
+    Landmarks(&'a str),
+    /// `light-cert J INDEX`: write the certificate of an entry without signatures, with its place in
+    /// the subtree that an active landmark has for it.
+    LightCert(&'a str, u64),
     /// `cert J INDEX START END SIGNATURES`: write the certificate of an entry, with its place in
     /// the subtree from START to END and the cosigners' signatures.
     Cert(&'a str, u64, u64, u64, &'a str),

@@ -18,6 +18,9 @@ pub enum Name {
     InitCosigner,
     Advance,
     Cosign,
+    Landmark,
+    Landmarks,
+    LightCert,
     Cert,
 }
 
@@ -40,6 +43,9 @@ pub fn read_name(word: &str) -> Option<Name>
         "init-cosigner" => Some(Name::InitCosigner),
         "advance" => Some(Name::Advance),
         "cosign" => Some(Name::Cosign),
+        "landmark" => Some(Name::Landmark),
+        "landmarks" => Some(Name::Landmarks),
+        "light-cert" => Some(Name::LightCert),
         "cert" => Some(Name::Cert),
         _ => None,
     }
@@ -50,8 +56,8 @@ pub fn wanted_count(name: Name) -> usize
     ensures { result ≡ word_count name }
 {
     match name {
-        Name::Member | Name::Show | Name::Checkpoint => 1,
-        Name::Issue | Name::Entries | Name::Advance | Name::Cosign => 2,
+        Name::Member | Name::Show | Name::Checkpoint | Name::Landmark | Name::Landmarks => 1,
+        Name::Issue | Name::Entries | Name::Advance | Name::Cosign | Name::LightCert => 2,
         Name::Verify | Name::Consist | Name::Keygen => 3,
         Name::InitLog | Name::Subtree => 4,
         Name::Cert => 5,

@@ -185,24 +185,47 @@ file r
 file j 6d74632d6a6f75726e616c2f76310a00010000000e010481fd59010000000200000040 00
 "#;
 
+// A command on that journal, its lines, and how long the journal is behind it.
+struct Appending {
+    words: &'static str,
+    said: &'static [u8],
+    failed: &'static [u8],
+    length: usize,
+}
+
+const APPENDING: [Appending; 2] = [
+    Appending {
+        words: "issue j r",
+        said: b"issued 1\n",
+        failed: b"mtc: issue: j: Failed\n",
+        length: 221,
+    },
+    Appending {
+        words: "landmark j",
+        said: b"landmark 1 1\n",
+        failed: b"mtc: landmark: j: Failed\n",
+        length: 50,
+    },
+];
+
 // Whichever call of the device fails, the journal has its old records, or these and the new one.
 // The status, where all is as it has to be.
-fn status_of_issue(alloc: Global, call: u64) -> Result<Option<u8>, Fail> {
+fn status_of(alloc: Global, appending: &Appending, call: u64) -> Result<Option<u8>, Fail> {
     let script = format!(in alloc; "{READY}fails {call}")?;
     let Some(mut desk) = desk_of(alloc, script.as_str())? else {
         return Ok(None);
     };
-    let words = owned_words(alloc, "issue j r")?;
+    let words = owned_words(alloc, appending.words)?;
     let mut out = MemSink::new(alloc, 100, Vec::new(alloc));
     let mut err = MemSink::new(alloc, 100, Vec::new(alloc));
     let status = desk.run(alloc, &words, &mut out, &mut err);
-    let size = desk.bytes("j").map_or(0, |bytes| bytes.len());
+    let length = desk.bytes("j").map_or(0, |bytes| bytes.len());
     let said = if status == 5 {
-        out.taken().is_empty() && err.taken() == b"mtc: issue: j: Failed\n".as_slice()
+        out.taken().is_empty() && err.taken() == appending.failed
     } else {
-        status == 0 && out.taken() == b"issued 1\n".as_slice() && err.taken().is_empty()
+        status == 0 && out.taken() == appending.said && err.taken().is_empty()
     };
-    if said && (size == 36 || size == 221) {
+    if said && (length == 36 || length == appending.length) {
         Ok(Some(status))
     } else {
         Ok(None)
@@ -210,16 +233,18 @@ fn status_of_issue(alloc: Global, call: u64) -> Result<Option<u8>, Fail> {
 }
 
 #[test]
-fn a_device_fails_an_issue(rt: HostRuntime) -> Result<(), Fail> {
-    let mut some_fail = false;
-    let mut some_pass = false;
-    for call in 0..16 {
-        match status_of_issue(rt.alloc(), call)? {
-            None => assert!(rt; false, "call {call}"),
-            Some(5) => some_fail = true,
-            Some(_) => some_pass = true,
+fn a_device_fails_an_append(rt: HostRuntime) -> Result<(), Fail> {
+    for appending in &APPENDING {
+        let mut some_fail = false;
+        let mut some_pass = false;
+        for call in 0..16 {
+            match status_of(rt.alloc(), appending, call)? {
+                None => assert!(rt; false, "{} {call}", appending.words),
+                Some(5) => some_fail = true,
+                Some(_) => some_pass = true,
+            }
         }
+        assert!(rt; some_fail && some_pass, "{}", appending.words);
     }
-    assert!(rt; some_fail && some_pass);
     Ok(())
 }

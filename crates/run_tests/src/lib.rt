@@ -11,6 +11,8 @@ mod desk;
 #[cfg(test)]
 mod devices;
 #[cfg(test)]
+mod landmarks;
+#[cfg(test)]
 mod logs;
 #[cfg(test)]
 mod one_file;

@@ -1,0 +1,87 @@
+-- What comes of setting a landmark on a log that was opened just now.
+use Rattle.std.proofs.Common.{◌≡◌, ◌≢◌, ℕ, Bool, true, false, List, Option, None, Some, option_map}
+use Rattle.std.proofs.Common.{Result, Ok, Err, if◌then◌else◌, refl, sym, ap, ◌∙◌, length}
+use Rattle.byte_forms.specs.Types.{Text}
+use Rattle.disk_core.specs.declared.disk.Disk.{Ghosts}
+use Rattle.journal_core.specs.declared.error.AppendError.TheVariants as append_error
+use Rattle.tree_core.specs.declared.hashing.TreeHash.{Ghosts as Hashes}
+use Rattle.issuance_log.specs.Folds.{with_mark}
+use Rattle.issuance_log.specs.Records.{landmark_record}
+use Rattle.issuance_log.specs.Refusals.{MarkKeepsTo, mark_refusal}
+use Rattle.issuance_log.specs.Words.{LogAppends, log_broken, log_disk, log_end, state_of, view_of}
+use Rattle.issuance_log.specs.declared.error.LogError.{LogError}
+use Rattle.issuance_log.specs.declared.error.LogError.TheVariants.{Full, TooLarge, NoSuchEntry}
+use Rattle.issuance_log.specs.declared.error.LogError.TheVariants.{NothingNew, Append, Memory}
+use Rattle.issuance_log.specs.declared.log.Log.{Log as OpenLog}
+use Rattle.mtc_answers.specs.Answers.{replied, said, status_of}
+use Rattle.mtc_answers.specs.Steps.{Outcome}
+use Rattle.mtc_answers.specs.declared.answer.Said.TheVariants.{Done}
+use Rattle.mtc_logs.specs.LandmarkOutcomes.{MayRefuseMark, landmark_says, mark_ending, mark_refused}
+use Rattle.mtc_logs.specs.LandmarkOutcomes.{marked, next_line}
+use Rattle.mtc_logs.specs.Works.{HasWorked, IsReady, found_log}
+use Rattle.mtc_logs.proofs.Appends.{done_so, failed_so, starved_so, told_so}
+
+module _ {H D : Type 0} {hashes : Hashes H} {g : Ghosts D} (name : Text)
+    (old new : OpenLog H D hashes g) (ready : IsReady old) where
+  abbrev refusal_by : Bool → ℕ → Option LogError
+  refusal_by broken end = mark_refusal (view_of old) broken end
+
+  abbrev pub refusal : Option LogError
+  refusal = refusal_by (log_broken old) (log_end old)
+
+  abbrev outcome_by : List Text → Option LogError → Outcome
+  outcome_by list why = marked (found_log (state_of old) list) why
+
+  abbrev body : Text
+  body = landmark_record (length (state_of old).entries)
+
+  -- what the call leaves, by its answer
+  abbrev pub HasMarked : Result (ℕ × ℕ) LogError → Type 0
+  HasMarked result = LogAppends body (with_mark (state_of old)) old new result
+
+  pub marked_so : (landmark : ℕ × ℕ) → refusal ≡ None → HasMarked (Ok landmark)
+      → HasWorked name landmark_says old new (replied (said Done (next_line (state_of old))))
+  marked_so landmark free run = done_so outcome_by refusal_by name old new ready body
+      (next_line (state_of old)) (with_mark (state_of old)) (λ list. refl) free landmark run
+
+  told : (why : LogError) → status_of (mark_refused why) ≢ 1 → refusal ≡ Some why
+      → log_disk new ≡ log_disk old
+      → HasWorked name landmark_says old new (replied (mark_refused why))
+  told why code is same = told_so outcome_by refusal_by name old new ready why
+      (mark_refused why) (λ list. refl) code is same
+
+  pub refused_so : (why : LogError) → MayRefuseMark why → HasMarked (Err why)
+      → MarkKeepsTo refusal (Err why) → HasWorked name landmark_says old new (mark_ending name why)
+  refused_so Full may run is = absurd is
+  refused_so TooLarge may run is = absurd is
+  refused_so NoSuchEntry may run is = absurd is
+  refused_so NothingNew may run is = told NothingNew (λ e. absurd cc) is run.leaves.disk
+  refused_so (Append append_error.Full) may run is =
+      told (Append append_error.Full) (λ e. absurd cc) is run.leaves.disk
+  refused_so (Append append_error.Broken) may run is = absurd may
+  refused_so (Append append_error.Failed) may run is =
+      failed_so outcome_by refusal_by name old new ready body (next_line (state_of old))
+      (with_mark (state_of old)) (λ list. refl) is run
+  refused_so Memory may run is =
+      starved_so outcome_by refusal_by name old new ready run.leaves.disk
+
+  -- a log that no append has broken doesn't refuse a landmark as a broken one
+  first : (nothing over : Bool)
+      → (if nothing then Some NothingNew
+      else option_map Append (if over then Some append_error.Full else None))
+      ≡ Some (Append append_error.Broken) → ⊥
+  first true over is = absurd cc
+  first false true is = absurd cc
+  first false false is = absurd cc
+
+  pub may_refuse : (why : LogError) → MarkKeepsTo refusal (Err why) → MayRefuseMark why
+  unfolding mark_refusal
+  may_refuse Full is = absurd is
+  may_refuse TooLarge is = absurd is
+  may_refuse NoSuchEntry is = absurd is
+  may_refuse NothingNew is = tt
+  may_refuse (Append append_error.Full) is = tt
+  may_refuse (Append append_error.Broken) is =
+      first _ _ (sym (ap (λ broken. refusal_by broken (log_end old)) ready.sound) ∙ is)
+  may_refuse (Append append_error.Failed) is = tt
+  may_refuse Memory is = tt

@@ -1,0 +1,12 @@
+use Rattle.std.proofs.Common.{subst, sym}
+use Rattle.mtc_answers.specs.Answers.{ending_of}
+use Rattle.mtc_logs.specs.Works.{HasWorked, work_says}
+use Rattle.mtc_logs.specs.declared.work.Work.{Work}
+use Rattle.mtc_logs.proofs.work.carry_out.Goals as goal
+
+pub returns-in-Landmark : goal.returns-in-Landmark
+unfolding Rattle.mtc_logs.specs.Works.work_says
+returns-in-Landmark g c = subst
+    (λ (w : Work). HasWorked c.args.journal.now (work_says g.H.TreeHash.hash w) c.args.log.now
+    c.set_landmark.new.log (ending_of c.set_landmark.result)) (sym c.in-Landmark.is)
+    c.set_landmark.ensures
