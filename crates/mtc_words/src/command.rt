@@ -41,8 +41,8 @@ pub enum Command<'a> {
     Landmark(&'a str),
     /// `landmarks J`: write the list of the active landmarks.
     Landmarks(&'a str),
-    /// `light-cert J INDEX`: write the certificate of an entry without signatures, with its place in
-    /// the subtree that an active landmark has for it.
+    /// `light-cert J INDEX`: write the certificate of an entry without signatures, with its place
+    /// in the subtree that an active landmark has for it.
     LightCert(&'a str, u64),
     /// `cert J INDEX START END SIGNATURES`: write the certificate of an entry, with its place in
     /// the subtree from START to END and the cosigners' signatures.

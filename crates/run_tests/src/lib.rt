@@ -11,9 +11,9 @@ mod desk;
 #[cfg(test)]
 mod devices;
 #[cfg(test)]
-mod landmarks;
-#[cfg(test)]
 mod logs;
+#[cfg(test)]
+mod marks;
 #[cfg(test)]
 mod one_file;
 #[cfg(test)]
