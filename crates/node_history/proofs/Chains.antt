@@ -15,7 +15,7 @@ use Rattle.node_history.specs.declared.start.NodeStart.{NodeStart}
 use Rattle.node_history.specs.declared.step.NodeStep.{NodeStep}
 use Rattle.node_history.proofs.Steps.{some_is}
 
-no_some : {X Y : Type 0} (x : X) → None ≡ Some x → Y
+pub no_some : {X Y : Type 0} (x : X) → None ≡ Some x → Y
 no_some {X} x is = absurd cc
 
 -- an option that was taken on
@@ -60,7 +60,7 @@ module _ (valid : Valid) where
       record { old = found.0; was = found.1; new = made.0; moves = made.1; all = made.2 }
 
   -- the first step, and the rest
-  first_step : (k : ℕ) (states : List HistoryState) (step : NodeStep) (steps : List NodeStep)
+  pub first_step : (k : ℕ) (states : List HistoryState) (step : NodeStep) (steps : List NodeStep)
       (ends : List HistoryState) → states_from valid k states (step ∷ steps) ≡ Ok ends
       → (next : List HistoryState) × (states_after valid states step ≡ Some next)
       × (states_from valid (k + 1) next steps ≡ Ok ends)

@@ -4,9 +4,9 @@ ghost use Rattle.byte_forms.specs.Types.{HashFunction, Text};
 ghost use Rattle.cosigner_core.specs.Counts.{AreCounted};
 ghost use Rattle.cosigner_core.specs.declared.settings.CosignerSettings.{CosignerSettings};
 ghost use Rattle.journal_core.specs.Format.{StandsFor};
-ghost use Rattle.node_history.specs.Histories.{history_of};
+ghost use Rattle.node_history.specs.Histories.{history_of, moved};
 ghost use Rattle.node_history.specs.Laws.{HasGrown, IsOfSettled, IsSoundNode, LeadsTo, WereBegun};
-ghost use Rattle.node_history.specs.Nodes.{HistoryState};
+ghost use Rattle.node_history.specs.Nodes.{HistoryState, fresh_node, node_of_step};
 ghost use Rattle.node_history.specs.Rules.{AreRecords, IsReadAs, StartsWith, may_follow as valid};
 ghost use Rattle.node_history.specs.declared.start.NodeStart.{NodeStart};
 ghost use Rattle.node_history.specs.declared.start.NodeStart.TheVariants.{Cosigner};
@@ -36,6 +36,17 @@ pub fn states_only_grow()
     ensures begins { (h : HashFunction) (starts : List NodeStart) (steps : List NodeStep)
         (place : ℕ) (s : HistoryState) → LeadsTo (valid h) starts steps place s
         → slice_get starts place ≡ Some s.start }
+{}
+
+/// A history begins with nodes that have begun, and goes on by each step that is allowed.
+pub fn histories_go_on()
+    ensures begins { (h : HashFunction) (starts : List NodeStart) (place : ℕ) (start : NodeStart)
+        → slice_get starts place ≡ Some start
+        → LeadsTo (valid h) starts [] place (fresh_node start) }
+    ensures on { (h : HashFunction) (starts : List NodeStart) (steps : List NodeStep) (place : ℕ)
+        (s t : HistoryState) (step : NodeStep) → LeadsTo (valid h) starts steps place s
+        → node_of_step step ≡ place → moved (valid h) s step ≡ Some t
+        → LeadsTo (valid h) starts (steps ++ step ∷ []) place t }
 {}
 
 /// In no history two records of a cosigner have the number of one one-time key, the pending record
