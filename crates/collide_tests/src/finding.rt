@@ -62,7 +62,7 @@ fn looked_up(
 }
 
 // The answer for a node and its proof; none where the proof doesn't check.
-fn traced(
+pub(crate) fn traced(
     alloc: Global,
     items: &[&[u8]],
     start: u64,
@@ -78,7 +78,7 @@ fn traced(
 }
 
 // The answer is this pair, or none.
-fn is(answer: &Option<Result<Finding, Memory>>, wanted: Option<(&[u8], &[u8])>) -> bool {
+pub(crate) fn is(answer: &Option<Result<Finding, Memory>>, wanted: Option<(&[u8], &[u8])>) -> bool {
     match (answer, wanted) {
         (Some(Ok(Finding::Same)), None) => true,
         (Some(Ok(Finding::Pair(first, second))), Some((x, y))) => {
