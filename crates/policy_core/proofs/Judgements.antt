@@ -74,7 +74,7 @@ cosigned_only store index p hash a none e =
           known = told (Cosigners set) index p hash a same;
         }
 
-decided_only : (store : Store) (index : ℕ) (p : ProofParts) (hash : List ℕ) (a : Accepted)
+pub decided_only : (store : Store) (index : ℕ) (p : ProofParts) (hash : List ℕ) (a : Accepted)
     → decided store index p hash ≡ Ok a → IsDecided store index p hash a
 unfolding decided
 decided_only store index p hash a e = go (find (is_of p.start p.end) store.subtrees) refl e

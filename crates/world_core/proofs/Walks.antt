@@ -1,0 +1,401 @@
+-- From a Sign to the list of entries behind it.
+use denote.Ref.{Bor}
+use Rattle.std.proofs.Common.{◌≡◌, ℕ, ◌+◌, ◌-◌, ◌<◌, ◌≤◌, Bool, true, List, length, get_or}
+use Rattle.std.proofs.Common.{take, drop, Ok, Err, sym, ap, subst, ◌∙◌, arith}
+use Rattle.std.proofs.Common.{inl, inr}
+use Rattle.std.specs.Prelude.{Result, IfOk, IsTrue, bytes_eq}
+use Rattle.std.specs.List.{Contains}
+use Rattle.std.proofs.Math.Seq.{take-length}
+use Rattle.std.proofs.lemmas.List.{drop-map, length-map, length-take-le, take-map}
+use Rattle.std.proofs.lemmas.Slice.Eq.{bytes_eq-Decides}
+use Rattle.byte_forms.specs.Types.{Hash, HashFunction, Text}
+use Rattle.cert_fields.specs.Views.{texts}
+use Rattle.tree_core.specs.Path.{part_of}
+use Rattle.tree_core.specs.Tree.{tree_hash}
+use Rattle.tree_proofs.specs.Consistency.{Checks}
+use Rattle.tree_proofs.proofs.Fulls.{some_in}
+use Rattle.tree_proofs.proofs.Parts.{part_of-take, part_of-zero}
+use Rattle.tree_proofs.proofs.Splits.{tree-none}
+use Rattle.cosigner_core.specs.Checkpoints.{empty_checkpoint}
+use Rattle.cosigner_core.specs.Progress.{first_progress}
+use Rattle.cosigner_core.specs.declared.checkpoint.Checkpoint.{Checkpoint}
+use Rattle.cosigner_core.specs.declared.step.Step.{Step}
+use Rattle.cosigner_core.specs.declared.step.Step.TheVariants.{Advance, Sign}
+use Rattle.collide.specs.Extraction.{Extracts}
+use Rattle.collide.specs.Inputs.{inputs_of, open_inputs_of}
+use Rattle.collide.specs.declared.finding.Finding.{Finding}
+use Rattle.collide.specs.declared.finding.Finding.TheVariants.{Pair, Same}
+use Rattle.collide.proofs.Compared.{collision_widened}
+use Rattle.world_core.specs.Walk.{AreSteps, HasFront, IsOfList, IsWithin, Shows, front_inputs}
+use Rattle.world_core.specs.Walk.{held_behind, held_by, proof_inputs, held_sizes, with_steps}
+use Rattle.world_core.proofs.Steps.{advance_checks, allowed_at, front_at, held_advance, held_none}
+use Rattle.world_core.proofs.Steps.{held_sign, inputs_at, none_held, rises_to, sign_checks}
+use Rattle.world_core.proofs.Steps.{size_at, size_held, sizes_take}
+
+-- ---- slices
+
+now : Bor Text → Text
+now s = s.now
+
+pub front_texts : (es : List (Bor Text)) (n : ℕ) → texts (take n es) ≡ take n (texts es)
+front_texts es n = sym (take-map (λ (s : Bor Text). s.now) n es)
+
+pub part_texts : (es : List (Bor Text)) (s e : ℕ)
+    → texts (take (e - s) (drop s es)) ≡ part_of (texts es) s e
+part_texts es s e =
+    sym (take-map (λ (x : Bor Text). x.now) (e - s) (drop s es))
+    ∙ ap (take (e - s)) (sym (drop-map (λ (x : Bor Text). x.now) s es))
+
+pub found_at : (steps : List Step) (k : ℕ) (s t : Step) → s ≡ get_or steps k s → s ≡ t
+    → t ≡ get_or steps k t
+found_at steps k s t at is = subst (λ (x : Step). x ≡ get_or steps k x) is at
+
+pub ok_still : {X E : Type 0} (P Q : X → Type 0) (r : Result X E) → ((x : X) → P x → Q x)
+    → IfOk r P → IfOk r Q
+ok_still P Q (Ok x) more p = more x p
+ok_still P Q (Err e) more p = p
+
+-- ---- what is held, from the last step back
+
+pub back_sign : (h : HashFunction) (steps : List Step) (place index start end : ℕ) (hash : Hash)
+    (proof : List Hash) → 0 < place → place ≤ length steps
+    → Sign index start end hash proof
+    ≡ get_or steps (place - 1) (Sign index start end hash proof)
+    → held_behind h steps place ≡ held_by h steps
+    → held_behind h steps (place - 1) ≡ held_by h steps
+back_sign h steps place index start end hash proof some within is same =
+    let below : place - 1 < length steps = omega arith in
+    let here : place - 1 + 1 ≡ place = omega arith in
+    sym (held_sign h steps (place - 1) index start end hash proof below is)
+    ∙ (ap (λ (k : ℕ). held_behind h steps k) here ∙ same)
+
+pub back_advance : (h : HashFunction) (steps : List Step) (place size : ℕ) (root : Hash)
+    (proof : List Hash) → 0 < place → place ≤ length steps
+    → Advance size root proof ≡ get_or steps (place - 1) (Advance size root proof)
+    → held_behind h steps place ≡ held_by h steps
+    → record { size = size; root = root } ≡ held_by h steps
+back_advance h steps place size root proof some within is same =
+    let below : place - 1 < length steps = omega arith in
+    let here : place - 1 + 1 ≡ place = omega arith in
+    sym (held_advance h steps (place - 1) size root proof below is)
+    ∙ (ap (λ (k : ℕ). held_behind h steps k) here ∙ same)
+
+pub back_none : (h : HashFunction) (steps : List Step) (place : ℕ) → place ≤ 0
+    → held_behind h steps place ≡ held_by h steps → empty_checkpoint h ≡ held_by h steps
+back_none h steps place none same =
+    let nought : 0 ≡ place = omega arith in
+    sym (held_none h) ∙ (ap (λ (k : ℕ). held_behind h steps k) nought ∙ same)
+
+-- ---- tests
+
+pub front_tested : (h : HashFunction) (es : List (Bor Text)) (held : Checkpoint) (b : Bool)
+    (root : Hash) → held.size ≤ length es → root ≡ tree_hash h (texts (take held.size es))
+    → b ≡ bytes_eq root held.root
+    → (IsTrue b → HasFront h (texts es) held) × (HasFront h (texts es) held → IsTrue b)
+front_tested h es held b root within is test =
+    let same : root ≡ tree_hash h (take held.size (texts es)) =
+    is ∙ ap (tree_hash h) (front_texts es held.size) in
+    let long : held.size ≤ length (texts es) = omega (
+      arith,
+      length-map es (λ (s : Bor Text). s.now),
+    ) in (
+      λ yes. record {
+        within = long;
+        root = sym same ∙ (bytes_eq-Decides root held.root).0 (sym test ∙ yes);
+      },
+      λ front. test ∙ (bytes_eq-Decides root held.root).1 (same ∙ front.root),
+    )
+
+pub list_tested : (h : HashFunction) (es : List (Bor Text)) (step : Step) (index start end : ℕ)
+    (hash : Hash) (proof : List Hash) (b : Bool) (root : Hash)
+    → step ≡ Sign index start end hash proof
+    → root ≡ tree_hash h (texts (take (end - start) (drop start es)))
+    → b ≡ bytes_eq root hash
+    → (IsTrue b → IsOfList h (texts es) step) × (IsOfList h (texts es) step → IsTrue b)
+list_tested h es step index start end hash proof b root sign is test =
+    let same : root ≡ tree_hash h (part_of (texts es) start end) =
+    is ∙ ap (tree_hash h) (part_texts es start end) in
+    subst (λ (s : Step). (IsTrue b → IsOfList h (texts es) s)
+    × (IsOfList h (texts es) s → IsTrue b)) (sym sign) (
+      λ yes. sym same ∙ (bytes_eq-Decides root hash).0 (sym test ∙ yes),
+      λ own. test ∙ (bytes_eq-Decides root hash).1 (same ∙ own),
+    )
+
+-- ---- at an Advance
+
+pub empty_front : (h : HashFunction) (entries : List Text)
+    → HasFront h entries (empty_checkpoint h)
+empty_front h entries = record {
+  within = omega arith;
+  root = sym (tree-none h (take 0 entries) (omega arith));
+}
+
+pub advance_front : (h : HashFunction) (es : List (Bor Text)) (steps : List Step) (k size : ℕ)
+    (root : Hash) (proof : List Hash) → k < length steps
+    → Advance size root proof ≡ get_or steps k (Advance size root proof)
+    → HasFront h (texts es) (held_behind h steps (k + 1))
+    → HasFront h (texts es) (record { size = size; root = root })
+advance_front h es steps k size root proof below is front =
+    subst (HasFront h (texts es)) (held_advance h steps k size root proof below is) front
+
+pub advance_long : (h : HashFunction) (es : List (Bor Text)) (steps : List Step) (k size : ℕ)
+    (root : Hash) (proof : List Hash) → k < length steps
+    → Advance size root proof ≡ get_or steps k (Advance size root proof)
+    → HasFront h (texts es) (held_behind h steps (k + 1))
+    → size ≡ length (take size es)
+advance_long h es steps k size root proof below is front =
+    let there = (advance_front h es steps k size root proof below is front).within in
+    let long : size ≤ length es = omega (arith, length-map es (λ (s : Bor Text). s.now)) in
+    sym (length-take-le size es long)
+
+-- the proof of an Advance from what is held checks
+pub record HasGrown (h : HashFunction) (held : Checkpoint) (size : ℕ) (root : Hash)
+    (proof : List Hash) : Type 0 where
+  pub more : held.size < size
+  pub checks : Checks h 0 held.size size held.root root proof
+
+pub advance_grown : (h : HashFunction) (es : List (Bor Text)) (steps : List Step) (k size : ℕ)
+    (root : Hash) (proof : List Hash) → AreSteps h steps → k < length steps
+    → Advance size root proof ≡ get_or steps k (Advance size root proof)
+    → (HasFront h (texts es) (held_behind h steps k) → ⊥)
+    → HasGrown h (held_behind h steps k) size root proof
+unfolding held_by
+advance_grown h es steps k size root proof are below is apart =
+    let first = first_progress h in
+    let allowed = allowed_at h are.keys first are.done steps k (Advance size root proof) are.each
+    below is in
+    let known = advance_checks h are.keys (with_steps first (take k steps)) size root proof allowed in
+    record {
+      more = known.more;
+      checks = elim known.shown [
+        | inl none ↦
+            absurd (apart (subst (HasFront h (texts es)) (sym (none_held h are.keys first are.done
+            steps k are.each none)) (empty_front h (texts es))))
+        | inr checks ↦ checks
+      ];
+    }
+
+pub advance_ready : (h : HashFunction) (es : List (Bor Text)) (steps : List Step) (k size : ℕ)
+    (root : Hash) (proof given : List Hash) (before : Checkpoint) → AreSteps h steps
+    → k < length steps → Advance size root proof ≡ get_or steps k (Advance size root proof)
+    → (HasFront h (texts es) (held_behind h steps k) → ⊥)
+    → HasFront h (texts es) (held_behind h steps (k + 1))
+    → before ≡ held_behind h steps k → given ≡ proof
+    → Checks h 0 before.size (length (take size es)) before.root
+    (tree_hash h (texts (take size es))) given
+advance_ready h es steps k size root proof given before are below is apart front held told =
+    let grown = advance_grown h es steps k size root proof are below is apart in
+    let there = advance_front h es steps k size root proof below is front in
+    let long = advance_long h es steps k size root proof below is front in
+    let hash : root ≡ tree_hash h (texts (take size es)) =
+    sym there.root ∙ ap (tree_hash h) (sym (front_texts es size)) in
+    let one = subst (λ (n : ℕ). Checks h 0 (held_behind h steps k).size n
+    (held_behind h steps k).root root proof) long grown.checks in
+    let two = subst (λ (r : Hash). Checks h 0 (held_behind h steps k).size (length (take size es))
+    (held_behind h steps k).root r proof) hash one in
+    let three = subst (λ (p : List Hash). Checks h 0 (held_behind h steps k).size
+    (length (take size es)) (held_behind h steps k).root (tree_hash h (texts (take size es))) p)
+    (sym told) two in
+    subst (λ (c : Checkpoint). Checks h 0 c.size (length (take size es)) c.root
+    (tree_hash h (texts (take size es))) given) (sym held) three
+
+-- the first entries of a list are those of its front
+pub front_part : (es : List (Bor Text)) (size start end : ℕ) → start ≤ end → end ≤ size
+    → part_of (texts (take size es)) start end ≡ part_of (texts es) start end
+front_part es size start end order within =
+    ap (λ (xs : List Text). part_of xs start end) (front_texts es size)
+    ∙ part_of-take (texts es) start end size order within
+
+pub advance_found : (h : HashFunction) (es : List (Bor Text)) (steps : List Step) (k size : ℕ)
+    (root : Hash) (proof given : List Hash) (before : Checkpoint) → AreSteps h steps
+    → k < length steps → Advance size root proof ≡ get_or steps k (Advance size root proof)
+    → (HasFront h (texts es) (held_behind h steps k) → ⊥)
+    → HasFront h (texts es) (held_behind h steps (k + 1))
+    → before ≡ held_behind h steps k → given ≡ proof
+    → (f : Finding)
+    → Extracts h (tree_hash h (part_of (texts (take size es)) 0 before.size) ≡ before.root)
+    (inputs_of h (texts (take size es)))
+    (open_inputs_of h 0 before.size (length (take size es)) true before.root given) f
+    → Shows h (front_inputs h (texts es) steps) (proof_inputs h steps) f
+unfolding held_by
+advance_found h es steps k size root proof given before are below is apart front held told Same e =
+    let grown = advance_grown h es steps k size root proof are below is apart in
+    let there = advance_front h es steps k size root proof below is front in
+    let shorter : before.size < size = subst (λ (c : Checkpoint). c.size < size) (sym held)
+    grown.more in
+    let long = there.within in
+    let own : tree_hash h (take before.size (texts es)) ≡ before.root =
+    ap (tree_hash h) (sym (front_part es size 0 before.size (omega arith) (omega arith)
+    ∙ part_of-zero (texts es) before.size)) ∙ e in
+    absurd (apart (subst (HasFront h (texts es)) held (record {
+      within = omega arith;
+      root = own;
+    })))
+advance_found h es steps k size root proof given before are below is apart front held told
+    (Pair x y) e =
+    let long = advance_long h es steps k size root proof below is front in
+    let size_in = size_at steps k size root proof below is in
+    let now_held = (held_behind h steps k) in
+    collision_widened h (inputs_of h (texts (take size es)))
+    (open_inputs_of h 0 before.size (length (take size es)) true before.root given)
+    (front_inputs h (texts es) steps) (proof_inputs h steps) x y
+    (λ (c : Contains (inputs_of h (texts (take size es))) x).
+    front_at h (texts es) (held_sizes steps) size x size_in.0 size_in.1 size_in.2
+    (subst (λ (xs : List Text). Contains (inputs_of h xs) x) (front_texts es size) c))
+    (λ (c : Contains (open_inputs_of h 0 before.size (length (take size es)) true before.root
+    given) y).
+    let one = subst (λ (n : ℕ). Contains (open_inputs_of h 0 before.size n true before.root given)
+    y) (sym long) c in
+    let two = subst (λ (p : List Hash). Contains (open_inputs_of h 0 before.size size true
+    before.root p) y) told one in
+    let three = subst (λ (b : Checkpoint). Contains (open_inputs_of h 0 b.size size true b.root
+    proof) y) held two in
+    inputs_at h (first_progress h) steps k (Advance size root proof) y below is three) e.1
+
+-- behind a Sign the list begins with what it began with before
+pub not_sign : (h : HashFunction) (es : List (Bor Text)) (steps : List Step)
+    (k index start end : ℕ) (hash : Hash) (proof : List Hash) → k < length steps
+    → Sign index start end hash proof ≡ get_or steps k (Sign index start end hash proof)
+    → (HasFront h (texts es) (held_behind h steps k) → ⊥)
+    → HasFront h (texts es) (held_behind h steps (k + 1)) → ⊥
+not_sign h es steps k index start end hash proof below is apart front =
+    apart (subst (HasFront h (texts es)) (held_sign h steps k index start end hash proof below is)
+    front)
+
+-- ---- at a Sign
+
+pub sign_checked : (h : HashFunction) (steps : List Step) (k index start end : ℕ) (hash : Hash)
+    (proof : List Hash) → AreSteps h steps → k < length steps
+    → Sign index start end hash proof ≡ get_or steps k (Sign index start end hash proof)
+    → Checks h start end (held_behind h steps k).size hash (held_behind h steps k).root proof
+unfolding held_by
+sign_checked h steps k index start end hash proof are below is =
+    sign_checks h are.keys (with_steps (first_progress h) (take k steps)) index start end hash proof
+    (allowed_at h are.keys (first_progress h) are.done steps k (Sign index start end hash proof)
+    are.each below is)
+
+pub sign_long : (h : HashFunction) (entries : List Text) (steps : List Step) (k : ℕ)
+    (step : Step) → AreSteps h steps → k < length steps → step ≡ get_or steps k step
+    → HasFront h entries (held_behind h steps (length steps)) → IsWithin (length entries) step
+unfolding held_by
+sign_long h entries steps k (Advance size root proof) are below is front = tt
+sign_long h entries steps k (Sign index start end hash proof) are below is front =
+    let checks = sign_checked h steps k index start end hash proof are below is in
+    let rise = rises_to h are.keys (first_progress h) are.done steps k are.each in
+    let all = ap (λ (xs : List Step). (held_by h xs).size) (take-length steps) in
+    let long = front.within in
+    let within = checks.within in
+    let some = some_in start end checks.valid in
+    (omega arith, omega arith)
+
+pub sign_within : (h : HashFunction) (es : List (Bor Text)) (steps : List Step) (k : ℕ)
+    (step : Step) → AreSteps h steps → k < length steps → step ≡ get_or steps k step
+    → HasFront h (texts es) (held_behind h steps (length steps)) → IsWithin (length es) step
+sign_within h es steps k step are below is front =
+    subst (λ (n : ℕ). IsWithin n step) (length-map es (λ (s : Bor Text). s.now))
+    (sign_long h (texts es) steps k step are below is front)
+
+pub sign_ready : (h : HashFunction) (es : List (Bor Text)) (steps : List Step)
+    (k index start end : ℕ) (hash : Hash) (proof given : List Hash) (held : Checkpoint)
+    → AreSteps h steps → k < length steps
+    → Sign index start end hash proof ≡ get_or steps k (Sign index start end hash proof)
+    → HasFront h (texts es) (held_behind h steps k)
+    → held ≡ held_behind h steps k → given ≡ proof
+    → Checks h start end (length (take held.size es)) hash
+    (tree_hash h (texts (take held.size es))) given
+sign_ready h es steps k index start end hash proof given held are below is front same told =
+    let checks = sign_checked h steps k index start end hash proof are below is in
+    let own : HasFront h (texts es) held = subst (HasFront h (texts es)) (sym same) front in
+    let here : Checks h start end held.size hash held.root proof =
+    subst (λ (c : Checkpoint). Checks h start end c.size hash c.root proof) (sym same) checks in
+    let within = own.within in
+    let count : held.size ≤ length es = omega (arith, length-map es (λ (s : Bor Text). s.now)) in
+    let long : held.size ≡ length (take held.size es) = sym (length-take-le held.size es count) in
+    let root : held.root ≡ tree_hash h (texts (take held.size es)) =
+    sym own.root ∙ ap (tree_hash h) (sym (front_texts es held.size)) in
+    let one = subst (λ (n : ℕ). Checks h start end n hash held.root proof) long here in
+    let two = subst (λ (r : Hash). Checks h start end (length (take held.size es)) hash r proof)
+    root one in
+    subst (λ (p : List Hash). Checks h start end (length (take held.size es)) hash
+    (tree_hash h (texts (take held.size es))) p) (sym told) two
+
+size_there : (h : HashFunction) (steps : List Step) (k start end : ℕ)
+    → start < end → end ≤ (held_behind h steps k).size
+    → Contains (held_sizes steps) (held_behind h steps k).size
+size_there h steps k start end some within =
+    elim (size_held h (take k steps)) [
+      | inl none ↦
+          let size : (held_behind h steps k).size ≡ 0 = ap (λ (c : Checkpoint). c.size) none in
+          absurd (omega arith)
+      | inr there ↦ sizes_take steps k (held_behind h steps k).size there
+    ]
+
+pub sign_found : (h : HashFunction) (es : List (Bor Text)) (steps : List Step) (step : Step)
+    (k index start end : ℕ) (hash : Hash) (proof given : List Hash) (held : Checkpoint)
+    → AreSteps h steps → k < length steps → step ≡ get_or steps k step
+    → step ≡ Sign index start end hash proof
+    → HasFront h (texts es) (held_behind h steps k)
+    → held ≡ held_behind h steps k → given ≡ proof
+    → (f : Finding)
+    → Extracts h (tree_hash h (part_of (texts (take held.size es)) start end) ≡ hash)
+    (inputs_of h (texts (take held.size es)))
+    (open_inputs_of h start end (length (take held.size es)) true hash given) f
+    → Extracts h (IsOfList h (texts es) step) (front_inputs h (texts es) steps)
+    (proof_inputs h steps) f
+unfolding held_by
+sign_found h es steps step k index start end hash proof given held are below at is front same told
+    f e =
+    let here = found_at steps k step (Sign index start end hash proof) at is in
+    let checks = sign_checked h steps k index start end hash proof are below here in
+    let some = some_in start end checks.valid in
+    let within = checks.within in
+    let size : held.size ≡ (held_behind h steps k).size = ap (λ (c : Checkpoint). c.size) same in
+    let part = front_part es held.size start end (omega arith) (omega arith) in
+    let root = ap (tree_hash h) part in
+    let there = size_there h steps k start end some within in
+    let own = front.within in
+    let count : held.size ≤ length es = omega (arith, length-map es (λ (s : Bor Text). s.now)) in
+    let long : held.size ≡ length (take held.size es) = sym (length-take-le held.size es count) in
+    subst (λ (s : Step). Extracts h (IsOfList h (texts es) s) (front_inputs h (texts es) steps)
+    (proof_inputs h steps) f) (sym is) (go f e root there long here)
+  where
+    go : (f : Finding)
+        → Extracts h (tree_hash h (part_of (texts (take held.size es)) start end) ≡ hash)
+        (inputs_of h (texts (take held.size es)))
+        (open_inputs_of h start end (length (take held.size es)) true hash given) f
+        → tree_hash h (part_of (texts (take held.size es)) start end)
+        ≡ tree_hash h (part_of (texts es) start end)
+        → Contains (held_sizes steps) (held_behind h steps k).size
+        → held.size ≡ length (take held.size es)
+        → Sign index start end hash proof ≡ get_or steps k (Sign index start end hash proof)
+        → Extracts h (tree_hash h (part_of (texts es) start end) ≡ hash)
+        (front_inputs h (texts es) steps) (proof_inputs h steps) f
+    go Same e root there long here = sym root ∙ e
+    go (Pair x y) e root there long here = (
+      λ (own : tree_hash h (part_of (texts es) start end) ≡ hash). e.0 (root ∙ own),
+      collision_widened h (inputs_of h (texts (take held.size es)))
+          (open_inputs_of h start end (length (take held.size es)) true hash given)
+          (front_inputs h (texts es) steps) (proof_inputs h steps) x y
+          (λ (c : Contains (inputs_of h (texts (take held.size es))) x).
+          let one = subst (λ (xs : List Text). Contains (inputs_of h xs) x) (front_texts es held.size)
+          c in
+          let two = subst (λ (b : Checkpoint). Contains (inputs_of h (take b.size (texts es))) x) same
+          one in
+          front_at h (texts es) (held_sizes steps) (held_behind h steps k).size x there.0 there.1 there.2
+          two)
+          (λ (c : Contains (open_inputs_of h start end (length (take held.size es)) true hash given)
+          y).
+          let one = subst (λ (n : ℕ). Contains (open_inputs_of h start end n true hash given) y)
+          (sym long) c in
+          let two = subst (λ (p : List Hash). Contains (open_inputs_of h start end held.size true hash
+          p) y) told one in
+          let three = subst (λ (b : Checkpoint). Contains (open_inputs_of h start end b.size true hash
+          proof) y) same two in
+          inputs_at h (first_progress h) steps k (Sign index start end hash proof) y below here three)
+          e.1,
+    )
+
+pub shows_extracts : (h : HashFunction) (same : Type 0) (xs ys : List Text) (f : Finding)
+    → (same → ⊥) → Shows h xs ys f → Extracts h same xs ys f
+shows_extracts h same xs ys Same apart found = absurd found
+shows_extracts h same xs ys (Pair x y) apart found = (apart, found)

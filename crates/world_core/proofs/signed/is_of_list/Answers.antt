@@ -1,0 +1,8 @@
+use Rattle.world_core.proofs.Walks.{list_tested}
+use Rattle.world_core.proofs.signed.is_of_list.Goals as goal
+
+pub returns-in-Sign : goal.returns-in-Sign
+returns-in-Sign g c =
+    list_tested g.H.TreeHash.hash c.args.entries.now c.args.step.now c.in-Sign.index
+    c.in-Sign.start c.in-Sign.end c.in-Sign.hash c.in-Sign.proof c.eq.result c.list_hash.result
+    c.in-Sign.is c.list_hash.ensures c.eq.ensures

@@ -1,0 +1,21 @@
+//! One list of entries behind what cosigners have signed and relying parties have accepted.
+//!
+//! [`audit`] holds the acceptance of a certificate against a list of entries that has the
+//! landmark's hash, or the root of a cosigner that was counted. It shows that the certificate's
+//! entry and key stand at their index, or two different strings with one hash. [`walk`] does the
+//! same for one signature of a cosigner: through the kept proofs, from what the cosigner holds at
+//! last back to what it held when it signed.
+#![tactic(auto)]
+
+mod answer;
+mod auditing;
+mod front;
+mod record;
+mod recorded;
+mod settling;
+mod signed;
+mod wanted;
+
+pub use answer::Audit;
+pub use auditing::audit;
+pub use recorded::walk;

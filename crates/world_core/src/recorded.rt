@@ -1,0 +1,138 @@
+//! Audits of what cosigners have signed.
+ghost use Rattle.std.specs.Prelude.{◌≡◌, ◌<◌, length, Ok, Some, IfOk, slice_get, slice_index_or, true};
+ghost use Rattle.cert_fields.specs.Grammar.{IsCertificate};
+ghost use Rattle.cert_fields.specs.Views.{parts};
+ghost use Rattle.tree_core.specs.Evaluation.{evaluation};
+ghost use Rattle.tree_core.specs.Tree.{leaf_hash};
+ghost use Rattle.log_entry.specs.EntryOf.{entry_of};
+ghost use Rattle.mtc_proof.specs.Views.{proof_parts};
+ghost use Rattle.cosigner_core.specs.declared.step.Step.{Step};
+ghost use Rattle.policy_core.specs.declared.store.Store.{Store};
+ghost use Rattle.collide.specs.Extraction.{Extracts};
+ghost use Rattle.world_core.specs.Audit.{Settles, SettlesRecorded, has_own, is_sign_of};
+ghost use Rattle.world_core.specs.Walk.{AreSteps, HasFront, IsOfList, IsSign, front_inputs, held_by, proof_inputs};
+
+use crate::answer::Audit;
+use crate::record::recorded_at;
+use crate::settling::settle;
+use crate::signed::find_signed;
+use cert_fields::Cert;
+use collide::Finding;
+use cosigner_core::Export;
+use entry_list::Items;
+use log_entry::entry_of;
+use mtc_io::Memory;
+use mtc_proof::Proof;
+use policy_core::{Accepted, Store};
+use std::alloc::Global;
+use tree_core::TreeHash;
+
+/// Whether the list's own entries in the interval of a Sign have the signed hash, or else two
+/// different strings with one hash. The first is hashed in the tree hash of so many of the list's
+/// first entries as a checkpoint of the cosigner has, the second in the opening of its proofs.
+///
+/// The Sign is the step at the place `sign`, and the list begins with what the cosigner holds at
+/// last. The hashes of fronts of the list are few: the place is looked for by halves.
+pub fn walk<H: TreeHash>(
+    alloc: Global,
+    items: &Items<'_, H>,
+    kept: &Export,
+    sign: usize,
+) -> Result<Finding, Memory>
+    requires allowed { AreSteps H.hash kept.now.steps }
+    requires within { sign < length kept.now.steps }
+    requires sign { (step : Step) → slice_get kept.now.steps sign ≡ Some step → IsSign step }
+    requires whole { HasFront H.hash items.now.entries (held_by H.hash kept.now.steps) }
+    ensures { (step : Step) → slice_get kept.now.steps sign ≡ Some step → IfOk result
+        (Extracts H.hash (IsOfList H.hash items.now.entries step)
+        (front_inputs H.hash items.now.entries kept.now.steps)
+        (proof_inputs H.hash kept.now.steps)) }
+{
+    let steps = kept.steps.as_slice();
+    find_signed::<H>(alloc, items.entries(), steps, sign, &steps[sign])
+}
+
+// Whether the list has the certificate's entry at the accepted index, with its key.
+fn is_own<H: TreeHash>(
+    alloc: Global,
+    accepted: &Accepted,
+    cert: &Cert,
+    items: &Items<'_, H>,
+) -> Result<bool, Memory>
+    requires { accepted.now.index < length items.now.entries }
+    ensures { IfOk result (λ own. own ≡ has_own H.hash items.now accepted.now (parts cert.now)) }
+{
+    let entry = entry_of::<H>(alloc, cert)?;
+    let item = items.item(accepted.index as usize);
+    Ok(item.entry == entry.as_slice() && item.spki == cert.spki)
+}
+
+// The answer where the Sign at a place is of what was accepted.
+fn by_sign<H: TreeHash>(
+    alloc: Global,
+    accepted: &Accepted,
+    cert: &Cert,
+    proof: &Proof,
+    items: &Items<'_, H>,
+    kept: &Export,
+    place: usize,
+) -> Result<Audit, Memory>
+    requires certificate { IsCertificate (parts cert.now) }
+    requires path { evaluation H.hash (leaf_hash H.hash (entry_of H.hash (parts cert.now)))
+        accepted.now.index accepted.now.start accepted.now.end (proof_parts proof.now).path
+        ≡ Ok accepted.now.hash }
+    requires allowed { AreSteps H.hash kept.now.steps }
+    requires within { place < length kept.now.steps }
+    requires sign { (step : Step)
+        → is_sign_of accepted.now (slice_index_or kept.now.steps place step) ≡ true }
+    requires whole { HasFront H.hash items.now.entries (held_by H.hash kept.now.steps) }
+    ensures { IfOk result (λ answer. (store : Store) → Settles H.hash (record {
+      accepted = accepted.now;
+      cert = parts cert.now;
+      proof = proof_parts proof.now;
+      store = store;
+      items = items.now;
+      kept = Some kept.now;
+    }) answer) }
+{
+    if is_own(alloc, accepted, cert, items)? {
+        return Ok(Audit::Stands(accepted.index));
+    }
+    let steps = kept.steps.as_slice();
+    match find_signed::<H>(alloc, items.entries(), steps, place, &steps[place])? {
+        Finding::Same => settle(alloc, accepted, cert, proof, items),
+        Finding::Pair(one, other) => Ok(Audit::Pair(one, other)),
+    }
+}
+
+/// The answer where cosigners decided, and this was kept of one of them.
+pub(crate) fn by_record<H: TreeHash>(
+    alloc: Global,
+    set: u64,
+    accepted: &Accepted,
+    cert: &Cert,
+    proof: &Proof,
+    store: &Store,
+    items: &Items<'_, H>,
+    kept: &Export,
+) -> Result<Audit, Memory>
+    requires certificate { IsCertificate (parts cert.now) }
+    requires path { evaluation H.hash (leaf_hash H.hash (entry_of H.hash (parts cert.now)))
+        accepted.now.index accepted.now.start accepted.now.end (proof_parts proof.now).path
+        ≡ Ok accepted.now.hash }
+    requires allowed { AreSteps H.hash kept.now.steps }
+    requires whole { HasFront H.hash items.now.entries (held_by H.hash kept.now.steps) }
+    ensures { IfOk result (SettlesRecorded H.hash set kept.now (record {
+      accepted = accepted.now;
+      cert = parts cert.now;
+      proof = proof_parts proof.now;
+      store = store.now;
+      items = items.now;
+      kept = Some kept.now;
+    })) }
+{
+    match recorded_at(store, accepted, set, kept) {
+        Some(place) => by_sign(alloc, accepted, cert, proof, items, kept, place),
+        None => Ok(Audit::Unrecorded),
+    }
+}

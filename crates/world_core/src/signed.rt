@@ -1,0 +1,148 @@
+//! The walk from a signature to the list of entries behind it.
+ghost use Rattle.std.specs.Prelude.{◌≡◌, ◌<◌, ◌+◌, ◌↔◌, IsTrue, IfOk, length, slice_index_or};
+ghost use Rattle.cert_fields.specs.Views.{texts};
+ghost use Rattle.collide.specs.Extraction.{Extracts};
+ghost use Rattle.world_core.specs.Walk.{AreSteps, HasFront, IsOfList, IsSign, IsWithin, Shows, front_inputs, held_behind, proof_inputs};
+
+use crate::front::{has_front, held_by};
+use collide::{Finding, in_consistency, list_hash};
+use cosigner_core::Step;
+use mtc_io::Memory;
+use std::alloc::Global;
+use tree_core::TreeHash;
+
+// Whether the list's own entries in the interval of a Sign have the signed hash.
+fn is_of_list<H: TreeHash>(entries: &[&[u8]], step: &Step) -> bool
+    requires { IsWithin (length entries.now) step.now }
+    ensures { IsTrue result ↔ IsOfList H.hash (texts entries.now) step.now }
+{
+    match step {
+        Step::Advance { .. } => true,
+        Step::Sign {
+            start,
+            end,
+            hash,
+            ..
+        } => list_hash::<H, &[u8]>(&entries[*start as usize..*end as usize]) == *hash,
+    }
+}
+
+// The place of a step behind which the list begins with what is held, and before which it doesn't.
+// It is looked for by halves, so that few fronts of the list are hashed.
+fn parting<H: TreeHash>(entries: &[&[u8]], steps: &[Step], from: usize) -> usize
+    requires within { from < length steps.now }
+    requires apart { HasFront H.hash (texts entries.now) (held_behind H.hash steps.now from) → ⊥ }
+    requires whole { HasFront H.hash (texts entries.now)
+        (held_behind H.hash steps.now (length steps.now)) }
+    ensures within { result < length steps.now }
+    ensures apart { HasFront H.hash (texts entries.now) (held_behind H.hash steps.now result) → ⊥ }
+    ensures next { HasFront H.hash (texts entries.now)
+        (held_behind H.hash steps.now (result + 1)) }
+{
+    let mut low = from;
+    let mut high = steps.len();
+    while high - low > 1 {
+        let middle = low + (high - low) / 2;
+        if has_front::<H>(entries, &held_by::<H>(&steps[..middle])) {
+            high = middle;
+        } else {
+            low = middle;
+        }
+    }
+    low
+}
+
+// The list begins with what is held behind a step and not with what was held before it. So the step
+// is an Advance, and its proof shows two strings with one hash.
+fn at_advance<H: TreeHash>(
+    alloc: Global,
+    entries: &[&[u8]],
+    steps: &[Step],
+    place: usize,
+) -> Result<Finding, Memory>
+    requires allowed { AreSteps H.hash steps.now }
+    requires within { place < length steps.now }
+    requires apart { HasFront H.hash (texts entries.now) (held_behind H.hash steps.now place) → ⊥ }
+    requires next { HasFront H.hash (texts entries.now)
+        (held_behind H.hash steps.now (place + 1)) }
+    ensures { IfOk result (Shows H.hash (front_inputs H.hash (texts entries.now) steps.now)
+        (proof_inputs H.hash steps.now)) }
+{
+    let before = held_by::<H>(&steps[..place]);
+    match &steps[place] {
+        Step::Advance { size, proof, .. } => in_consistency::<H, &[u8]>(
+            alloc,
+            &entries[..*size as usize],
+            0,
+            before.size,
+            &before.root,
+            proof.as_slice(),
+        ),
+        Step::Sign { .. } => unreachable!(),
+    }
+}
+
+// The list begins with what is held where a Sign was made. So its own entries in the interval have
+// the signed hash, or the proof of the Sign shows two strings with one hash.
+fn at_sign<H: TreeHash>(
+    alloc: Global,
+    entries: &[&[u8]],
+    steps: &[Step],
+    place: usize,
+    step: &Step,
+) -> Result<Finding, Memory>
+    requires allowed { AreSteps H.hash steps.now }
+    requires within { place < length steps.now }
+    requires step { step.now ≡ slice_index_or steps.now place step.now }
+    requires sign { IsSign step.now }
+    requires front { HasFront H.hash (texts entries.now) (held_behind H.hash steps.now place) }
+    ensures { IfOk result (Extracts H.hash (IsOfList H.hash (texts entries.now) step.now)
+        (front_inputs H.hash (texts entries.now) steps.now) (proof_inputs H.hash steps.now)) }
+{
+    let held = held_by::<H>(&steps[..place]);
+    match step {
+        Step::Advance { .. } => unreachable!(),
+        Step::Sign {
+            start,
+            end,
+            hash,
+            proof,
+            ..
+        } => in_consistency::<H, &[u8]>(
+            alloc,
+            &entries[..held.size as usize],
+            *start,
+            *end,
+            hash,
+            proof.as_slice(),
+        ),
+    }
+}
+
+/// Whether the list's own entries in the interval of the Sign at a place have the signed hash, or
+/// else two strings with one hash.
+pub(crate) fn find_signed<H: TreeHash>(
+    alloc: Global,
+    entries: &[&[u8]],
+    steps: &[Step],
+    place: usize,
+    step: &Step,
+) -> Result<Finding, Memory>
+    requires allowed { AreSteps H.hash steps.now }
+    requires within { place < length steps.now }
+    requires step { step.now ≡ slice_index_or steps.now place step.now }
+    requires sign { IsSign step.now }
+    requires whole { HasFront H.hash (texts entries.now)
+        (held_behind H.hash steps.now (length steps.now)) }
+    ensures { IfOk result (Extracts H.hash (IsOfList H.hash (texts entries.now) step.now)
+        (front_inputs H.hash (texts entries.now) steps.now) (proof_inputs H.hash steps.now)) }
+{
+    if is_of_list::<H>(entries, step) {
+        return Ok(Finding::Same);
+    }
+    if has_front::<H>(entries, &held_by::<H>(&steps[..place])) {
+        return at_sign::<H>(alloc, entries, steps, place, step);
+    }
+    let parting = parting::<H>(entries, steps, place);
+    at_advance::<H>(alloc, entries, steps, parting)
+}
