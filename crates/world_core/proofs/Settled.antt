@@ -51,9 +51,10 @@ use Rattle.collide.specs.Inputs.{eval_inputs_of, inputs_of}
 use Rattle.collide.specs.declared.finding.Finding.{Finding}
 use Rattle.collide.specs.declared.finding.Finding.TheVariants.{Pair as Found, Same}
 use Rattle.collide.proofs.Compared.{collision_widened}
-use Rattle.world_core.specs.Audit.{AuditCase, HasInterval, Settles, WasJudged, listed_entry, firsts_of}
+use Rattle.world_core.specs.Audit.{AuditCase, HasInterval, Settles, WasJudged, firsts_of}
 use Rattle.world_core.specs.Audit.{foreign_in, front_inputs_of, has_own, hash_there, is_lacking}
-use Rattle.world_core.specs.Audit.{is_sign_of, listed_key, of_checkpoint, of_interval, proof_inputs_of}
+use Rattle.world_core.specs.Audit.{is_sign_of, listed_entry, listed_key, of_checkpoint}
+use Rattle.world_core.specs.Audit.{of_interval, proof_inputs_of}
 use Rattle.world_core.specs.Audit.{IsAudit, IsForeign, SettlesRecorded, foreign_of, is_recorded}
 use Rattle.world_core.specs.Audit.{is_recorded_by, is_supported, seconds_of, wanted_hash}
 use Rattle.world_core.specs.Walk.{AreSteps, HasFront, IsOfList, IsSign, IsWithin, front_inputs}
@@ -81,7 +82,8 @@ eval_inside h leaf index start end path value e =
     if not (nat_le start index && nat_lt index end) then Err Outside else rest in
     let one = guard_ok (not (is_subtree start end)) BadSubtree inner value e in
     let two = guard_ok (not (nat_le start index && nat_lt index end)) Outside rest value one.1 in
-    let both = and_parts (nat_le start index) (nat_lt index end) (not_no (nat_le start index && nat_lt index end) two.0) in
+    let test = not_no (nat_le start index && nat_lt index end) two.0 in
+    let both = and_parts (nat_le start index) (nat_lt index end) test in
     (leb-true start index both.0, ltb-true index end both.1)
 
 pub judged_path : (h : HashFunction) (store : Store) (c : Parts) (p : ProofParts) (a : Accepted)
@@ -153,7 +155,9 @@ not_foreign h entries w e =
     w.hash)) none in
     record {
       within = ltb-false (length entries) w.end two.0;
-      root = (bytes_eq-Decides (hash_there h entries w) w.hash).0 (not_no (bytes_eq (hash_there h entries w) w.hash) two.1);
+      root =
+          (bytes_eq-Decides (hash_there h entries w) w.hash).0
+          (not_no (bytes_eq (hash_there h entries w) w.hash) two.1);
     }
 
 pub interval_there : (h : HashFunction) (items : ItemLists) (a : Accepted)
@@ -303,7 +307,8 @@ sign_settles h x e entries given one other f same kept is told found own shown =
     let a = x.accepted in
     let fronts : front_inputs_of h x.items.entries x.kept ≡ front_inputs h x.items.entries e.steps =
     ap (front_inputs_of h x.items.entries) kept in
-    let proofs : proof_inputs_of h x.kept ≡ proof_inputs h e.steps = ap (proof_inputs_of h) kept in (
+    let proofs : proof_inputs_of h x.kept ≡ proof_inputs h e.steps =
+    ap (proof_inputs_of h) kept in (
       own,
       collision_widened h (front_inputs h x.items.entries e.steps) (proof_inputs h e.steps)
           (firsts_of h x) (seconds_of h x) one other

@@ -1,6 +1,7 @@
 -- Steps of a cosigner: what is held behind each, and what their proofs show.
 use Rattle.std.proofs.Common.{◌≡◌, ◌⊎◌, ℕ, zero, suc, ◌+◌, ◌<◌, ◌≤◌, Bool, true, false, List, []}
-use Rattle.std.proofs.Common.{◌∷◌, ◌++◌, length, get_or, take, Some, None, refl, sym, ap, subst, ◌∙◌}
+use Rattle.std.proofs.Common.{◌∷◌, ◌++◌, length, get_or, take, Some, None, refl, sym, ap}
+use Rattle.std.proofs.Common.{subst, ◌∙◌}
 use Rattle.std.proofs.Common.{arith, eqb-true, ltb-true, inl, inr}
 use Rattle.std.specs.Prelude.{Option, option_and_then, if◌then◌else◌, nat_lt, ◌==◌, is_ok}
 use Rattle.std.specs.Prelude.{Result, Ok, Err}
@@ -127,13 +128,15 @@ size_at (Sign a b c d e ∷ steps) (suc k) size root proof below is =
     size_at steps k size root proof (omega arith) is
 
 size_from : (p : Progress) (steps : List Step)
-    → ((with_steps p steps).held ≡ p.held) ⊎ Contains (held_sizes steps) (with_steps p steps).held.size
+    → ((with_steps p steps).held ≡ p.held)
+    ⊎ Contains (held_sizes steps) (with_steps p steps).held.size
 unfolding held_sizes with_steps
 size_from p [] = inl refl
 size_from p (Advance a b c ∷ steps) =
     let q : Progress = with_step p (Advance a b c) in
     elim (size_from q steps) [
-      | inl e ↦ inr (subst (Contains (a ∷ held_sizes steps)) (sym (ap (λ (c : Checkpoint). c.size) e))
+      | inl e ↦ inr (subst (Contains (a ∷ held_sizes steps))
+          (sym (ap (λ (c : Checkpoint). c.size) e))
           (first_in a (held_sizes steps)))
       | inr c ↦ inr (later_in a (with_steps q steps).held.size (held_sizes steps) c)
     ]
@@ -178,7 +181,8 @@ front_shown : (h : HashFunction) (held : Checkpoint) (size : ℕ) (root : Hash) 
     → is_front_of h held size root proof ≡ true
     → (held.size ≡ 0) ⊎ Checks h 0 held.size size held.root root proof
 front_shown h held size root proof e =
-    elim (chosen (held.size == 0) (length proof == 0) (is_ok (consistency h 0 held.size size held.root
+    elim (chosen (held.size == 0) (length proof == 0) (is_ok (consistency h 0 held.size size
+    held.root
     root proof)) true e) [
       | inl c ↦ inl (eqb-true held.size 0 c.0)
       | inr c ↦ inr ((PassesWhereChecks_always h 0 held.size size held.root root proof).0

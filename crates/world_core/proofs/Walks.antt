@@ -164,7 +164,8 @@ advance_grown h es steps k size root proof are below is apart =
     let first = first_progress h in
     let allowed = allowed_at h are.keys first are.done steps k (Advance size root proof) are.each
     below is in
-    let known = advance_checks h are.keys (with_steps first (take k steps)) size root proof allowed in
+    let before = with_steps first (take k steps) in
+    let known = advance_checks h are.keys before size root proof allowed in
     record {
       more = known.more;
       checks = elim known.shown [
@@ -377,22 +378,25 @@ sign_found h es steps step k index start end hash proof given held are below at 
           (open_inputs_of h start end (length (take held.size es)) true hash given)
           (front_inputs h (texts es) steps) (proof_inputs h steps) x y
           (λ (c : Contains (inputs_of h (texts (take held.size es))) x).
-          let one = subst (λ (xs : List Text). Contains (inputs_of h xs) x) (front_texts es held.size)
+          let one = subst (λ (xs : List Text). Contains (inputs_of h xs) x)
+          (front_texts es held.size)
           c in
-          let two = subst (λ (b : Checkpoint). Contains (inputs_of h (take b.size (texts es))) x) same
+          let two = subst (λ (b : Checkpoint). Contains (inputs_of h (take b.size (texts es))) x)
+          same
           one in
-          front_at h (texts es) (held_sizes steps) (held_behind h steps k).size x there.0 there.1 there.2
+          front_at h (texts es) (held_sizes steps) (held_behind h steps k).size x there.0 there.1
+          there.2
           two)
           (λ (c : Contains (open_inputs_of h start end (length (take held.size es)) true hash given)
           y).
           let one = subst (λ (n : ℕ). Contains (open_inputs_of h start end n true hash given) y)
           (sym long) c in
-          let two = subst (λ (p : List Hash). Contains (open_inputs_of h start end held.size true hash
-          p) y) told one in
-          let three = subst (λ (b : Checkpoint). Contains (open_inputs_of h start end b.size true hash
-          proof) y) same two in
-          inputs_at h (first_progress h) steps k (Sign index start end hash proof) y below here three)
-          e.1,
+          let two = subst (λ (p : List Hash). Contains (open_inputs_of h start end held.size true
+          hash p) y) told one in
+          let three = subst (λ (b : Checkpoint). Contains (open_inputs_of h start end b.size true
+          hash proof) y) same two in
+          inputs_at h (first_progress h) steps k (Sign index start end hash proof) y below here
+          three) e.1,
     )
 
 pub shows_extracts : (h : HashFunction) (same : Type 0) (xs ys : List Text) (f : Finding)

@@ -129,7 +129,8 @@ listed_key items index = slice_index_or items.keys index []
 -- The list has the certificate's entry at the accepted index, with the certificate's key.
 abbrev pub has_own : HashFunction → ItemLists → Accepted → Parts → Bool
 has_own h items a c =
-    bytes_eq (listed_entry items a.index) (entry_of h c) && bytes_eq (listed_key items a.index) c.spki
+    bytes_eq (listed_entry items a.index) (entry_of h c)
+    && bytes_eq (listed_key items a.index) c.spki
 
 -- ---- two texts
 

@@ -23,10 +23,10 @@ use tree_core::TreeHash;
 ///
 /// `Foreign` where a hash is wanted and the list is too short or has another: by a landmark the
 /// accepted hash of the interval, by cosigners the tree hash of all that the cosigner holds at
-/// last, if one was kept. `Unrecorded` where cosigners decided and none was kept, or it is of another log
-/// or of a cosigner that doesn't count, or none of its Signs is of the interval with the accepted
-/// hash. `Stands` where the list's item at the index is the certificate's entry and key. `Pair` in
-/// all other cases.
+/// last, if one was kept. `Unrecorded` where cosigners decided and none was kept, or it is of
+/// another log or of a cosigner that doesn't count, or none of its Signs is of the interval with
+/// the accepted hash. `Stands` where the list's item at the index is the certificate's entry and
+/// key. `Pair` in all other cases.
 pub fn audit<H: TreeHash>(
     alloc: Global,
     accepted: &Accepted,
