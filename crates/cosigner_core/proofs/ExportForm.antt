@@ -19,9 +19,11 @@ use Rattle.tls_wire.specs.Spelling.{number, vector}
 use Rattle.tls_wire.proofs.AnchorForm.{anchor_takes}
 use Rattle.tls_wire.proofs.Numbers.{wide8, wide16, wide32}
 use Rattle.tls_wire.proofs.Vectors.{vector_form}
-use Rattle.cosigner_core.specs.ExportReading.{IsExport, all_exported_at, allowed_step, export_front_at}
+use Rattle.cosigner_core.specs.ExportReading.{IsExport, all_exported_at, allowed_step}
+use Rattle.cosigner_core.specs.ExportReading.{export_front_at}
 use Rattle.cosigner_core.specs.ExportReading.{export_id_at, export_in, export_key_at, export_with}
-use Rattle.cosigner_core.specs.ExportReading.{exported_at, exported_text, short_export, signing_keys}
+use Rattle.cosigner_core.specs.ExportReading.{exported_at, exported_text, short_export}
+use Rattle.cosigner_core.specs.ExportReading.{signing_keys}
 use Rattle.cosigner_core.specs.ExportReading.{steps_left}
 use Rattle.cosigner_core.specs.Exports.{front_text, records_text}
 use Rattle.cosigner_core.specs.Progress.{first_progress, is_allowed, progress_by, with_step}
@@ -245,6 +247,7 @@ export_takes h bytes e are is =
           let P : Export → Type 0 = λ f. (bytes ≡ exported_text f) × IsExport h f in
           subst P (some_value (export_with s.0.0 t.0) e
           (ok_is ReadExportError (Some (export_with s.0.0 t.0)) (Some e) t.2))
-          (subst (λ (xs : List Step). P (export_with s.0.0 xs)) (ok_is ReadExportError v.0.0 t.0 v.2)
+          (subst (λ (xs : List Step). P (export_with s.0.0 xs))
+          (ok_is ReadExportError v.0.0 t.0 v.2)
           (text, made))
     ]

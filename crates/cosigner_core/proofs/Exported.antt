@@ -1,6 +1,7 @@
 -- The export of a cosigner: what stands before its records, and the records behind the first one.
 use Rattle.std.proofs.Common.{◌≡◌, ℕ, ◌+◌, ◌≤◌, false, Bool, List, [], ◌∷◌, length, drop}
-use Rattle.std.proofs.Common.{Option, Some, None, IfSome, OnOk, option_map, Result, Ok, Err, refl, sym, ap}
+use Rattle.std.proofs.Common.{Option, Some, None, IfSome, OnOk, option_map, Result, Ok, Err, refl}
+use Rattle.std.proofs.Common.{sym, ap}
 use Rattle.std.proofs.Common.{◌∙◌, subst, arith}
 use Rattle.std.specs.Io.KnownBytes.{Appends}
 use Rattle.std.proofs.KnownBytes.{Appends-trans}

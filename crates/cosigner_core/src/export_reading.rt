@@ -3,7 +3,7 @@ ghost use Rattle.std.specs.Prelude.{◌≡◌, ◌<◌, ◌++◌, [], ◌∷◌,
 ghost use Rattle.std.specs.Int.{w32};
 ghost use Rattle.byte_forms.specs.Readings.{Answers, Moves};
 ghost use Rattle.tls_wire.specs.Reading.{vector_at};
-ghost use Rattle.cosigner_core.specs.ExportReading.{MovesUnless, export_id_at, export_in, export_key_at, exported_at, signing_keys, steps_left};
+ghost use Rattle.cosigner_core.specs.ExportReading.{MovesUnless, export_front_at, export_id_at, export_in, export_key_at, exported_at, signing_keys, steps_left};
 ghost use Rattle.cosigner_core.specs.Progress.{with_step};
 ghost use Rattle.cosigner_core.specs.Views.{step_said};
 ghost use Rattle.cosigner_core.specs.declared.error.ReadExportError.TheVariants.{Memory as NoRoom};
@@ -67,6 +67,21 @@ fn read_public(cursor: &mut Cursor<'_>) -> Result<([u8; PUBLIC_KEY_LEN], u32), R
     let mut public = [0; PUBLIC_KEY_LEN];
     public.copy_from_slice(bytes);
     Ok((public, keys))
+}
+
+// The two ids, the public key, and the number of its one-time keys.
+#[tactic(auto, unfolding(crate::specs::ExportReading::export_front_at))]
+fn read_front(
+    alloc: Global,
+    cursor: &mut Cursor<'_>,
+) -> Result<(AnchorId, AnchorId, [u8; PUBLIC_KEY_LEN], u32), ReadExportError>
+    ensures { MovesUnless NoRoom (λ x. (x.0, (x.1, (x.2, x.3)))) export_front_at cursor.old
+        result cursor.new }
+{
+    let cosigner = read_id(alloc, cursor)?;
+    let log = read_id(alloc, cursor)?;
+    let (public, keys) = read_public(cursor)?;
+    Ok((cosigner, log, public, keys))
 }
 
 // The record with this number, and the progress behind it.
@@ -154,7 +169,7 @@ fn read_steps<H: TreeHash>(
 /// isn't one of one level whose tree has height 5 or 10; `BadRecord` with the number, counted from
 /// 1, of a record that says no step, or one that is not allowed behind those before it. `Memory`
 /// comes in place of anything.
-#[tactic(auto, unfolding(crate::specs::ExportReading::export_in, crate::specs::ExportReading::export_front_at))]
+#[tactic(auto, unfolding(crate::specs::ExportReading::export_in))]
 pub fn read_export<H: TreeHash>(
     alloc: Global,
     bytes: &[u8],
@@ -165,9 +180,7 @@ pub fn read_export<H: TreeHash>(
         return Ok(None);
     }
     let mut cursor = Cursor::new(bytes);
-    let cosigner = read_id(alloc, &mut cursor)?;
-    let log = read_id(alloc, &mut cursor)?;
-    let (public, keys) = read_public(&mut cursor)?;
+    let (cosigner, log, public, keys) = read_front(alloc, &mut cursor)?;
     let steps = read_steps::<H>(alloc, cursor, keys)?;
     Ok(Some(Export {
         cosigner,
