@@ -7,7 +7,7 @@ use Rattle.disk_core.specs.declared.disk.Disk.{Ghosts as Disks}
 use Rattle.mtc_io.specs.Counts.{Rose}
 use Rattle.mtc_room.specs.declared.room.Room.{Ghosts as Rooms}
 use Rattle.mtc_answers.specs.Answers.{Ending, replied, room_failed, no_memory, refused}
-use Rattle.mtc_answers.specs.Endings.{IsAmong}
+use Rattle.mtc_answers.specs.Endings.{IsNamed}
 use Rattle.mtc_answers.specs.Served.{GivesBack, HasDone}
 use Rattle.mtc_answers.specs.Steps.{Outcome, answers, with_bytes}
 use Rattle.mtc_answers.specs.declared.answer.Stopped.TheVariants.{Missing, Beyond}
@@ -30,7 +30,7 @@ module _ {R S D : Type 0} (rooms : Rooms R S D) (disks : Disks D) (limit : ℕ) 
     (old new : R) where
   -- it is so of each command that begins so
   abbrev pub Done : Ending → Type 0
-  Done ending = (files names : List (List ℕ)) (next : List ℕ → Outcome) → IsAmong files name
+  Done ending = (files names : List (List ℕ)) (next : List ℕ → Outcome) → IsNamed files name
       → HasDone rooms disks ⊥ files names (with_bytes limit name (rooms.file old name) next) old new
       ending
 

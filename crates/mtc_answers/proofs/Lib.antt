@@ -2,3 +2,4 @@ pub mod Made
 pub mod Served
 pub mod Inputs
 pub mod Works
+pub mod Valid

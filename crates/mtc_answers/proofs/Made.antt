@@ -57,7 +57,7 @@ module _ {D : Type 0} (g : Ghosts D) where
   later_still old mid new P looks run = omega (arith, looks.moments.later, run.later)
 
   -- what was only looked at
-  looked : (old mid new : D) → Looks g old mid → OnlyLooks g mid new → Looks g old new
+  pub looked : (old mid new : D) → Looks g old mid → OnlyLooks g mid new → Looks g old new
   looked old mid new looks only = elim only [
     | inl same ↦ subst (Looks g old) (sym same) looks
     | inr more ↦ looked_on g old mid new looks more

@@ -6,7 +6,7 @@ use Rattle.mtc_io.specs.Counts.{Rose}
 use Rattle.mtc_room.specs.declared.room.Room.{Ghosts as Rooms}
 use Rattle.mtc_answers.specs.Answers.{Ending, replied, room_failed, no_memory, IfReply, Reply}
 use Rattle.mtc_answers.specs.Answers.{status_of, IsEarly}
-use Rattle.mtc_answers.specs.Endings.{FailedOnly, IsAmong, LeftBy, Replies}
+use Rattle.mtc_answers.specs.Endings.{FailedOnly, IsNamed, LeftBy, Replies}
 use Rattle.mtc_answers.specs.Made.{Journaled, untouched, Leaves}
 use Rattle.mtc_answers.specs.Served.{Journals, OfEach, done_with, GivesBack}
 use Rattle.mtc_answers.specs.Served.{LeavesEach, LeavesJournals, HasDone}
@@ -71,7 +71,7 @@ reply_so (room_failed file) P Q so is = tt
 reply_so no_memory P Q so is = tt
 
 pub failed_so : (ending : Ending) (Fault Fault' : Type 0) (files files' : List (List ℕ))
-    → (Fault → Fault') → ((file : List ℕ) → IsAmong files file → IsAmong files' file)
+    → (Fault → Fault') → ((file : List ℕ) → IsNamed files file → IsNamed files' file)
     → FailedOnly Fault files ending → FailedOnly Fault' files' ending
 failed_so (replied reply) Fault Fault' files files' so more is = tt
 failed_so (room_failed file) Fault Fault' files files' so more is = (so is.0, more file is.1)
@@ -106,7 +106,7 @@ module _ {R S D : Type 0} (rooms : Rooms R S D) (disks : Disks D) where
         })
 
     pub behind : (rooms.tells old → wanted' ≡ wanted)
-        → ((file : List ℕ) → IsAmong files' file → IsAmong files file)
+        → ((file : List ℕ) → IsNamed files' file → IsNamed files file)
         → HasDone rooms disks ⊥ files' names wanted' mid new ending
         → HasDone rooms disks ⊥ files names wanted old new ending
     behind same more done = record {

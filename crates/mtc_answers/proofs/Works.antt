@@ -1,6 +1,6 @@
 -- The work on a journal's device: from the device as it was opened to the one that was lent, and
 -- from that to the room.
-use Rattle.std.proofs.Common.{◌≡◌, ◌≢◌, ◌≤◌, ◌<◌, inl, inr, ℕ, List, [], ◌∷◌, ◌++◌, Option, None}
+use Rattle.std.proofs.Common.{◌≡◌, ◌≤◌, inl, inr, ℕ, List, [], ◌∷◌, ◌++◌, Option, None}
 use Rattle.std.proofs.Common.{Some}
 use Rattle.std.proofs.Common.{IfSome, IsSome, option_map, subst, sym, ◌∙◌, ap, refl, arith, rules}
 use Rattle.std.proofs.lemmas.Option.{IfSome_then}
@@ -13,14 +13,14 @@ use Rattle.mtc_room.specs.Room.{LendsBytes}
 use Rattle.mtc_room.specs.declared.room.Room.{Ghosts as Rooms}
 use Rattle.mtc_answers.specs.Answers.{Ending, replied, room_failed, no_memory, IfReply, Reply}
 use Rattle.mtc_answers.specs.Answers.{said, status_of, IsEarly}
-use Rattle.mtc_answers.specs.Endings.{AddsBy, FailedOnly, IsAmong, LeftBy, Replies}
+use Rattle.mtc_answers.specs.Endings.{AddsBy, FailedOnly, IsNamed, LeftBy, Replies}
 use Rattle.mtc_answers.specs.Made.{IsOpen, Journaled, Leaves, OnlyLooks, untouched}
 use Rattle.mtc_answers.specs.Served.{HasServed}
 use Rattle.mtc_answers.specs.Steps.{Outcome, answers, answers_on, appends, with_file}
 use Rattle.mtc_answers.specs.Wanted.{Meets, exactly}
 use Rattle.mtc_answers.specs.declared.answer.Said.TheVariants.{Done}
-use Rattle.mtc_answers.specs.Works.{HasEnded, HasLent, HasTaken, HasWorked, HasWorkedOn}
-use Rattle.mtc_answers.specs.Works.{journal_of}
+use Rattle.mtc_answers.specs.Works.{HasFinished, HasLent, HasTaken, HasWorked, HasWorkedOn}
+use Rattle.mtc_answers.specs.Works.{journaled_by}
 use Rattle.mtc_answers.proofs.Made.{ReadsImage, kept_of, left_kept, left_lent, worked}
 use Rattle.mtc_answers.proofs.Served.{failed_so, reply_so}
 
@@ -99,13 +99,13 @@ module _ {D : Type 0} (g : Ghosts D) (name : List ℕ) (list : Option (List (Lis
     reply = reply_so ending _ _ (λ reply is. both_some list same is (λ records equal meets.
         subst (λ (o : Outcome). Meets o.answer reply) equal meets)) work.reply;
     adds = both_some list same work.adds (λ records equal adds opened.
-        subst (λ o. AddsBy g ending (journal_of o) mid new) equal (adds opened));
+        subst (λ o. AddsBy g ending (journaled_by o) mid new) equal (adds opened));
   }
 
 -- The device was opened, which only looked at it: mid, where its records were found.
 module _ {D : Type 0} (g : Ghosts D) (name : List ℕ) (says : List ℕ → Outcome)
     (next : List (List ℕ) → Outcome) (old mid new : D) where
-  opened_at : (P : Outcome → Type 0) (told x : Option (List ℕ)) → g.told mid ≡ x → x ≡ told
+  pub opened_at : (P : Outcome → Type 0) (told x : Option (List ℕ)) → g.told mid ≡ x → x ≡ told
       → IfSome told (λ b. IfSome (option_map records_of x) (λ list. says b ≡ next list))
       → IfSome x (λ b. IfSome (option_map records_of x) (StandsFor b))
       → IfSome (option_map records_of x) (AllStandFor g mid)
@@ -120,9 +120,9 @@ module _ {D : Type 0} (g : Ghosts D) (name : List ℕ) (says : List ℕ → Outc
   list = option_map records_of (g.told mid)
 
   no_early : (ending : Ending)
-      → IfSome list (λ l. IsOpen g mid l → AddsBy g ending (journal_of (next l)) mid new)
+      → IfSome list (λ l. IsOpen g mid l → AddsBy g ending (journaled_by (next l)) mid new)
       → IfReply ending (λ reply. IfSome list (λ l. IsOpen g mid l
-      → journal_of (next l) ≡ untouched → IsEarly (status_of reply)))
+      → journaled_by (next l) ≡ untouched → IsEarly (status_of reply)))
   no_early (replied reply) adds = IfSome_then list adds (λ l made opened is.
       absurd (subst (λ did. AddsBy g (replied reply) did mid new) is (made opened)))
   no_early (room_failed file) adds = tt
@@ -144,12 +144,12 @@ module _ {D : Type 0} (g : Ghosts D) (name : List ℕ) (says : List ℕ → Outc
     reply = reply_so ending _ _ (λ reply is. opened_at (λ o. Meets o.answer reply) (g.told old)
         (g.told mid) refl looks.told found stands all
         (IfSome_then list is (λ l meets opened. meets))) work.reply;
-    left = opened_at (λ o. Leaves g (LeftBy ending (journal_of o)) (Some old) (Some new))
+    left = opened_at (λ o. Leaves g (LeftBy ending (journaled_by o)) (Some old) (Some new))
         (g.told old) (g.told mid) refl looks.told found stands all
         (IfSome_then list work.adds (λ l made opened.
-        worked g old mid new ending (journal_of (next l)) image looks (made opened)));
+        worked g old mid new ending (journaled_by (next l)) image looks (made opened)));
     early = reply_so ending _ _ (λ reply is. opened_at
-        (λ o. journal_of o ≡ untouched → IsEarly (status_of reply)) (g.told old) (g.told mid)
+        (λ o. journaled_by o ≡ untouched → IsEarly (status_of reply)) (g.told old) (g.told mid)
         refl looks.told found stands all is) (no_early ending work.adds);
   }
 
@@ -164,15 +164,15 @@ module _ {D : Type 0} (g : Ghosts D) (name : List ℕ) (says : List ℕ → Outc
   refused_left : (ending : Ending)
       → IfReply ending (λ reply. IfSome (g.told old) (λ b. says b ≡ answers reply))
       → IfSome (g.told old) (λ b.
-      Leaves g (LeftBy ending (journal_of (says b))) (Some old) (Some new))
+      Leaves g (LeftBy ending (journaled_by (says b))) (Some old) (Some new))
   refused_left (replied reply) is = IfSome_then (g.told old) is
-      (λ b same. kept (replied reply) (journal_of (says b)) (ap journal_of same))
+      (λ b same. kept (replied reply) (journaled_by (says b)) (ap journaled_by same))
   refused_left (room_failed file) is = each_some (g.told old) _
-      (λ b. kept (room_failed file) (journal_of (says b)) tt)
+      (λ b. kept (room_failed file) (journaled_by (says b)) tt)
   refused_left no_memory is = each_some (g.told old) _
-      (λ b. kept no_memory (journal_of (says b)) tt)
+      (λ b. kept no_memory (journaled_by (says b)) tt)
 
-  pub not_opened : (ending : Ending) → HasEnded g name old new ending
+  pub not_opened : (ending : Ending) → HasFinished g name old new ending
       → IfReply ending (λ reply. IsEarly (status_of reply))
       → IfReply ending (λ reply. IfSome (g.told old) (λ b. says b ≡ answers reply))
       → HasWorkedOn g name says old new ending
@@ -189,7 +189,7 @@ rose_with : (before count : ℕ) → Rose 0 count → Rose before (with_count be
 rose_with before count rose = search rules
 
 -- a fact of the bytes that were lent is one of the file
-of_bytes : (P : Outcome → Type 0) (name : List ℕ) (file told : Option (List ℕ))
+pub of_bytes : (P : Outcome → Type 0) (name : List ℕ) (file told : Option (List ℕ))
     (says : List ℕ → Outcome) → LendsBytes file told
     → IfSome told (λ bytes. P (says bytes)) → P (with_file name file says)
 of_bytes P name None told says lends is =
@@ -204,7 +204,7 @@ module _ {R S D : Type 0} (rooms : Rooms R S D) (g : Ghosts D) (name : List ℕ)
   wanted = with_file name (rooms.file old name) says
 
   fault_of : HasLent rooms g name old mid d → HasTaken rooms g name mid new e
-      → IsAmong files name → FailedOnly (Rose (g.faults d) (g.faults e)) (name ∷ []) ending
+      → IsNamed files name → FailedOnly (Rose (g.faults d) (g.faults e)) (name ∷ []) ending
       → FailedOnly (Rose (rooms.faults old) (rooms.faults new)) files ending
   fault_of lent taken among =
       failed_so ending _ _ (name ∷ []) files
@@ -213,13 +213,13 @@ module _ {R S D : Type 0} (rooms : Rooms R S D) (g : Ghosts D) (name : List ℕ)
       (rose_with (rooms.faults mid) (g.faults e)
       (subst (λ n. Rose n (g.faults e)) lent.begins rose))))
       (λ file is. elim is [
-        | inl same ↦ subst (IsAmong files) (sym same) among
+        | inl same ↦ subst (IsNamed files) (sym same) among
         | inr never ↦ absurd never
       ])
 
   -- a journal was lent, worked on and given back
   pub served : HasLent rooms g name old mid d → HasWorkedOn g name says d e ending
-      → HasTaken rooms g name mid new e → IsAmong files name
+      → HasTaken rooms g name mid new e → IsNamed files name
       → HasServed rooms g files name wanted old new ending
   served lent worked taken among = record {
     back = record {
@@ -239,7 +239,7 @@ module _ {R S D : Type 0} (rooms : Rooms R S D) (g : Ghosts D) (name : List ℕ)
       fault = fault_of lent taken among worked.ends.fault;
       early = reply_so ending _ _ (λ reply is t. (
         of_bytes
-            (λ o. journal_of o ≡ untouched → IsEarly (status_of reply)) name _ _ says
+            (λ o. journaled_by o ≡ untouched → IsEarly (status_of reply)) name _ _ says
             (lent.bytes t) is,
         tt,
       )) worked.early;
@@ -248,11 +248,11 @@ module _ {R S D : Type 0} (rooms : Rooms R S D) (g : Ghosts D) (name : List ℕ)
       no_file = (λ on none. taken.none (lent.tells t) ((lent.stay name).bytes ∙ none), tt);
       unmade = λ memory. (λ none. taken.none (lent.tells t) ((lent.stay name).bytes ∙ none), tt);
       left = (
-        left_lent g ending (journal_of wanted) _ _ d e (lent.device t)
+        left_lent g ending (journaled_by wanted) _ _ d e (lent.device t)
             (taken.device (lent.tells t)
             (subst IsSome (sym (lent.stay name).bytes) (lent.bytes t).there))
-            (of_bytes (λ o. Leaves g (LeftBy ending (journal_of o)) (Some d) (Some e)) name _ _ says
-            (lent.bytes t) worked.left),
+            (of_bytes (λ o. Leaves g (LeftBy ending (journaled_by o)) (Some d) (Some e)) name _ _
+            says (lent.bytes t) worked.left),
         tt,
       );
     };

@@ -8,7 +8,7 @@ use Rattle.mtc_answers.specs.declared.answer.Said.{Said}
 use Rattle.mtc_answers.specs.declared.answer.Said.TheVariants.{Done, Against}
 use Rattle.mtc_answers.specs.declared.answer.Stopped.{Stopped}
 use Rattle.mtc_answers.specs.declared.answer.Stopped.TheVariants.{BadWords, BadForm}
-use Rattle.mtc_answers.specs.declared.answer.Stopped.TheVariants.{Refused as NotAllowed}
+use Rattle.mtc_answers.specs.declared.answer.Stopped.TheVariants.{NotAllowed}
 use Rattle.mtc_answers.specs.declared.answer.Stopped.TheVariants.{Missing, Beyond}
 use Rattle.mtc_answers.specs.declared.answer.Answer.{Answer}
 use Rattle.mtc_answers.specs.declared.answer.More.{More}
@@ -84,11 +84,11 @@ reason_text reason = reason.name.now ++ more_text reason.more
 abbrev pub refusal_reply : Refusal → Reply
 refusal_reply r = refused r.why (option_map (λ file. file.now) r.file) (reason_text r.reason)
 
-abbrev pub end_of : Stop → Ending
-end_of (Refused refusal) = replied (refusal_reply refusal)
-end_of (Room file) = room_failed file.now
-end_of Memory = no_memory
+abbrev pub stop_ending : Stop → Ending
+stop_ending (Refused refusal) = replied (refusal_reply refusal)
+stop_ending (Room file) = room_failed file.now
+stop_ending Memory = no_memory
 
 abbrev pub ending_of : Result Answer Stop → Ending
 ending_of (Ok answer) = replied (said answer.status answer.text)
-ending_of (Err stop) = end_of stop
+ending_of (Err stop) = stop_ending stop

@@ -13,15 +13,15 @@ LeftBy (room_failed file) did = MayHaveMade did
 LeftBy no_memory did = HasKept did
 
 -- The file is one of these.
-abbrev pub IsAmong : List (List ℕ) → List ℕ → Type 0
-IsAmong [] file = ⊥
-IsAmong (name ∷ names) file = (file ≡ name) ⊎ IsAmong names file
+abbrev pub IsNamed : List (List ℕ) → List ℕ → Type 0
+IsNamed [] file = ⊥
+IsNamed (name ∷ names) file = (file ≡ name) ⊎ IsNamed names file
 
 -- The room is named as the cause only where it failed, and at one of these files; want of memory is
 -- free.
 abbrev pub FailedOnly : Type 0 → List (List ℕ) → Ending → Type 0
 FailedOnly Fault files (replied reply) = Unit {0}
-FailedOnly Fault files (room_failed file) = Fault × IsAmong files file
+FailedOnly Fault files (room_failed file) = Fault × IsNamed files file
 FailedOnly Fault files no_memory = Unit {0}
 
 -- It replies as is wanted, unless memory was refused; the words are a command.

@@ -6,3 +6,4 @@ pub mod Endings
 pub mod Steps
 pub mod Served
 pub mod Works
+pub mod Valid

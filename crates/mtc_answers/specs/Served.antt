@@ -21,17 +21,17 @@ OfEach P (journal ∷ rest) = P journal.0 journal.1 × OfEach P rest
 
 -- What is done with each journal of these names, in their order. One of which nothing is said isn't
 -- opened.
-abbrev pub first_of : List Journaled → Journaled
-first_of [] = untouched
-first_of (did ∷ rest) = did
+abbrev pub first_journaled : List Journaled → Journaled
+first_journaled [] = untouched
+first_journaled (did ∷ rest) = did
 
-abbrev pub rest_of : List Journaled → List Journaled
-rest_of [] = []
-rest_of (did ∷ rest) = rest
+abbrev pub rest_journaled : List Journaled → List Journaled
+rest_journaled [] = []
+rest_journaled (did ∷ rest) = rest
 
 abbrev pub done_with : List (List ℕ) → List Journaled → Journals
 done_with [] dids = []
-done_with (name ∷ names) dids = (name, first_of dids) ∷ done_with names (rest_of dids)
+done_with (name ∷ names) dids = (name, first_journaled dids) ∷ done_with names (rest_journaled dids)
 
 -- The name is none of these.
 abbrev pub IsOther : List (List ℕ) → List ℕ → Type 0

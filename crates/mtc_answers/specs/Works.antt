@@ -1,10 +1,11 @@
 -- The work of a command on the device of one journal: how it ends, and what it leaves.
-use Rattle.std.specs.Prelude.{◌≡◌, ◌≢◌, ◌≤◌, ◌+◌, ℕ, List, [], ◌∷◌, Option, None, Some, IfSome}
+use Rattle.std.specs.Prelude.{◌≡◌, ◌≢◌, ◌⊎◌, ◌≤◌, ◌+◌, ℕ, List, [], ◌∷◌, Option, None, Some, IfSome}
 use Rattle.std.specs.Prelude.{IsSome, codes, Result, Ok, Err}
 use Rattle.std.specs.Option.{IsSomeAnd}
 use Rattle.mtc_io.specs.Counts.{Rose, with_count}
 use Rattle.disk_core.specs.Same.{SameDevice}
 use Rattle.disk_core.specs.declared.disk.Disk.{Ghosts}
+use Rattle.journal_core.specs.Format.{StandsFor}
 use Rattle.mtc_room.specs.Room.{AllStay, LendsBytes, OthersStay}
 use Rattle.mtc_room.specs.declared.room.Room.{Ghosts as Rooms}
 use Rattle.journal_core.specs.declared.error.StartError.{StartError}
@@ -15,18 +16,18 @@ use Rattle.mtc_answers.specs.Answers.{Ending, replied, room_failed, no_memory, s
 use Rattle.mtc_answers.specs.Answers.{IfReply, status_of, IsEarly}
 use Rattle.mtc_answers.specs.Endings.{AddsBy, FailedOnly, LeftBy}
 use Rattle.mtc_answers.specs.Made.{IsOpen, Journaled, Leaves, untouched}
-use Rattle.mtc_answers.specs.Served.{first_of}
+use Rattle.mtc_answers.specs.Served.{first_journaled}
 use Rattle.mtc_answers.specs.Steps.{Outcome}
 use Rattle.mtc_answers.specs.Wanted.{Meets}
 
 -- What is done with the one journal of a command.
-abbrev pub journal_of : Outcome → Journaled
-journal_of wanted = first_of wanted.journals
+abbrev pub journaled_by : Outcome → Journaled
+journaled_by wanted = first_journaled wanted.journals
 
 module _ {D : Type 0} (g : Ghosts D) (name : List ℕ) where
   -- What holds of each ending, whatever the device tells: the words were a command's, and a failure
   -- is one of this journal's device.
-  pub record HasEnded (old new : D) (ending : Ending) : Type 0 where
+  pub record HasFinished (old new : D) (ending : Ending) : Type 0 where
     pub plain : IfReply ending (λ reply. status_of reply ≢ 1)
     pub later : g.faults old ≤ g.faults new
     pub fault : FailedOnly (Rose (g.faults old) (g.faults new)) (name ∷ []) ending
@@ -35,20 +36,20 @@ module _ {D : Type 0} (g : Ghosts D) (name : List ℕ) where
   -- the outcome of those records.
   pub record HasWorked (list : Option (List (List ℕ))) (says : List (List ℕ) → Outcome)
       (old new : D) (ending : Ending) : Type 0 where
-    pub ends : HasEnded old new ending
+    pub ends : HasFinished old new ending
     pub reply : IfReply ending (λ reply. IfSome list (λ records. Meets (says records).answer reply))
     pub adds : IfSome list (λ records. IsOpen g old records
-        → AddsBy g ending (journal_of (says records)) old new)
+        → AddsBy g ending (journaled_by (says records)) old new)
 
   -- The work on a device that was lent, which has to give the outcome of its bytes.
   pub record HasWorkedOn (says : List ℕ → Outcome) (old new : D) (ending : Ending) : Type 0 where
-    pub ends : HasEnded old new ending
+    pub ends : HasFinished old new ending
     pub reply : IfReply ending (λ reply. IfSome (g.told old) (λ bytes.
         Meets (says bytes).answer reply))
     pub left : IfSome (g.told old) (λ bytes.
-        Leaves g (LeftBy ending (journal_of (says bytes))) (Some old) (Some new))
+        Leaves g (LeftBy ending (journaled_by (says bytes))) (Some old) (Some new))
     pub early : IfReply ending (λ reply. IfSome (g.told old) (λ bytes.
-        journal_of (says bytes) ≡ untouched → IsEarly (status_of reply)))
+        journaled_by (says bytes) ≡ untouched → IsEarly (status_of reply)))
 
 module _ {R S D : Type 0} (rooms : Rooms R S D) (g : Ghosts D) (name : List ℕ) where
   -- The device of this journal was lent: it has no fault so far, reads as the file does, and leaves
@@ -79,3 +80,31 @@ made_ending file text (Ok done) = replied (said Done text)
 made_ending file text (Err NotEmpty) = replied (refused Missing (Some file) (codes "NotEmpty"))
 made_ending file text (Err Failed) = room_failed file
 made_ending file text (Err Memory) = no_memory
+
+-- What came of beginning a journal with this record on a device: it was empty and is a journal, or
+-- it held bytes, or it failed.
+abbrev pub BeginsOn : {D : Type 0} → Ghosts D → List ℕ → D → D → Result (Unit {0}) StartError
+    → Type 0
+BeginsOn g first old new (Ok done) = IfSome (g.told old) (λ bytes. (bytes ≡ [])
+    × ((c : List ℕ) → g.may_leave new c → StandsFor c (first ∷ [])))
+BeginsOn g first old new (Err NotEmpty) = IfSome (g.told old) (λ bytes. bytes ≢ [])
+BeginsOn g first old new (Err Failed) = Rose (g.faults old) (g.faults new)
+BeginsOn g first old new (Err Memory) = ⊥
+
+module _ {R S D : Type 0} (rooms : Rooms R S D) (g : Ghosts D) (name : List ℕ) where
+  -- No device was lent for a new file: the name has one, or the room failed.
+  abbrev pub IsNotLent : R → R → Ending → Type 0
+  IsNotLent old new ending = (ending ≡ replied (refused Missing (Some name) (codes "Exists")))
+      ⊎ ((ending ≡ room_failed name) × Rose (rooms.faults old) (rooms.faults new))
+
+  -- A device was lent, the journal begun on it and the device put back, over any room. The ending
+  -- is what came of it.
+  pub record HasBegunOn (first text : List ℕ) (new : R) (ending : Ending) : Type 0 where
+    pub mid : R
+    pub lent : D
+    pub left : D
+    pub made : Result (Unit {0}) StartError
+    pub fine : g.faults lent ≡ 0
+    pub begins : BeginsOn g first lent left made
+    pub taken : HasTaken rooms g name mid new left
+    pub ends : ending ≡ made_ending name text made

@@ -21,7 +21,7 @@ pub enum Stopped {
     /// A named file isn't in its grammar.
     BadForm,
     /// The state doesn't allow it.
-    Refused,
+    NotAllowed,
     /// A named file isn't there, or that of a new journal is.
     Missing,
     /// An input, the log or its journal is over its limit.

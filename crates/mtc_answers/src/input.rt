@@ -1,8 +1,8 @@
 //! The input files of a command.
 ghost use Rattle.std.specs.Prelude.{◌≡◌, ◌<◌, ◌≤◌, ◌^◌, ℕ, List, [], Some, length, IfOk, IfErr};
-ghost use Rattle.mtc_answers.specs.Answers.{end_of};
+ghost use Rattle.mtc_answers.specs.Answers.{stop_ending};
 ghost use Rattle.mtc_answers.specs.Served.{GivesBack, HasDone};
-ghost use Rattle.mtc_answers.specs.Endings.{IsAmong};
+ghost use Rattle.mtc_answers.specs.Endings.{IsNamed};
 ghost use Rattle.mtc_answers.specs.Steps.{Outcome, with_bytes};
 
 use crate::answer::{Reason, Stop, Stopped};
@@ -26,10 +26,10 @@ pub fn read_input<'a, R: Room>(
     ensures bytes { IfOk result (λ bytes. R.tells room.old
         → (R.file room.old name.now ≡ Some bytes) × (length bytes ≤ limit)) }
     ensures stops { IfErr result (λ stop. (files names : List (List ℕ))
-        (next : List ℕ → Outcome) → IsAmong files name.now
+        (next : List ℕ → Outcome) → IsNamed files name.now
         → HasDone R.Room R.Dsk.Disk ⊥ files names
         (with_bytes limit name.now (R.file room.old name.now) next)
-        room.old room.new (end_of stop)) }
+        room.old room.new (stop_ending stop)) }
 {
     let mut source = match room.source(name) {
         Ok(source) => source,

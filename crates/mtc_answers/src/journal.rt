@@ -1,13 +1,11 @@
 //! The journal of a command: one that is there is lent and given back, or a new one is made.
-ghost use Rattle.std.specs.Prelude.{◌≡◌, ◌≢◌, ◌≤◌, ◌<◌, ◌^◌, ℕ, List, [], ◌∷◌, Some, IfOk, IfErr, IsOk, IsErrOf};
-ghost use Rattle.mtc_io.specs.Counts.{Rose};
-ghost use Rattle.journal_core.specs.Format.{StandsFor};
+ghost use Rattle.std.specs.Prelude.{◌≡◌, ◌⊎◌, ◌≤◌, ◌<◌, ◌^◌, ℕ, List, [], IfOk, IfErr};
 ghost use Rattle.journal_core.specs.Packed.{first_body};
-ghost use Rattle.mtc_answers.specs.Answers.{end_of, ending_of};
-ghost use Rattle.mtc_answers.specs.Endings.{IsAmong};
-ghost use Rattle.mtc_answers.specs.Served.{HasServed};
+ghost use Rattle.mtc_answers.specs.Answers.{stop_ending, ending_of};
+ghost use Rattle.mtc_answers.specs.Endings.{IsNamed};
+ghost use Rattle.mtc_answers.specs.Served.{GivesBack, HasServed};
 ghost use Rattle.mtc_answers.specs.Steps.{Outcome, starts, with_file, with_fresh};
-ghost use Rattle.mtc_answers.specs.Works.{HasLent, HasTaken, made_ending};
+ghost use Rattle.mtc_answers.specs.Works.{BeginsOn, HasBegunOn, HasLent, HasTaken, IsNotLent, made_ending};
 
 use crate::answer::{Answer, Reason, Said, Stop, Stopped};
 use crate::reason::refuse_file;
@@ -23,9 +21,10 @@ pub fn lend<'a, R: Room>(room: &mut R, journal: &'a str) -> Result<R::Dsk, Stop<
     requires { R.lent room.old < 2 ^ 32 }
     ensures lent { IfOk result (HasLent R.Room R.Dsk.Disk journal.now room.old room.new) }
     ensures stops { IfErr result (λ stop. (files : List (List ℕ)) (says : List ℕ → Outcome)
-        → IsAmong files journal.now → HasServed R.Room R.Dsk.Disk files journal.now
+        → IsNamed files journal.now → HasServed R.Room R.Dsk.Disk files journal.now
         (with_file journal.now (R.file room.old journal.now) says)
-        room.old room.new (end_of stop)) }
+        room.old room.new (stop_ending stop)) }
+    ensures refused { IfErr result (λ _. GivesBack R.Room room.old room.new []) }
 {
     match room.disk(journal) {
         Ok(disk) => Ok(disk),
@@ -47,12 +46,8 @@ pub fn give_back<R: Room>(room: &mut R, journal: &str, disk: R::Dsk)
 
 // Begins the journal on an empty device, which is handed back.
 fn begin<D: Disk>(first: FirstRecord, disk: D) -> (D, Result<(), StartError>)
-    ensures made { IsOk result.1 → D.told disk ≡ Some [] → (c : List ℕ)
-        → D.may_leave result.0 c → StandsFor c (first_body first ∷ []) }
-    ensures empty { IsErrOf result.1 StartError.NotEmpty → D.told disk ≢ Some [] }
-    ensures never { IfErr result.1 (λ why. why ≢ StartError.Memory) }
     ensures count { D.faults disk ≤ D.faults result.0 }
-    ensures fault { IsErrOf result.1 StartError.Failed → Rose (D.faults disk) (D.faults result.0) }
+    ensures begins { BeginsOn D.Disk (first_body first) disk result.0 result.1 }
 {
     match first.start(disk) {
         Ok(journal) => (journal.into_disk(), Ok(())),
@@ -85,7 +80,8 @@ fn made_answer<'a>(
 ///
 /// Errors, in the order of the tests: `Exists` (status 7) where the name has a file, `NotEmpty`
 /// (status 7) where the new file has bytes, which one of a room that tells its files hasn't, and
-/// `Room` where the room failed, which may leave the new file with anything.
+/// `Room` where the room failed, which may leave the new file with anything. Each of them, and the
+/// answer too, has its cause in the device over any room.
 pub fn make_journal<'a, R: Room>(
     room: &mut R,
     journal: &'a str,
@@ -93,10 +89,13 @@ pub fn make_journal<'a, R: Room>(
     text: Bytes,
 ) -> Result<Answer, Stop<'a>>
     requires { R.lent room.old < 2 ^ 32 }
-    ensures { (files : List (List ℕ)) → IsAmong files journal.now
+    ensures serves { (files : List (List ℕ)) → IsNamed files journal.now
         → HasServed R.Room R.Dsk.Disk files journal.now
         (with_fresh journal.now (R.file room.old journal.now) (starts (first_body first) text))
         room.old room.new (ending_of result) }
+    ensures begins { IsNotLent R.Room R.Dsk.Disk journal.now room.old room.new (ending_of result)
+        ⊎ HasBegunOn R.Room R.Dsk.Disk journal.now (first_body first) text room.new
+        (ending_of result) }
 {
     let disk = match room.fresh(journal) {
         Ok(disk) => disk,
@@ -107,6 +106,6 @@ pub fn make_journal<'a, R: Room>(
         Err(RoomError::Failed) => return Err(Stop::Room(journal)),
     };
     let (disk, made) = begin(first, disk);
-    room.keep(journal, disk);
+    give_back(room, journal, disk);
     made_answer(journal, text, made)
 }

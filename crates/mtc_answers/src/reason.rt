@@ -1,7 +1,7 @@
 //! The reasons of refusals.
 ghost use Rattle.std.specs.Prelude.{◌≡◌, ◌++◌, codes, None, Some};
 ghost use Rattle.std.specs.Fmt.{decimal};
-ghost use Rattle.mtc_answers.specs.Answers.{reason_text, end_of, replied, refused};
+ghost use Rattle.mtc_answers.specs.Answers.{reason_text, stop_ending, replied, refused};
 
 use crate::answer::{More, Reason, Refusal, Stop, Stopped};
 
@@ -50,7 +50,7 @@ impl Reason {
 
 /// A refusal that is about no file.
 pub fn refuse<'a>(why: Stopped, reason: Reason) -> Stop<'a>
-    ensures { end_of result ≡ replied (refused why None (reason_text reason)) }
+    ensures { stop_ending result ≡ replied (refused why None (reason_text reason)) }
 {
     Stop::Refused(Refusal {
         why,
@@ -61,7 +61,7 @@ pub fn refuse<'a>(why: Stopped, reason: Reason) -> Stop<'a>
 
 /// A refusal of this file.
 pub fn refuse_file<'a>(why: Stopped, file: &'a str, reason: Reason) -> Stop<'a>
-    ensures { end_of result ≡ replied (refused why (Some file.now) (reason_text reason)) }
+    ensures { stop_ending result ≡ replied (refused why (Some file.now) (reason_text reason)) }
 {
     Stop::Refused(Refusal {
         why,

@@ -1,15 +1,16 @@
 -- What comes of a step of a cosigner that was opened just now.
 use Rattle.std.proofs.Common.{◌≡◌, List, Bool, false, Option, None, Some, ◌⊎◌, inr, arith}
-use Rattle.std.proofs.Common.{IfSome, Ok, Err, inl, refl, sym, ap, ◌∙◌, ℕ}
+use Rattle.std.proofs.Common.{IfSome, IsOk, Ok, Err, inl, refl, sym, subst, ap, ◌∙◌, ℕ, ◌++◌, []}
+use Rattle.std.proofs.Common.{◌∷◌}
 use Rattle.std.proofs.lemmas.Option.{IfSome_then}
-use Rattle.byte_forms.specs.Types.{Text}
+use Rattle.byte_forms.specs.Types.{HashFunction, Text}
 use Rattle.disk_core.specs.Moments.{LeavesOnly}
 use Rattle.disk_core.specs.declared.disk.Disk.{Ghosts}
 use Rattle.journal_core.specs.Format.{StandsForEither, end_behind}
 use Rattle.journal_core.specs.Words.{AllStandFor}
 use Rattle.journal_core.specs.declared.error.AppendError.TheVariants as append_error
 use Rattle.tree_core.specs.declared.hashing.TreeHash.{Ghosts as Hashes}
-use Rattle.cosigner_core.specs.Folds.{CosignerState}
+use Rattle.cosigner_core.specs.Folds.{CosignerState, cosigner_of}
 use Rattle.cosigner_core.specs.Openings.{FoundCosigner}
 use Rattle.cosigner_core.specs.Refusals.{KeepsTo}
 use Rattle.cosigner_core.specs.Words.{CosignerAppends, CosignerLeaves, cosigner_broken}
@@ -21,16 +22,19 @@ use Rattle.cosigner_core.specs.declared.error.CosignError.TheVariants.{BadSubtre
 use Rattle.cosigner_core.specs.declared.error.CosignError.TheVariants.{Exhausted, Append}
 use Rattle.mtc_answers.specs.Answers.{refused, replied, said, stopped_code}
 use Rattle.mtc_answers.specs.Steps.{Outcome}
+use Rattle.mtc_answers.specs.Valid.{AddsValid}
+use Rattle.mtc_answers.specs.Works.{journaled_by}
 use Rattle.mtc_answers.specs.declared.answer.Said.TheVariants.{Done}
 use Rattle.mtc_answers.specs.declared.answer.Stopped.{Stopped}
-use Rattle.mtc_answers.specs.declared.answer.Stopped.TheVariants.{Refused}
+use Rattle.mtc_answers.specs.declared.answer.Stopped.TheVariants.{NotAllowed}
 use Rattle.mtc_answers.specs.declared.answer.Stopped.TheVariants.{Beyond as OverLimit}
 use Rattle.mtc_answers.proofs.Works.{appended_on, failed_on, read_on, says_so}
 use Rattle.mtc_cosigner.specs.CosignerOutcomes.{step_ending, step_fault_text, step_stopped, stepped}
-use Rattle.mtc_cosigner.specs.Works.{HasWorked, IsReady, found_cosigner}
+use Rattle.mtc_cosigner.specs.Works.{HasWorked, IsCosigner, IsReady, StaysCosigner}
+use Rattle.mtc_cosigner.specs.Works.{found_cosigner}
 
 -- the statuses of steps that aren't taken
-no_words : (why : Stopped) → (why ≡ Refused) ⊎ (why ≡ OverLimit) → stopped_code why ≡ 1 → ⊥
+no_words : (why : Stopped) → (why ≡ NotAllowed) ⊎ (why ≡ OverLimit) → stopped_code why ≡ 1 → ⊥
 no_words why kind one = elim kind [
   | inl is ↦ omega (arith, ap stopped_code is, one)
   | inr is ↦ omega (arith, ap stopped_code is, one)
@@ -66,7 +70,7 @@ module _ {H D : Type 0} {hashes : Hashes H} {g : Ghosts D} (name : Text)
       made.count (made.any_moment ready.sound) made.kept)
 
   untaken : (why : CosignError) → met ≡ Some why → cosigner_disk new ≡ cosigner_disk old
-      → (step_stopped why ≡ Refused) ⊎ (step_stopped why ≡ OverLimit)
+      → (step_stopped why ≡ NotAllowed) ⊎ (step_stopped why ≡ OverLimit)
       → HasWorked name says old new
       (replied (refused (step_stopped why) None (step_fault_text why)))
   untaken why is same kind = says_so g name (cosigner_records old) (cosigner_disk old)
@@ -92,3 +96,27 @@ module _ {H D : Type 0} {hashes : Hashes H} {g : Ghosts D} (name : Text)
       (same_says None is)
       (failed_on g name (cosigner_records old) (cosigner_disk old) (cosigner_disk new) body text
       made.leaves.cause made.count (made.any_moment ready.sound) (made.afterwards ready.sound))
+
+  -- the records with that of a step that isn't refused make a cosigner
+  made_valid : (h : HashFunction) (list : List Text) (found : Option CosignError)
+      → (found ≡ None → cosigner_of h (list ++ body ∷ []) ≡ Ok next)
+      → AddsValid (IsCosigner h)
+      (journaled_by (stepped (found_cosigner (state_of old) list) body text found))
+  made_valid h list None valid = subst IsOk (sym (valid refl)) refl
+  made_valid h list (Some why) valid = tt
+
+  each_valid : (h : HashFunction) (records : Option (List Text))
+      → IfSome records (λ list. cosigner_end old ≡ end_behind list)
+      → (met ≡ None → IfSome records (λ list. cosigner_of h (list ++ body ∷ []) ≡ Ok next))
+      → IfSome records (λ list.
+      AddsValid (IsCosigner h) (journaled_by (says (found_cosigner (state_of old) list))))
+  each_valid h None end valid = tt
+  each_valid h (Some list) end valid = made_valid h list (refusal false (end_behind list))
+      (λ free. valid (ap (λ broken. refusal broken (cosigner_end old)) ready.sound
+      ∙ ap (refusal false) end ∙ free))
+
+  pub step_valid : (h : HashFunction)
+      → (met ≡ None → IfSome (cosigner_records old)
+      (λ list. cosigner_of h (list ++ body ∷ []) ≡ Ok next))
+      → StaysCosigner h says old new
+  step_valid h valid = inr (each_valid h (cosigner_records old) ready.end valid)

@@ -21,7 +21,7 @@ use Rattle.cosigner_core.specs.declared.fault.FormError.TheVariants.{Trailing, E
 use Rattle.mtc_answers.specs.Answers.{Ending, replied, room_failed, refused}
 use Rattle.mtc_answers.specs.Steps.{Outcome, appends, stops_on}
 use Rattle.mtc_answers.specs.declared.answer.Stopped.{Stopped}
-use Rattle.mtc_answers.specs.declared.answer.Stopped.TheVariants.{Refused}
+use Rattle.mtc_answers.specs.declared.answer.Stopped.TheVariants.{NotAllowed}
 use Rattle.mtc_answers.specs.declared.answer.Stopped.TheVariants.{Beyond as OverLimit}
 
 -- Why a file is no request.
@@ -44,27 +44,18 @@ step_fault_text (Append append_error.Broken) = codes "Broken"
 step_fault_text (Append append_error.Full) = codes "JournalFull"
 
 abbrev pub step_stopped : CosignError → Stopped
-step_stopped WrongLog = Refused
-step_stopped (NotNewer held) = Refused
-step_stopped BadSubtree = Refused
-step_stopped (Beyond held) = Refused
-step_stopped BadProof = Refused
-step_stopped Exhausted = Refused
+step_stopped WrongLog = NotAllowed
+step_stopped (NotNewer held) = NotAllowed
+step_stopped BadSubtree = NotAllowed
+step_stopped (Beyond held) = NotAllowed
+step_stopped BadProof = NotAllowed
+step_stopped Exhausted = NotAllowed
 step_stopped (Append why) = OverLimit
 
 -- What comes of a step that isn't taken.
 abbrev pub step_ending : Text → CosignError → Ending
 step_ending file (Append append_error.Failed) = room_failed file
-step_ending file (Append append_error.Broken) =
-    replied (refused OverLimit None (step_fault_text (Append append_error.Broken)))
-step_ending file (Append append_error.Full) =
-    replied (refused OverLimit None (step_fault_text (Append append_error.Full)))
-step_ending file WrongLog = replied (refused Refused None (step_fault_text WrongLog))
-step_ending file (NotNewer held) = replied (refused Refused None (step_fault_text (NotNewer held)))
-step_ending file BadSubtree = replied (refused Refused None (step_fault_text BadSubtree))
-step_ending file (Beyond held) = replied (refused Refused None (step_fault_text (Beyond held)))
-step_ending file BadProof = replied (refused Refused None (step_fault_text BadProof))
-step_ending file Exhausted = replied (refused Refused None (step_fault_text Exhausted))
+step_ending file why = replied (refused (step_stopped why) None (step_fault_text why))
 
 -- A record more and its text, unless the step is refused.
 abbrev pub stepped : FoundCosigner → Text → Text → Option CosignError → Outcome

@@ -1,12 +1,12 @@
 -- What a file is that is opened as a cosigner's, and what a command has to reply over it.
-use Rattle.std.specs.Prelude.{◌≡◌, ◌++◌, false, codes, List, Option, Some, IfSome}
+use Rattle.std.specs.Prelude.{◌≡◌, ◌++◌, false, codes, List, Option, Some, IfSome, IsOk}
 use Rattle.std.specs.Fmt.{decimal}
 use Rattle.byte_forms.specs.Types.{HashFunction, Text}
 use Rattle.disk_core.specs.declared.disk.Disk.{Ghosts}
 use Rattle.journal_core.specs.Format.{end_behind}
 use Rattle.journal_core.specs.declared.error.OpenError.TheVariants as open_error
 use Rattle.tree_core.specs.declared.hashing.TreeHash.{Ghosts as Hashes}
-use Rattle.cosigner_core.specs.Folds.{CosignerState}
+use Rattle.cosigner_core.specs.Folds.{CosignerState, cosigner_of}
 use Rattle.cosigner_core.specs.Openings.{FoundCosigner, cosigner_read}
 use Rattle.cosigner_core.specs.Reading.{advance_in, subtree_in}
 use Rattle.cosigner_core.specs.Views.{advance_parts, subtree_parts}
@@ -17,6 +17,7 @@ use Rattle.cosigner_core.specs.declared.error.CosignerOpenError.{CosignerOpenErr
 use Rattle.cosigner_core.specs.declared.error.CosignerOpenError.TheVariants.{BadRecord, Open}
 use Rattle.mtc_answers.specs.Answers.{Ending, replied, room_failed, no_memory, refused}
 use Rattle.mtc_answers.specs.Steps.{Outcome, Files, with_bytes, with_file, with_form}
+use Rattle.mtc_answers.specs.Valid.{WorksValidly}
 use Rattle.mtc_answers.specs.Works.{HasWorked as HasWorkedWith}
 use Rattle.mtc_answers.specs.declared.answer.Stopped.TheVariants.{BadForm}
 use Rattle.mtc_cosigner.specs.CosignerOutcomes.{advance_says, cosign_says, form_fault_text}
@@ -67,6 +68,10 @@ cosign_outcome h journal request files = with_bytes 16777216 request (files requ
     (λ bytes. with_form form_fault_text request (subtree_in bytes)
     (λ r. journal_outcome h journal (files journal) (cosign_says h r)))
 
+-- The records of a journal make a cosigner.
+abbrev pub IsCosigner : HashFunction → List Text → Type 0
+IsCosigner h list = IsOk (cosigner_of h list)
+
 module _ {H D : Type 0} {hashes : Hashes H} {g : Ghosts D} where
   -- A cosigner that was opened just now.
   pub record IsReady (it : Cosigner H D hashes g) : Type 0 where
@@ -79,3 +84,9 @@ module _ {H D : Type 0} {hashes : Hashes H} {g : Ghosts D} where
   HasWorked name says old new ending = HasWorkedWith g name (cosigner_records old)
       (λ list. says (found_cosigner (state_of old) list)) (cosigner_disk old) (cosigner_disk new)
       ending
+
+  -- And by which its records make a cosigner again.
+  abbrev pub StaysCosigner : HashFunction → (FoundCosigner → Outcome) → Cosigner H D hashes g
+      → Cosigner H D hashes g → Type 0
+  StaysCosigner h says old new = WorksValidly g (IsCosigner h) (cosigner_records old)
+      (λ list. says (found_cosigner (state_of old) list)) (cosigner_disk old) (cosigner_disk new)

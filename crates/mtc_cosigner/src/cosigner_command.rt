@@ -1,10 +1,11 @@
 //! The commands on a cosigner that has a journal: the journal is lent, opened, worked on and given
 //! back.
 ghost use Rattle.std.specs.Prelude.{◌≡◌, ◌<◌, ◌^◌, [], ◌∷◌};
-ghost use Rattle.mtc_answers.specs.Answers.{end_of, ending_of};
+ghost use Rattle.mtc_answers.specs.Answers.{stop_ending, ending_of};
 ghost use Rattle.mtc_answers.specs.Served.{HasServed};
+ghost use Rattle.mtc_answers.specs.Valid.{KeepsValid, ServesValidly};
 ghost use Rattle.mtc_answers.specs.Works.{HasWorkedOn};
-ghost use Rattle.mtc_cosigner.specs.Works.{bytes_say, journal_outcome, open_ending, work_says};
+ghost use Rattle.mtc_cosigner.specs.Works.{IsCosigner, bytes_say, journal_outcome, open_ending, work_says};
 
 use crate::work::{Work, carry_out};
 use cosigner_core::{Cosigner, CosignerOpenError};
@@ -17,7 +18,7 @@ use tree_core::TreeHash;
 
 // Why a journal isn't opened as a cosigner's.
 fn refuse_cosigner<'a>(journal: &'a str, why: CosignerOpenError) -> Stop<'a>
-    ensures { end_of result ≡ open_ending journal.now why }
+    ensures { stop_ending result ≡ open_ending journal.now why }
 {
     let bad = Stopped::BadForm;
     match why {
@@ -45,8 +46,10 @@ fn on_device<'a, H: TreeHash, D: Disk>(
     journal: &'a str,
     work: &Work<'_>,
 ) -> (D, Result<Answer, Stop<'a>>)
-    ensures { HasWorkedOn D.Disk journal.now (bytes_say H.hash journal.now
+    ensures serves { HasWorkedOn D.Disk journal.now (bytes_say H.hash journal.now
         (work_says H.hash work.now)) disk result.0 (ending_of result.1) }
+    ensures valid { ServesValidly D.Disk (IsCosigner H.hash) (bytes_say H.hash journal.now
+        (work_says H.hash work.now)) disk result.0 }
 {
     match Cosigner::<H, D>::open(alloc, disk) {
         Ok(mut cosigner) => {
@@ -66,9 +69,12 @@ pub fn on_cosigner<'a, H: TreeHash, R: Room>(
     work: &Work<'_>,
 ) -> Result<Answer, Stop<'a>>
     requires { R.lent room.old < 2 ^ 32 }
-    ensures { HasServed R.Room R.Dsk.Disk (journal.now ∷ []) journal.now
+    ensures serves { HasServed R.Room R.Dsk.Disk (journal.now ∷ []) journal.now
         (journal_outcome H.hash journal.now (R.file room.old journal.now)
         (work_says H.hash work.now)) room.old room.new (ending_of result) }
+    ensures valid { KeepsValid R.Room R.Dsk.Disk (IsCosigner H.hash) (journal.now ∷ [])
+        (journal_outcome H.hash journal.now (R.file room.old journal.now)
+        (work_says H.hash work.now)) room.old room.new }
 {
     let disk = lend(room, journal)?;
     let (disk, answer) = on_device::<H, R::Dsk>(alloc, disk, journal, work);

@@ -1,10 +1,13 @@
 //! The command `init-cosigner`: a new cosigner.
 ghost use Rattle.std.specs.Prelude.{◌≡◌, ◌<◌, ◌≤◌, ◌^◌, true, [], ◌∷◌};
+ghost use Rattle.byte_forms.specs.Types.{HashFunction};
 ghost use Rattle.lms_core.specs.Heights.{height};
 ghost use Rattle.mtc_words.specs.Commands.{is_height, is_width};
 ghost use Rattle.mtc_answers.specs.Answers.{ending_of};
 ghost use Rattle.mtc_answers.specs.Served.{HasServed};
+ghost use Rattle.mtc_answers.specs.Valid.{KeepsValid};
 ghost use Rattle.mtc_cosigner.specs.InitOutcome.{init_cosigner_outcome, init_says};
+ghost use Rattle.mtc_cosigner.specs.Works.{IsCosigner};
 
 use crate::keygen::{SECRET_LENGTH, chains_of_width, line_of_key, refuse_secret, tree_of_height};
 use cosigner_core::{CosignerSettings, pack};
@@ -24,9 +27,13 @@ fn init_with<'a, R: Room>(
 ) -> Result<Answer, Stop<'a>>
     requires lent { R.lent room.old < 2 ^ 32 }
     requires small { height settings.now.lms ≤ 10 }
-    ensures { HasServed R.Room R.Dsk.Disk (journal.now ∷ (file.now ∷ [])) journal.now
+    ensures serves { HasServed R.Room R.Dsk.Disk (journal.now ∷ (file.now ∷ [])) journal.now
         (init_says journal.now settings.now file.now (R.file room.old journal.now) secret.now)
         room.old room.new (ending_of result) }
+    ensures valid { (h : HashFunction)
+        → KeepsValid R.Room R.Dsk.Disk (IsCosigner h) (journal.now ∷ [])
+        (init_says journal.now settings.now file.now (R.file room.old journal.now) secret.now)
+        room.old room.new }
 {
     match <[u8; SECRET_LENGTH]>::try_from(secret) {
         Ok(secret) => {
@@ -53,9 +60,13 @@ pub fn init_cosigner<'a, R: Room>(
     requires lent { R.lent room.old < 2 ^ 32 }
     requires height { is_height height ≡ true }
     requires width { is_width width ≡ true }
-    ensures { HasServed R.Room R.Dsk.Disk (journal.now ∷ (file.now ∷ [])) journal.now
+    ensures serves { HasServed R.Room R.Dsk.Disk (journal.now ∷ (file.now ∷ [])) journal.now
         (init_cosigner_outcome journal.now id log height width file.now (R.file room.old))
         room.old room.new (ending_of result) }
+    ensures valid { (h : HashFunction)
+        → KeepsValid R.Room R.Dsk.Disk (IsCosigner h) (journal.now ∷ [])
+        (init_cosigner_outcome journal.now id log height width file.now (R.file room.old))
+        room.old room.new }
 {
     let settings = CosignerSettings {
         id,

@@ -6,7 +6,7 @@ ghost use Rattle.base64.specs.Engines.{standard};
 ghost use Rattle.lms_core.specs.Heights.{height as height_of};
 ghost use Rattle.mtc_words.specs.Commands.{is_height, is_width};
 ghost use Rattle.mtc_cosigner.specs.KeygenOutcome.{lms_type, ots_type, public_line, keygen_says, keygen_outcome};
-ghost use Rattle.mtc_answers.specs.Answers.{ending_of, end_of, replied, refused};
+ghost use Rattle.mtc_answers.specs.Answers.{ending_of, stop_ending, replied, refused};
 ghost use Rattle.mtc_answers.specs.Endings.{Replies};
 ghost use Rattle.mtc_answers.specs.Served.{HasAnswered};
 
@@ -68,7 +68,7 @@ pub(crate) fn line_of_key(
 
 // The refusal of a file that has not the length of a secret.
 pub(crate) fn refuse_secret<'a>(file: &'a str, length: usize) -> Stop<'a>
-    ensures { end_of result ≡ replied (refused Stopped.BadForm (Some file.now)
+    ensures { stop_ending result ≡ replied (refused Stopped.BadForm (Some file.now)
         (if nat_lt length 48 then codes "Short " ++ decimal 0 else codes "Trailing")) }
 {
     let reason = if length < SECRET_LENGTH {

@@ -3,10 +3,11 @@ ghost use Rattle.std.specs.Prelude.{◌≡◌, ◌≢◌, ◌<◌, ◌≤◌, �
 ghost use Rattle.std.specs.Int.{w8, w16};
 ghost use Rattle.tls_wire.specs.Spelling.{vector};
 ghost use Rattle.cosigner_core.specs.Views.{advance_parts, subtree_parts};
-ghost use Rattle.mtc_answers.specs.Answers.{end_of, ending_of, reason_text};
+ghost use Rattle.mtc_answers.specs.Answers.{stop_ending, ending_of, reason_text};
 ghost use Rattle.mtc_answers.specs.Served.{HasServed};
+ghost use Rattle.mtc_answers.specs.Valid.{KeepsValid};
 ghost use Rattle.mtc_cosigner.specs.CosignerOutcomes.{advance_says, advanced_text, cosign_says, form_fault_text, step_ending};
-ghost use Rattle.mtc_cosigner.specs.Works.{HasWorked, IsReady, advance_outcome, cosign_outcome};
+ghost use Rattle.mtc_cosigner.specs.Works.{HasWorked, IsCosigner, IsReady, StaysCosigner, advance_outcome, cosign_outcome};
 
 use crate::cosigner_command::on_cosigner;
 use crate::work::Work;
@@ -43,9 +44,9 @@ fn reason_of(why: FormError) -> Reason
 // Why a cosigner that was opened just now takes no step.
 fn refuse_step<'a>(journal: &'a str, why: CosignError) -> Stop<'a>
     requires { why ≢ CosignError.Append AppendError.Broken }
-    ensures { end_of result ≡ step_ending journal.now why }
+    ensures { stop_ending result ≡ step_ending journal.now why }
 {
-    let refused = Stopped::Refused;
+    let refused = Stopped::NotAllowed;
     match why {
         CosignError::WrongLog => refuse(refused, Reason::named("WrongLog")),
         CosignError::NotNewer(held) => refuse(refused, Reason::with_number("NotNewer", held)),
@@ -76,8 +77,10 @@ pub(crate) fn advance_on<'a, H: TreeHash, D: Disk>(
     request: &AdvanceRequest<'_>,
 ) -> Result<Answer, Stop<'a>>
     requires { IsReady cosigner.old }
-    ensures { HasWorked journal.now (advance_says H.hash (advance_parts request.now))
+    ensures works { HasWorked journal.now (advance_says H.hash (advance_parts request.now))
         cosigner.old cosigner.new (ending_of result) }
+    ensures valid { StaysCosigner H.hash (advance_says H.hash (advance_parts request.now))
+        cosigner.old cosigner.new }
 {
     let text = line_of_size(alloc, request.size)?;
     match cosigner.advance(request) {
@@ -126,8 +129,10 @@ pub(crate) fn cosign_on<'a, H: TreeHash, D: Disk>(
     request: &SubtreeRequest<'_>,
 ) -> Result<Answer, Stop<'a>>
     requires { IsReady cosigner.old }
-    ensures { HasWorked journal.now (cosign_says H.hash (subtree_parts request.now))
+    ensures works { HasWorked journal.now (cosign_says H.hash (subtree_parts request.now))
         cosigner.old cosigner.new (ending_of result) }
+    ensures valid { StaysCosigner H.hash (cosign_says H.hash (subtree_parts request.now))
+        cosigner.old cosigner.new }
 {
     let text = begun_with(alloc, cosigner.id())?;
     let mut signature = SigBuf::new();
@@ -149,9 +154,11 @@ pub fn advance<'a, H: TreeHash, R: Room>(
     file: &'a str,
 ) -> Result<Answer, Stop<'a>>
     requires { R.lent room.old < 2 ^ 32 }
-    ensures { HasServed R.Room R.Dsk.Disk (journal.now ∷ (file.now ∷ [])) journal.now
+    ensures serves { HasServed R.Room R.Dsk.Disk (journal.now ∷ (file.now ∷ [])) journal.now
         (advance_outcome H.hash journal.now file.now (R.file room.old))
         room.old room.new (ending_of result) }
+    ensures valid { KeepsValid R.Room R.Dsk.Disk (IsCosigner H.hash) (journal.now ∷ [])
+        (advance_outcome H.hash journal.now file.now (R.file room.old)) room.old room.new }
 {
     let bytes = read_input(alloc, room, file, INPUT_LIMIT)?;
     match read_advance(bytes.as_slice()) {
@@ -169,9 +176,11 @@ pub fn cosign<'a, H: TreeHash, R: Room>(
     file: &'a str,
 ) -> Result<Answer, Stop<'a>>
     requires { R.lent room.old < 2 ^ 32 }
-    ensures { HasServed R.Room R.Dsk.Disk (journal.now ∷ (file.now ∷ [])) journal.now
+    ensures serves { HasServed R.Room R.Dsk.Disk (journal.now ∷ (file.now ∷ [])) journal.now
         (cosign_outcome H.hash journal.now file.now (R.file room.old))
         room.old room.new (ending_of result) }
+    ensures valid { KeepsValid R.Room R.Dsk.Disk (IsCosigner H.hash) (journal.now ∷ [])
+        (cosign_outcome H.hash journal.now file.now (R.file room.old)) room.old room.new }
 {
     let bytes = read_input(alloc, room, file, INPUT_LIMIT)?;
     match read_subtree(bytes.as_slice()) {

@@ -1,7 +1,7 @@
 //! The work of a command on a cosigner whose journal is open: its own refusals, its text, and one
 //! append, behind which nothing wants memory.
 ghost use Rattle.mtc_answers.specs.Answers.{ending_of};
-ghost use Rattle.mtc_cosigner.specs.Works.{HasWorked, IsReady, work_says};
+ghost use Rattle.mtc_cosigner.specs.Works.{HasWorked, IsReady, StaysCosigner, work_says};
 
 use crate::requests::{advance_on, cosign_on};
 use cosigner_core::{AdvanceRequest, Cosigner, SubtreeRequest};
@@ -29,8 +29,9 @@ pub(crate) fn carry_out<'a, H: TreeHash, D: Disk>(
     work: &Work<'_>,
 ) -> Result<Answer, Stop<'a>>
     requires { IsReady cosigner.old }
-    ensures { HasWorked journal.now (work_says H.hash work.now) cosigner.old cosigner.new
+    ensures works { HasWorked journal.now (work_says H.hash work.now) cosigner.old cosigner.new
         (ending_of result) }
+    ensures valid { StaysCosigner H.hash (work_says H.hash work.now) cosigner.old cosigner.new }
 {
     match work {
         Work::Advance(request) => advance_on(alloc, journal, cosigner, request),

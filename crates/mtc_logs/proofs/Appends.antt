@@ -1,6 +1,6 @@
 -- What comes of appending a record to a log that was opened just now.
 use Rattle.std.proofs.Common.{◌≡◌, ◌≢◌, ℕ, Bool, false, List, Option, None, Some, IfSome, Ok, Err}
-use Rattle.std.proofs.Common.{inl, refl, sym, ap, ◌∙◌}
+use Rattle.std.proofs.Common.{inl, inr, refl, sym, ap, ◌∙◌}
 use Rattle.std.proofs.lemmas.Option.{IfSome_then}
 use Rattle.byte_forms.specs.Types.{Text}
 use Rattle.disk_core.specs.declared.disk.Disk.{Ghosts}
@@ -15,7 +15,8 @@ use Rattle.issuance_log.specs.declared.log.Log.{Log as OpenLog}
 use Rattle.mtc_answers.specs.Answers.{Ending, Reply, no_memory, replied, room_failed, said}
 use Rattle.mtc_answers.specs.Answers.{status_of}
 use Rattle.mtc_answers.specs.Steps.{Outcome, answers_on, appends}
-use Rattle.mtc_answers.specs.Works.{HasWorked}
+use Rattle.mtc_answers.specs.Valid.{AddsValid, WorksValidly}
+use Rattle.mtc_answers.specs.Works.{HasWorked, journaled_by}
 use Rattle.mtc_answers.specs.declared.answer.Said.TheVariants.{Done}
 use Rattle.mtc_answers.proofs.Works.{appended_on, failed_on, read_on, says_so, starved_on}
 use Rattle.mtc_logs.specs.Works.{IsReady}
@@ -80,3 +81,25 @@ module _ {H D : Type 0} {hashes : Hashes H} {g : Ghosts D}
   -- memory was refused
   pub starved_so : log_disk new ≡ log_disk old → Works no_memory
   starved_so same = starved_on g name (log_records old) (log_disk old) (log_disk new) _ (inl same)
+
+  each_valid : (Valid Sound : List Text → Type 0)
+      → ((list : List Text) (why : Option LogError) → (why ≡ None → Sound list)
+      → AddsValid Valid (journaled_by (outcome_by list why)))
+      → (records : Option (List Text))
+      → IfSome records (λ list. log_end old ≡ end_behind list)
+      → (refusal ≡ None → IfSome records Sound)
+      → IfSome records (λ list. AddsValid Valid (journaled_by (says list)))
+  each_valid Valid Sound keeps None end sound = tt
+  each_valid Valid Sound keeps (Some list) end sound =
+      keeps list (refusal_by false (end_behind list))
+      (λ free. sound (ap (λ broken. refusal_by broken (log_end old)) ready.sound
+      ∙ ap (refusal_by false) end ∙ free))
+
+  -- a record that the log doesn't refuse keeps to these rules
+  pub valid_so : (Valid Sound : List Text → Type 0)
+      → ((list : List Text) (why : Option LogError) → (why ≡ None → Sound list)
+      → AddsValid Valid (journaled_by (outcome_by list why)))
+      → (refusal ≡ None → IfSome (log_records old) Sound)
+      → WorksValidly g Valid (log_records old) says (log_disk old) (log_disk new)
+  valid_so Valid Sound keeps sound =
+      inr (each_valid Valid Sound keeps (log_records old) ready.end sound)

@@ -14,7 +14,8 @@ use Rattle.mtc_answers.specs.Wanted.{exactly}
 use Rattle.mtc_answers.specs.declared.answer.Said.TheVariants.{Done}
 use Rattle.mtc_logs.specs.CertCommand.{cert_outcome, signed_says}
 use Rattle.mtc_logs.specs.CertOutcome.{certificate_in, certificate_with, cert_replies, cert_reply}
-use Rattle.mtc_logs.specs.CertOutcome.{light_reply, light_text, signatures_fault_text, signatures_in}
+use Rattle.mtc_logs.specs.CertOutcome.{light_reply, light_text, signatures_fault_text}
+use Rattle.mtc_logs.specs.CertOutcome.{signatures_in}
 use Rattle.mtc_logs.specs.Works.{journal_outcome}
 use Rattle.mtc_logs.specs.declared.work.Work.TheVariants.{Cert}
 use Rattle.mtc_logs.proofs.Reading.{bytes_read}

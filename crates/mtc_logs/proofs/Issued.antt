@@ -1,13 +1,15 @@
 -- What comes of issuing on a log that was opened just now.
 use Rattle.std.proofs.Common.{◌≡◌, ◌≢◌, ℕ, Bool, true, false, List, Option, None, Some}
 use Rattle.std.proofs.Common.{option_map, Result, Ok, Err, if◌then◌else◌, refl, sym, ap, ◌∙◌}
-use Rattle.std.proofs.Common.{length}
+use Rattle.std.proofs.Common.{length, inl, subst, IfSome, IsOk, ◌++◌, ◌∷◌, []}
 use Rattle.byte_forms.specs.Types.{HashFunction, Text}
 use Rattle.disk_core.specs.declared.disk.Disk.{Ghosts}
 use Rattle.journal_core.specs.declared.error.AppendError.TheVariants as append_error
 use Rattle.tree_core.specs.declared.hashing.TreeHash.{Ghosts as Hashes}
+use Rattle.issuance_log.specs.Folds.{log_of}
 use Rattle.issuance_log.specs.Refusals.{add_refusal}
-use Rattle.issuance_log.specs.Words.{LogAppends, log_broken, log_disk, log_end, state_of, view_of}
+use Rattle.issuance_log.specs.Words.{LogAppends, log_broken, log_disk, log_end, log_records}
+use Rattle.issuance_log.specs.Words.{state_of, view_of}
 use Rattle.issuance_log.specs.declared.error.LogError.{LogError}
 use Rattle.issuance_log.specs.declared.error.LogError.TheVariants.{Full, TooLarge, NoSuchEntry}
 use Rattle.issuance_log.specs.declared.error.LogError.TheVariants.{NothingNew, Append, Memory}
@@ -19,12 +21,18 @@ use Rattle.authority_core.specs.declared.issuing.error.IssueError.TheVariants.{L
 use Rattle.authority_core.specs.Requests.{RequestParts}
 use Rattle.mtc_answers.specs.Answers.{refused, replied, said}
 use Rattle.mtc_answers.specs.Steps.{Outcome}
+use Rattle.mtc_answers.specs.Valid.{AddsValid}
+use Rattle.mtc_answers.specs.Works.{journaled_by}
 use Rattle.mtc_answers.specs.declared.answer.Said.TheVariants.{Done}
 use Rattle.mtc_answers.specs.declared.answer.Stopped.TheVariants.{Beyond}
 use Rattle.mtc_logs.specs.IssueOutcome.{issue_ending, issue_says, issued, issued_text}
 use Rattle.mtc_logs.specs.IssueOutcome.{log_fault_text}
-use Rattle.mtc_logs.specs.Works.{HasWorked, IsReady, found_log}
-use Rattle.mtc_logs.proofs.Appends.{done_so, failed_so, starved_so, told_so}
+use Rattle.mtc_logs.specs.Works.{HasWorked, IsLog, IsReady, StaysLog, found_log}
+use Rattle.mtc_logs.proofs.Appends.{done_so, failed_so, starved_so, told_so, valid_so}
+
+-- the answer of a call that refuses
+abbrev pub failed : IssueError → Result ℕ IssueError
+failed why = Err why
 
 module _ {H D : Type 0} {hashes : Hashes H} {g : Ghosts D} (h : HashFunction) (r : RequestParts)
     (name : Text) (old new : OpenLog H D hashes g) (ready : IsReady old) where
@@ -91,3 +99,28 @@ module _ {H D : Type 0} {hashes : Hashes H} {g : Ghosts D} (h : HashFunction) (r
   unfolding add_refusal
   never_broken is =
       first _ _ _ (sym (ap (λ broken. refusal_by broken (log_end old)) ready.sound) ∙ is)
+
+  -- the record makes a log with those before it
+  abbrev pub IsSoundBehind : List Text → Type 0
+  IsSoundBehind list = log_of h (list ++ body ∷ []) ≡ Ok (issued_log h (state_of old) r)
+
+  adds_valid : (list : List Text) (why : Option LogError) → (why ≡ None → IsSoundBehind list)
+      → AddsValid (IsLog h) (journaled_by (outcome_by list why))
+  adds_valid list None sound = subst IsOk (sym (sound refl)) refl
+  adds_valid list (Some why) sound = tt
+
+  pub issued_valid : (refusal ≡ None → IfSome (log_records old) IsSoundBehind)
+      → StaysLog h (issue_says h r) old new
+  issued_valid sound = valid_so outcome_by refusal_by name old new ready (IsLog h) IsSoundBehind
+      adds_valid sound
+
+  pub refused_valid : (why : IssueError) → HasIssued (of_log (Err why))
+      → (failed why ≢ failed (Log Memory) → refusal ≡ None
+      → IfSome (log_records old) IsSoundBehind)
+      → StaysLog h (issue_says h r) old new
+  refused_valid (Log Full) run sound = issued_valid (sound (λ is. absurd cc))
+  refused_valid (Log TooLarge) run sound = issued_valid (sound (λ is. absurd cc))
+  refused_valid (Log NoSuchEntry) run sound = issued_valid (sound (λ is. absurd cc))
+  refused_valid (Log NothingNew) run sound = issued_valid (sound (λ is. absurd cc))
+  refused_valid (Log (Append why)) run sound = issued_valid (sound (λ is. absurd cc))
+  refused_valid (Log Memory) run sound = inl (inl run.leaves.disk)

@@ -1,25 +1,29 @@
 -- What comes of setting a landmark on a log that was opened just now.
 use Rattle.std.proofs.Common.{◌≡◌, ◌≢◌, ℕ, Bool, true, false, List, Option, None, Some, option_map}
 use Rattle.std.proofs.Common.{Result, Ok, Err, if◌then◌else◌, refl, sym, ap, ◌∙◌, length}
-use Rattle.byte_forms.specs.Types.{Text}
+use Rattle.std.proofs.Common.{subst, IfSome, IsOk, ◌++◌, ◌∷◌, []}
+use Rattle.byte_forms.specs.Types.{HashFunction, Text}
 use Rattle.disk_core.specs.declared.disk.Disk.{Ghosts}
 use Rattle.journal_core.specs.declared.error.AppendError.TheVariants as append_error
 use Rattle.tree_core.specs.declared.hashing.TreeHash.{Ghosts as Hashes}
-use Rattle.issuance_log.specs.Folds.{with_mark}
+use Rattle.issuance_log.specs.Folds.{log_of, with_mark}
 use Rattle.issuance_log.specs.Records.{landmark_record}
 use Rattle.issuance_log.specs.Refusals.{MarkKeepsTo, mark_refusal}
-use Rattle.issuance_log.specs.Words.{LogAppends, log_broken, log_disk, log_end, state_of, view_of}
+use Rattle.issuance_log.specs.Words.{LogAppends, log_broken, log_disk, log_end, log_records}
+use Rattle.issuance_log.specs.Words.{state_of, view_of}
 use Rattle.issuance_log.specs.declared.error.LogError.{LogError}
 use Rattle.issuance_log.specs.declared.error.LogError.TheVariants.{Full, TooLarge, NoSuchEntry}
 use Rattle.issuance_log.specs.declared.error.LogError.TheVariants.{NothingNew, Append, Memory}
 use Rattle.issuance_log.specs.declared.log.Log.{Log as OpenLog}
 use Rattle.mtc_answers.specs.Answers.{replied, said, status_of}
 use Rattle.mtc_answers.specs.Steps.{Outcome}
+use Rattle.mtc_answers.specs.Valid.{AddsValid}
+use Rattle.mtc_answers.specs.Works.{journaled_by}
 use Rattle.mtc_answers.specs.declared.answer.Said.TheVariants.{Done}
 use Rattle.mtc_logs.specs.LandmarkOutcomes.{MayRefuseMark, landmark_says, mark_ending, mark_refused}
 use Rattle.mtc_logs.specs.LandmarkOutcomes.{marked, next_line}
-use Rattle.mtc_logs.specs.Works.{HasWorked, IsReady, found_log}
-use Rattle.mtc_logs.proofs.Appends.{done_so, failed_so, starved_so, told_so}
+use Rattle.mtc_logs.specs.Works.{HasWorked, IsLog, IsReady, StaysLog, found_log}
+use Rattle.mtc_logs.proofs.Appends.{done_so, failed_so, starved_so, told_so, valid_so}
 
 module _ {H D : Type 0} {hashes : Hashes H} {g : Ghosts D} (name : Text)
     (old new : OpenLog H D hashes g) (ready : IsReady old) where
@@ -85,3 +89,18 @@ module _ {H D : Type 0} {hashes : Hashes H} {g : Ghosts D} (name : Text)
       first _ _ (sym (ap (λ broken. refusal_by broken (log_end old)) ready.sound) ∙ is)
   may_refuse (Append append_error.Failed) is = tt
   may_refuse Memory is = tt
+
+  -- the record makes a log with those before it
+  module _ (h : HashFunction) where
+    abbrev pub IsSoundBehind : List Text → Type 0
+    IsSoundBehind list = log_of h (list ++ body ∷ []) ≡ Ok (with_mark (state_of old))
+
+    adds_valid : (list : List Text) (why : Option LogError) → (why ≡ None → IsSoundBehind list)
+        → AddsValid (IsLog h) (journaled_by (outcome_by list why))
+    adds_valid list None sound = subst IsOk (sym (sound refl)) refl
+    adds_valid list (Some why) sound = tt
+
+    pub marked_valid : (refusal ≡ None → IfSome (log_records old) IsSoundBehind)
+        → StaysLog h landmark_says old new
+    marked_valid sound = valid_so outcome_by refusal_by name old new ready (IsLog h)
+        IsSoundBehind adds_valid sound

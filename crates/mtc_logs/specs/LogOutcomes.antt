@@ -14,7 +14,7 @@ use Rattle.issuance_log.specs.Openings.{FoundLog}
 use Rattle.issuance_log.specs.Records.{settings_record}
 use Rattle.issuance_log.specs.Settings.{Settings}
 use Rattle.mtc_answers.specs.declared.answer.Said.TheVariants.{Done}
-use Rattle.mtc_answers.specs.declared.answer.Stopped.TheVariants.{Refused}
+use Rattle.mtc_answers.specs.declared.answer.Stopped.TheVariants.{NotAllowed}
 use Rattle.mtc_answers.specs.Answers.{Reply, said, refused}
 use Rattle.mtc_answers.specs.Steps.{Outcome, Files, answers_on, starts, with_fresh}
 
@@ -52,7 +52,7 @@ items_text s count = concat (map (item_text s) (range_with_len 0 count))
 
 -- The state of the log doesn't allow it.
 abbrev pub not_allowed : Text → Reply
-not_allowed reason = refused Refused None reason
+not_allowed reason = refused NotAllowed None reason
 
 -- The asked size is above that of the log.
 abbrev pub beyond : ℕ → Reply

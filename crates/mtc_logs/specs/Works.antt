@@ -1,12 +1,12 @@
 -- What a file is that is opened as a log, and what a command has to reply over it.
-use Rattle.std.specs.Prelude.{◌≡◌, ◌++◌, false, codes, List, Option, Some, IfSome}
+use Rattle.std.specs.Prelude.{◌≡◌, ◌++◌, false, codes, List, Option, Some, IfSome, IsOk}
 use Rattle.std.specs.Fmt.{decimal}
 use Rattle.byte_forms.specs.Types.{HashFunction, Text}
 use Rattle.disk_core.specs.declared.disk.Disk.{Ghosts}
 use Rattle.journal_core.specs.Format.{end_behind}
 use Rattle.journal_core.specs.declared.error.OpenError.TheVariants as open_error
 use Rattle.tree_core.specs.declared.hashing.TreeHash.{Ghosts as Hashes}
-use Rattle.issuance_log.specs.Folds.{LogState}
+use Rattle.issuance_log.specs.Folds.{LogState, log_of}
 use Rattle.issuance_log.specs.Openings.{FoundLog, log_read}
 use Rattle.issuance_log.specs.Words.{log_broken, log_disk, log_end, log_records, state_of}
 use Rattle.issuance_log.specs.declared.error.LogOpenError.{LogOpenError}
@@ -14,6 +14,7 @@ use Rattle.issuance_log.specs.declared.error.LogOpenError.TheVariants.{BadRecord
 use Rattle.issuance_log.specs.declared.log.Log.{Log}
 use Rattle.mtc_answers.specs.Answers.{Ending, replied, room_failed, no_memory, refused}
 use Rattle.mtc_answers.specs.Steps.{Outcome, with_file, with_form}
+use Rattle.mtc_answers.specs.Valid.{WorksValidly}
 use Rattle.mtc_answers.specs.Works.{HasWorked as HasWorkedWith}
 use Rattle.mtc_answers.specs.declared.answer.Stopped.TheVariants.{BadForm}
 use Rattle.mtc_logs.specs.CertOutcome.{cert_says, light_says}
@@ -68,6 +69,10 @@ bytes_say h journal work bytes =
 unfoldable pub journal_outcome : HashFunction → Text → Option Text → Work → Outcome
 journal_outcome h journal file work = with_file journal file (bytes_say h journal work)
 
+-- The records of a journal make a log.
+abbrev pub IsLog : HashFunction → List Text → Type 0
+IsLog h list = IsOk (log_of h list)
+
 module _ {H D : Type 0} {hashes : Hashes H} {g : Ghosts D} where
   -- A log that was opened just now.
   pub record IsReady (log : Log H D hashes g) : Type 0 where
@@ -79,3 +84,9 @@ module _ {H D : Type 0} {hashes : Hashes H} {g : Ghosts D} where
       → Ending → Type 0
   HasWorked name says old new ending = HasWorkedWith g name (log_records old)
       (λ list. says (found_log (state_of old) list)) (log_disk old) (log_disk new) ending
+
+  -- And by which its records make a log again.
+  abbrev pub StaysLog : HashFunction → (FoundLog → Outcome) → Log H D hashes g → Log H D hashes g
+      → Type 0
+  StaysLog h says old new = WorksValidly g (IsLog h) (log_records old)
+      (λ list. says (found_log (state_of old) list)) (log_disk old) (log_disk new)

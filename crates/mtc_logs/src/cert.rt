@@ -2,9 +2,11 @@
 ghost use Rattle.std.specs.Prelude.{◌≡◌, ◌<◌, ◌^◌, [], ◌∷◌};
 ghost use Rattle.byte_forms.specs.Readings.{Gives};
 ghost use Rattle.issuance_log.specs.Words.{state_of};
-ghost use Rattle.mtc_answers.specs.Answers.{end_of, ending_of};
+ghost use Rattle.mtc_answers.specs.Answers.{stop_ending, ending_of};
 ghost use Rattle.mtc_answers.specs.Endings.{Replies};
 ghost use Rattle.mtc_answers.specs.Served.{HasServed};
+ghost use Rattle.mtc_answers.specs.Valid.{KeepsValid};
+ghost use Rattle.mtc_logs.specs.Works.{IsLog};
 ghost use Rattle.mtc_answers.specs.Wanted.{exactly};
 ghost use Rattle.mtc_proof.specs.Proofs.{AreSignatures};
 ghost use Rattle.mtc_logs.specs.CertOutcome.{cert_ending, cert_reply, light_reply, signatures_ending, signatures_in};
@@ -63,9 +65,9 @@ impl Signatures {
 
 // Why no certificate is written.
 fn refuse_certificate<'a>(why: WriteError) -> Stop<'a>
-    ensures { end_of result ≡ cert_ending why }
+    ensures { stop_ending result ≡ cert_ending why }
 {
-    let not_allowed = Stopped::Refused;
+    let not_allowed = Stopped::NotAllowed;
     match why {
         WriteError::NoSuchEntry => refuse(not_allowed, Reason::named("NoSuchEntry")),
         WriteError::NullEntry => refuse(not_allowed, Reason::named("NullEntry")),
@@ -124,7 +126,7 @@ pub(crate) fn light_certificate<'a, H: TreeHash, D: Disk>(
 
 // Why a file doesn't hold signatures.
 fn refuse_signatures<'a>(file: &'a str, why: ProofError) -> Stop<'a>
-    ensures { end_of result ≡ signatures_ending file.now why }
+    ensures { stop_ending result ≡ signatures_ending file.now why }
 {
     let bad = Stopped::BadForm;
     match why {
@@ -150,9 +152,12 @@ pub fn cert<'a, H: TreeHash, R: Room>(
     file: &'a str,
 ) -> Result<Answer, Stop<'a>>
     requires { R.lent room.old < 2 ^ 32 }
-    ensures { HasServed R.Room R.Dsk.Disk (journal.now ∷ file.now ∷ []) journal.now
+    ensures serves { HasServed R.Room R.Dsk.Disk (journal.now ∷ file.now ∷ []) journal.now
         (cert_outcome H.hash journal.now index start end file.now (R.file room.old))
         room.old room.new (ending_of result) }
+    ensures valid { KeepsValid R.Room R.Dsk.Disk (IsLog H.hash) (journal.now ∷ [])
+        (cert_outcome H.hash journal.now index start end file.now (R.file room.old))
+        room.old room.new }
 {
     let bytes = read_input(alloc, room, file, INPUT_LIMIT)?;
     match Signatures::read(bytes) {

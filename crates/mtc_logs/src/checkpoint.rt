@@ -1,7 +1,7 @@
 //! The commands `checkpoint` and `entries`: what a log holds.
 ghost use Rattle.std.specs.Prelude.{◌≡◌, ◌<◌, ◌≤◌, ◌++◌, length, IfOk, OnOk};
 ghost use Rattle.issuance_log.specs.Words.{state_of};
-ghost use Rattle.mtc_answers.specs.Answers.{end_of, ending_of, replied};
+ghost use Rattle.mtc_answers.specs.Answers.{stop_ending, ending_of, replied};
 ghost use Rattle.mtc_answers.specs.Endings.{Replies};
 ghost use Rattle.mtc_answers.specs.Wanted.{exactly};
 ghost use Rattle.mtc_logs.specs.LogOutcomes.{IsItem, beyond, checkpoint_reply, entries_reply, item_text, items_text};
@@ -36,9 +36,9 @@ pub fn checkpoint<'a, H: TreeHash, D: Disk>(
 
 /// The refusal where the asked size is above that of the log.
 pub fn too_many<'a>(size: u64) -> Stop<'a>
-    ensures { end_of result ≡ replied (beyond size) }
+    ensures { stop_ending result ≡ replied (beyond size) }
 {
-    refuse(Stopped::Refused, Reason::with_number("Beyond", size))
+    refuse(Stopped::NotAllowed, Reason::with_number("Beyond", size))
 }
 
 // The item at an index: the entry and its key, in the place of what the two byte strings held.

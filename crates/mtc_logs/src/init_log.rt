@@ -1,9 +1,12 @@
 //! The command `init-log`: a new log.
 ghost use Rattle.std.specs.Prelude.{◌≡◌, ◌<◌, ◌^◌, true, [], ◌∷◌, IfOk};
+ghost use Rattle.byte_forms.specs.Types.{HashFunction};
 ghost use Rattle.mtc_words.specs.Commands.{is_active, is_limit};
 ghost use Rattle.mtc_answers.specs.Answers.{ending_of};
 ghost use Rattle.mtc_answers.specs.Served.{HasServed};
+ghost use Rattle.mtc_answers.specs.Valid.{KeepsValid};
 ghost use Rattle.mtc_logs.specs.LogOutcomes.{log_line, init_log_outcome};
+ghost use Rattle.mtc_logs.specs.Works.{IsLog};
 
 use issuance_log::{LogSettings, pack};
 use mtc_answers::{Answer, Stop, make_journal};
@@ -33,9 +36,12 @@ pub fn init_log<'a, R: Room>(
     requires lent { R.lent room.old < 2 ^ 32 }
     requires active { is_active max_active ≡ true }
     requires limit { is_limit limit ≡ true }
-    ensures { HasServed R.Room R.Dsk.Disk (journal.now ∷ []) journal.now
+    ensures serves { HasServed R.Room R.Dsk.Disk (journal.now ∷ []) journal.now
         (init_log_outcome journal.now id max_active limit (R.file room.old))
         room.old room.new (ending_of result) }
+    ensures valid { (h : HashFunction)
+        → KeepsValid R.Room R.Dsk.Disk (IsLog h) (journal.now ∷ [])
+        (init_log_outcome journal.now id max_active limit (R.file room.old)) room.old room.new }
 {
     let settings = LogSettings {
         id,

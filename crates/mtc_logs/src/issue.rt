@@ -1,10 +1,11 @@
 //! The command `issue`: the entry of a request is added to a log.
 ghost use Rattle.std.specs.Prelude.{◌≡◌, ◌≢◌, ◌<◌, ◌^◌, [], ◌∷◌, IfOk};
-ghost use Rattle.mtc_answers.specs.Answers.{end_of, ending_of};
+ghost use Rattle.mtc_answers.specs.Answers.{stop_ending, ending_of};
 ghost use Rattle.mtc_answers.specs.Served.{HasServed};
+ghost use Rattle.mtc_answers.specs.Valid.{KeepsValid};
 ghost use Rattle.mtc_logs.specs.IssueOutcome.{field_text, issue_ending, issue_says, issued_text, request_ending};
 ghost use Rattle.mtc_logs.specs.IssueCommand.{issue_outcome};
-ghost use Rattle.mtc_logs.specs.Works.{HasWorked, IsReady};
+ghost use Rattle.mtc_logs.specs.Works.{HasWorked, IsLog, IsReady, StaysLog};
 
 use crate::log_command::on_log;
 use crate::work::Work;
@@ -32,7 +33,7 @@ fn refuse_entry<'a>(journal: &'a str, why: IssueError) -> Stop<'a>
     requires sound { why ≢ IssueError.Log (LogError.Append AppendError.Broken) }
     requires reads { why ≢ IssueError.Log LogError.NoSuchEntry }
     requires marks { why ≢ IssueError.Log LogError.NothingNew }
-    ensures { end_of result ≡ issue_ending journal.now why }
+    ensures { stop_ending result ≡ issue_ending journal.now why }
 {
     let beyond = Stopped::Beyond;
     match why {
@@ -58,8 +59,9 @@ pub fn issue_on<'a, H: TreeHash, D: Disk>(
     request: &Request,
 ) -> Result<Answer, Stop<'a>>
     requires { IsReady log.old }
-    ensures { HasWorked journal.now (issue_says H.hash request.now) log.old log.new
+    ensures works { HasWorked journal.now (issue_says H.hash request.now) log.old log.new
         (ending_of result) }
+    ensures valid { StaysLog H.hash (issue_says H.hash request.now) log.old log.new }
 {
     let text = text_of_index(alloc, log.size())?;
     match authority_core::issue(alloc, log, request) {
@@ -85,7 +87,7 @@ fn field_name(field: Field) -> &'static str
 
 // Why a file is no request.
 fn refuse_request<'a>(file: &'a str, why: RequestError) -> Stop<'a>
-    ensures { end_of result ≡ request_ending file.now why }
+    ensures { stop_ending result ≡ request_ending file.now why }
 {
     let bad = Stopped::BadForm;
     match why {
@@ -111,9 +113,11 @@ pub fn issue<'a, H: TreeHash, R: Room>(
     file: &'a str,
 ) -> Result<Answer, Stop<'a>>
     requires { R.lent room.old < 2 ^ 32 }
-    ensures { HasServed R.Room R.Dsk.Disk (journal.now ∷ file.now ∷ []) journal.now
+    ensures serves { HasServed R.Room R.Dsk.Disk (journal.now ∷ file.now ∷ []) journal.now
         (issue_outcome H.hash journal.now file.now (R.file room.old))
         room.old room.new (ending_of result) }
+    ensures valid { KeepsValid R.Room R.Dsk.Disk (IsLog H.hash) (journal.now ∷ [])
+        (issue_outcome H.hash journal.now file.now (R.file room.old)) room.old room.new }
 {
     let text = read_input(alloc, room, file, INPUT_LIMIT)?;
     match read_request(alloc, text.as_slice()) {

@@ -1,9 +1,10 @@
 //! The commands on a log that has a journal: the journal is lent, opened, worked on and put back.
 ghost use Rattle.std.specs.Prelude.{◌≡◌, ◌<◌, ◌^◌, [], ◌∷◌};
-ghost use Rattle.mtc_answers.specs.Answers.{end_of, ending_of};
+ghost use Rattle.mtc_answers.specs.Answers.{stop_ending, ending_of};
 ghost use Rattle.mtc_answers.specs.Served.{HasServed};
+ghost use Rattle.mtc_answers.specs.Valid.{KeepsValid, ServesValidly};
 ghost use Rattle.mtc_answers.specs.Works.{HasWorkedOn};
-ghost use Rattle.mtc_logs.specs.Works.{bytes_say, journal_outcome, open_ending};
+ghost use Rattle.mtc_logs.specs.Works.{IsLog, bytes_say, journal_outcome, open_ending};
 
 use crate::work::{Work, carry_out};
 use disk_core::Disk;
@@ -16,7 +17,7 @@ use tree_core::TreeHash;
 
 // Why a journal isn't opened as a log.
 fn refuse_log<'a>(journal: &'a str, why: LogOpenError) -> Stop<'a>
-    ensures { end_of result ≡ open_ending journal.now why }
+    ensures { stop_ending result ≡ open_ending journal.now why }
 {
     let bad = Stopped::BadForm;
     match why {
@@ -44,8 +45,10 @@ fn on_device<'a, H: TreeHash, D: Disk>(
     journal: &'a str,
     work: Work,
 ) -> (D, Result<Answer, Stop<'a>>)
-    ensures { HasWorkedOn D.Disk journal.now (bytes_say H.hash journal.now work) disk result.0
-        (ending_of result.1) }
+    ensures serves { HasWorkedOn D.Disk journal.now (bytes_say H.hash journal.now work) disk
+        result.0 (ending_of result.1) }
+    ensures valid { ServesValidly D.Disk (IsLog H.hash) (bytes_say H.hash journal.now work) disk
+        result.0 }
 {
     match Log::<H, D>::open(alloc, disk) {
         Ok(mut log) => {
@@ -65,9 +68,12 @@ pub fn on_log<'a, H: TreeHash, R: Room>(
     work: Work,
 ) -> Result<Answer, Stop<'a>>
     requires { R.lent room.old < 2 ^ 32 }
-    ensures { HasServed R.Room R.Dsk.Disk (journal.now ∷ []) journal.now
+    ensures serves { HasServed R.Room R.Dsk.Disk (journal.now ∷ []) journal.now
         (journal_outcome H.hash journal.now (R.file room.old journal.now) work)
         room.old room.new (ending_of result) }
+    ensures valid { KeepsValid R.Room R.Dsk.Disk (IsLog H.hash) (journal.now ∷ [])
+        (journal_outcome H.hash journal.now (R.file room.old journal.now) work)
+        room.old room.new }
 {
     let disk = lend(room, journal)?;
     let (disk, answer) = on_device::<H, R::Dsk>(alloc, disk, journal, work);

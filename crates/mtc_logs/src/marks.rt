@@ -1,11 +1,11 @@
 //! The commands `landmark` and `landmarks`: a landmark more, and the list of the active ones.
 ghost use Rattle.std.specs.Prelude.{◌≡◌, IfOk};
 ghost use Rattle.issuance_log.specs.Words.{state_of};
-ghost use Rattle.mtc_answers.specs.Answers.{end_of, ending_of};
+ghost use Rattle.mtc_answers.specs.Answers.{ending_of, stop_ending};
 ghost use Rattle.mtc_answers.specs.Endings.{Replies};
 ghost use Rattle.mtc_answers.specs.Wanted.{exactly};
 ghost use Rattle.mtc_logs.specs.LandmarkOutcomes.{MayRefuseMark, landmark_line, landmark_says, landmarks_reply, log_landmarks, mark_ending};
-ghost use Rattle.mtc_logs.specs.Works.{HasWorked, IsReady};
+ghost use Rattle.mtc_logs.specs.Works.{HasWorked, IsReady, StaysLog};
 
 use disk_core::Disk;
 use issuance_log::{Log, LogError};
@@ -26,10 +26,10 @@ fn text_of_landmark(alloc: Global, number: u64, size: u64) -> Result<Bytes, Memo
 // Why a log that was opened just now takes no landmark.
 fn refuse_landmark<'a>(journal: &'a str, why: LogError) -> Stop<'a>
     requires { MayRefuseMark why }
-    ensures { end_of result ≡ mark_ending journal.now why }
+    ensures { stop_ending result ≡ mark_ending journal.now why }
 {
     match why {
-        LogError::NothingNew => refuse(Stopped::Refused, Reason::named("NothingNew")),
+        LogError::NothingNew => refuse(Stopped::NotAllowed, Reason::named("NothingNew")),
         LogError::Append(AppendError::Full) => {
             refuse(Stopped::Beyond, Reason::named("JournalFull"))
         }
@@ -50,7 +50,8 @@ pub fn set_landmark<'a, H: TreeHash, D: Disk>(
     log: &mut Log<H, D>,
 ) -> Result<Answer, Stop<'a>>
     requires { IsReady log.old }
-    ensures { HasWorked journal.now landmark_says log.old log.new (ending_of result) }
+    ensures works { HasWorked journal.now landmark_says log.old log.new (ending_of result) }
+    ensures valid { StaysLog H.hash landmark_says log.old log.new }
 {
     let number = log.marks().len() as u64 + 1;
     let text = text_of_landmark(alloc, number, log.size())?;

@@ -49,7 +49,7 @@ pub fn consist<'a, H: TreeHash, D: Disk>(
     ensures same { log.new ≡ log.old }
 {
     if new <= old {
-        return Err(refuse(Stopped::Refused, Reason::named("NothingNew")));
+        return Err(refuse(Stopped::NotAllowed, Reason::named("NothingNew")));
     }
     if log.size() < new {
         return Err(too_many(log.size()));
@@ -94,7 +94,7 @@ pub fn subtree<'a, H: TreeHash, D: Disk>(
     ensures same { log.new ≡ log.old }
 {
     if !subtree_ok(start, end) {
-        return Err(refuse(Stopped::Refused, Reason::named("BadSubtree")));
+        return Err(refuse(Stopped::NotAllowed, Reason::named("BadSubtree")));
     }
     if log.size() < size {
         return Err(too_many(log.size()));

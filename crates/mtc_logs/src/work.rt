@@ -1,6 +1,6 @@
 //! The work of a command on a log whose journal is open: its own refusals, its text, and at most
 //! one append, which is its last step.
-ghost use Rattle.mtc_logs.specs.Works.{HasWorked, IsReady, work_says};
+ghost use Rattle.mtc_logs.specs.Works.{HasWorked, IsReady, StaysLog, work_says};
 ghost use Rattle.mtc_answers.specs.Answers.{ending_of};
 
 use crate::cert::{Signatures, certificate, light_certificate};
@@ -51,7 +51,9 @@ pub fn carry_out<'a, H: TreeHash, D: Disk>(
     work: Work,
 ) -> Result<Answer, Stop<'a>>
     requires { IsReady log.old }
-    ensures { HasWorked journal.now (work_says H.hash work) log.old log.new (ending_of result) }
+    ensures works { HasWorked journal.now (work_says H.hash work) log.old log.new
+        (ending_of result) }
+    ensures valid { StaysLog H.hash (work_says H.hash work) log.old log.new }
 {
     match work {
         Work::Checkpoint => checkpoint(alloc, log),

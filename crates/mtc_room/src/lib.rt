@@ -1,8 +1,9 @@
 //! Rooms: the files that the program may reach, lent one at a time.
 //!
-//! The program opens nothing by itself. It is handed a [`Room`], which lends it sources by name and
-//! takes them back. A room counts its faults, and how many objects it has lent out; so a caller can
-//! show that it gave all of them back, and that an answer that names a fault has one.
+//! The program opens nothing by itself. It is handed a [`Room`], which lends it files by name, as
+//! sources or as devices, makes new ones, and takes back what it lent. A room counts its faults,
+//! and how many objects it has lent out; so a caller can show that it gave all of them back, and
+//! that an answer that names a fault has one.
 #![tactic(auto)]
 
 mod error;

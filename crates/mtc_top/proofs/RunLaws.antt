@@ -15,8 +15,9 @@ use Rattle.mtc_answers.specs.Served.{OfEach}
 use Rattle.mtc_answers.specs.declared.answer.Said.TheVariants.{Done, Against}
 use Rattle.mtc_answers.proofs.Made.{ReadsImage}
 use Rattle.mtc_answers.proofs.Served.{each_so, both_so}
+use Rattle.mtc_top.specs.Concluded.{Prints}
 use Rattle.mtc_top.specs.Nodes.{AllStandForNode, TookSome, fresh_node}
-use Rattle.mtc_top.specs.Run.{journals, Prints, HasRun}
+use Rattle.mtc_top.specs.Run.{journals, HasRun}
 use Rattle.mtc_top.specs.RunLaws.{RunShows, RunSteps, took}
 use Rattle.mtc_top.proofs.Runs.{reply_code}
 use Rattle.mtc_top.proofs.Nodes.{kept_ends, failed_ends, made_ends, took_dec, file_stands}
@@ -73,7 +74,7 @@ module _ {R S D O E : Type 0} (h : List ℕ → List ℕ) (rooms : Rooms R S D) 
         | inl is8 ↦ (run.no_memory is8.1).text
         | inr not8 ↦
             (let a = run.answered not5.1 not6 not8.1 in
-            silent_reply (Prints h rooms disks outs errs words old new out out' err err')
+            silent_reply (Prints outs out out')
             a.reply status a.code not0 not3 a.text)
       ]
     ];

@@ -11,15 +11,16 @@ use Rattle.mtc_answers.specs.Answers.{status_of, out_of, IsEarly}
 use Rattle.mtc_answers.specs.Made.{untouched, IsOnOld}
 use Rattle.mtc_answers.specs.Served.{HasDone, OfEach, IsUnmade, done_with}
 use Rattle.mtc_answers.specs.Steps.{Outcome}
+use Rattle.mtc_answers.specs.Valid.{KeepsValid}
 use Rattle.mtc_answers.specs.declared.answer.Said.{Said}
 use Rattle.mtc_answers.specs.declared.answer.Said.TheVariants.{Done, Against}
 use Rattle.mtc_answers.specs.declared.answer.Stopped.{Stopped}
 use Rattle.mtc_answers.specs.declared.answer.Stopped.TheVariants.{BadWords, BadForm}
-use Rattle.mtc_answers.specs.declared.answer.Stopped.TheVariants.{Refused as NotAllowed}
+use Rattle.mtc_answers.specs.declared.answer.Stopped.TheVariants.{NotAllowed}
 use Rattle.mtc_answers.specs.declared.answer.Stopped.TheVariants.{Missing, Beyond}
 use Rattle.mtc_answers.proofs.Served.{each_so, each_is}
 use Rattle.mtc_top.specs.Concluded.{Wrote, Lost, Told, Concludes}
-use Rattle.mtc_top.specs.Outcome.{outcome, files_of, journals_of, spoken}
+use Rattle.mtc_top.specs.Outcome.{outcome, files_of, journals_of, spoken, spoken_rules}
 use Rattle.mtc_top.specs.Run.{HasRun}
 
 -- a reply's status is none of those without a reply
@@ -68,15 +69,19 @@ module _ {R S D O E : Type 0} (h : List ℕ → List ℕ) (rooms : Rooms R S D) 
   Did = HasDone rooms disks Bad (spoken files_of (command_of words))
       (spoken journals_of (command_of words)) want old new
 
+  abbrev Valid : Type 0
+  Valid = KeepsValid rooms disks (spoken_rules h (command_of words))
+      (spoken journals_of (command_of words)) want old new
+
   no_file : (ending : Ending) → Did ending → rooms.tells old
       → OfEach (λ name did. IsOnOld did → IsUnmade rooms old new name)
       (done_with (spoken journals_of (command_of words)) want.journals)
   no_file ending done tells = (done.made tells).no_file
 
   -- the reply went out
-  run_wrote : (reply : Reply) (status : ℕ) → Did (replied reply)
+  run_wrote : (reply : Reply) (status : ℕ) → Valid → Did (replied reply)
       → Wrote outs errs (known_word words) out out' err err' reply status → Run status
-  run_wrote reply status done wrote =
+  run_wrote reply status valid done wrote =
       let code = reply_code reply in
       record {
         read = record {
@@ -99,15 +104,16 @@ module _ {R S D O E : Type 0} (h : List ℕ → List ℕ) (rooms : Rooms R S D) 
         no_memory = λ is. absurd (code.not8 (sym wrote.code ∙ is));
         back = done.back;
         no_file = no_file (replied reply) done;
+        valid = valid;
         early = λ tells. subst (λ n. OfEach (λ name did. did ≡ untouched → IsEarly n)
             (done_with (spoken journals_of (command_of words)) want.journals)) (sym wrote.code)
             (done.ends.early tells);
       }
 
   -- standard output failed
-  run_lost : (kind : Said) (text : List ℕ) (status : ℕ) → Did (replied (said kind text))
+  run_lost : (kind : Said) (text : List ℕ) (status : ℕ) → Valid → Did (replied (said kind text))
       → Lost outs errs (known_word words) out out' err err' text status → Run status
-  run_lost kind text status done lost = record {
+  run_lost kind text status valid done lost = record {
     read = record {
       only = λ one. absurd (omega (arith, lost.code, one));
       first = λ bad not8. absurd ((said_late kind text).0 (done.ends.words bad).1);
@@ -128,6 +134,7 @@ module _ {R S D O E : Type 0} (h : List ℕ → List ℕ) (rooms : Rooms R S D) 
     no_memory = λ is. absurd (omega (arith, lost.code, is));
     back = done.back;
     no_file = no_file (replied (said kind text)) done;
+    valid = valid;
     early = λ tells. each_so (λ name did. did ≡ untouched → IsEarly (status_of (said kind text)))
         (λ name did. did ≡ untouched → IsEarly status)
         (λ name did late of. absurd ((said_late kind text).1 (late of)))
@@ -136,10 +143,10 @@ module _ {R S D O E : Type 0} (h : List ℕ → List ℕ) (rooms : Rooms R S D) 
   }
 
   -- the room failed
-  run_failed : (file : List ℕ) (status : ℕ) → Did (room_failed file)
+  run_failed : (file : List ℕ) (status : ℕ) → Valid → Did (room_failed file)
       → Told outs errs (known_word words) out out' err err' 5 (Some file) (codes "Failed") status
       → Run status
-  run_failed file status done told = record {
+  run_failed file status valid done told = record {
     read = record {
       only = λ one. absurd (omega (arith, told.is, one));
       first = λ bad not8. absurd (done.ends.words bad);
@@ -157,16 +164,17 @@ module _ {R S D O E : Type 0} (h : List ℕ → List ℕ) (rooms : Rooms R S D) 
     no_memory = λ is. absurd (omega (arith, told.is, is));
     back = done.back;
     no_file = no_file (room_failed file) done;
+    valid = valid;
     early = λ tells. each_is (λ name did. did ≡ untouched → IsEarly status)
         (λ name did of. inr (inr (inl told.is)))
         (done_with (spoken journals_of (command_of words)) want.journals);
   }
 
   -- memory was refused
-  run_starved : (status : ℕ) → Did no_memory
+  run_starved : (status : ℕ) → Valid → Did no_memory
       → Told outs errs (known_word words) out out' err err' 8 None (codes "Memory") status
       → Run status
-  run_starved status done told = record {
+  run_starved status valid done told = record {
     read = record {
       only = λ one. absurd (omega (arith, told.is, one));
       first = λ bad not8. absurd (not8 told.is);
@@ -182,6 +190,7 @@ module _ {R S D O E : Type 0} (h : List ℕ → List ℕ) (rooms : Rooms R S D) 
     };
     back = done.back;
     no_file = no_file no_memory done;
+    valid = valid;
     early = λ tells. each_is (λ name did. did ≡ untouched → IsEarly status)
         (λ name did of. inr (inr (inr (inr (inl told.is)))))
         (done_with (spoken journals_of (command_of words)) want.journals);
@@ -190,13 +199,15 @@ module _ {R S D O E : Type 0} (h : List ℕ → List ℕ) (rooms : Rooms R S D) 
   pub has_run : (ending : Ending) (status : ℕ) → HasDone rooms disks (IsErr (command_of words))
       (spoken files_of (command_of words)) (spoken journals_of (command_of words))
       (outcome h words (rooms.file old)) old new ending
+      → KeepsValid rooms disks (spoken_rules h (command_of words))
+      (spoken journals_of (command_of words)) (outcome h words (rooms.file old)) old new
       → Concludes outs errs (known_word words) out out' err err' ending status
       → HasRun h rooms disks outs errs words old new out out' err err' status
-  has_run (replied (said kind text)) status done ends = elim ends [
-    | inl wrote ↦ run_wrote (said kind text) status done wrote
-    | inr lost ↦ run_lost kind text status done lost
+  has_run (replied (said kind text)) status done valid ends = elim ends [
+    | inl wrote ↦ run_wrote (said kind text) status valid done wrote
+    | inr lost ↦ run_lost kind text status valid done lost
   ]
-  has_run (replied (refused why file reason)) status done wrote =
-      run_wrote (refused why file reason) status done wrote
-  has_run (room_failed file) status done told = run_failed file status done told
-  has_run no_memory status done told = run_starved status done told
+  has_run (replied (refused why file reason)) status done valid wrote =
+      run_wrote (refused why file reason) status valid done wrote
+  has_run (room_failed file) status done valid told = run_failed file status valid done told
+  has_run no_memory status done valid told = run_starved status valid done told

@@ -8,39 +8,38 @@ use Rattle.mtc_answers.specs.Answers.{Ending, Reply, replied, room_failed, no_me
 use Rattle.mtc_answers.specs.Answers.{status_of, out_of, err_of}
 use Rattle.mtc_answers.specs.Lines.{line_of, WritesLine}
 
-module _ {O E : Type 0} (outs : Sinks O) (errs : Sinks E) (out out' : O) (err err' : E) where
-  -- This went to standard output; a front of it did.
-  abbrev pub Prints : List ℕ → Type 0
-  Prints text = Appends (outs.taken out) (outs.taken out') text
+-- This went to standard output; a front of it did.
+abbrev pub Prints : {O : Type 0} → Sinks O → O → O → List ℕ → Type 0
+Prints outs out out' text = Appends (outs.taken out) (outs.taken out') text
 
-  abbrev pub PrintsFront : List ℕ → Type 0
-  PrintsFront text = AppendsPrefix (outs.taken out) (outs.taken out') text
+abbrev pub PrintsFront : {O : Type 0} → Sinks O → O → O → List ℕ → Type 0
+PrintsFront outs out out' text = AppendsPrefix (outs.taken out) (outs.taken out') text
 
-  -- This line went to standard error, or a front of it where that failed.
-  abbrev pub Reports : List ℕ → Type 0
-  Reports line = WritesLine (Rose (errs.faults err) (errs.faults err'))
-      (errs.taken err) (errs.taken err') line
+-- This line went to standard error, or a front of it where that failed.
+abbrev pub Reports : {E : Type 0} → Sinks E → E → E → List ℕ → Type 0
+Reports errs err err' line = WritesLine (Rose (errs.faults err) (errs.faults err'))
+    (errs.taken err) (errs.taken err') line
 
 module _ {O E : Type 0} (outs : Sinks O) (errs : Sinks E) (command : List ℕ)
     (out out' : O) (err err' : E) where
   -- The reply went out.
   pub record Wrote (reply : Reply) (status : ℕ) : Type 0 where
     pub code : status ≡ status_of reply
-    pub text : Prints outs errs out out' err err' (out_of reply)
-    pub line : Reports outs errs out out' err err' (err_of command reply)
+    pub text : Prints outs out out' (out_of reply)
+    pub line : Reports errs err err' (err_of command reply)
 
   -- Standard output failed.
   pub record Lost (text : List ℕ) (status : ℕ) : Type 0 where
     pub code : status ≡ 6
     pub cause : Rose (outs.faults out) (outs.faults out')
-    pub front : PrintsFront outs errs out out' err err' text
-    pub line : Reports outs errs out out' err err' (line_of command None (codes "OutputFailed"))
+    pub front : PrintsFront outs out out' text
+    pub line : Reports errs err err' (line_of command None (codes "OutputFailed"))
 
   -- There is no reply.
   pub record Told (code : ℕ) (file : Option (List ℕ)) (reason : List ℕ) (status : ℕ) : Type 0 where
     pub is : status ≡ code
-    pub nothing : Prints outs errs out out' err err' []
-    pub line : Reports outs errs out out' err err' (line_of command file reason)
+    pub nothing : Prints outs out out' []
+    pub line : Reports errs err err' (line_of command file reason)
 
   abbrev pub Concludes : Ending → ℕ → Type 0
   Concludes (replied (said kind text)) status = Wrote (said kind text) status ⊎ Lost text status

@@ -12,14 +12,14 @@ use Rattle.mtc_logs.specs.IssueCommand.{issue_outcome}
 use Rattle.mtc_logs.specs.CertCommand.{cert_outcome}
 use Rattle.mtc_cosigner.specs.InitOutcome.{init_cosigner_outcome}
 use Rattle.mtc_cosigner.specs.KeygenOutcome.{keygen_outcome}
-use Rattle.mtc_cosigner.specs.Works.{advance_outcome, cosign_outcome}
+use Rattle.mtc_cosigner.specs.Works.{IsCosigner, advance_outcome, cosign_outcome}
 use Rattle.mtc_logs.specs.LogOutcomes.{init_log_outcome}
 use Rattle.mtc_reads.specs.MemberOutcome.{member_outcome}
 use Rattle.mtc_reads.specs.ShowOutcome.{show_outcome}
 use Rattle.mtc_answers.specs.Steps.{Outcome, Files}
 use Rattle.mtc_reads.specs.VerifyOutcome.{verify_outcome}
 use Rattle.mtc_top.specs.WordsOutcome.{words_say}
-use Rattle.mtc_logs.specs.Works.{journal_outcome}
+use Rattle.mtc_logs.specs.Works.{IsLog, journal_outcome}
 use Rattle.mtc_logs.specs.declared.work.Work.TheVariants.{Checkpoint, Entries, Consist, Subtree}
 use Rattle.mtc_logs.specs.declared.work.Work.TheVariants.{Landmark, Landmarks, LightCert}
 
@@ -92,6 +92,26 @@ journals_of (landmarks journal) = journal ∷ []
 journals_of (light_cert journal index) = journal ∷ []
 journals_of (cert journal index start end file) = journal ∷ []
 
+-- Which lists of records are a node's, of the kind that it works on.
+abbrev pub rules_of : (List ℕ → List ℕ) → CommandValue → List (List ℕ) → Type 0
+rules_of h (member file) = IsLog h
+rules_of h (show file) = IsLog h
+rules_of h (verify certificate store moment) = IsLog h
+rules_of h (init_log journal id active limit) = IsLog h
+rules_of h (issue journal request) = IsLog h
+rules_of h (checkpoint journal) = IsLog h
+rules_of h (entries journal size) = IsLog h
+rules_of h (consist journal old new) = IsLog h
+rules_of h (subtree journal start end size) = IsLog h
+rules_of h (keygen height width file) = IsCosigner h
+rules_of h (init_cosigner journal id log height width file) = IsCosigner h
+rules_of h (advance journal request) = IsCosigner h
+rules_of h (cosign journal request) = IsCosigner h
+rules_of h (landmark journal) = IsLog h
+rules_of h (landmarks journal) = IsLog h
+rules_of h (light_cert journal index) = IsLog h
+rules_of h (cert journal index start end file) = IsLog h
+
 -- The same where the words say this.
 abbrev pub spoken_outcome : (List ℕ → List ℕ) → Result CommandValue WordError → Files → Outcome
 spoken_outcome h (Ok command) files = command_outcome h command files
@@ -101,6 +121,11 @@ abbrev pub spoken : (CommandValue → List (List ℕ)) → Result CommandValue W
     → List (List ℕ)
 spoken names (Ok command) = names command
 spoken names (Err why) = []
+
+abbrev pub spoken_rules : (List ℕ → List ℕ) → Result CommandValue WordError → List (List ℕ)
+    → Type 0
+spoken_rules h (Ok command) = rules_of h command
+spoken_rules h (Err why) = λ list. ⊥
 
 abbrev pub outcome : (List ℕ → List ℕ) → List (List ℕ) → Files → Outcome
 outcome h words files = spoken_outcome h (command_of words) files

@@ -1,21 +1,21 @@
 -- What a run of the program did, by these words, over a room and two sinks, each before and after.
 use Rattle.std.specs.Prelude.{◌≡◌, ◌≢◌, ◌⊎◌, ◌≤◌, ℕ, List, [], None, Some, codes, IsErr}
-use Rattle.std.specs.Io.KnownBytes.{Appends}
 use Rattle.disk_core.specs.declared.disk.Disk.{Ghosts as Disks}
 use Rattle.mtc_io.specs.Counts.{Rose}
-use Rattle.mtc_io.specs.Streams.{AppendsPrefix}
 use Rattle.mtc_io.specs.declared.sink.Sink.{Ghosts as Sinks}
 use Rattle.mtc_room.specs.declared.room.Room.{Ghosts as Rooms}
 use Rattle.mtc_words.specs.Words.{command_of, known_word}
 use Rattle.mtc_answers.specs.Answers.{Reply, status_of, out_of, err_of, IsEarly}
-use Rattle.mtc_answers.specs.Endings.{IsAmong}
-use Rattle.mtc_answers.specs.Lines.{line_of, WritesLine}
+use Rattle.mtc_answers.specs.Endings.{IsNamed}
+use Rattle.mtc_answers.specs.Lines.{line_of}
 use Rattle.mtc_answers.specs.Made.{Journaled, Leaving, untouched, IsOnOld, HasKept, HasMade}
 use Rattle.mtc_answers.specs.Made.{MayHaveMade}
 use Rattle.mtc_answers.specs.Served.{Journals, OfEach, LeavesEach, done_with, GivesBack, IsUnmade}
 use Rattle.mtc_answers.specs.Steps.{Outcome}
+use Rattle.mtc_answers.specs.Valid.{KeepsValid}
 use Rattle.mtc_answers.specs.Wanted.{Meets}
-use Rattle.mtc_top.specs.Outcome.{outcome, files_of, journals_of, spoken}
+use Rattle.mtc_top.specs.Concluded.{Prints, PrintsFront, Reports}
+use Rattle.mtc_top.specs.Outcome.{outcome, files_of, journals_of, spoken, spoken_rules}
 
 module _ {R S D O E : Type 0} (h : List ℕ → List ℕ) (rooms : Rooms R S D) (disks : Disks D)
     (outs : Sinks O) (errs : Sinks E) (words : List (List ℕ))
@@ -29,18 +29,6 @@ module _ {R S D O E : Type 0} (h : List ℕ → List ℕ) (rooms : Rooms R S D) 
 
   abbrev pub journals : Journals
   journals = done_with names asked.journals
-
-  -- This went to standard output; a front of it did.
-  abbrev pub Prints : List ℕ → Type 0
-  Prints text = Appends (outs.taken out) (outs.taken out') text
-
-  abbrev pub PrintsFront : List ℕ → Type 0
-  PrintsFront text = AppendsPrefix (outs.taken out) (outs.taken out') text
-
-  -- This line went to standard error, or a front of it where that failed.
-  abbrev pub Reports : List ℕ → Type 0
-  Reports line = WritesLine (Rose (errs.faults err) (errs.faults err'))
-      (errs.taken err) (errs.taken err') line
 
   -- The reply is one that is asked for, by the words and the files that the room tells, or by the
   -- words alone where they are no command.
@@ -57,18 +45,18 @@ module _ {R S D O E : Type 0} (h : List ℕ → List ℕ) (rooms : Rooms R S D) 
     pub reply : Reply
     pub is : IsAsked reply
     pub code : status ≡ status_of reply
-    pub text : Prints (out_of reply)
-    pub line : Reports (err_of (known_word words) reply)
+    pub text : Prints outs out out' (out_of reply)
+    pub line : Reports errs err err' (err_of (known_word words) reply)
     pub made : Left HasMade
 
   -- The room failed: nothing went out, and the line names a file of the command. A journal that was
   -- there has its record or not; of a new one nothing is said.
   pub record RoomFailed : Type 0 where
     pub cause : Rose (rooms.faults old) (rooms.faults new)
-    pub text : Prints []
+    pub text : Prints outs out out' []
     pub file : List ℕ
-    pub named : IsAmong (spoken files_of (command_of words)) file
-    pub line : Reports (line_of (known_word words) (Some file) (codes "Failed"))
+    pub named : IsNamed (spoken files_of (command_of words)) file
+    pub line : Reports errs err err' (line_of (known_word words) (Some file) (codes "Failed"))
     pub made : Left MayHaveMade
 
   -- Standard output failed: a front of the text went out, and a journal has its record.
@@ -76,14 +64,14 @@ module _ {R S D O E : Type 0} (h : List ℕ → List ℕ) (rooms : Rooms R S D) 
     pub cause : Rose (outs.faults out) (outs.faults out')
     pub reply : Reply
     pub is : IsAsked reply
-    pub text : PrintsFront (out_of reply)
-    pub line : Reports (line_of (known_word words) None (codes "OutputFailed"))
+    pub text : PrintsFront outs out out' (out_of reply)
+    pub line : Reports errs err err' (line_of (known_word words) None (codes "OutputFailed"))
     pub made : Left HasMade
 
   -- Memory was refused: nothing went out, no journal has a new record, and no file is made.
   pub record NoMemory : Type 0 where
-    pub text : Prints []
-    pub line : Reports (line_of (known_word words) None (codes "Memory"))
+    pub text : Prints outs out out' []
+    pub line : Reports errs err err' (line_of (known_word words) None (codes "Memory"))
     pub made : Left HasKept
     pub unmade : rooms.tells old → OfEach (λ name did. IsUnmade rooms old new name) journals
 
@@ -106,3 +94,5 @@ module _ {R S D O E : Type 0} (h : List ℕ → List ℕ) (rooms : Rooms R S D) 
         → OfEach (λ name did. IsOnOld did → IsUnmade rooms old new name) journals
     -- A journal that isn't opened goes with a status that may come before.
     pub early : rooms.tells old → OfEach (λ name did. did ≡ untouched → IsEarly status) journals
+    -- A new record makes a log or a cosigner with those before it.
+    pub valid : KeepsValid rooms disks (spoken_rules h (command_of words)) names asked old new

@@ -8,9 +8,10 @@ use Rattle.mtc_room.specs.declared.room.Room.{Ghosts as Rooms}
 use Rattle.mtc_answers.specs.Made.{Journaled, appended, started, Images, IsOnOld, images_at}
 use Rattle.mtc_answers.specs.Made.{moment_at, images_since}
 use Rattle.mtc_answers.specs.Served.{OfEach}
+use Rattle.mtc_top.specs.Concluded.{Prints}
 use Rattle.mtc_top.specs.Nodes.{NodeState, StandsForNode, AllStandForNode, EndsWell, TookSome}
 use Rattle.mtc_top.specs.Nodes.{fresh_node}
-use Rattle.mtc_top.specs.Run.{journals, Prints, Answered, HasRun}
+use Rattle.mtc_top.specs.Run.{journals, Answered, HasRun}
 
 module _ {R S D O E : Type 0} (h : List ℕ → List ℕ) (rooms : Rooms R S D) (disks : Disks D)
     (outs : Sinks O) (errs : Sinks E) (words : List (List ℕ))
@@ -25,7 +26,7 @@ module _ {R S D O E : Type 0} (h : List ℕ → List ℕ) (rooms : Rooms R S D) 
         → Answered h rooms disks outs errs words old new out out' err err' status
     -- A refusal, a failure of the room and want of memory print nothing.
     pub silent : status ≢ 0 → status ≢ 3 → status ≢ 6
-        → Prints h rooms disks outs errs words old new out out' err err' []
+        → Prints outs out out' []
 
   -- A byte went out.
   abbrev pub took : Type 0

@@ -30,7 +30,7 @@ fn code_stopped(why: Stopped) -> u8
     match why {
         Stopped::BadWords => 1,
         Stopped::BadForm => 2,
-        Stopped::Refused => 4,
+        Stopped::NotAllowed => 4,
         Stopped::Missing => 7,
         Stopped::Beyond => 9,
     }

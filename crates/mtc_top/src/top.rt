@@ -4,7 +4,8 @@ ghost use Rattle.mtc_words.specs.Commands.{command_value, IsInRange};
 ghost use Rattle.mtc_words.specs.Words.{command_of};
 ghost use Rattle.mtc_answers.specs.Answers.{ending_of};
 ghost use Rattle.mtc_answers.specs.Served.{HasDone};
-ghost use Rattle.mtc_top.specs.Outcome.{command_outcome, files_of, journals_of, outcome, spoken};
+ghost use Rattle.mtc_answers.specs.Valid.{KeepsValid};
+ghost use Rattle.mtc_top.specs.Outcome.{command_outcome, files_of, journals_of, outcome, rules_of, spoken, spoken_rules};
 ghost use Rattle.mtc_top.specs.Run.{HasRun};
 
 use crate::finish::conclude;
@@ -34,10 +35,14 @@ fn perform<'a, H: TreeHash, R: Room>(
 ) -> Result<Answer, Stop<'a>>
     requires lent { R.lent room.old < 2 ^ 32 }
     requires range { IsInRange (command_value command) }
-    ensures { HasDone R.Room R.Dsk.Disk ⊥
+    ensures done { HasDone R.Room R.Dsk.Disk ⊥
         (files_of (command_value command.entry)) (journals_of (command_value command.entry))
         (command_outcome H.hash (command_value command.entry) (R.file room.old))
         room.old room.new (ending_of result) }
+    ensures valid { KeepsValid R.Room R.Dsk.Disk (rules_of H.hash (command_value command.entry))
+        (journals_of (command_value command.entry))
+        (command_outcome H.hash (command_value command.entry) (R.file room.old))
+        room.old room.new }
 {
     match command {
         Command::Member(file) => member::<H, R>(alloc, room, file),
@@ -77,11 +82,15 @@ fn answer<'a, H: TreeHash, R: Room>(
     room: &mut R,
 ) -> Result<Answer, Stop<'a>>
     requires { R.lent room.old < 2 ^ 32 }
-    ensures { HasDone R.Room R.Dsk.Disk (IsErr (command_of (map string_bytes words.now)))
+    ensures done { HasDone R.Room R.Dsk.Disk (IsErr (command_of (map string_bytes words.now)))
         (spoken files_of (command_of (map string_bytes words.now)))
         (spoken journals_of (command_of (map string_bytes words.now)))
         (outcome H.hash (map string_bytes words.now) (R.file room.old))
         room.old room.new (ending_of result) }
+    ensures valid { KeepsValid R.Room R.Dsk.Disk
+        (spoken_rules H.hash (command_of (map string_bytes words.now)))
+        (spoken journals_of (command_of (map string_bytes words.now)))
+        (outcome H.hash (map string_bytes words.now) (R.file room.old)) room.old room.new }
 {
     match read_words(alloc, words) {
         Ok(command) => perform::<H, R>(alloc, room, command),
@@ -96,11 +105,11 @@ fn answer<'a, H: TreeHash, R: Room>(
 ///
 /// Answers the status. 0 the command did its work, and 3 the judgement is against: both wrote to
 /// `out`. The others wrote a line to `err`: 1 the words are no command; 2 a named file isn't in its
-/// grammar; 4 the log doesn't allow what is asked; 5 the room failed; 6 `out` failed; 7 a named
-/// file isn't there, or that of a new journal is there already; 8 memory was refused; 9 an input is
-/// over its limit, or the log or its journal takes no more. Tests come in the order of the
-/// program's steps: the words, the input files, their grammars (a certificate's with its
-/// judgement), the journal, and the command's own. A fault of `err` changes no status.
+/// grammar; 4 the log or the cosigner doesn't allow what is asked; 5 the room failed; 6 `out`
+/// failed; 7 a named file isn't there, or that of a new journal is there already; 8 memory was
+/// refused; 9 an input is over its limit, or the log or a journal takes no more. Tests come in the
+/// order of the program's steps: the words, the input files, their grammars (a certificate's with
+/// its judgement), the journal, and the command's own. A fault of `err` changes no status.
 ///
 /// What follows of each run, and how it ends as steps of a node, is [`crate::runs_are_steps`].
 pub fn run<H: TreeHash, R: Room, O: Sink, E: Sink>(

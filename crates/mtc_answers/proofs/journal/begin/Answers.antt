@@ -1,12 +1,20 @@
-use Rattle.std.proofs.Common.{List, ℕ, [], ◌∷◌, Option, IfSome, option_map, ap, ◌∙◌, subst}
+use Rattle.std.proofs.Common.{◌≡◌, List, ℕ, [], ◌∷◌, Option, None, Some, IfSome, option_map}
+use Rattle.std.proofs.Common.{ap, refl, ◌∙◌, subst}
 use Rattle.journal_core.specs.Packed.{first_body}
 use Rattle.journal_core.specs.Words.{AllStandFor, disk_of}
 use Rattle.mtc_answers.proofs.journal.begin.Goals as goal
 
-pub returns-in-Ok-clause-made : goal.returns-in-Ok-clause-made
-returns-in-Ok-clause-made g c = λ ok told image left.
+-- what was told before was empty
+begun : {Q : Type 0} (told : Option (List ℕ)) → IfSome told (λ bytes. bytes ≡ [])
+    → ((bytes : List ℕ) → told ≡ Some bytes → Q) → IfSome told (λ bytes. (bytes ≡ []) × Q)
+begun None empty then_ = tt
+begun (Some bytes) empty then_ = (empty, then_ bytes refl)
+
+pub returns-in-Ok-clause-begins : goal.returns-in-Ok-clause-begins
+returns-in-Ok-clause-begins g c =
     let started = c.in-Ok.ensures.ok in
+    begun (g.D.Disk.told c.args.disk) started.empty (λ bytes told image left.
     let all = subst (λ (list : Option (List (List ℕ))). IfSome list
     (AllStandFor g.D.Disk (disk_of c.in-Ok.journal)))
     (started.list ∙ ap (option_map (λ _. first_body c.args.first ∷ [])) told) started.all in
-    all image (subst (λ d. g.D.Disk.may_leave d image) c.into_disk.ensures left)
+    all image (subst (λ d. g.D.Disk.may_leave d image) c.into_disk.ensures left))

@@ -1,14 +1,15 @@
-use Rattle.std.proofs.Common.{subst, sym}
+use Rattle.std.proofs.Common.{inl, subst, sym}
 use Rattle.cosigner_core.specs.Words.{cosigner_disk, cosigner_records, state_of}
 use Rattle.mtc_answers.specs.Answers.{Ending, ending_of}
 use Rattle.mtc_answers.specs.Works.{HasWorkedOn}
 use Rattle.mtc_answers.proofs.Works.{worked_on}
-use Rattle.mtc_cosigner.specs.Works.{bytes_say, found_cosigner, work_says}
+use Rattle.mtc_answers.proofs.Valid.{valid_on}
+use Rattle.mtc_cosigner.specs.Works.{IsCosigner, bytes_say, found_cosigner, work_says}
 use Rattle.mtc_cosigner.proofs.Opened.{found_says, refused_says}
 use Rattle.mtc_cosigner.proofs.cosigner_command.on_device.Goals as goal
 
-pub returns-in-Ok : goal.returns-in-Ok
-returns-in-Ok g c =
+pub returns-in-Ok-clause-serves : goal.returns-in-Ok-clause-serves
+returns-in-Ok-clause-serves g c =
     let d = g.D.Disk in
     let h = g.H.TreeHash.hash in
     let name = c.args.journal.now in
@@ -20,10 +21,10 @@ returns-in-Ok g c =
     (cosigner_disk c.carry_out-answer.new.cosigner) (ending_of c.carry_out-answer.result)
     g.met.D.Disk.reads_image opened.looks opened.fine
     (found_says h name says (d.told c.args.disk) (cosigner_records it) (state_of it)
-    opened.found) opened.stands opened.all c.carry_out-answer.ensures)
+    opened.found) opened.stands opened.all c.carry_out-answer.ensures.works)
 
-pub returns-in-Err : goal.returns-in-Err
-returns-in-Err g c =
+pub returns-in-Err-clause-serves : goal.returns-in-Err-clause-serves
+returns-in-Err-clause-serves g c =
     let d = g.D.Disk in
     let h = g.H.TreeHash.hash in
     let name = c.args.journal.now in
@@ -32,3 +33,20 @@ returns-in-Err g c =
     subst (λ (e : Ending). HasWorkedOn d name (bytes_say h name says) c.args.disk disk e)
     (sym c.refuse_cosigner.ensures)
     (refused_says h name says d c.args.disk disk c.in-Err.ensures.err _ c.in-Err.ensures.cause)
+
+pub returns-in-Ok-clause-valid : goal.returns-in-Ok-clause-valid
+returns-in-Ok-clause-valid g c =
+    let d = g.D.Disk in
+    let h = g.H.TreeHash.hash in
+    let name = c.args.journal.now in
+    let says = work_says h c.args.work.now in
+    let it = c.in-Ok.cosigner in
+    let opened = c.in-Ok.ensures in
+    rw c.into_disk.ensures (valid_on d (IsCosigner h) name (bytes_say h name says)
+    (λ list. says (found_cosigner (state_of it) list)) c.args.disk (cosigner_disk it)
+    (cosigner_disk c.carry_out-answer.new.cosigner) opened.looks
+    (found_says h name says (d.told c.args.disk) (cosigner_records it) (state_of it)
+    opened.found) opened.stands opened.all c.carry_out-answer.ensures.valid)
+
+pub returns-in-Err-clause-valid : goal.returns-in-Err-clause-valid
+returns-in-Err-clause-valid g c = inl c.in-Err.ensures.err

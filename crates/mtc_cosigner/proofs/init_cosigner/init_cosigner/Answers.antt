@@ -2,12 +2,14 @@ use Rattle.std.proofs.Common.{[], ◌∷◌, inl, inr, refl}
 use Rattle.std.proofs.lemmas.Result.{err_from_is_err_and}
 use Rattle.mtc_answers.specs.Answers.{ending_of}
 use Rattle.mtc_answers.proofs.Served.{behind}
+use Rattle.mtc_answers.proofs.Valid.{behind_valid, kept_valid}
 use Rattle.mtc_cosigner.specs.InitOutcome.{init_cosigner_outcome, init_says, settings_of}
+use Rattle.mtc_cosigner.specs.Works.{IsCosigner}
 use Rattle.mtc_cosigner.proofs.Begun.{asked_so}
 use Rattle.mtc_cosigner.proofs.init_cosigner.init_cosigner.Goals as goal
 
-pub returns-in_err-secret : goal.returns-in_err-secret
-returns-in_err-secret g c =
+pub returns-in_err-secret-clause-serves : goal.returns-in_err-secret-clause-serves
+returns-in_err-secret-clause-serves g c =
     let journal = c.args.journal.now in
     let file = c.args.file.now in
     let stopped = err_from_is_err_and c.from_residual.result c.from_residual.ensures.1 in
@@ -16,8 +18,8 @@ returns-in_err-secret g c =
     (settings_of c.args.id c.args.log c.args.height c.args.width) file
     (g.R.Room.file c.args.room.now journal)) (inr (inl refl)))
 
-pub returns : goal.returns
-returns g c =
+pub returns-clause-serves : goal.returns-clause-serves
+returns-clause-serves g c =
     let rooms = g.R.Room in
     let journal = c.args.journal.now in
     let file = c.args.file.now in
@@ -39,4 +41,36 @@ returns g c =
     c.in_ok-secret.secret c.as_slice.result.now (rooms.file mid journal) c.tree_of_height.result
     c.chains_of_width.result c.tree_of_height.ensures.is c.chains_of_width.ensures
     c.as_slice.ensures (read.settled.others journal tt).bytes (read.bytes t).0 (read.bytes t).1)
-    (λ name is. is) c.init_with.ensures
+    (λ name is. is) c.init_with.ensures.serves
+
+pub returns-in_err-secret-clause-valid : goal.returns-in_err-secret-clause-valid
+returns-in_err-secret-clause-valid g c = λ h.
+    kept_valid g.R.Room g.R.Dsk.Disk (IsCosigner h) (c.args.journal.now ∷ [])
+    (init_cosigner_outcome c.args.journal.now c.args.id c.args.log c.args.height c.args.width
+    c.args.file.now (g.R.Room.file c.args.room.now)) c.args.room.now c.read_input.new.room
+    c.in_err-secret.ensures.settled g.met.R.Dsk.Disk.only_now
+
+pub returns-clause-valid : goal.returns-clause-valid
+returns-clause-valid g c = λ h.
+    let rooms = g.R.Room in
+    let journal = c.args.journal.now in
+    let file = c.args.file.now in
+    let old = c.args.room.now in
+    let mid = c.read_input.new.room in
+    let read = c.in_ok-secret.ensures in
+    let id = c.args.id in
+    let log = c.args.log in
+    behind_valid rooms g.R.Dsk.Disk (IsCosigner h) (journal ∷ [])
+    (init_cosigner_outcome journal id log c.args.height c.args.width file (rooms.file old))
+    (init_says journal (record {
+      id = id;
+      log = log;
+      lms = c.tree_of_height.result;
+      ots = c.chains_of_width.result;
+    }) file (rooms.file mid journal) c.as_slice.result.now) old mid
+    c.init_with.new.room read.settled
+    (λ t. asked_so journal id log file c.args.height c.args.width (rooms.file old)
+    c.in_ok-secret.secret c.as_slice.result.now (rooms.file mid journal) c.tree_of_height.result
+    c.chains_of_width.result c.tree_of_height.ensures.is c.chains_of_width.ensures
+    c.as_slice.ensures (read.settled.others journal tt).bytes (read.bytes t).0 (read.bytes t).1)
+    (c.init_with.ensures.valid h)

@@ -7,15 +7,16 @@ use Rattle.cosigner_core.specs.Views.{advance_parts}
 use Rattle.mtc_answers.specs.Answers.{ending_of}
 use Rattle.mtc_answers.specs.Steps.{with_form}
 use Rattle.mtc_answers.proofs.Served.{behind}
+use Rattle.mtc_answers.proofs.Valid.{behind_valid, kept_valid}
 use Rattle.mtc_cosigner.specs.CosignerOutcomes.{advance_says, form_fault_text}
-use Rattle.mtc_cosigner.specs.Works.{advance_outcome, journal_outcome, work_says}
+use Rattle.mtc_cosigner.specs.Works.{IsCosigner, advance_outcome, journal_outcome, work_says}
 use Rattle.mtc_cosigner.specs.declared.work.Work.TheVariants.{Advance}
 use Rattle.mtc_cosigner.proofs.Asked.{asked_so, no_request}
 use Rattle.mtc_cosigner.proofs.requests.advance.Goals as goal
 
-pub returns-in_err-bytes : goal.returns-in_err-bytes
+pub returns-in_err-bytes-clause-serves : goal.returns-in_err-bytes-clause-serves
 unfolding Rattle.mtc_cosigner.specs.Works.advance_outcome
-returns-in_err-bytes g c =
+returns-in_err-bytes-clause-serves g c =
     let h = g.H.TreeHash.hash in
     let journal = c.args.journal.now in
     let file = c.args.file.now in
@@ -25,9 +26,9 @@ returns-in_err-bytes g c =
     (journal ∷ []) (λ bytes. with_form form_fault_text file (advance_in bytes)
     (λ r. journal_outcome h journal at (advance_says h r))) (inr (inl refl)))
 
-pub returns-in-Ok : goal.returns-in-Ok
+pub returns-in-Ok-clause-serves : goal.returns-in-Ok-clause-serves
 unfolding Rattle.mtc_cosigner.specs.Works.advance_outcome Rattle.mtc_cosigner.specs.Works.work_says
-returns-in-Ok g c =
+returns-in-Ok-clause-serves g c =
     let h = g.H.TreeHash.hash in
     let rooms = g.R.Room in
     let journal = c.args.journal.now in
@@ -49,11 +50,11 @@ returns-in-Ok g c =
     ∙ sym (asked_so advance_in
     wanted file (rooms.file old file) c.in_ok-bytes.bytes r (read.bytes t).0 (read.bytes t).1 is))
     (λ name among. elim among [ inl same ↦ inl same | inr never ↦ absurd never ])
-    c.on_cosigner.ensures
+    c.on_cosigner.ensures.serves
 
-pub returns : goal.returns
+pub returns-clause-serves : goal.returns-clause-serves
 unfolding Rattle.mtc_cosigner.specs.Works.advance_outcome
-returns g c =
+returns-clause-serves g c =
     let h = g.H.TreeHash.hash in
     let rooms = g.R.Room in
     let journal = c.args.journal.now in
@@ -68,3 +69,44 @@ returns g c =
     file rooms g.R.Dsk.Disk (journal ∷ (file ∷ [])) (journal ∷ []) old c.read_input.new.room
     c.in_ok-bytes.bytes _ c.in-Err.why _ read.settled g.met.R.Dsk.Disk.only_now read.bytes is
     c.reason_of.ensures c.refuse_file.ensures
+
+pub returns-in_err-bytes-clause-valid : goal.returns-in_err-bytes-clause-valid
+returns-in_err-bytes-clause-valid g c =
+    let h = g.H.TreeHash.hash in
+    kept_valid g.R.Room g.R.Dsk.Disk (IsCosigner h) (c.args.journal.now ∷ [])
+    (advance_outcome h c.args.journal.now c.args.file.now (g.R.Room.file c.args.room.now))
+    c.args.room.now c.read_input.new.room c.in_err-bytes.ensures.settled
+    g.met.R.Dsk.Disk.only_now
+
+pub returns-in-Ok-clause-valid : goal.returns-in-Ok-clause-valid
+unfolding Rattle.mtc_cosigner.specs.Works.advance_outcome Rattle.mtc_cosigner.specs.Works.work_says
+returns-in-Ok-clause-valid g c =
+    let h = g.H.TreeHash.hash in
+    let rooms = g.R.Room in
+    let journal = c.args.journal.now in
+    let file = c.args.file.now in
+    let old = c.args.room.now in
+    let mid = c.read_input.new.room in
+    let read = c.in_ok-bytes.ensures in
+    let wanted = λ (q : AdvanceParts).
+    journal_outcome h journal (rooms.file old journal) (advance_says h q) in
+    let r = advance_parts c.in-Ok.request in
+    let is : advance_in c.in_ok-bytes.bytes ≡ Ok r =
+    subst (λ (t : Text). advance_in t ≡ Ok r) c.as_slice.ensures c.in-Ok.ensures in
+    behind_valid rooms g.R.Dsk.Disk (IsCosigner h) (journal ∷ [])
+    (advance_outcome h journal file (rooms.file old))
+    (journal_outcome h journal (rooms.file mid journal) (advance_says h r)) old mid
+    c.on_cosigner.new.room read.settled
+    (λ t. ap (λ x. journal_outcome h journal x (advance_says h r))
+    (read.settled.others journal tt).bytes
+    ∙ sym (asked_so advance_in
+    wanted file (rooms.file old file) c.in_ok-bytes.bytes r (read.bytes t).0 (read.bytes t).1 is))
+    c.on_cosigner.ensures.valid
+
+pub returns-clause-valid : goal.returns-clause-valid
+returns-clause-valid g c =
+    let h = g.H.TreeHash.hash in
+    kept_valid g.R.Room g.R.Dsk.Disk (IsCosigner h) (c.args.journal.now ∷ [])
+    (advance_outcome h c.args.journal.now c.args.file.now (g.R.Room.file c.args.room.now))
+    c.args.room.now c.read_input.new.room c.in_ok-bytes.ensures.settled
+    g.met.R.Dsk.Disk.only_now

@@ -10,7 +10,7 @@ use Rattle.mtc_answers.specs.declared.answer.Said.TheVariants.{Done}
 use Rattle.mtc_cosigner.specs.CosignerOutcomes.{advance_says, advanced_text}
 use Rattle.mtc_cosigner.specs.Works.{HasWorked}
 use Rattle.mtc_cosigner.proofs.Asked.{advance_sound}
-use Rattle.mtc_cosigner.proofs.Stepped.{step_made, step_refused}
+use Rattle.mtc_cosigner.proofs.Stepped.{step_made, step_refused, step_valid}
 use Rattle.mtc_cosigner.proofs.requests.advance_on.Goals as goal
 
 pub refuse_step-requires : goal.refuse_step-requires
@@ -20,8 +20,8 @@ refuse_step-requires g c = λ broken.
     advance_sound h (state_of old) (cosigner_broken old) (cosigner_end old)
     (advance_parts c.args.request.now) c.requires.sound (search rules)
 
-pub returns-in-Ok : goal.returns-in-Ok
-returns-in-Ok g c =
+pub returns-in-Ok-clause-works : goal.returns-in-Ok-clause-works
+returns-in-Ok-clause-works g c =
     let h = g.H.TreeHash.hash in
     let name = c.args.journal.now in
     let old = c.args.cosigner.now in
@@ -34,8 +34,8 @@ returns-in-Ok g c =
     (λ broken end. advance_refused h (state_of old) broken end r) c.in-Ok.ensures.answer
     c.in-Ok.ensures.appends)
 
-pub returns-in-Err : goal.returns-in-Err
-returns-in-Err g c =
+pub returns-in-Err-clause-works : goal.returns-in-Err-clause-works
+returns-in-Err-clause-works g c =
     let h = g.H.TreeHash.hash in
     let name = c.args.journal.now in
     let old = c.args.cosigner.now in
@@ -47,3 +47,25 @@ returns-in-Err g c =
     (advanced_text r.size) (holding r.size r.root (state_of old))
     (λ broken end. advance_refused h (state_of old) broken end r) c.in-Err.why
     c.in-Err.ensures.appends c.in-Err.ensures.answer)
+
+pub returns-in-Ok-clause-valid : goal.returns-in-Ok-clause-valid
+returns-in-Ok-clause-valid g c =
+    let h = g.H.TreeHash.hash in
+    let name = c.args.journal.now in
+    let old = c.args.cosigner.now in
+    let r = advance_parts c.args.request.now in
+    step_valid name old c.advance.new.self c.requires (advance_record r.size r.root r.proof)
+    (advanced_text r.size) (holding r.size r.root (state_of old))
+    (λ broken end. advance_refused h (state_of old) broken end r) h
+    c.in-Ok.ensures.valid
+
+pub returns-in-Err-clause-valid : goal.returns-in-Err-clause-valid
+returns-in-Err-clause-valid g c =
+    let h = g.H.TreeHash.hash in
+    let name = c.args.journal.now in
+    let old = c.args.cosigner.now in
+    let r = advance_parts c.args.request.now in
+    step_valid name old c.advance.new.self c.requires (advance_record r.size r.root r.proof)
+    (advanced_text r.size) (holding r.size r.root (state_of old))
+    (λ broken end. advance_refused h (state_of old) broken end r) h
+    c.in-Err.ensures.valid

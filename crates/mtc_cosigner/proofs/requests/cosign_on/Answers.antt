@@ -12,7 +12,7 @@ use Rattle.mtc_answers.specs.declared.answer.Said.TheVariants.{Done}
 use Rattle.mtc_cosigner.specs.CosignerOutcomes.{cosign_says, cosigned_text}
 use Rattle.mtc_cosigner.specs.Works.{HasWorked}
 use Rattle.mtc_cosigner.proofs.Asked.{cosign_sound}
-use Rattle.mtc_cosigner.proofs.Stepped.{step_made, step_refused}
+use Rattle.mtc_cosigner.proofs.Stepped.{step_made, step_refused, step_valid}
 use Rattle.mtc_cosigner.proofs.requests.cosign_on.Goals as goal
 
 pub refuse_step-requires : goal.refuse_step-requires
@@ -22,8 +22,8 @@ refuse_step-requires g c = λ broken.
     cosign_sound h (state_of old) (cosigner_broken old) (cosigner_end old)
     (subtree_parts c.args.request.now) c.requires.sound (search rules)
 
-pub returns-in-Ok : goal.returns-in-Ok
-returns-in-Ok g c =
+pub returns-in-Ok-clause-works : goal.returns-in-Ok-clause-works
+returns-in-Ok-clause-works g c =
     let h = g.H.TreeHash.hash in
     let name = c.args.journal.now in
     let old = c.args.cosigner.now in
@@ -41,8 +41,8 @@ returns-in-Ok g c =
     (λ broken end. cosign_refused h (state_of old) broken end r) c.in-Ok.ensures.answer
     c.in-Ok.ensures.appends)
 
-pub returns-in-Err : goal.returns-in-Err
-returns-in-Err g c =
+pub returns-in-Err-clause-works : goal.returns-in-Err-clause-works
+returns-in-Err-clause-works g c =
     let h = g.H.TreeHash.hash in
     let name = c.args.journal.now in
     let old = c.args.cosigner.now in
@@ -55,3 +55,27 @@ returns-in-Err g c =
     (cosigned_text (state_of old) r) (having_signed (state_of old))
     (λ broken end. cosign_refused h (state_of old) broken end r) c.in-Err.why
     c.in-Err.ensures.appends c.in-Err.ensures.answer)
+
+pub returns-in-Ok-clause-valid : goal.returns-in-Ok-clause-valid
+returns-in-Ok-clause-valid g c =
+    let h = g.H.TreeHash.hash in
+    let name = c.args.journal.now in
+    let old = c.args.cosigner.now in
+    let r = subtree_parts c.args.request.now in
+    step_valid name old c.cosign.new.self c.requires
+    (sign_record (state_of old).key.next r.start r.end r.hash r.proof)
+    (cosigned_text (state_of old) r) (having_signed (state_of old))
+    (λ broken end. cosign_refused h (state_of old) broken end r) h
+    c.in-Ok.ensures.valid
+
+pub returns-in-Err-clause-valid : goal.returns-in-Err-clause-valid
+returns-in-Err-clause-valid g c =
+    let h = g.H.TreeHash.hash in
+    let name = c.args.journal.now in
+    let old = c.args.cosigner.now in
+    let r = subtree_parts c.args.request.now in
+    step_valid name old c.cosign.new.self c.requires
+    (sign_record (state_of old).key.next r.start r.end r.hash r.proof)
+    (cosigned_text (state_of old) r) (having_signed (state_of old))
+    (λ broken end. cosign_refused h (state_of old) broken end r) h
+    c.in-Err.ensures.valid

@@ -2,14 +2,15 @@ use Rattle.std.proofs.Common.{[], ◌∷◌, inl, inr, refl}
 use Rattle.std.proofs.lemmas.Result.{err_from_is_err_and}
 use Rattle.mtc_answers.specs.Answers.{ending_of}
 use Rattle.mtc_answers.proofs.Served.{behind}
+use Rattle.mtc_answers.proofs.Valid.{behind_valid, kept_valid}
 use Rattle.mtc_logs.specs.CertCommand.{cert_outcome, signed_says}
-use Rattle.mtc_logs.specs.Works.{journal_outcome}
+use Rattle.mtc_logs.specs.Works.{IsLog, journal_outcome}
 use Rattle.mtc_logs.specs.declared.work.Work.TheVariants.{Cert}
 use Rattle.mtc_logs.proofs.Certified.{signed_so}
 use Rattle.mtc_logs.proofs.cert.cert.Goals as goal
 
-pub returns-in_err-bytes : goal.returns-in_err-bytes
-returns-in_err-bytes g c =
+pub returns-in_err-bytes-clause-serves : goal.returns-in_err-bytes-clause-serves
+returns-in_err-bytes-clause-serves g c =
     let journal = c.args.journal.now in
     let file = c.args.file.now in
     let stopped = err_from_is_err_and c.from_residual.result c.from_residual.ensures.1 in
@@ -17,8 +18,8 @@ returns-in_err-bytes g c =
     (signed_says g.H.TreeHash.hash journal c.args.index c.args.start c.args.end file
     (g.R.Room.file c.args.room.now journal)) (inr (inl refl)))
 
-pub returns-in-Ok : goal.returns-in-Ok
-returns-in-Ok g c =
+pub returns-in-Ok-clause-serves : goal.returns-in-Ok-clause-serves
+returns-in-Ok-clause-serves g c =
     let h = g.H.TreeHash.hash in
     let rooms = g.R.Room in
     let journal = c.args.journal.now in
@@ -35,4 +36,37 @@ returns-in-Ok g c =
     c.in_ok-bytes.bytes (read.bytes t).0 (read.bytes t).1 (rooms.file mid journal)
     c.in-Ok.signatures c.in-Ok.ensures (read.settled.others journal tt).bytes)
     (λ name is. elim is [ inl same ↦ inl same | inr never ↦ absurd never ])
-    c.on_log.ensures
+    c.on_log.ensures.serves
+
+pub returns-in_err-bytes-clause-valid : goal.returns-in_err-bytes-clause-valid
+returns-in_err-bytes-clause-valid g c =
+    kept_valid g.R.Room g.R.Dsk.Disk (IsLog g.H.TreeHash.hash) (c.args.journal.now ∷ [])
+    (cert_outcome g.H.TreeHash.hash c.args.journal.now c.args.index c.args.start c.args.end
+    c.args.file.now (g.R.Room.file c.args.room.now)) c.args.room.now c.read_input.new.room
+    c.in_err-bytes.ensures.settled g.met.R.Dsk.Disk.only_now
+
+pub returns-in-Ok-clause-valid : goal.returns-in-Ok-clause-valid
+returns-in-Ok-clause-valid g c =
+    let h = g.H.TreeHash.hash in
+    let rooms = g.R.Room in
+    let journal = c.args.journal.now in
+    let file = c.args.file.now in
+    let old = c.args.room.now in
+    let mid = c.read_input.new.room in
+    let read = c.in_ok-bytes.ensures in
+    behind_valid rooms g.R.Dsk.Disk (IsLog h) (journal ∷ [])
+    (cert_outcome h journal c.args.index c.args.start c.args.end file (rooms.file old))
+    (journal_outcome h journal (rooms.file mid journal)
+    (Cert c.args.index c.args.start c.args.end c.in-Ok.signatures)) old mid
+    c.on_log.new.room read.settled
+    (λ t. signed_so h journal c.args.index c.args.start c.args.end file (rooms.file old)
+    c.in_ok-bytes.bytes (read.bytes t).0 (read.bytes t).1 (rooms.file mid journal)
+    c.in-Ok.signatures c.in-Ok.ensures (read.settled.others journal tt).bytes)
+    c.on_log.ensures.valid
+
+pub returns-in-Err-clause-valid : goal.returns-in-Err-clause-valid
+returns-in-Err-clause-valid g c =
+    kept_valid g.R.Room g.R.Dsk.Disk (IsLog g.H.TreeHash.hash) (c.args.journal.now ∷ [])
+    (cert_outcome g.H.TreeHash.hash c.args.journal.now c.args.index c.args.start c.args.end
+    c.args.file.now (g.R.Room.file c.args.room.now)) c.args.room.now c.read_input.new.room
+    c.in_ok-bytes.ensures.settled g.met.R.Dsk.Disk.only_now

@@ -1,14 +1,16 @@
-use Rattle.std.proofs.Common.{[], ◌∷◌, inl, refl, subst}
+use Rattle.std.proofs.Common.{[], ◌∷◌, IsOk, inl, refl, rules, subst, sym}
 use Rattle.byte_forms.specs.Types.{Text}
 use Rattle.issuance_log.specs.Records.{settings_record}
 use Rattle.mtc_answers.specs.Answers.{ending_of}
 use Rattle.mtc_answers.specs.Served.{HasServed}
 use Rattle.mtc_answers.specs.Steps.{starts, with_fresh}
-use Rattle.mtc_logs.specs.LogOutcomes.{settings_of}
+use Rattle.mtc_answers.proofs.Valid.{new_valid, same_valid}
+use Rattle.mtc_logs.specs.LogOutcomes.{init_log_outcome, log_line, settings_of}
+use Rattle.mtc_logs.specs.Works.{IsLog}
 use Rattle.mtc_logs.proofs.init_log.init_log.Goals as goal
 
-pub returns : goal.returns
-returns g c =
+pub returns-clause-serves : goal.returns-clause-serves
+returns-clause-serves g c =
     let name = c.args.journal.now in
     let record_of = settings_record (settings_of c.args.id c.args.max_active c.args.limit) in
     let served = λ (first text : Text). HasServed g.R.Room g.R.Dsk.Disk (name ∷ []) name
@@ -16,4 +18,25 @@ returns g c =
     c.args.room.now c.make_journal.new.room (ending_of c.make_journal.result) in
     subst (served record_of) c.in_ok-text.ensures
     (subst (λ (first : Text). served first c.in_ok-text.text) c.in_ok-first.ensures.body
-    (c.make_journal.ensures (name ∷ []) (inl refl)))
+    (c.make_journal.ensures.serves (name ∷ []) (inl refl)))
+
+pub returns-in_err-text-clause-valid : goal.returns-in_err-text-clause-valid
+returns-in_err-text-clause-valid g c = λ h.
+    same_valid g.R.Room g.R.Dsk.Disk (IsLog h) (c.args.journal.now ∷ [])
+    (init_log_outcome c.args.journal.now c.args.id c.args.max_active c.args.limit
+    (g.R.Room.file c.args.room.now)) c.args.room.now g.met.R.Dsk.Disk.only_now
+
+pub returns-in_err-first-clause-valid : goal.returns-in_err-first-clause-valid
+returns-in_err-first-clause-valid g c = λ h.
+    same_valid g.R.Room g.R.Dsk.Disk (IsLog h) (c.args.journal.now ∷ [])
+    (init_log_outcome c.args.journal.now c.args.id c.args.max_active c.args.limit
+    (g.R.Room.file c.args.room.now)) c.args.room.now g.met.R.Dsk.Disk.only_now
+
+pub returns-clause-valid : goal.returns-clause-valid
+returns-clause-valid g c = λ h.
+    let name = c.args.journal.now in
+    let record_of = settings_record (settings_of c.args.id c.args.max_active c.args.limit) in
+    let text = log_line c.args.id in
+    new_valid g.R.Room g.R.Dsk.Disk (IsLog h) name record_of text
+    (g.R.Room.file c.args.room.now name) c.args.room.now c.make_journal.new.room
+    (subst IsOk (sym (c.in_ok-first.ensures.valid h)) refl)

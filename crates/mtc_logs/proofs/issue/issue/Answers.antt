@@ -7,14 +7,15 @@ use Rattle.authority_core.specs.declared.requests.error.RequestError.TheVariants
 use Rattle.mtc_answers.specs.Answers.{Ending, ending_of}
 use Rattle.mtc_answers.specs.Served.{HasServed}
 use Rattle.mtc_answers.proofs.Served.{behind}
+use Rattle.mtc_answers.proofs.Valid.{behind_valid, kept_valid}
 use Rattle.mtc_logs.specs.IssueCommand.{issue_outcome, request_says}
-use Rattle.mtc_logs.specs.Works.{journal_outcome}
+use Rattle.mtc_logs.specs.Works.{IsLog, journal_outcome}
 use Rattle.mtc_logs.specs.declared.work.Work.TheVariants.{Issue}
 use Rattle.mtc_logs.proofs.Reading.{asked_so, unread}
 use Rattle.mtc_logs.proofs.issue.issue.Goals as goal
 
-pub returns-in_err-text : goal.returns-in_err-text
-returns-in_err-text g c =
+pub returns-in_err-text-clause-serves : goal.returns-in_err-text-clause-serves
+returns-in_err-text-clause-serves g c =
     let journal = c.args.journal.now in
     let file = c.args.file.now in
     let stopped = err_from_is_err_and c.from_residual.result c.from_residual.ensures.1 in
@@ -22,8 +23,8 @@ returns-in_err-text g c =
     (request_says g.H.TreeHash.hash journal file (g.R.Room.file c.args.room.now journal))
     (inr (inl refl)))
 
-pub returns-in-Ok : goal.returns-in-Ok
-returns-in-Ok g c =
+pub returns-in-Ok-clause-serves : goal.returns-in-Ok-clause-serves
+returns-in-Ok-clause-serves g c =
     let h = g.H.TreeHash.hash in
     let rooms = g.R.Room in
     let journal = c.args.journal.now in
@@ -42,10 +43,10 @@ returns-in-Ok g c =
     (read.bytes t).1 (rooms.file mid journal) c.in-Ok.request is
     (read.settled.others journal tt).bytes)
     (λ name is. elim is [ inl same ↦ inl same | inr never ↦ absurd never ])
-    c.on_log.ensures
+    c.on_log.ensures.serves
 
-pub returns : goal.returns
-returns g c =
+pub returns-clause-serves : goal.returns-clause-serves
+returns-clause-serves g c =
     let journal = c.args.journal.now in
     let file = c.args.file.now in
     let old = c.args.room.now in
@@ -58,3 +59,38 @@ returns g c =
     c.read_input.new.room e) (sym c.refuse_request.ensures)
     (unread g.R.Room g.R.Dsk.Disk g.H.TreeHash.hash journal file old c.read_input.new.room
     c.in_ok-text.text read.settled g.met.R.Dsk.Disk.only_now read.bytes c.in-Err.why is)
+
+pub returns-in_err-text-clause-valid : goal.returns-in_err-text-clause-valid
+returns-in_err-text-clause-valid g c =
+    kept_valid g.R.Room g.R.Dsk.Disk (IsLog g.H.TreeHash.hash) (c.args.journal.now ∷ [])
+    (issue_outcome g.H.TreeHash.hash c.args.journal.now c.args.file.now
+    (g.R.Room.file c.args.room.now)) c.args.room.now c.read_input.new.room
+    c.in_err-text.ensures.settled g.met.R.Dsk.Disk.only_now
+
+pub returns-in-Ok-clause-valid : goal.returns-in-Ok-clause-valid
+returns-in-Ok-clause-valid g c =
+    let h = g.H.TreeHash.hash in
+    let rooms = g.R.Room in
+    let journal = c.args.journal.now in
+    let file = c.args.file.now in
+    let old = c.args.room.now in
+    let mid = c.read_input.new.room in
+    let read = c.in_ok-text.ensures in
+    let is : request_of c.in_ok-text.text ≡ Ok c.in-Ok.request =
+    subst (λ (t : Text). request_of t ≡ Ok c.in-Ok.request) c.as_slice.ensures
+    c.in-Ok.ensures.exact in
+    behind_valid rooms g.R.Dsk.Disk (IsLog h) (journal ∷ [])
+    (issue_outcome h journal file (rooms.file old))
+    (journal_outcome h journal (rooms.file mid journal) (Issue c.in-Ok.request)) old mid
+    c.on_log.new.room read.settled
+    (λ t. asked_so h journal file (rooms.file old) c.in_ok-text.text (read.bytes t).0
+    (read.bytes t).1 (rooms.file mid journal) c.in-Ok.request is
+    (read.settled.others journal tt).bytes)
+    c.on_log.ensures.valid
+
+pub returns-clause-valid : goal.returns-clause-valid
+returns-clause-valid g c =
+    kept_valid g.R.Room g.R.Dsk.Disk (IsLog g.H.TreeHash.hash) (c.args.journal.now ∷ [])
+    (issue_outcome g.H.TreeHash.hash c.args.journal.now c.args.file.now
+    (g.R.Room.file c.args.room.now)) c.args.room.now c.read_input.new.room
+    c.in_ok-text.ensures.settled g.met.R.Dsk.Disk.only_now

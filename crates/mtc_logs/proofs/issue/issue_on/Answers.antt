@@ -1,4 +1,4 @@
-use Rattle.std.proofs.Common.{◌≡◌, ◌∙◌, Some, ap, rules, subst, sym}
+use Rattle.std.proofs.Common.{inl, refl, ◌≡◌, ◌∙◌, Some, ap, rules, subst, sym}
 use Rattle.byte_forms.specs.Types.{Text}
 use Rattle.issuance_log.specs.declared.error.LogError.TheVariants.{Append}
 use Rattle.journal_core.specs.declared.error.AppendError.TheVariants.{Broken}
@@ -6,7 +6,8 @@ use Rattle.mtc_answers.specs.Answers.{Ending, replied, said}
 use Rattle.mtc_answers.specs.declared.answer.Said.TheVariants.{Done}
 use Rattle.mtc_logs.specs.IssueOutcome.{issue_says, issued_text}
 use Rattle.mtc_logs.specs.Works.{HasWorked}
-use Rattle.mtc_logs.proofs.Issued.{issued_so, never_broken, refusal, refused_so}
+use Rattle.mtc_logs.proofs.Issued.{issued_so, issued_valid, never_broken, refusal, refused_so}
+use Rattle.mtc_logs.proofs.Issued.{refused_valid}
 use Rattle.mtc_logs.proofs.issue.issue_on.Goals as goal
 
 pub refuse_entry-requires-clause-sound : goal.refuse_entry-requires-clause-sound
@@ -16,8 +17,8 @@ refuse_entry-requires-clause-sound g c = λ broken.
     never_broken g.H.TreeHash.hash c.args.request.now c.args.journal.now c.args.log.now
     c.issue.new.log c.requires is
 
-pub returns-in-Ok : goal.returns-in-Ok
-returns-in-Ok g c =
+pub returns-in-Ok-clause-works : goal.returns-in-Ok-clause-works
+returns-in-Ok-clause-works g c =
     let h = g.H.TreeHash.hash in
     let name = c.args.journal.now in
     let old = c.args.log.now in
@@ -29,8 +30,8 @@ returns-in-Ok g c =
     (issued_so h c.args.request.now name old new c.requires _ c.in-Ok.ensures.answer
     c.in-Ok.ensures.appends)
 
-pub returns-in-Err : goal.returns-in-Err
-returns-in-Err g c =
+pub returns-in-Err-clause-works : goal.returns-in-Err-clause-works
+returns-in-Err-clause-works g c =
     let h = g.H.TreeHash.hash in
     let name = c.args.journal.now in
     let old = c.args.log.now in
@@ -39,3 +40,16 @@ returns-in-Err g c =
     (sym c.refuse_entry.ensures)
     (refused_so h c.args.request.now name old new c.requires c.in-Err.why c.in-Err.ensures.appends
     c.in-Err.ensures.answer)
+
+pub returns-in_err-text-clause-valid : goal.returns-in_err-text-clause-valid
+returns-in_err-text-clause-valid g c = inl (inl refl)
+
+pub returns-in-Ok-clause-valid : goal.returns-in-Ok-clause-valid
+returns-in-Ok-clause-valid g c =
+    issued_valid g.H.TreeHash.hash c.args.request.now c.args.journal.now c.args.log.now
+    c.issue.new.log c.requires (c.in-Ok.ensures.valid (λ is. absurd cc))
+
+pub returns-in-Err-clause-valid : goal.returns-in-Err-clause-valid
+returns-in-Err-clause-valid g c =
+    refused_valid g.H.TreeHash.hash c.args.request.now c.args.journal.now c.args.log.now
+    c.issue.new.log c.requires c.in-Err.why c.in-Err.ensures.appends c.in-Err.ensures.valid

@@ -1,14 +1,15 @@
-use Rattle.std.proofs.Common.{subst, sym}
+use Rattle.std.proofs.Common.{inl, subst, sym}
 use Rattle.issuance_log.specs.Words.{log_disk, log_records, state_of}
 use Rattle.mtc_answers.specs.Answers.{Ending, ending_of}
 use Rattle.mtc_answers.specs.Works.{HasWorkedOn}
 use Rattle.mtc_answers.proofs.Works.{worked_on}
-use Rattle.mtc_logs.specs.Works.{bytes_say, found_log, work_says}
+use Rattle.mtc_answers.proofs.Valid.{valid_on}
+use Rattle.mtc_logs.specs.Works.{IsLog, bytes_say, found_log, work_says}
 use Rattle.mtc_logs.proofs.Opened.{found_says, refused_says}
 use Rattle.mtc_logs.proofs.log_command.on_device.Goals as goal
 
-pub returns-in-Ok : goal.returns-in-Ok
-returns-in-Ok g c =
+pub returns-in-Ok-clause-serves : goal.returns-in-Ok-clause-serves
+returns-in-Ok-clause-serves g c =
     let d = g.D.Disk in
     let h = g.H.TreeHash.hash in
     let name = c.args.journal.now in
@@ -19,10 +20,10 @@ returns-in-Ok g c =
     (log_disk c.carry_out-answer.new.log) (ending_of c.carry_out-answer.result)
     g.met.D.Disk.reads_image opened.looks opened.fine
     (found_says h name c.args.work (d.told c.args.disk) (log_records log) (state_of log)
-    opened.found) opened.stands opened.all c.carry_out-answer.ensures)
+    opened.found) opened.stands opened.all c.carry_out-answer.ensures.works)
 
-pub returns-in-Err : goal.returns-in-Err
-returns-in-Err g c =
+pub returns-in-Err-clause-serves : goal.returns-in-Err-clause-serves
+returns-in-Err-clause-serves g c =
     let d = g.D.Disk in
     let h = g.H.TreeHash.hash in
     let name = c.args.journal.now in
@@ -31,3 +32,19 @@ returns-in-Err g c =
     (sym c.refuse_log.ensures)
     (refused_says h name c.args.work d c.args.disk disk c.in-Err.ensures.err _
     c.in-Err.ensures.cause)
+
+pub returns-in-Ok-clause-valid : goal.returns-in-Ok-clause-valid
+returns-in-Ok-clause-valid g c =
+    let d = g.D.Disk in
+    let h = g.H.TreeHash.hash in
+    let name = c.args.journal.now in
+    let log = c.in-Ok.log in
+    let opened = c.in-Ok.ensures in
+    rw c.into_disk.ensures (valid_on d (IsLog h) name (bytes_say h name c.args.work)
+    (λ list. work_says h c.args.work (found_log (state_of log) list)) c.args.disk (log_disk log)
+    (log_disk c.carry_out-answer.new.log) opened.looks
+    (found_says h name c.args.work (d.told c.args.disk) (log_records log) (state_of log)
+    opened.found) opened.stands opened.all c.carry_out-answer.ensures.valid)
+
+pub returns-in-Err-clause-valid : goal.returns-in-Err-clause-valid
+returns-in-Err-clause-valid g c = inl c.in-Err.ensures.err

@@ -1,11 +1,11 @@
-use Rattle.std.proofs.Common.{◌≡◌, ◌∙◌, rules, subst, sym}
+use Rattle.std.proofs.Common.{◌≡◌, ◌∙◌, inl, refl, rules, subst, sym}
 use Rattle.byte_forms.specs.Types.{Text}
 use Rattle.issuance_log.specs.Words.{state_of}
 use Rattle.mtc_answers.specs.Answers.{Ending, replied, said}
 use Rattle.mtc_answers.specs.declared.answer.Said.TheVariants.{Done}
 use Rattle.mtc_logs.specs.LandmarkOutcomes.{landmark_says, next_line}
 use Rattle.mtc_logs.specs.Works.{HasWorked}
-use Rattle.mtc_logs.proofs.Marked.{marked_so, may_refuse, refused_so}
+use Rattle.mtc_logs.proofs.Marked.{marked_so, marked_valid, may_refuse, refused_so}
 use Rattle.mtc_logs.proofs.marks.set_landmark.Goals as goal
 
 pub refuse_landmark-requires : goal.refuse_landmark-requires
@@ -13,8 +13,8 @@ refuse_landmark-requires g c =
     may_refuse c.args.journal.now c.args.log.now c.mark.new.self c.requires c.in-Err.why
     c.in-Err.ensures.answer
 
-pub returns-in-Ok : goal.returns-in-Ok
-returns-in-Ok g c =
+pub returns-in-Ok-clause-works : goal.returns-in-Ok-clause-works
+returns-in-Ok-clause-works g c =
     let name = c.args.journal.now in
     let old = c.args.log.now in
     let new = c.mark.new.self in
@@ -23,8 +23,8 @@ returns-in-Ok g c =
     subst (λ (t : Text). HasWorked name landmark_says old new (replied (said Done t))) (sym line)
     (marked_so name old new c.requires _ c.in-Ok.ensures.answer c.in-Ok.ensures.appends)
 
-pub returns-in-Err : goal.returns-in-Err
-returns-in-Err g c =
+pub returns-in-Err-clause-works : goal.returns-in-Err-clause-works
+returns-in-Err-clause-works g c =
     let name = c.args.journal.now in
     let old = c.args.log.now in
     let new = c.mark.new.self in
@@ -32,3 +32,16 @@ returns-in-Err g c =
     (refused_so name old new c.requires c.in-Err.why
     (may_refuse name old new c.requires c.in-Err.why c.in-Err.ensures.answer)
     c.in-Err.ensures.appends c.in-Err.ensures.answer)
+
+pub returns-in_err-text-clause-valid : goal.returns-in_err-text-clause-valid
+returns-in_err-text-clause-valid g c = inl (inl refl)
+
+pub returns-in-Ok-clause-valid : goal.returns-in-Ok-clause-valid
+returns-in-Ok-clause-valid g c =
+    marked_valid c.args.journal.now c.args.log.now c.mark.new.self c.requires g.H.TreeHash.hash
+    c.in-Ok.ensures.valid
+
+pub returns-in-Err-clause-valid : goal.returns-in-Err-clause-valid
+returns-in-Err-clause-valid g c =
+    marked_valid c.args.journal.now c.args.log.now c.mark.new.self c.requires g.H.TreeHash.hash
+    c.in-Err.ensures.valid

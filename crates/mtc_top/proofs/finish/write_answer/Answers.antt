@@ -8,7 +8,7 @@ returns-in-Err g c = inr (record {
   code = search rules;
   cause = search rules;
   front = search rules;
-  line = subst (λ (reason : List ℕ). Reports g.O.Sink g.E.Sink c.args.out.now c.write_all.new.sink
+  line = subst (λ (reason : List ℕ). Reports g.E.Sink
       c.args.err.now c.write_line.new.err (line_of c.args.command.now None reason))
       c.named.ensures c.write_line.ensures;
 })
