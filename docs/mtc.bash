@@ -3,7 +3,7 @@
 _mtc() {
     local word=${COMP_WORDS[COMP_CWORD]} kinds=()
     if [ "$COMP_CWORD" -eq 1 ]; then
-        COMPREPLY=($(compgen -W 'member show verify init-log issue checkpoint entries consist subtree keygen init-cosigner advance cosign landmark landmarks light-cert cert' -- "$word"))
+        COMPREPLY=($(compgen -W 'member show verify init-log issue checkpoint entries consist subtree keygen init-cosigner advance cosign export landmark landmarks light-cert cert' -- "$word"))
         return
     fi
     case ${COMP_WORDS[1]} in
@@ -20,6 +20,7 @@ _mtc() {
         init-cosigner) kinds=(S ID LOGID HEIGHT WIDTH SECRET) ;;
         advance) kinds=(S REQUEST) ;;
         cosign) kinds=(S REQUEST) ;;
+        export) kinds=(S) ;;
         landmark) kinds=(J) ;;
         landmarks) kinds=(J) ;;
         light-cert) kinds=(J INDEX) ;;

@@ -5,6 +5,7 @@ use Rattle.byte_forms.specs.Types.{HashFunction, Text}
 use Rattle.journal_core.specs.Format.{end_behind}
 use Rattle.journal_core.specs.declared.error.AppendError.TheVariants as append_error
 use Rattle.mtc_proof.specs.Proofs.{signature_text}
+use Rattle.cosigner_core.specs.Exports.{export_text}
 use Rattle.cosigner_core.specs.Folds.{CosignerState}
 use Rattle.cosigner_core.specs.Openings.{FoundCosigner}
 use Rattle.cosigner_core.specs.Records.{advance_record, sign_record}
@@ -19,7 +20,8 @@ use Rattle.cosigner_core.specs.declared.fault.FormError.{FormError}
 use Rattle.cosigner_core.specs.declared.fault.FormError.TheVariants.{Short, HashLength}
 use Rattle.cosigner_core.specs.declared.fault.FormError.TheVariants.{Trailing, EmptyId}
 use Rattle.mtc_answers.specs.Answers.{Ending, replied, room_failed, refused}
-use Rattle.mtc_answers.specs.Steps.{Outcome, appends, stops_on}
+use Rattle.mtc_answers.specs.Steps.{Outcome, appends, says_on, stops_on}
+use Rattle.mtc_answers.specs.declared.answer.Said.TheVariants.{Done}
 use Rattle.mtc_answers.specs.declared.answer.Stopped.{Stopped}
 use Rattle.mtc_answers.specs.declared.answer.Stopped.TheVariants.{NotAllowed}
 use Rattle.mtc_answers.specs.declared.answer.Stopped.TheVariants.{Beyond as OverLimit}
@@ -84,3 +86,7 @@ cosign_says h r found =
     stepped found (sign_record found.state.key.next r.start r.end r.hash r.proof)
     (cosigned_text found.state r)
     (cosign_refused h found.state false (end_behind found.records) r)
+
+-- What others may know of a cosigner.
+abbrev pub export_says : FoundCosigner → Outcome
+export_says found = says_on found.records Done (export_text found.state found.records)

@@ -20,9 +20,10 @@ use Rattle.mtc_answers.specs.Steps.{Outcome, Files, with_bytes, with_file, with_
 use Rattle.mtc_answers.specs.Valid.{WorksValidly}
 use Rattle.mtc_answers.specs.Works.{HasWorked as HasWorkedWith}
 use Rattle.mtc_answers.specs.declared.answer.Stopped.TheVariants.{BadForm}
-use Rattle.mtc_cosigner.specs.CosignerOutcomes.{advance_says, cosign_says, form_fault_text}
+use Rattle.mtc_cosigner.specs.CosignerOutcomes.{advance_says, cosign_says, export_says}
+use Rattle.mtc_cosigner.specs.CosignerOutcomes.{form_fault_text}
 use Rattle.mtc_cosigner.specs.declared.work.Work.{Work}
-use Rattle.mtc_cosigner.specs.declared.work.Work.TheVariants.{Advance, Cosign}
+use Rattle.mtc_cosigner.specs.declared.work.Work.TheVariants.{Advance, Cosign, Export}
 
 -- Why a file is no cosigner's.
 abbrev pub open_fault_text : CosignerOpenError → Text
@@ -47,6 +48,7 @@ found_cosigner state list = record { records = list; state = state }
 unfoldable pub work_says : HashFunction → Work → FoundCosigner → Outcome
 work_says h (Advance request) found = advance_says h (advance_parts request) found
 work_says h (Cosign request) found = cosign_says h (subtree_parts request) found
+work_says h Export found = export_says found
 
 -- The outcome of a command on the cosigner of a journal with these bytes.
 abbrev pub bytes_say : HashFunction → Text → (FoundCosigner → Outcome) → Text → Outcome
@@ -67,6 +69,10 @@ unfoldable pub cosign_outcome : HashFunction → Text → Text → Files → Out
 cosign_outcome h journal request files = with_bytes 16777216 request (files request)
     (λ bytes. with_form form_fault_text request (subtree_in bytes)
     (λ r. journal_outcome h journal (files journal) (cosign_says h r)))
+
+-- The outcome of `export S`.
+unfoldable pub export_outcome : HashFunction → Text → Files → Outcome
+export_outcome h journal files = journal_outcome h journal (files journal) export_says
 
 -- The records of a journal make a cosigner.
 abbrev pub IsCosigner : HashFunction → List Text → Type 0

@@ -1,4 +1,4 @@
-//! The commands of a cosigner: `keygen`, `init-cosigner`, `advance` and `cosign`.
+//! The commands of a cosigner: `keygen`, `init-cosigner`, `advance`, `cosign` and `export`.
 //!
 //! A journal is lent by the room, opened as a cosigner's, worked on and given back
 //! ([`on_cosigner`]); what is done with the cosigner is a [`Work`]. What each command has to reply,
@@ -6,6 +6,7 @@
 #![tactic(auto)]
 
 mod cosigner_command;
+pub mod export;
 pub mod init_cosigner;
 pub mod keygen;
 pub mod requests;

@@ -1,8 +1,9 @@
-//! The work of a command on a cosigner whose journal is open: its own refusals, its text, and one
-//! append, behind which nothing wants memory.
+//! The work of a command on a cosigner whose journal is open: its own refusals, its text, and at
+//! most one append, behind which nothing wants memory.
 ghost use Rattle.mtc_answers.specs.Answers.{ending_of};
 ghost use Rattle.mtc_cosigner.specs.Works.{HasWorked, IsReady, StaysCosigner, work_says};
 
+use crate::export::export_on;
 use crate::requests::{advance_on, cosign_on};
 use cosigner_core::{AdvanceRequest, Cosigner, SubtreeRequest};
 use disk_core::Disk;
@@ -17,6 +18,8 @@ pub enum Work<'r> {
     Advance(AdvanceRequest<'r>),
     /// It signs a subtree.
     Cosign(SubtreeRequest<'r>),
+    /// It tells what others may know of it.
+    Export,
 }
 
 /// Carries out a command on the cosigner of a journal. A failure of its device is told by the
@@ -36,5 +39,6 @@ pub(crate) fn carry_out<'a, H: TreeHash, D: Disk>(
     match work {
         Work::Advance(request) => advance_on(alloc, journal, cosigner, request),
         Work::Cosign(request) => cosign_on(alloc, journal, cosigner, request),
+        Work::Export => export_on(alloc, journal, cosigner),
     }
 }

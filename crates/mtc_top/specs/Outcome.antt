@@ -5,14 +5,14 @@ use Rattle.std.specs.Prelude.{ℕ, List, [], ◌∷◌, Result, Ok, Err}
 use Rattle.mtc_words.specs.declared.error.WordError.{WordError}
 use Rattle.mtc_words.specs.Commands.{CommandValue, member, show, verify, init_log, issue}
 use Rattle.mtc_words.specs.Commands.{checkpoint, entries, consist, subtree, keygen}
-use Rattle.mtc_words.specs.Commands.{init_cosigner, advance, cosign, landmark, landmarks}
+use Rattle.mtc_words.specs.Commands.{init_cosigner, advance, cosign, export, landmark, landmarks}
 use Rattle.mtc_words.specs.Commands.{light_cert, cert}
 use Rattle.mtc_words.specs.Words.{command_of}
 use Rattle.mtc_logs.specs.IssueCommand.{issue_outcome}
 use Rattle.mtc_logs.specs.CertCommand.{cert_outcome}
 use Rattle.mtc_cosigner.specs.InitOutcome.{init_cosigner_outcome}
 use Rattle.mtc_cosigner.specs.KeygenOutcome.{keygen_outcome}
-use Rattle.mtc_cosigner.specs.Works.{IsCosigner, advance_outcome, cosign_outcome}
+use Rattle.mtc_cosigner.specs.Works.{IsCosigner, advance_outcome, cosign_outcome, export_outcome}
 use Rattle.mtc_logs.specs.LogOutcomes.{init_log_outcome}
 use Rattle.mtc_reads.specs.MemberOutcome.{member_outcome}
 use Rattle.mtc_reads.specs.ShowOutcome.{show_outcome}
@@ -45,6 +45,7 @@ command_outcome h (init_cosigner journal id log height width file) files =
     init_cosigner_outcome journal id log height width file files
 command_outcome h (advance journal request) files = advance_outcome h journal request files
 command_outcome h (cosign journal request) files = cosign_outcome h journal request files
+command_outcome h (export journal) files = export_outcome h journal files
 command_outcome h (landmark journal) files = journal_outcome h journal (files journal) Landmark
 command_outcome h (landmarks journal) files = journal_outcome h journal (files journal) Landmarks
 command_outcome h (light_cert journal index) files =
@@ -67,6 +68,7 @@ files_of (keygen height width file) = file ∷ []
 files_of (init_cosigner journal id log height width file) = journal ∷ (file ∷ [])
 files_of (advance journal request) = journal ∷ (request ∷ [])
 files_of (cosign journal request) = journal ∷ (request ∷ [])
+files_of (export journal) = journal ∷ []
 files_of (landmark journal) = journal ∷ []
 files_of (landmarks journal) = journal ∷ []
 files_of (light_cert journal index) = journal ∷ []
@@ -87,6 +89,7 @@ journals_of (keygen height width file) = []
 journals_of (init_cosigner journal id log height width file) = journal ∷ []
 journals_of (advance journal request) = journal ∷ []
 journals_of (cosign journal request) = journal ∷ []
+journals_of (export journal) = journal ∷ []
 journals_of (landmark journal) = journal ∷ []
 journals_of (landmarks journal) = journal ∷ []
 journals_of (light_cert journal index) = journal ∷ []
@@ -107,6 +110,7 @@ rules_of h (keygen height width file) = IsCosigner h
 rules_of h (init_cosigner journal id log height width file) = IsCosigner h
 rules_of h (advance journal request) = IsCosigner h
 rules_of h (cosign journal request) = IsCosigner h
+rules_of h (export journal) = IsCosigner h
 rules_of h (landmark journal) = IsLog h
 rules_of h (landmarks journal) = IsLog h
 rules_of h (light_cert journal index) = IsLog h

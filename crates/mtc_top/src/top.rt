@@ -11,6 +11,7 @@ ghost use Rattle.mtc_top.specs.Run.{HasRun};
 use crate::finish::conclude;
 use crate::refused_words::word_reason;
 use mtc_answers::{Answer, Stop, Stopped, refuse};
+use mtc_cosigner::export::export;
 use mtc_cosigner::init_cosigner::init_cosigner;
 use mtc_cosigner::keygen::keygen;
 use mtc_cosigner::requests::{advance, cosign};
@@ -66,6 +67,7 @@ fn perform<'a, H: TreeHash, R: Room>(
         }
         Command::Advance(journal, request) => advance::<H, R>(alloc, room, journal, request),
         Command::Cosign(journal, request) => cosign::<H, R>(alloc, room, journal, request),
+        Command::Export(journal) => export::<H, R>(alloc, room, journal),
         Command::Landmark(log) => on_log::<H, R>(alloc, room, log, Work::Landmark),
         Command::Landmarks(log) => on_log::<H, R>(alloc, room, log, Work::Landmarks),
         Command::LightCert(log, index) => on_log::<H, R>(alloc, room, log, Work::LightCert(index)),

@@ -5,6 +5,7 @@ use Rattle.mtc_words.specs.declared.command.Command.TheVariants.{Member, Show, V
 use Rattle.mtc_words.specs.declared.command.Command.TheVariants.{Issue, Checkpoint, Entries}
 use Rattle.mtc_words.specs.declared.command.Command.TheVariants.{Consist, Subtree, Keygen}
 use Rattle.mtc_words.specs.declared.command.Command.TheVariants.{InitCosigner, Advance, Cosign}
+use Rattle.mtc_words.specs.declared.command.Command.TheVariants.{Export}
 use Rattle.mtc_words.specs.declared.command.Command.TheVariants.{Landmark, Landmarks, LightCert}
 use Rattle.mtc_words.specs.declared.command.Command.TheVariants.{Cert}
 use Rattle.mtc_words.specs.declared.error.WordError.{WordError}
@@ -24,6 +25,7 @@ pub data CommandValue : Type 0 where
   init_cosigner : List ℕ → List ℕ → List ℕ → ℕ → ℕ → List ℕ → CommandValue
   advance : List ℕ → List ℕ → CommandValue
   cosign : List ℕ → List ℕ → CommandValue
+  export : List ℕ → CommandValue
   landmark : List ℕ → CommandValue
   landmarks : List ℕ → CommandValue
   light_cert : List ℕ → ℕ → CommandValue
@@ -45,6 +47,7 @@ command_value (InitCosigner journal id log height width secret) =
     init_cosigner journal.now id log height width secret.now
 command_value (Advance journal request) = advance journal.now request.now
 command_value (Cosign journal request) = cosign journal.now request.now
+command_value (Export journal) = export journal.now
 command_value (Landmark journal) = landmark journal.now
 command_value (Landmarks journal) = landmarks journal.now
 command_value (LightCert journal index) = light_cert journal.now index
@@ -103,6 +106,7 @@ IsInRange (init_cosigner journal id log height width secret) =
     (is_height height ≡ true) × (is_width width ≡ true)
 IsInRange (advance journal request) = Unit {0}
 IsInRange (cosign journal request) = Unit {0}
+IsInRange (export journal) = Unit {0}
 IsInRange (landmark journal) = Unit {0}
 IsInRange (landmarks journal) = Unit {0}
 IsInRange (light_cert journal index) = Unit {0}

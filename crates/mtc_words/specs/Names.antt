@@ -4,6 +4,7 @@ use Rattle.mtc_words.specs.declared.name.Name.{Name}
 use Rattle.mtc_words.specs.declared.name.Name.TheVariants.{Member, Show, Verify, InitLog, Issue}
 use Rattle.mtc_words.specs.declared.name.Name.TheVariants.{Checkpoint, Entries, Consist, Subtree}
 use Rattle.mtc_words.specs.declared.name.Name.TheVariants.{Keygen, InitCosigner, Advance, Cosign}
+use Rattle.mtc_words.specs.declared.name.Name.TheVariants.{Export}
 use Rattle.mtc_words.specs.declared.name.Name.TheVariants.{Landmark, Landmarks, LightCert, Cert}
 
 -- The command that a word names.
@@ -22,11 +23,12 @@ named_command word =
     else (if bytes_eq word (codes "init-cosigner") then Some InitCosigner
     else (if bytes_eq word (codes "advance") then Some Advance
     else (if bytes_eq word (codes "cosign") then Some Cosign
+    else (if bytes_eq word (codes "export") then Some Export
     else (if bytes_eq word (codes "landmark") then Some Landmark
     else (if bytes_eq word (codes "landmarks") then Some Landmarks
     else (if bytes_eq word (codes "light-cert") then Some LightCert
     else (if bytes_eq word (codes "cert") then Some Cert
-    else None))))))))))))))))
+    else None)))))))))))))))))
 
 -- How many words stand behind a command.
 abbrev pub word_count : Name → ℕ
@@ -43,6 +45,7 @@ word_count Keygen = 3
 word_count InitCosigner = 6
 word_count Advance = 2
 word_count Cosign = 2
+word_count Export = 1
 word_count Landmark = 1
 word_count Landmarks = 1
 word_count LightCert = 2

@@ -12,12 +12,13 @@ use Rattle.mtc_words.specs.declared.name.Name.{Name}
 use Rattle.mtc_words.specs.declared.name.Name.TheVariants.{Member, Show, Verify, InitLog, Issue}
 use Rattle.mtc_words.specs.declared.name.Name.TheVariants.{Checkpoint, Entries, Consist, Subtree}
 use Rattle.mtc_words.specs.declared.name.Name.TheVariants.{Keygen, InitCosigner, Advance, Cosign}
+use Rattle.mtc_words.specs.declared.name.Name.TheVariants.{Export}
 use Rattle.mtc_words.specs.declared.name.Name.TheVariants.{Landmark, Landmarks, LightCert, Cert}
 use Rattle.mtc_words.specs.Commands.{CommandValue, member, show, verify, init_log, issue}
 use Rattle.mtc_words.specs.Commands.{checkpoint, entries, consist, subtree, keygen, is_height}
 use Rattle.mtc_words.specs.Commands.{is_width, is_time, is_active, is_limit, is_any}
 use Rattle.mtc_words.specs.Commands.{init_cosigner, advance, cosign, landmark, landmarks}
-use Rattle.mtc_words.specs.Commands.{light_cert, cert}
+use Rattle.mtc_words.specs.Commands.{export, light_cert, cert}
 use Rattle.mtc_words.specs.Names.{named_command, word_count}
 
 -- Empty, or begins with a hyphen.
@@ -94,6 +95,7 @@ command_from InitCosigner ws = do
   Ok (init_cosigner (word ws 0) id log height width (word ws 5))
 command_from Advance ws = Ok (advance (word ws 0) (word ws 1))
 command_from Cosign ws = Ok (cosign (word ws 0) (word ws 1))
+command_from Export ws = Ok (export (word ws 0))
 command_from Landmark ws = Ok (landmark (word ws 0))
 command_from Landmarks ws = Ok (landmarks (word ws 0))
 command_from LightCert ws = do

@@ -214,6 +214,7 @@ pub fn build<'a>(alloc: Global, name: Name, words: &'a [String]) -> Result<Comma
         Name::InitCosigner => init_cosigner(alloc, words),
         Name::Advance => Ok(Command::Advance(words[0].as_str(), words[1].as_str())),
         Name::Cosign => Ok(Command::Cosign(words[0].as_str(), words[1].as_str())),
+        Name::Export => Ok(Command::Export(words[0].as_str())),
         Name::Landmark => Ok(Command::Landmark(words[0].as_str())),
         Name::Landmarks => Ok(Command::Landmarks(words[0].as_str())),
         Name::LightCert => light_cert(words),

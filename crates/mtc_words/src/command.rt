@@ -37,6 +37,8 @@ pub enum Command<'a> {
     Advance(&'a str, &'a str),
     /// `cosign S REQUEST`: sign the subtree of a request.
     Cosign(&'a str, &'a str),
+    /// `export S`: write what others may know of a cosigner.
+    Export(&'a str),
     /// `landmark J`: set a landmark at the size of the log.
     Landmark(&'a str),
     /// `landmarks J`: write the list of the active landmarks.

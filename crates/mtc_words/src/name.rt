@@ -18,6 +18,7 @@ pub enum Name {
     InitCosigner,
     Advance,
     Cosign,
+    Export,
     Landmark,
     Landmarks,
     LightCert,
@@ -43,6 +44,7 @@ pub fn read_name(word: &str) -> Option<Name>
         "init-cosigner" => Some(Name::InitCosigner),
         "advance" => Some(Name::Advance),
         "cosign" => Some(Name::Cosign),
+        "export" => Some(Name::Export),
         "landmark" => Some(Name::Landmark),
         "landmarks" => Some(Name::Landmarks),
         "light-cert" => Some(Name::LightCert),
@@ -56,7 +58,8 @@ pub fn wanted_count(name: Name) -> usize
     ensures { result ≡ word_count name }
 {
     match name {
-        Name::Member | Name::Show | Name::Checkpoint | Name::Landmark | Name::Landmarks => 1,
+        Name::Member | Name::Show | Name::Checkpoint => 1,
+        Name::Export | Name::Landmark | Name::Landmarks => 1,
         Name::Issue | Name::Entries | Name::Advance | Name::Cosign | Name::LightCert => 2,
         Name::Verify | Name::Consist | Name::Keygen => 3,
         Name::InitLog | Name::Subtree => 4,

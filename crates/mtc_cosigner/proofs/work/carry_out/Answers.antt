@@ -7,3 +7,7 @@ returns-in-Advance-clause-works g c = rw c.in-Advance.is c.advance_on.ensures.wo
 pub returns-in-Cosign-clause-works : goal.returns-in-Cosign-clause-works
 unfolding Rattle.mtc_cosigner.specs.Works.work_says
 returns-in-Cosign-clause-works g c = rw c.in-Cosign.is c.cosign_on.ensures.works
+
+pub returns-in-Export-clause-works : goal.returns-in-Export-clause-works
+unfolding Rattle.mtc_cosigner.specs.Works.work_says
+returns-in-Export-clause-works g c = rw c.in-Export.is c.export_on.ensures.works
