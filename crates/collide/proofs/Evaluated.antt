@@ -176,14 +176,14 @@ eval_texts-right h m n k a b entry z v path rest is split m_is n_is gives =
 
 -- What a comparison of the part shows of the list.
 
-item_left : (xs l r : List Text) (m : ℕ) → AreHalves xs l r → m < length l
+pub item_left : (xs l r : List Text) (m : ℕ) → AreHalves xs l r → m < length l
     → get_or l m [] ≡ get_or xs m []
 item_left xs l r m halves left =
     let count = halves.count in
     ap (λ part. get_or part m []) halves.left
     ∙ get_or-take (split_of (length xs)) xs m [] (omega arith)
 
-item_right : (xs l r : List Text) (m a : ℕ) → AreHalves xs l r → m ≡ length l + a
+pub item_right : (xs l r : List Text) (m a : ℕ) → AreHalves xs l r → m ≡ length l + a
     → get_or r a [] ≡ get_or xs m []
 item_right xs l r m a halves right =
     let count = halves.count in

@@ -4,7 +4,7 @@ use Rattle.std.proofs.Common.{◌≡◌, ℕ, ◌-◌, ◌<◌, ◌≤◌, ◌�
 use Rattle.std.proofs.Common.{List, [], ◌∷◌, ◌++◌, length, take, drop, Some, None, sym, ◌∙◌, ap}
 use Rattle.std.proofs.Common.{refl, subst, arith}
 use Rattle.std.specs.Prelude.{bytes_eq, reverse}
-use Rattle.std.specs.List.{AllByRecursion}
+use Rattle.std.specs.List.{AllByRecursion, Contains}
 use Rattle.std.proofs.lemmas.Bool.{false≢true}
 use Rattle.std.proofs.lemmas.List.{length-append, reverse-append, reverse-reverse}
 use Rattle.std.proofs.lemmas.Slice.Eq.{bytes_eq-Decides}
@@ -34,7 +34,7 @@ Agrees h same one other firsts seconds =
     (one ≡ other → same) ⊎ HasCollision h firsts seconds
 
 -- hashes are 32 bytes long
-abbrev IsSized : HashFunction → Type 0
+abbrev pub IsSized : HashFunction → Type 0
 IsSized h = (b : Text) → length (h b) ≡ 32
 
 pub tree_hash-sized : (h : HashFunction) → IsSized h → (entries : List Text)
@@ -44,7 +44,7 @@ tree_hash-sized h sized (x ∷ []) = ap length (root_of-one h (leaf_hash h x)) �
 tree_hash-sized h sized (x ∷ y ∷ rest) =
     ap length (tree_hash-split h (x ∷ y ∷ rest) (omega arith)) ∙ sized _
 
-texts_same : (x y : Text) → (x ≡ y) ⊎ (x ≡ y → ⊥)
+pub texts_same : (x y : Text) → (x ≡ y) ⊎ (x ≡ y → ⊥)
 texts_same x y = by_test (bytes_eq x y) refl
   where
     by_test : (b : Bool) → bytes_eq x y ≡ b → (x ≡ y) ⊎ (x ≡ y → ⊥)
@@ -53,20 +53,26 @@ texts_same x y = by_test (bytes_eq x y) refl
         let decides = bytes_eq-Decides x y in
         inr (λ same. false≢true (sym is ∙ decides.1 same))
 
+-- what was found stays where there are more texts
+pub found_wider : (h : HashFunction) (vs ws xs ys : List Text)
+    → ((t : Text) → Contains vs t → Contains xs t) → ((t : Text) → Contains ws t → Contains ys t)
+    → HasCollision h vs ws → HasCollision h xs ys
+found_wider h vs ws xs ys firsts seconds found = (
+  found.0,
+  (
+    found.1.0,
+    collision_widened h vs ws xs ys found.0 found.1.0 (firsts found.0) (seconds found.1.0)
+        found.1.1,
+  ),
+)
+
 -- The node above two nodes, of which one is compared.
-level_agrees : (h : HashFunction) (this that : Type 0) (a c one other : Hash) (x y : Text)
+pub level_agrees : (h : HashFunction) (this that : Type 0) (a c one other : Hash) (x y : Text)
     (vs ws xs ys : List Text) → IsLevel h one other x y vs ws xs ys
     → (x ≡ y → a ≡ c) → (x ≡ y → this → that)
     → Agrees h this a c vs ws → Agrees h that one other xs ys
 level_agrees h this that a c one other x y vs ws xs ys level below so (inr found) =
-    inr (
-      found.0,
-      (
-        found.1.0,
-        collision_widened h vs ws xs ys found.0 found.1.0
-            (level.firsts found.0) (level.seconds found.1.0) found.1.1,
-      ),
-    )
+    inr (found_wider h vs ws xs ys level.firsts level.seconds found)
 level_agrees h this that a c one other x y vs ws xs ys level below so (inl agree) =
     ⊎_elim
     (λ (same : x ≡ y). inl (λ is. so same (agree (below same))))
@@ -90,7 +96,7 @@ level_agrees h this that a c one other x y vs ws xs ys level below so (inl agree
     (texts_same x y)
 
 -- two texts of pairs
-pair_left : (a b c d : Hash) → length b ≡ length d → pair_input a b ≡ pair_input c d → a ≡ c
+pub pair_left : (a b c d : Hash) → length b ≡ length d → pair_input a b ≡ pair_input c d → a ≡ c
 pair_left a b c d size same =
     let texts = unprefixed 1 (a ++ b) (c ++ d) same in
     let all = ap length texts in
@@ -98,7 +104,7 @@ pair_left a b c d size same =
     let second = length-append c d in
     parts_left a b c d (omega arith) texts
 
-pair_right : (a b c d : Hash) → length b ≡ length d → pair_input a b ≡ pair_input c d → b ≡ d
+pub pair_right : (a b c d : Hash) → length b ≡ length d → pair_input a b ≡ pair_input c d → b ≡ d
 pair_right a b c d size same =
     let texts = unprefixed 1 (a ++ b) (c ++ d) same in
     let all = ap length texts in
@@ -119,7 +125,7 @@ whole_agrees h xs s e n known node proof given n_is first last gives =
     inl are.agree
 
 -- the reverse of a list of hashes has the same ones
-all_reversed : (proof : List Hash) → AllByRecursion (λ hash. length hash ≡ 32) proof
+pub all_reversed : (proof : List Hash) → AllByRecursion (λ hash. length hash ≡ 32) proof
     → AllByRecursion (λ hash. length hash ≡ 32) (reverse proof)
 all_reversed [] hashes = hashes
 all_reversed (x ∷ rest) hashes =

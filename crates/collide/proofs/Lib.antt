@@ -6,3 +6,5 @@ pub mod Levels
 pub mod Opening
 pub mod OpenSteps
 pub mod Extracting
+pub mod ExtractingPaths
+pub mod ExtractingLists

@@ -1,7 +1,7 @@
 //! Laws of the strings that are hashed: the clauses are the laws, and the functions do nothing.
 
 ghost use Rattle.byte_forms.specs.Types.{HashFunction};
-ghost use Rattle.collide.specs.Laws.{AreInputs, ProofsExtract};
+ghost use Rattle.collide.specs.Laws.{AreInputs, ListsExtract, PathsExtract, ProofsExtract};
 
 use tree_core::TreeHash;
 
@@ -17,4 +17,17 @@ pub fn inputs_by_clauses()
 /// list and the proof show two different strings with one hash.
 pub fn proofs_extract<H: TreeHash>()
     ensures { ProofsExtract H.hash }
+{}
+
+/// The same from inclusion paths: for every list and every path that gives the tree hash of one of
+/// its subtrees, the entry is the one that the list has there, or the list and the path show two
+/// different strings with one hash.
+pub fn paths_extract<H: TreeHash>()
+    ensures { PathsExtract H.hash }
+{}
+
+/// The same from lists: two lists of one length and one tree hash are the same, or they show two
+/// different strings with one hash.
+pub fn lists_extract<H: TreeHash>()
+    ensures { ListsExtract H.hash }
 {}

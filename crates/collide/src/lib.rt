@@ -31,6 +31,6 @@ mod paths;
 pub use consistency::in_consistency;
 pub use entry::{AsEntry, list_hash};
 pub use finding::Finding;
-pub use laws::{inputs_by_clauses, proofs_extract};
+pub use laws::{inputs_by_clauses, lists_extract, paths_extract, proofs_extract};
 pub use lists::two_lists;
 pub use paths::in_list;
