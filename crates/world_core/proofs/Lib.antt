@@ -1,3 +1,5 @@
 pub mod Steps
 pub mod Walks
 pub mod Settled
+pub mod Premises
+pub mod OneList

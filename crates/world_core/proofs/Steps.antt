@@ -68,7 +68,7 @@ held_sign h steps k index start end hash proof below is =
 
 -- ---- what is allowed
 
-step_first : (b : Bool) (q r : Progress) (next : Progress → Option Progress)
+pub step_first : (b : Bool) (q r : Progress) (next : Progress → Option Progress)
     → option_and_then next (if b then Some q else None) ≡ Some r → (b ≡ true) × (next q ≡ Some r)
 step_first true q r next e = (refl, e)
 step_first false q r next e = absurd cc

@@ -320,7 +320,7 @@ sign_ready h es steps k index start end hash proof given held are below is front
     subst (λ (p : List Hash). Checks h start end (length (take held.size es)) hash
     (tree_hash h (texts (take held.size es))) p) (sym told) two
 
-size_there : (h : HashFunction) (steps : List Step) (k start end : ℕ)
+pub size_there : (h : HashFunction) (steps : List Step) (k start end : ℕ)
     → start < end → end ≤ (held_behind h steps k).size
     → Contains (held_sizes steps) (held_behind h steps k).size
 size_there h steps k start end some within =

@@ -7,8 +7,8 @@ use collide::list_hash;
 use cosigner_core::{Checkpoint, Step};
 use tree_core::TreeHash;
 
-/// What is held behind these steps.
-pub(crate) fn held_by<H: TreeHash>(steps: &[Step]) -> Checkpoint
+/// What a cosigner holds behind these steps: the checkpoint of the last Advance, or none of a log.
+pub fn held_by<H: TreeHash>(steps: &[Step]) -> Checkpoint
     ensures { result ≡ held_by H.hash steps.now }
 {
     let mut place = steps.len();
@@ -24,8 +24,9 @@ pub(crate) fn held_by<H: TreeHash>(steps: &[Step]) -> Checkpoint
     Checkpoint::empty::<H>()
 }
 
-/// Whether the list begins with the entries of the checkpoint.
-pub(crate) fn has_front<H: TreeHash>(entries: &[&[u8]], held: &Checkpoint) -> bool
+/// Whether a list begins with the entries of a checkpoint: it has as many, and their tree hash is
+/// the root.
+pub fn has_front<H: TreeHash>(entries: &[&[u8]], held: &Checkpoint) -> bool
     ensures { IsTrue result ↔ HasFront H.hash (texts entries.now) held.now }
 {
     if held.size > entries.len() as u64 {

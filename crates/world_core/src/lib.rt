@@ -10,6 +10,7 @@
 mod answer;
 mod auditing;
 mod front;
+mod laws;
 mod record;
 mod recorded;
 mod settling;
@@ -18,4 +19,6 @@ mod wanted;
 
 pub use answer::Audit;
 pub use auditing::audit;
+pub use front::{has_front, held_by};
+pub use laws::{one_list_is_behind, steps_lead_to_what_is_held, what_is_read_can_be_audited};
 pub use recorded::walk;

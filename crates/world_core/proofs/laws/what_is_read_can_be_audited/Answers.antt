@@ -1,0 +1,5 @@
+use Rattle.world_core.proofs.Premises.{are_steps, export_steps, was_judged}
+use Rattle.world_core.proofs.laws.what_is_read_can_be_audited.Goals as goal
+
+pub returns : goal.returns
+returns c = record { judged = was_judged; read = export_steps; export = are_steps }

@@ -1,0 +1,21 @@
+-- What holds of the list behind what a cosigner has signed, for a hash function h.
+use Rattle.std.specs.Prelude.{◌≡◌, ◌⊎◌, List, length, Contains}
+use Rattle.std.specs.List.{AllByRecursion}
+use Rattle.byte_forms.specs.Types.{Hash, HashFunction, Text}
+use Rattle.cosigner_core.specs.declared.step.Step.{Step}
+use Rattle.cosigner_core.specs.declared.step.Step.TheVariants.{Advance, Sign}
+use Rattle.collide.specs.Extraction.{HasCollision}
+use Rattle.world_core.specs.Walk.{AreSteps, HasFront, IsOfList, front_inputs, held_by, proof_inputs}
+
+-- Each hash in the proof of a step has 32 bytes.
+abbrev pub HasHashes : Step → Type 0
+HasHashes (Advance size root proof) = AllByRecursion (λ hash. length hash ≡ 32) proof
+HasHashes (Sign index start end hash proof) = AllByRecursion (λ hash. length hash ≡ 32) proof
+
+-- Where a list begins with what a cosigner holds behind all of its steps, each Sign among them is
+-- of the list, or the list and the kept proofs show two texts with one hash.
+abbrev pub OneListBehind : HashFunction → Type 0
+OneListBehind h = (entries : List Text) (steps : List Step) (step : Step) → AreSteps h steps
+    → AllByRecursion HasHashes steps → HasFront h entries (held_by h steps) → Contains steps step
+    → IsOfList h entries step
+    ⊎ HasCollision h (front_inputs h entries steps) (proof_inputs h steps)
