@@ -19,16 +19,20 @@ request 2049-12-31T23:59:59Z 2050-01-01T00:00:00Z '"*.b.example", "c.example"' $
 request 2026-01-08T00:00:00Z 2026-01-01T00:00:00Z '"a.example"' '' "$key" >t
 request 2026-01-01T00:00:00Z 2026-01-08T00:00:00Z '"-a.example"' '' "$key" >u
 printf %048d 0 >secret
+printf '[log]\nid = "32473.1"\n' | tee store >other
 
 wrong=0
 count=0
 while IFS='|' read -r words status hash line; do
-    # Words are separated by blanks alone. A line may say to which file its output goes.
+    # Words are separated by blanks alone. A line may say to which file its output goes, or behind which.
     # shellcheck disable=SC2086
     "$root/mtc" ${words%%>*} >out 2>err </dev/null
     found="$?|$([ -s out ] && sha256sum out | cut -c1-16 || echo -)|$(cat err)"
     count=$((count + 1))
-    [[ "$words" != *">"* ]] || cp out "${words#*>}"
+    case "$words" in
+        *">>"*) cat out >>"${words#*>>}" ;;
+        *">"*) cp out "${words#*>}" ;;
+    esac
     if [ "$found" != "$status|$hash|$line" ]; then
         echo "wrong: $words: $found in place of $status|$hash|$line"
         wrong=1
@@ -83,8 +87,63 @@ cert j 1 0 8 e|4|-|mtc: cert: Beyond 5
 cert j 1 0 2 secret|2|-|mtc: cert: secret: Short 0
 cert j 1 0 2 k|7|-|mtc: cert: k: Absent
 cosign k c|7|-|mtc: cosign: k: Absent
+landmarks j|0|5d4c189735a1c562|
+landmark j|0|d7d8109e8a3fc293|
+landmark j|4|-|mtc: landmark: NothingNew
+landmarks j|0|874c949fa03bfbda|
+landmark k|7|-|mtc: landmark: k: Absent
+landmarks k|7|-|mtc: landmarks: k: Absent
+landmark w|2|-|mtc: landmark: w: BadRecord 0
+landmarks j 2|1|-|mtc: landmarks: WrongCount 2 1
+light-cert j 1 >g|0|5464ded5c00c6d00|
+show g|0|57a9cde14a994bee|
+light-cert j 4 >g|0|d8318d2326ce28c2|
+light-cert j 0|4|-|mtc: light-cert: NullEntry
+light-cert j 5|4|-|mtc: light-cert: NoSuchEntry
+light-cert j 05|1|-|mtc: light-cert: BadNumber 2
+light-cert k 1|7|-|mtc: light-cert: k: Absent
+light-cert w 1|2|-|mtc: light-cert: w: BadRecord 0
+init-log m 32473.1 2 64|0|d2ef99de8024e444|
+light-cert m 1|4|-|mtc: light-cert: NoSuchEntry
+issue m r|0|2c79a1c0b381d236|
+issue m s|0|176e7dd8d13f83ef|
+issue m r|0|499e638bd805b175|
+light-cert m 3|4|-|mtc: light-cert: NotCovered
+issue m r|0|948cfa154ba5ee8b|
+landmark m|0|d7d8109e8a3fc293|
+issue m s|0|01a9420053a4041c|
+light-cert m 5|4|-|mtc: light-cert: NotCovered
+issue m r|0|59c0119c54e630b8|
+issue m r|0|47ec99c7f9ba350e|
+issue m s|0|83adddc4a22ae03e|
+landmark m|0|bef8121959deb7cd|
+landmark m|4|-|mtc: landmark: NothingNew
+landmarks m >l|0|8bdd5692ba16685f|
+light-cert m 6 >h|0|63f4f0b9b620f30a|
+light-cert m 8 >i|0|c9ef335323afe420|
+entries m 9 >n|0|ae1cb2a88d7f859e|
+issue m r|0|15643f4acfe403fb|
+light-cert m 9|4|-|mtc: light-cert: NotCovered
+light-cert m 10|4|-|mtc: light-cert: NoSuchEntry
+landmark m|0|bf78e7fa7c2590d7|
+landmarks m|0|ae1283831c794010|
+light-cert m 1|4|-|mtc: light-cert: NotCovered
+init-log o 32473.1 1 64|0|d2ef99de8024e444|
+issue o r|0|2c79a1c0b381d236|
+issue o r|0|176e7dd8d13f83ef|
+issue o r|0|499e638bd805b175|
+issue o r|0|948cfa154ba5ee8b|
+landmark o|0|d7d8109e8a3fc293|
+issue o r|0|01a9420053a4041c|
+issue o r|0|59c0119c54e630b8|
+issue o r|0|47ec99c7f9ba350e|
+issue o r|0|83adddc4a22ae03e|
+landmark o|0|bef8121959deb7cd|
+landmarks o|0|17fd6ec7ca35bcf7|
+light-cert o 3|4|-|mtc: light-cert: NotCovered
+light-cert o 6|0|5c128867dc86b357|
 TABLE
-if [ "$(cat j w | sha256sum | cut -d' ' -f1)" != c8ff04779d9693569e38b63276596dd4f8fab415affe73fa03c66bffcbfaeed4 ]; then
+if [ "$(cat j w m o | sha256sum | cut -d' ' -f1)" != 153ee80fdbc66fc3537da1ad8c52b9d396d1b3c54c20f578ea8d95bd831e0b36 ]; then
     echo "wrong: the journals"
     wrong=1
 fi
