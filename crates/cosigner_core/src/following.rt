@@ -1,50 +1,40 @@
 //! Which records may stand behind the first one of a cosigner's journal.
-ghost use Rattle.std.specs.Prelude.{◌≡◌, ◌^◌, [], ◌∷◌, ◌++◌, option_and_then, IfOk};
+ghost use Rattle.std.specs.Prelude.{◌≡◌, ◌^◌, [], ◌∷◌, ◌++◌, option_and_then};
 ghost use Rattle.lms_core.specs.Heights.{height};
 ghost use Rattle.cosigner_core.specs.Progress.{may_follow_cosigner, progress_after};
 ghost use Rattle.cosigner_core.specs.Records.{step_in};
 
-use crate::error::RecordError;
 use crate::progress::Progress;
 use crate::record::read_step;
 use crate::settings::CosignerSettings;
-use mtc_io::{Bytes, Memory};
+use mtc_io::Bytes;
 use tree_core::TreeHash;
 
 // The progress behind one record more of a cosigner with so many one-time keys, if it may stand
 // there.
-fn behind<H: TreeHash>(
-    progress: &Progress,
-    keys: u32,
-    body: &[u8],
-) -> Result<Option<Progress>, Memory>
-    ensures { IfOk result (λ next. next
-        ≡ option_and_then (progress_after H.hash keys progress.now) (step_in body.now)) }
+fn behind<H: TreeHash>(progress: &Progress, keys: u32, body: &[u8]) -> Option<Progress>
+    ensures { result ≡ option_and_then (progress_after H.hash keys progress.now)
+        (step_in body.now) }
 {
     match read_step(body) {
-        Ok(step) => Ok(progress.after::<H>(keys, &step)),
-        Err(RecordError::Unfit) => Ok(None),
-        Err(RecordError::Memory) => Err(Memory),
+        Ok(step) => progress.after::<H>(keys, &step),
+        Err(_) => None,
     }
 }
 
 /// Whether these records, and one more behind them, may stand behind the first record of a cosigner
-/// with these settings. Its secret has no part in it.
-pub fn may_follow<H: TreeHash>(
-    settings: &CosignerSettings,
-    bodies: &[Bytes],
-    body: &[u8],
-) -> Result<bool, Memory>
-    ensures { IfOk result (λ may. may
-        ≡ may_follow_cosigner H.hash (2 ^ height settings.now.lms) (bodies.now ++ body.now ∷ [])) }
+/// with these settings. Its secret has no part in it. It takes no memory.
+pub fn may_follow<H: TreeHash>(settings: &CosignerSettings, bodies: &[Bytes], body: &[u8]) -> bool
+    ensures { result
+        ≡ may_follow_cosigner H.hash (2 ^ height settings.now.lms) (bodies.now ++ body.now ∷ []) }
 {
     let keys = settings.lms.leaves();
     let mut progress = Progress::empty::<H>();
     for earlier in bodies {
-        let Some(next) = behind::<H>(&progress, keys, earlier.as_slice())? else {
-            return Ok(false);
+        let Some(next) = behind::<H>(&progress, keys, earlier.as_slice()) else {
+            return false;
         };
         progress = next;
     }
-    Ok(behind::<H>(&progress, keys, body)?.is_some())
+    behind::<H>(&progress, keys, body).is_some()
 }

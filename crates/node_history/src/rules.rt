@@ -23,6 +23,6 @@ pub(crate) fn may_follow<H: TreeHash>(
         NodeStart::Cosigner {
             settings,
             public: _,
-        } => { cosigner_core::may_follow::<H>(settings, bodies, body) }
+        } => Ok(cosigner_core::may_follow::<H>(settings, bodies, body)),
     }
 }
