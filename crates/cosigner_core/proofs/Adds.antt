@@ -1,28 +1,33 @@
 -- What a request makes of a cosigner.
 use Rattle.std.proofs.Common.{◌≡◌, ℕ, ◌+◌, ◌<◌, ◌≤◌, nat_lt, ◌↔◌, Bool, true, false}
-use Rattle.std.proofs.Common.{length, Option, Some, None, IfSome, Result, Ok}
-use Rattle.std.specs.Prelude.{if◌then◌else◌}
+use Rattle.std.proofs.Common.{List, [], ◌∷◌, ◌++◌, length, Option, Some, None, IfSome, option_map}
+use Rattle.std.proofs.Common.{Result, Ok, ◌∙◌}
+use Rattle.std.specs.Prelude.{if◌then◌else◌, is_some}
 use Rattle.std.proofs.Common.{Err, IsErrAnd, IsErrOf, IsTrue, refl, sym, ap, subst, arith}
 use Rattle.std.proofs.lemmas.Bool.{ltb-true, lt-ltb}
-use Rattle.byte_forms.specs.Types.{Text}
+use Rattle.byte_forms.specs.Types.{HashFunction, Text}
 use Rattle.disk_core.specs.declared.disk.Disk.{Ghosts}
 use Rattle.disk_core.specs.Moments.{LeavesOnly}
 use Rattle.tree_core.specs.declared.hashing.TreeHash.{Ghosts as Hashes}
 use Rattle.journal_core.specs.Format.{StandsForEither, most_bytes}
-use Rattle.journal_core.specs.Words.{AppendLeaves}
+use Rattle.journal_core.specs.Words.{AllStandFor, AppendLeaves, IsUntouched, disk_of, end_of}
+use Rattle.journal_core.specs.Words.{is_broken, records}
+use Rattle.journal_core.specs.declared.journal.Journal.{Journal}
 use Rattle.journal_core.proofs.Appends.{all_kept, untouched_after, untouched_moment}
 use Rattle.journal_core.specs.declared.error.AppendError.{AppendError}
 use Rattle.journal_core.specs.declared.error.AppendError.TheVariants.{Broken, Failed, Full}
 use Rattle.cosigner_core.specs.Folds.{CosignerState}
+use Rattle.cosigner_core.specs.Kept.{IsKept, kept_of, kept_records}
 use Rattle.cosigner_core.specs.Refusals.{IsOfRequest, KeepsTo, answer_of, earlier}
 use Rattle.cosigner_core.specs.Refusals.{journal_refusal}
 use Rattle.cosigner_core.specs.Words.{CosignerAppends, CosignerLeaves, cosigner_broken}
-use Rattle.cosigner_core.specs.Words.{cosigner_disk, cosigner_end, cosigner_records, state_of}
+use Rattle.cosigner_core.specs.Words.{cosigner_disk, cosigner_end, state_of}
 use Rattle.cosigner_core.specs.declared.cosigner.Cosigner.{Cosigner}
 use Rattle.cosigner_core.specs.declared.error.CosignError.{CosignError}
 use Rattle.cosigner_core.specs.declared.error.CosignError.TheVariants.{WrongLog, NotNewer}
 use Rattle.cosigner_core.specs.declared.error.CosignError.TheVariants.{BadSubtree, Beyond, BadProof}
 use Rattle.cosigner_core.specs.declared.error.CosignError.TheVariants.{Exhausted, Append}
+use Rattle.cosigner_core.proofs.Keeps.{Keeps, failed_keeps, of_sound, sound_records}
 
 -- the answers of an append
 abbrev pub Answer : Type 0
@@ -41,11 +46,66 @@ was_sound false is = refl
 pub some_body : (body written : Text) → body ≡ written → 1 ≤ length written → 1 ≤ length body
 some_body body written is some = subst (λ (b : Text). 1 ≤ length b) (sym is) some
 
--- ---- what is left of a cosigner
+-- ---- what is left of a journal
 
 err_is : {T E : Type 0} (r : Result T E) (e : E) → IsErrAnd r (λ x. x ≡ e) → Err e ≡ r
 err_is (Ok x) e is = absurd is
 err_is (Err x) e is = ap Err (sym is)
+
+-- a journal whose disk had no call
+unmoved : {D : Type 0} {g : Ghosts D} (h : HashFunction) (s : CosignerState)
+    (old new : Journal D g) → IsUntouched old new → Keeps h s old
+    → Keeps h s new × (kept_records new ≡ kept_records old)
+unmoved {D} {g} h s old new same keeps = (
+  subst (λ (d : D). (bytes : Text) → g.told d ≡ Some bytes → IsKept h s (end_of new) bytes)
+      (sym same.disk) (subst (λ (n : ℕ). (bytes : Text) → g.told (disk_of old) ≡ Some bytes
+      → IsKept h s n bytes) (sym same.end) keeps),
+  ap (λ (d : D). option_map (kept_of (end_of new)) (g.told d)) same.disk
+      ∙ ap (λ (n : ℕ). option_map (kept_of n) (g.told (disk_of old))) same.end,
+)
+
+module _ {D : Type 0} {g : Ghosts D} where
+  -- what the journal says of an append
+  pub record Appended (old new : Journal D g) (body : Text)
+      (result : Result (Unit {0}) AppendError)
+      : Type 0 where
+    pub leaves : AppendLeaves body old new result
+    pub broken : IsErrOf result Broken ↔ IsTrue (is_broken old)
+    pub told : is_some (records new) ≡ is_some (records old)
+    pub count : g.faults (disk_of old) ≤ g.faults (disk_of new)
+    pub as_read : is_broken old ≡ false → IfSome (records old) (λ list.
+        IfSome (g.told (disk_of new)) (StandsForEither list body))
+    pub any_moment : is_broken old ≡ false → IfSome (records old) (λ list.
+        LeavesOnly g (disk_of old) (disk_of new) (StandsForEither list body))
+    pub afterwards : is_broken old ≡ false → IfSome (records old) (λ list.
+        (c : Text) → g.may_leave (disk_of new) c → StandsForEither list body c)
+
+  -- at any moment of it, and behind it, of the records that are kept
+  moments : (old new : Journal D g) (body : Text) (result : Result (Unit {0}) AppendError)
+      → Appended old new body result → is_broken old ≡ false → IfSome (kept_records old) (λ list.
+      LeavesOnly g (disk_of old) (disk_of new) (StandsForEither list body))
+  moments old new body result did sound =
+      of_sound old (λ list. LeavesOnly g (disk_of old) (disk_of new) (StandsForEither list body))
+      sound (did.any_moment sound)
+
+  behind_it : (old new : Journal D g) (body : Text) (result : Result (Unit {0}) AppendError)
+      → Appended old new body result → is_broken old ≡ false → IfSome (kept_records old) (λ list.
+      (c : Text) → g.may_leave (disk_of new) c → StandsForEither list body c)
+  behind_it old new body result did sound =
+      of_sound old (λ list. (c : Text) → g.may_leave (disk_of new) c
+      → StandsForEither list body c) sound (did.afterwards sound)
+
+  -- the records that are kept, where nothing was appended
+  pub stay_kept : (h : HashFunction) (s : CosignerState) (old new : Journal D g) (body : Text)
+      (why : AppendError) → Appended old new body (Err why) → Keeps h s old
+      → Keeps h s new × (kept_records new ≡ kept_records old)
+  stay_kept h s old new body Failed did keeps =
+      let sound = was_sound (is_broken old) did.broken.1 in
+      failed_keeps h s old new body sound did.leaves.end (did.as_read sound) did.told keeps
+  stay_kept h s old new body Broken did keeps = unmoved h s old new did.leaves keeps
+  stay_kept h s old new body Full did keeps = unmoved h s old new did.leaves keeps
+
+-- ---- what is left of a cosigner
 
 module _ {H D : Type 0} {hashes : Hashes H} {g : Ghosts D} where
   -- a refusal before the append
@@ -76,69 +136,65 @@ module _ {H D : Type 0} {hashes : Hashes H} {g : Ghosts D} where
         leaves = stays it body next why kind;
         kept = tt;
         count = omega arith;
-        any_moment = λ sound. untouched_moment g (cosigner_disk it) (cosigner_end it) body
-            (it.journal.settled sound) only_now;
-        afterwards = λ sound. untouched_after g (cosigner_disk it) (cosigner_end it) body
-            (it.journal.settled sound);
+        any_moment = λ sound. of_sound it.journal (λ list. LeavesOnly g (cosigner_disk it)
+            (cosigner_disk it) (StandsForEither list body)) sound (untouched_moment g
+            (cosigner_disk it) (cosigner_end it) body (it.journal.settled sound) only_now);
+        afterwards = λ sound. of_sound it.journal (λ list. (c : Text)
+            → g.may_leave (cosigner_disk it) c → StandsForEither list body c) sound
+            (untouched_after g (cosigner_disk it) (cosigner_end it) body
+            (it.journal.settled sound));
       })
 
-  -- what the journal says of an append
-  pub record Appended (old new : Cosigner H D hashes g) (body : Text)
-      (result : Result (Unit {0}) AppendError)
-      : Type 0 where
-    pub leaves : AppendLeaves body old.journal new.journal result
-    pub broken : IsErrOf result Broken ↔ IsTrue (cosigner_broken old)
-    pub count : g.faults (cosigner_disk old) ≤ g.faults (cosigner_disk new)
-    pub any_moment : cosigner_broken old ≡ false → IfSome (cosigner_records old) (λ list.
-        LeavesOnly g (cosigner_disk old) (cosigner_disk new) (StandsForEither list body))
-    pub afterwards : cosigner_broken old ≡ false → IfSome (cosigner_records old) (λ list.
-        (c : Text) → g.may_leave (cosigner_disk new) c → StandsForEither list body c)
-
   grown_by : (old new : Cosigner H D hashes g) (body : Text) (next : CosignerState)
-      → Appended old new body (Ok tt) → state_of new ≡ next
+      → Appended old.journal new.journal body (Ok tt) → state_of new ≡ next
       → CosignerAppends body next old new (Ok tt)
-  grown_by old new body next did made = record {
-    leaves = record {
-      records = did.leaves.records;
-      state = made;
-      end = did.leaves.end;
-      was_sound = did.leaves.was_sound;
-      sound = did.leaves.sound;
-      fine = did.leaves.fine;
-    };
-    kept = all_kept g (cosigner_disk new) (g.told (cosigner_disk new)) (cosigner_records old) body
-        body did.leaves.records refl did.leaves.all;
-    count = did.count;
-    any_moment = did.any_moment;
-    afterwards = did.afterwards;
-  }
+  grown_by old new body next did made =
+      let was = sound_records old.journal did.leaves.was_sound in
+      record {
+        leaves = record {
+          records = sound_records new.journal did.leaves.sound ∙ did.leaves.records
+              ∙ ap (option_map (λ list. list ++ body ∷ [])) (sym was);
+          state = made;
+          end = did.leaves.end;
+          was_sound = did.leaves.was_sound;
+          sound = did.leaves.sound;
+          fine = did.leaves.fine;
+        };
+        kept = of_sound old.journal (λ list. AllStandFor g (cosigner_disk new) (list ++ body ∷ []))
+            did.leaves.was_sound (all_kept g (cosigner_disk new) (g.told (cosigner_disk new))
+            (records old.journal) body body did.leaves.records refl did.leaves.all);
+        count = did.count;
+        any_moment = moments old.journal new.journal body (Ok tt) did;
+        afterwards = behind_it old.journal new.journal body (Ok tt) did;
+      }
 
   pub grown : (old new : Cosigner H D hashes g) (written body : Text) (next : CosignerState)
       → written ≡ body
-      → Appended old new written (Ok tt) → state_of new ≡ next
+      → Appended old.journal new.journal written (Ok tt) → state_of new ≡ next
       → CosignerAppends body next old new (Ok tt)
   grown old new written body next is did made =
       subst (λ (b : Text). CosignerAppends b next old new (Ok tt)) is
       (grown_by old new written next did made)
 
-  unappended : (old new : Cosigner H D hashes g) (body : Text) (next : CosignerState)
-      (why : AppendError)
-      → Appended old new body (Err why) → state_of new ≡ state_of old
-      → CosignerAppends body next old new (Err (Append why))
-  unappended old new body next Failed did same = record {
+  unappended : (h : HashFunction) (old new : Cosigner H D hashes g) (body : Text)
+      (next : CosignerState) (why : AppendError)
+      → Appended old.journal new.journal body (Err why) → state_of new ≡ state_of old
+      → Keeps h (state_of old) old.journal → CosignerAppends body next old new (Err (Append why))
+  unappended h old new body next Failed did same keeps = record {
     leaves = record {
       cause = did.leaves.cause;
       state = same;
       end = did.leaves.end;
+      records = (stay_kept h (state_of old) old.journal new.journal body Failed did keeps).1;
       was_sound = was_sound (cosigner_broken old) did.broken.1;
       broken = did.leaves.broken;
     };
     kept = tt;
     count = did.count;
-    any_moment = did.any_moment;
-    afterwards = did.afterwards;
+    any_moment = moments old.journal new.journal body (Err Failed) did;
+    afterwards = behind_it old.journal new.journal body (Err Failed) did;
   }
-  unappended old new body next Broken did same = record {
+  unappended h old new body next Broken did same keeps = record {
     leaves = record {
       disk = did.leaves.disk;
       state = same;
@@ -147,10 +203,10 @@ module _ {H D : Type 0} {hashes : Hashes H} {g : Ghosts D} where
     };
     kept = tt;
     count = did.count;
-    any_moment = did.any_moment;
-    afterwards = did.afterwards;
+    any_moment = moments old.journal new.journal body (Err Broken) did;
+    afterwards = behind_it old.journal new.journal body (Err Broken) did;
   }
-  unappended old new body next Full did same = record {
+  unappended h old new body next Full did same keeps = record {
     leaves = record {
       disk = did.leaves.disk;
       state = same;
@@ -159,19 +215,20 @@ module _ {H D : Type 0} {hashes : Hashes H} {g : Ghosts D} where
     };
     kept = tt;
     count = did.count;
-    any_moment = did.any_moment;
-    afterwards = did.afterwards;
+    any_moment = moments old.journal new.journal body (Err Full) did;
+    afterwards = behind_it old.journal new.journal body (Err Full) did;
   }
 
-  pub not_appended : (old new : Cosigner H D hashes g) (written body : Text) (next : CosignerState)
+  pub not_appended : (h : HashFunction) (old new : Cosigner H D hashes g) (written body : Text)
+      (next : CosignerState)
       (result : Result (Unit {0}) CosignError) (why : AppendError)
       → IsErrAnd result (λ e. e ≡ Append why) → written ≡ body
-      → Appended old new written (Err why) → state_of new ≡ state_of old
-      → CosignerAppends body next old new result
-  not_appended old new written body next result why is same did kept =
+      → Appended old.journal new.journal written (Err why) → state_of new ≡ state_of old
+      → Keeps h (state_of old) old.journal → CosignerAppends body next old new result
+  not_appended h old new written body next result why is same did made keeps =
       subst (CosignerAppends body next old new) (err_is result (Append why) is)
       (subst (λ (b : Text). CosignerAppends b next old new (Err (Append why))) same
-      (unappended old new written next why did kept))
+      (unappended h old new written next why did made keeps))
 
 -- ---- which refusal it is
 

@@ -70,7 +70,7 @@ module _ (h : HashFunction) (s t : CosignerState) (step : Step) (fits : FitsStep
 
   -- the same of a request that is not refused
   pub valid_step : (old : Option (List Text)) (first : Option CosignError) (broken : Bool) (end : ℕ)
-      (body : Text) → (broken ≡ false → IfSome old (λ list. cosigner_of h list ≡ Ok s))
+      (body : Text) → IfSome old (λ list. cosigner_of h list ≡ Ok s)
       → (first ≡ None → after_step h s step ≡ Some t)
       → earlier first (journal_refusal broken end body) ≡ None
       → IfSome old (λ list. cosigner_of h (list ++ step_record step ∷ []) ≡ Ok t)
@@ -78,4 +78,4 @@ module _ (h : HashFunction) (s t : CosignerState) (step : Step) (fits : FitsStep
   valid_step (Some list) (Some why) broken end body was next is =
       let wrong : Some why ≡ None = is in cc
   valid_step (Some list) None broken end body was next is =
-      step_added h list s step t (was (passed broken _ _ is).0) fits (next refl)
+      step_added h list s step t was fits (next refl)

@@ -5,10 +5,11 @@ use Rattle.std.proofs.Common.{option_map, option_and_then, refl, ap, sym, ◌∙
 use Rattle.std.specs.Prelude.{if◌then◌else◌, is_some}
 use Rattle.byte_forms.specs.Types.{HashFunction, Text}
 use Rattle.byte_forms.specs.Readings.{◌>>=◌, some_or}
-use Rattle.byte_forms.proofs.Steps.{bind_ok, some_or_ok}
+use Rattle.byte_forms.proofs.Steps.{bind_ok, ok_is, some_or_ok}
 use Rattle.journal_core.specs.Folds.{state_behind, taken_from}
 use Rattle.journal_core.proofs.Bodies.{none_left, rest_at}
 use Rattle.lms_core.specs.Heights.{height}
+use Rattle.lms_core.specs.declared.private_key.PrivateKey.{PrivateKey}
 use Rattle.cosigner_core.specs.Counts.{indices_in}
 use Rattle.cosigner_core.specs.Folds.{CosignerState, after_step, begun, cosigner_fold, cosigner_of}
 use Rattle.cosigner_core.specs.Folds.{key_count, new_cosigner, next_state, progress_of}
@@ -21,6 +22,7 @@ use Rattle.cosigner_core.specs.declared.progress.Progress.{Progress}
 use Rattle.cosigner_core.specs.declared.settings.CosignerSettings.{CosignerSettings}
 use Rattle.cosigner_core.specs.declared.step.Step.{Step}
 use Rattle.cosigner_core.proofs.Counts.{indices_count_up}
+use Rattle.cosigner_core.proofs.Tagged.{some_value, when_some}
 
 -- how far these records bring a cosigner that has come so far
 abbrev pub brought : HashFunction → ℕ → Progress → List Text → Option Progress
@@ -135,6 +137,40 @@ behind_agrees h k s (body ∷ bodies) =
     by_step h k s bodies (step_in body) (λ (t : CosignerState). behind_agrees h (k + 1) t bodies)
     ∙ sym (ap (λ (o : Option Progress). is_some o)
     (brought_on h (key_count s) (progress_of s) body bodies))
+
+-- a step that a cosigner takes brings it as far as its records come
+step_brings : (h : HashFunction) (s t : CosignerState) (o : Option Step)
+    → option_and_then (after_step h s) o ≡ Some t
+    → (option_and_then (progress_after h (key_count s) (progress_of s)) o ≡ Some (progress_of t))
+    × (t.key.key ≡ s.key.key)
+step_brings h s t None is = let wrong : None ≡ Some t = is in cc
+step_brings h s t (Some step) is =
+    let next = with_step (progress_of s) step in
+    let made = when_some (is_allowed h (key_count s) (progress_of s) step)
+    (Some (with_progress s next)) t is in
+    let same = some_value (with_progress s next) t made.1 in (
+      ap (λ (b : Bool). if b then Some next else None) made.0
+          ∙ ap (λ (u : CosignerState). Some (progress_of u)) same,
+      ap (λ (u : CosignerState). u.key.key) (sym same),
+    )
+
+pub brings : (h : HashFunction) (k : ℕ) (s : CosignerState) (bodies : List Text)
+    (t : CosignerState) → taken_from (cosigner_fold h) k s bodies ≡ Ok t
+    → brought h (key_count s) (progress_of s) bodies ≡ Some (progress_of t)
+unfolding taken_from next_state
+brings h k s [] t is =
+    brought_end h (key_count s) (progress_of s)
+    ∙ ap (λ (u : CosignerState). Some (progress_of u)) (ok_is ℕ s t is)
+brings h k s (body ∷ bodies) t is =
+    let step = bind_ok (some_or k (next_state h s body))
+    (λ (u : CosignerState). taken_from (cosigner_fold h) (k + 1) u bodies) t is in
+    let first = step_brings h s step.0 (step_in body)
+    (some_or_ok k (next_state h s body) step.0 step.1) in
+    brought_on h (key_count s) (progress_of s) body bodies
+    ∙ ap (option_and_then (λ (q : Progress). brought h (key_count s) q bodies)) first.0
+    ∙ ap (λ (key : PrivateKey). brought h (2 ^ height key.lms) (progress_of step.0) bodies)
+    (sym first.1)
+    ∙ brings h (k + 1) step.0 bodies t step.2
 
 new_agrees : (h : HashFunction) (s : CosignerSettings) (secret : Text) (bodies : List Text)
     → is_ok (taken_from (cosigner_fold h) 1 (new_cosigner h s secret) bodies)

@@ -2,7 +2,7 @@
 use Rattle.std.proofs.Common.{◌≡◌, ◌≢◌, ℕ, zero, suc, ◌+◌, ◌^◌, ◌<◌, ◌≤◌, true, List, [], ◌∷◌, ◌++◌}
 use Rattle.std.proofs.Common.{length, Option, Some, None, Ok, Err, refl, sym, ap, ◌∙◌, take}
 use Rattle.std.proofs.Common.{subst, append_assoc, arith, ne_eqb, drop}
-use Rattle.std.specs.Prelude.{option_map}
+use Rattle.std.specs.Prelude.{option_and_then, option_map}
 use Rattle.std.specs.Int.{w8, w16, w32, to_be_bytes}
 use Rattle.std.specs.List.{AllByRecursion}
 use Rattle.std.proofs.lemmas.Bool.{le-leb}
@@ -26,16 +26,18 @@ use Rattle.tls_wire.proofs.Numbers.{wide8, wide16, wide32}
 use Rattle.tls_wire.proofs.Vectors.{vector_form}
 use Rattle.cosigner_core.specs.ExportReading.{all_exported_at, export_front_at, export_id_at}
 use Rattle.cosigner_core.specs.ExportReading.{export_in, export_key_at, export_of, exported_at}
-use Rattle.cosigner_core.specs.ExportReading.{signing_keys, steps_left}
+use Rattle.cosigner_core.specs.ExportReading.{export_progress, signing_keys, steps_left}
 use Rattle.cosigner_core.specs.Exports.{export_text, front_text, records_text}
 use Rattle.cosigner_core.specs.Folds.{CosignerState, after_step, begun, cosigner_fold, cosigner_of}
 use Rattle.cosigner_core.specs.Folds.{key_count, new_cosigner, next_state, progress_of}
 use Rattle.cosigner_core.specs.Folds.{with_progress}
-use Rattle.cosigner_core.specs.Progress.{first_progress, is_allowed, steps_in, with_step}
+use Rattle.cosigner_core.specs.Progress.{first_progress, is_allowed, progress_by, steps_in}
+use Rattle.cosigner_core.specs.Progress.{with_step}
 use Rattle.cosigner_core.specs.Records.{cosigner_in, step_in}
 use Rattle.cosigner_core.specs.declared.progress.Progress.{Progress}
 use Rattle.cosigner_core.specs.declared.settings.CosignerSettings.{CosignerSettings}
 use Rattle.cosigner_core.specs.declared.step.Step.{Step}
+use Rattle.cosigner_core.proofs.Behind.{brings}
 use Rattle.cosigner_core.proofs.FirstRecords.{cosigner_takes, then_some}
 use Rattle.cosigner_core.proofs.Tagged.{some_value, when_some}
 
@@ -212,13 +214,14 @@ are_short bytes place (body ∷ bodies) there =
 
 read_whole : (h : HashFunction) (s u : CosignerState) (bodies : List Text)
     → IsAnchorId u.id → IsAnchorId u.log → length u.key.key.id ≡ 16 → height u.key.key.lms ≤ 10
-    → progress_of u ≡ first_progress h
+    → progress_of u ≡ first_progress h → taken_from (cosigner_fold h) 1 u bodies ≡ Ok s
     → ((place : ℕ) → IsAgain h u s bodies (length (records_text bodies)) 1 place)
     → (steps : List Step) × (steps_in bodies ≡ Some steps)
     × (export_in h (front_text s.id s.log (one_level_public s.key.key) ++ records_text bodies)
     ≡ Ok (Some (export_of s steps)))
+    × (export_progress h (export_of s steps) ≡ Some (progress_of s))
 unfolding export_in steps_left
-read_whole h s u bodies id log size small begins again =
+read_whole h s u bodies id log size small begins taken again =
     let there = again 0 in
     let public : Text = one_level_public s.key.key in
     let own : IsAnchorId s.id = subst IsAnchorId (sym there.id) id in
@@ -246,12 +249,17 @@ read_whole h s u bodies id log size small begins again =
       here.steps,
       here.said,
       rw (ne_eqb (length (front_text s.id s.log public ++ text)) 0 long, front.1, read) refl,
+      ap (option_and_then (λ (n : ℕ). progress_by h n (first_progress h) here.steps)) keys
+          ∙ ap (λ (p : Progress). progress_by h (key_count u) p here.steps) (sym begins)
+          ∙ sym (ap (option_and_then (progress_by h (key_count u) (progress_of u))) here.said)
+          ∙ brings h 1 u bodies s taken,
     )
 
 pub export_again : (h : HashFunction) (bytes : Text) (list : List Text) (s : CosignerState)
     → IsBytes bytes → StandsFor bytes list → cosigner_of h list ≡ Ok s
     → (steps : List Step) × (steps_in (drop 1 list) ≡ Some steps)
     × (export_in h (export_text s list) ≡ Ok (Some (export_of s steps)))
+    × (export_progress h (export_of s steps) ≡ Some (progress_of s))
 unfolding state_behind begun
 export_again h bytes [] s are stands is =
     let wrong : Err 0 ≡ Ok s = is in absurd cc
@@ -266,6 +274,7 @@ export_again h bytes (first ∷ bodies) s are stands is =
         → (steps : List Step) × (steps_in bodies ≡ Some steps)
         × (export_in h (front_text s.id s.log (one_level_public s.key.key) ++ records_text bodies)
         ≡ Ok (Some (export_of s steps)))
+        × (export_progress h (export_of s steps) ≡ Some (progress_of s))
     go None was u made rest = let wrong : None ≡ Some u = made in absurd cc
     go (Some x) was u made rest =
         let fits = (cosigner_takes first x.0 x.1 (body_bytes bytes first 16 are stands.holds.0)
@@ -277,6 +286,6 @@ export_again h bytes (first ∷ bodies) s are stands is =
         let taken : taken_from (cosigner_fold h) 1 new bodies ≡ Ok s =
         subst (λ (v : CosignerState). taken_from (cosigner_fold h) 1 v bodies ≡ Ok s) (sym same)
         rest in
-        read_whole h s new bodies fits.id fits.log size fits.small refl
+        read_whole h s new bodies fits.id fits.log size fits.small refl taken
         (λ place. steps_again h new s 1 (length (records_text bodies)) 1 place bodies
         (are_short bytes (16 + 5 + length first) bodies stands.holds.1) taken (omega arith))

@@ -9,7 +9,9 @@ pub mod ExportLoops
 pub mod Exported
 pub mod FirstRecords
 pub mod Forms
+pub mod Keeps
 pub mod Lengths
+pub mod Names
 pub mod Readings
 pub mod Spelled
 pub mod Tagged

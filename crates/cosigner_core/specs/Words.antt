@@ -7,9 +7,10 @@ use Rattle.disk_core.specs.Moments.{LeavesOnly}
 use Rattle.disk_core.specs.declared.disk.Disk.{Ghosts}
 use Rattle.tree_core.specs.declared.hashing.TreeHash.{Ghosts as Hashes}
 use Rattle.journal_core.specs.Format.{StandsForEither}
-use Rattle.journal_core.specs.Words.{AllStandFor, disk_of, end_of, is_broken, records}
+use Rattle.journal_core.specs.Words.{AllStandFor, disk_of, end_of, is_broken}
 use Rattle.journal_core.specs.declared.error.AppendError.TheVariants as append_error
 use Rattle.cosigner_core.specs.Folds.{CosignerState}
+use Rattle.cosigner_core.specs.Kept.{kept_records}
 use Rattle.cosigner_core.specs.declared.cosigner.Cosigner.{Cosigner}
 use Rattle.cosigner_core.specs.declared.error.CosignError.{CosignError}
 use Rattle.cosigner_core.specs.declared.error.CosignError.TheVariants.{WrongLog, NotNewer}
@@ -20,9 +21,10 @@ module _ {H D : Type 0} {hashes : Hashes H} {g : Ghosts D} where
   abbrev pub cosigner_disk : Cosigner H D hashes g → D
   cosigner_disk it = disk_of it.journal
 
-  -- the records, where the disk tells its bytes
+  -- The records that make the cosigner, where the disk tells its bytes. Unless an append has
+  -- failed they are all records of its journal.
   abbrev pub cosigner_records : Cosigner H D hashes g → Option (List Text)
-  cosigner_records it = records it.journal
+  cosigner_records it = kept_records it.journal
 
   -- the place behind the closed gate of the journal
   abbrev pub cosigner_end : Cosigner H D hashes g → ℕ
@@ -55,6 +57,7 @@ module _ {H D : Type 0} {hashes : Hashes H} {g : Ghosts D} where
     pub cause : Rose (g.faults (cosigner_disk old)) (g.faults (cosigner_disk new))
     pub state : state_of new ≡ state_of old
     pub end : cosigner_end new ≡ cosigner_end old
+    pub records : cosigner_records new ≡ cosigner_records old
     pub was_sound : cosigner_broken old ≡ false
     pub broken : cosigner_broken new ≡ true
 

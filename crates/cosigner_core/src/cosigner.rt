@@ -1,15 +1,16 @@
 //! A cosigner that is open for requests.
-ghost use Rattle.std.specs.Prelude.{◌≡◌, ◌<◌, ◌^◌, ◌++◌, [], ◌∷◌, length, false, None, Ok, IfSome, IfOk, IfErr, OnOk, OnErr};
+ghost use Rattle.std.specs.Prelude.{◌≡◌, ◌<◌, ◌^◌, ◌++◌, ℕ, List, [], ◌∷◌, length, false, None, Some, option_map, Ok, IfSome, IfOk, IfErr, OnOk, OnErr};
 ghost use Rattle.std.proofs.Props.{props};
 ghost use Rattle.std.specs.Io.KnownBytes.{Appends};
 ghost use Rattle.mtc_io.specs.Streams.{AppendsPrefix};
 ghost use Rattle.disk_core.specs.Moments.{Looks};
-ghost use Rattle.journal_core.specs.Format.{StandsFor, end_behind};
-ghost use Rattle.journal_core.specs.Words.{is_broken, records, AllStandFor};
+ghost use Rattle.journal_core.specs.Format.{StandsFor, end_behind, records_of};
+ghost use Rattle.journal_core.specs.Words.{disk_of, end_of, AllStandFor};
 ghost use Rattle.hss_core.specs.Hss.{Verifies, one_level_public};
 ghost use Rattle.mtc_proof.specs.Inputs.{signed_text};
 ghost use Rattle.cosigner_core.specs.Exports.{HasExportCause, export_text};
 ghost use Rattle.cosigner_core.specs.Folds.{cosigner_of, having_signed, holding};
+ghost use Rattle.cosigner_core.specs.Kept.{IsKept, IsKept-prop};
 ghost use Rattle.cosigner_core.specs.Openings.{CountsNoOther, HasCauseOf, cosigner_read};
 ghost use Rattle.cosigner_core.specs.Records.{advance_record, sign_record};
 ghost use Rattle.cosigner_core.specs.Refusals.{KeepsTo, advance_refused, cosign_refused};
@@ -32,15 +33,15 @@ use tls_wire::AnchorId;
 use tree_core::TreeHash;
 
 /// A cosigner over the journal of its records: what it holds of its log, and its key, which counts.
-/// Unless an append has failed, they are what the records on the disk make. `H` is the hash
-/// function of the log's tree.
+/// They are what its records on the disk make. Where an append has failed, the disk may hold one
+/// record more. `H` is the hash function of the log's tree.
 #[derive(Drop)]
 pub struct Cosigner<H: TreeHash, D: Disk> {
     journal: Journal<D>,
     signer: Signer,
     hash: PhantomData<H>,
-    ghost agrees: { is_broken journal ≡ false → IfSome (records journal)
-        (λ list. cosigner_of H.TreeHash.hash list ≡ Ok signer) } by { Prim.hlevel props },
+    ghost kept: { (b : List ℕ) → D.Disk.told (disk_of journal) ≡ Some b → IsKept
+        H.TreeHash.hash signer (end_of journal) b } by { Prim.hlevel (props, IsKept-prop) },
 }
 
 impl<H: TreeHash, D: Disk> Cosigner<H, D> {
@@ -56,6 +57,8 @@ impl<H: TreeHash, D: Disk> Cosigner<H, D> {
         ensures sound { IfOk result (λ it. cosigner_broken it ≡ false) }
         ensures looks { IfOk result (λ it. Looks D.Disk disk (cosigner_disk it)) }
         ensures fine { IfOk result (λ it. D.faults (cosigner_disk it) ≡ D.faults disk) }
+        ensures list { IfOk result (λ it. cosigner_records it
+            ≡ option_map records_of (D.told (cosigner_disk it))) }
         ensures found { IfOk result (λ it. IfSome (D.told disk) (λ b. IfSome (cosigner_records it)
             (λ list. cosigner_read H.hash b
             ≡ Ok (record { records = list; state = state_of it })))) }
@@ -167,15 +170,16 @@ impl<H: TreeHash, D: Disk> Cosigner<H, D> {
     /// Writes what others may know of the cosigner: its id and that of its log, each behind its
     /// length of one byte, its public key behind its length of two bytes, and each record but the
     /// first behind its length of four bytes. It never writes the secret. It writes while it reads,
-    /// takes no memory, and leaves the cosigner as it was.
+    /// takes no memory, and leaves the cosigner as it was. Where an append has failed, it writes
+    /// the records without the one that failed, also where that one is on the disk.
     ///
     /// Errors: `Read` where the disk fails, and `Write` where the sink does. A prefix of the export
     /// is written then.
     pub fn export<O: Sink>(&mut self, out: &mut O) -> Result<(), ExportError>
-        ensures written { cosigner_broken self.old ≡ false → OnOk result
-            (IfSome (cosigner_records self.old) (λ list. Appends (O.taken out.old) (O.taken out.new)
+        ensures written { OnOk result (IfSome (cosigner_records self.old)
+            (λ list. Appends (O.taken out.old) (O.taken out.new)
             (export_text (state_of self.old) list))) }
-        ensures prefix { cosigner_broken self.old ≡ false → IfSome (cosigner_records self.old)
+        ensures prefix { IfSome (cosigner_records self.old)
             (λ list. AppendsPrefix (O.taken out.old) (O.taken out.new)
             (export_text (state_of self.old) list)) }
         ensures looks { Looks D.Disk (cosigner_disk self.old) (cosigner_disk self.new) }
@@ -187,10 +191,7 @@ impl<H: TreeHash, D: Disk> Cosigner<H, D> {
             Ok(()) => {}
             Err(Failed) => return Err(ExportError::Write),
         }
-        let gate = match second_gate(&mut self.journal) {
-            Ok(gate) => gate,
-            Err(Failed) => return Err(ExportError::Read),
-        };
+        let gate = second_gate(&self.signer, self.journal.end());
         copy_records(&mut self.journal, gate, out)
     }
 

@@ -1,6 +1,6 @@
 //! Writing what others may know of a cosigner: all but the first record of its journal, which holds
 //! the secret.
-ghost use Rattle.std.specs.Prelude.{◌≡◌, ◌≤◌, ◌<◌, ◌+◌, ◌^◌, length, List, IfSome, IfOk, OnOk};
+ghost use Rattle.std.specs.Prelude.{◌≡◌, ◌≤◌, ◌<◌, ◌+◌, ◌-◌, ◌^◌, min, length, List, IfSome, IfOk, OnOk};
 ghost use Rattle.std.specs.Io.KnownBytes.{Appends};
 ghost use Rattle.byte_forms.specs.Types.{Text};
 ghost use Rattle.mtc_io.specs.Counts.{HasCause};
@@ -24,6 +24,10 @@ const PIECE: usize = 4096;
 
 // The place of the first gate of a journal.
 const FIRST_GATE: u64 = 16;
+
+// The length of the first record without the ids in it: the tag, the lengths of the ids, the two
+// typecodes and the secret.
+const FIRST_FIELDS: u64 = 59;
 
 // Writes a piece of the journal by way of a buffer.
 fn copy_piece<D: Disk, O: Sink>(
@@ -154,22 +158,15 @@ pub(crate) fn copy_records<D: Disk, O: Sink>(
     Ok(())
 }
 
-/// The place of the gate behind the first record.
-pub(crate) fn second_gate<D: Disk>(journal: &mut Journal<D>) -> Result<u64, Failed>
-    requires { 17 ≤ end_of journal.old }
-    ensures within { IfOk result (λ gate. gate + 1 ≤ end_of journal.old) }
-    ensures gate { IfOk result (λ gate. IfSome (D.told (disk_of journal.old)) (λ bytes.
-        (first : Text) → IsRecordAt bytes 16 first → 22 + length first ≤ end_of journal.old
-        → gate ≡ 21 + length first)) }
-    ensures kept { IsRead journal.old journal.new }
-    ensures cause { HasCause (D.faults (disk_of journal.old)) (D.faults (disk_of journal.new))
-        result }
+/// The place of the gate behind the first record of a journal, or of the last gate before that
+/// place. The settings tell how long the first record is. The disk isn't asked, so whatever it
+/// gives, the secret in that record isn't copied.
+pub(crate) fn second_gate(signer: &Signer, end: u64) -> u64
+    requires { 17 ≤ end }
+    ensures { result ≡ min (80 + length signer.now.id + length signer.now.log) (end - 1) }
 {
-    // Only a disk that tells nothing may have no first record.
-    if journal.end() - FIRST_GATE < 6 {
-        return Ok(FIRST_GATE);
-    }
-    Ok(FIRST_GATE + 5 + body_size(journal, FIRST_GATE)?)
+    let ids = signer.id().as_bytes().len() + signer.log().as_bytes().len();
+    (FIRST_GATE + 5 + FIRST_FIELDS + ids as u64).min(end - 1)
 }
 
 /// Writes the ids of a cosigner and of its log, and its public key.

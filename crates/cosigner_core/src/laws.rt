@@ -7,10 +7,11 @@ ghost use Rattle.byte_forms.specs.Forms.{Anything, IsForm};
 ghost use Rattle.byte_forms.specs.Places.{IsBytes};
 ghost use Rattle.journal_core.specs.Format.{StandsFor};
 ghost use Rattle.cosigner_core.specs.Counts.{AreCounted, CountsUp};
-ghost use Rattle.cosigner_core.specs.ExportReading.{IsExport, export_in, export_of, exported_text};
+ghost use Rattle.cosigner_core.specs.ExportReading.{IsExport, export_in, export_of, export_progress, exported_text};
 ghost use Rattle.cosigner_core.specs.Exports.{export_text};
 ghost use Rattle.cosigner_core.specs.declared.lists.Export.{Export};
-ghost use Rattle.cosigner_core.specs.Folds.{CosignerState, cosigner_of};
+ghost use Rattle.cosigner_core.specs.Folds.{CosignerState, cosigner_of, progress_of};
+ghost use Rattle.hss_core.specs.Hss.{one_level_public};
 ghost use Rattle.cosigner_core.specs.Openings.{FoundCosigner, cosigner_read};
 ghost use Rattle.cosigner_core.specs.Progress.{may_follow_cosigner, steps_in};
 ghost use Rattle.cosigner_core.specs.Records.{FitsCosigner, FitsStep, cosigner_in, cosigner_record, step_in, step_record};
@@ -71,14 +72,24 @@ pub fn one_time_keys_sign_once()
 {}
 
 /// What is read as an export is spelled as one, and its steps are those of a cosigner. What a
-/// cosigner exports of a file that stands for its records is read as their steps.
+/// cosigner exports of a file that stands for its records is read as their steps, which bring it as
+/// far as it is.
 pub fn exports_are_read_as_spelled()
     ensures only { (h : HashFunction) (bytes : Text) (e : Export) → IsBytes bytes
         → export_in h bytes ≡ Ok (Some e) → (bytes ≡ exported_text e) × IsExport h e }
     ensures again { (h : HashFunction) (bytes : Text) (list : List Text) (s : CosignerState)
         → IsBytes bytes → StandsFor bytes list → cosigner_of h list ≡ Ok s
         → (steps : List Step) × (steps_in (drop 1 list) ≡ Some steps)
-        × (export_in h (export_text s list) ≡ Ok (Some (export_of s steps))) }
+        × (export_in h (export_text s list) ≡ Ok (Some (export_of s steps)))
+        × (export_progress h (export_of s steps) ≡ Some (progress_of s)) }
+{}
+
+/// An export shows nothing of the first record, which holds the secret: cosigners with the same
+/// ids, the same public key and the same records behind the first one have the same export.
+pub fn exports_never_show_the_secret()
+    ensures { (s t : CosignerState) (first other : Text) (bodies : List Text) → s.id ≡ t.id
+        → s.log ≡ t.log → one_level_public s.key.key ≡ one_level_public t.key.key
+        → export_text s (first ∷ bodies) ≡ export_text t (other ∷ bodies) }
 {}
 
 /// Records make a cosigner exactly where the first one has settings and a secret, and the others

@@ -49,8 +49,8 @@ pub use following::may_follow;
 pub use laws::{
     advance_requests_are_read_as_spelled, cosigners_are_read_from_their_journals,
     cosigners_begin_with_their_settings, exports_are_read_as_spelled,
-    first_records_are_read_as_spelled, one_time_keys_sign_once, steps_are_read_as_spelled,
-    subtree_requests_are_read_as_spelled,
+    exports_never_show_the_secret, first_records_are_read_as_spelled, one_time_keys_sign_once,
+    steps_are_read_as_spelled, subtree_requests_are_read_as_spelled,
 };
 pub use lists::{Export, Hashes, StepList};
 pub use progress::Progress;

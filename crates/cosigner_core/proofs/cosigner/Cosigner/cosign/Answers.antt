@@ -1,4 +1,5 @@
 use Rattle.std.proofs.Common.{refl, ◌∙◌}
+use Rattle.journal_core.specs.Words.{records}
 use Rattle.cosigner_core.specs.Records.{sign_record}
 use Rattle.cosigner_core.specs.declared.step.Step.TheVariants.{Sign}
 use Rattle.cosigner_core.specs.Folds.{having_signed}
@@ -6,8 +7,9 @@ use Rattle.cosigner_core.specs.Refusals.{subtree_refusal}
 use Rattle.cosigner_core.specs.Views.{subtree_parts}
 use Rattle.cosigner_core.specs.Words.{cosigner_broken, cosigner_end, cosigner_records, state_of}
 use Rattle.cosigner_core.proofs.Adds.{grown, keeps_append, keeps_second, none_of, not_appended}
-use Rattle.cosigner_core.proofs.Adds.{refused, some_body}
+use Rattle.cosigner_core.proofs.Adds.{refused, some_body, stay_kept}
 use Rattle.cosigner_core.proofs.Allowed.{added, sign_allowed, valid_step}
+use Rattle.cosigner_core.proofs.Keeps.{keeps_sound, made_of, made_sound}
 use Rattle.cosigner_core.proofs.Spelled.{length-sign}
 use Rattle.cosigner_core.proofs.cosigner.Cosigner.cosign.Goals as goal
 
@@ -27,16 +29,19 @@ append-requires-clause-some g c =
 
 pub returns-in_err-append-clause-appends : goal.returns-in_err-append-clause-appends
 returns-in_err-append-clause-appends g c =
-    not_appended c.args.self.now _ c.as_slice.result.now _ _ c.from_residual-in_err-append.result
-    c.in_err-append.field-0.0 c.from_residual-in_err-append.ensures.1
+    not_appended g.H.TreeHash.hash c.args.self.now _ c.as_slice.result.now _ _
+    c.from_residual-in_err-append.result c.in_err-append.field-0.0
+    c.from_residual-in_err-append.ensures.1
     (c.as_slice.ensures.value ∙ c.record_of-body.ensures.bytes)
     (record {
       leaves = c.in_err-append.ensures.leaves;
       broken = c.in_err-append.ensures.broken;
+      told = c.in_err-append.ensures.told;
       count = c.in_err-append.ensures.count;
+      as_read = c.in_err-append.ensures.as_read;
       any_moment = c.in_err-append.ensures.any_moment;
       afterwards = c.in_err-append.ensures.afterwards;
-    }) refl
+    }) refl c.args.self.now.kept
 
 pub returns-in_err-append-clause-answer : goal.returns-in_err-append-clause-answer
 returns-in_err-append-clause-answer g c =
@@ -59,23 +64,42 @@ returns-in_err-append-clause-valid g c =
     (Sign (state_of it).key.next r.start r.end r.hash r.proof) c.record_of-body.ensures.fits
     (cosigner_records it)
     (subtree_refusal g.H.TreeHash.hash (state_of it) r) (cosigner_broken it) (cosigner_end it)
-    (sign_record (state_of it).key.next r.start r.end r.hash r.proof) it.agrees
+    (sign_record (state_of it).key.next r.start r.end r.hash r.proof)
+    (made_of g.H.TreeHash.hash (state_of it) it.journal it.kept)
     (sign_allowed g.H.TreeHash.hash (state_of it) r)
+
+pub invariant_of-self : goal.invariant_of-self
+invariant_of-self g c = record {
+  kept =
+      let it = c.args.self.now in
+      (stay_kept g.H.TreeHash.hash (state_of it) it.journal c.append.new.self c.as_slice.result.now
+      c.in_err-append.field-0.0 (record {
+        leaves = c.in_err-append.ensures.leaves;
+        broken = c.in_err-append.ensures.broken;
+        told = c.in_err-append.ensures.told;
+        count = c.in_err-append.ensures.count;
+        as_read = c.in_err-append.ensures.as_read;
+        any_moment = c.in_err-append.ensures.any_moment;
+        afterwards = c.in_err-append.ensures.afterwards;
+      }) it.kept).0;
+}
 
 pub invariant_of-self-2 : goal.invariant_of-self-2
 invariant_of-self-2 g c = record {
-  agrees = λ sound.
+  kept =
       let it = c.args.self.now in
       let r = subtree_parts c.args.request.now in
       let h = g.H.TreeHash.hash in
-      added h (state_of it) (having_signed (state_of it))
+      let did = c.in_ok-append.ensures.leaves in
+      keeps_sound h c.sign.new.self c.append.new.self did.sound
+      (added h (state_of it) (having_signed (state_of it))
       (Sign (state_of it).key.next r.start r.end r.hash r.proof)
-      c.record_of-body.ensures.fits (cosigner_records it) _ c.as_slice.result.now c.sign.new.self
-      c.in_ok-append.ensures.leaves.records
+      c.record_of-body.ensures.fits (records it.journal) (records c.append.new.self)
+      c.as_slice.result.now c.sign.new.self did.records
       (c.as_slice.ensures.value ∙ c.record_of-body.ensures.bytes) c.sign.ensures.counted
       (sign_allowed h (state_of it) r (none_of (subtree_refusal h (state_of it) r)
       c.in_ok-test_subtree.ensures.exact))
-      (it.agrees c.in_ok-append.ensures.leaves.was_sound);
+      (made_sound h (state_of it) it.journal did.was_sound it.kept));
 }
 
 pub returns-clause-appends : goal.returns-clause-appends
@@ -85,7 +109,21 @@ returns-clause-appends g c =
     (record {
       leaves = c.in_ok-append.ensures.leaves;
       broken = c.in_ok-append.ensures.broken;
+      told = c.in_ok-append.ensures.told;
       count = c.in_ok-append.ensures.count;
+      as_read = c.in_ok-append.ensures.as_read;
       any_moment = c.in_ok-append.ensures.any_moment;
       afterwards = c.in_ok-append.ensures.afterwards;
     }) c.sign.ensures.counted
+
+pub returns-clause-valid : goal.returns-clause-valid
+returns-clause-valid g c =
+    let it = c.args.self.now in
+    let r = subtree_parts c.args.request.now in
+    valid_step g.H.TreeHash.hash (state_of it) (having_signed (state_of it))
+    (Sign (state_of it).key.next r.start r.end r.hash r.proof) c.record_of-body.ensures.fits
+    (cosigner_records it)
+    (subtree_refusal g.H.TreeHash.hash (state_of it) r) (cosigner_broken it) (cosigner_end it)
+    (sign_record (state_of it).key.next r.start r.end r.hash r.proof)
+    (made_of g.H.TreeHash.hash (state_of it) it.journal it.kept)
+    (sign_allowed g.H.TreeHash.hash (state_of it) r)

@@ -1,8 +1,15 @@
-use Rattle.std.proofs.Common.{subst, sym}
+use Rattle.std.proofs.Common.{◌≡◌, List, Option, IfSome, Ok, ap, subst, sym, ◌∙◌}
+use Rattle.byte_forms.specs.Types.{Text}
 use Rattle.disk_core.specs.Moments.{Looks}
 use Rattle.disk_core.proofs.Moments.{looked_on}
+use Rattle.journal_core.specs.Format.{StandsFor}
+use Rattle.journal_core.specs.Openings.{opening_disk, read_list}
+use Rattle.journal_core.specs.Words.{AllStandFor, disk_of}
 use Rattle.journal_core.proofs.FoldSteps.{cause_begin}
-use Rattle.cosigner_core.specs.Folds.{cosigner_fold}
+use Rattle.cosigner_core.specs.Folds.{cosigner_fold, cosigner_of}
+use Rattle.cosigner_core.specs.Kept.{kept_records}
+use Rattle.cosigner_core.specs.Openings.{cosigner_read}
+use Rattle.cosigner_core.proofs.Keeps.{both_told, keeps_sound, of_sound, sound_records}
 use Rattle.cosigner_core.proofs.cosigner.Cosigner.open.Goals as goal
 
 pub returns-in-Err-clause-cause : goal.returns-in-Err-clause-cause
@@ -15,3 +22,43 @@ pub returns-in-Ok-read_signer-clause-looks : goal.returns-in-Ok-read_signer-clau
 returns-in-Ok-read_signer-clause-looks g c =
     subst (Looks g.D.Disk c.args.disk) (sym c.ready.ensures.disk)
     (looked_on g.D.Disk _ _ _ c.in-Ok.ensures.ok.looks c.read_signer.ensures.looks)
+
+pub invariant_of-result : goal.invariant_of-result
+invariant_of-result g c = record {
+  kept =
+      let h = g.H.TreeHash.hash in
+      let signer = c.in-Ok-read_signer.signer in
+      keeps_sound h signer c.ready.result c.ready.ensures.sound
+      (subst (λ (o : Option (List Text)). IfSome o (λ list. cosigner_of h list ≡ Ok signer))
+      (sym c.ready.ensures.list) c.in-Ok-read_signer.ensures.found.made);
+}
+
+pub returns-in-Ok-read_signer-clause-list : goal.returns-in-Ok-read_signer-clause-list
+returns-in-Ok-read_signer-clause-list g c =
+    sound_records c.ready.result c.ready.ensures.sound
+
+pub returns-in-Ok-read_signer-clause-found : goal.returns-in-Ok-read_signer-clause-found
+returns-in-Ok-read_signer-clause-found g c =
+    let h = g.H.TreeHash.hash in
+    let opening = c.read_signer.new.opening in
+    both_told (λ b list. cosigner_read h b
+    ≡ Ok (record { records = list; state = c.in-Ok-read_signer.signer }))
+    (g.D.Disk.told (opening_disk opening)) (g.D.Disk.told c.args.disk) (read_list opening)
+    (kept_records c.ready.result)
+    (sym (c.read_signer.ensures.looks.told ∙ c.in-Ok.ensures.ok.looks.told))
+    (sound_records c.ready.result c.ready.ensures.sound ∙ c.ready.ensures.list)
+    c.in-Ok-read_signer.ensures.found.found
+
+pub returns-in-Ok-read_signer-clause-stands : goal.returns-in-Ok-read_signer-clause-stands
+returns-in-Ok-read_signer-clause-stands g c =
+    let opening = c.read_signer.new.opening in
+    both_told StandsFor (g.D.Disk.told (opening_disk opening))
+    (g.D.Disk.told (disk_of c.ready.result)) (read_list opening) (kept_records c.ready.result)
+    (ap g.D.Disk.told c.ready.ensures.disk)
+    (sound_records c.ready.result c.ready.ensures.sound ∙ c.ready.ensures.list)
+    c.in-Ok-read_signer.ensures.found.stands
+
+pub returns-in-Ok-read_signer-clause-all : goal.returns-in-Ok-read_signer-clause-all
+returns-in-Ok-read_signer-clause-all g c =
+    of_sound c.ready.result (AllStandFor g.D.Disk (disk_of c.ready.result))
+    c.ready.ensures.sound c.ready.ensures.all

@@ -1,0 +1,181 @@
+-- The records that are kept of a cosigner's journal, over an append and without one.
+use Rattle.std.proofs.Common.{◌≡◌, ℕ, ◌+◌, ◌-◌, ◌<◌, ◌≤◌, true, false, List, [], ◌∷◌, ◌++◌, length}
+use Rattle.std.proofs.Common.{Option, Some, None, IfSome, option_map, ◌⊎◌, inl, inr, Ok, refl, sym}
+use Rattle.std.proofs.Common.{ap, ◌∙◌, subst, arith}
+use Rattle.std.specs.Prelude.{is_some}
+use Rattle.byte_forms.specs.Types.{HashFunction, Text}
+use Rattle.disk_core.specs.declared.disk.Disk.{Ghosts}
+use Rattle.journal_core.specs.Format.{AreRecordsAt, StandsFor, StandsForEither, behind, end_behind}
+use Rattle.journal_core.specs.Format.{records_of}
+use Rattle.journal_core.specs.Settled.{IsSettled}
+use Rattle.journal_core.specs.Words.{disk_of, end_of, is_broken, records}
+use Rattle.journal_core.specs.declared.journal.Journal.{Journal}
+use Rattle.journal_core.proofs.Records.{behind-append, records_before-are}
+use Rattle.cosigner_core.specs.Folds.{CosignerState, cosigner_of}
+use Rattle.cosigner_core.specs.Kept.{IsKept, kept_of, kept_records}
+use Rattle.cosigner_core.proofs.Tagged.{some_value}
+
+-- ---- in the bytes
+
+-- the records up to an end, and a gate behind them
+record HoldsUpTo (bytes : Text) (list : List Text) (end : ℕ) : Type 0 where
+  pub there : AreRecordsAt bytes 16 list
+  pub last : end ≡ end_behind list
+  pub within : behind 16 list < length bytes
+
+kept-are : (bytes : Text) (list : List Text) (end : ℕ) → HoldsUpTo bytes list end
+    → kept_of end bytes ≡ list
+kept-are bytes list end is =
+    records_before-are bytes list (end - 1) is.there (omega (arith, is.last))
+    (omega (arith, is.last, is.within))
+
+kept_made : (h : HashFunction) (s : CosignerState) (bytes : Text) (list : List Text) (end : ℕ)
+    → HoldsUpTo bytes list end → cosigner_of h list ≡ Ok s → IsKept h s end bytes
+kept_made h s bytes list end is made =
+    let same = sym (kept-are bytes list end is) in record {
+      there = subst (AreRecordsAt bytes 16) same is.there;
+      last = subst (λ (l : List Text). end ≡ end_behind l) same is.last;
+      made = subst (λ (l : List Text). cosigner_of h l ≡ Ok s) same made;
+    }
+
+of_settled : (bytes : Text) (images : Text → Type 0) (end : ℕ) → IsSettled bytes images end
+    → HoldsUpTo bytes (records_of bytes) end
+of_settled bytes images end is = record {
+  there = is.stands.holds;
+  last = is.end_is;
+  within = is.stands.ends.there;
+}
+
+front_there : (bytes : Text) (place : ℕ) (list : List Text) (body : Text)
+    → AreRecordsAt bytes place (list ++ body ∷ []) → AreRecordsAt bytes place list
+front_there bytes place [] body are = tt
+front_there bytes place (first ∷ list) body are =
+    (are.0, front_there bytes (place + 5 + length first) list body are.1)
+
+of_either : (bytes : Text) (list : List Text) (body : Text) (end : ℕ) → end ≡ end_behind list
+    → StandsForEither list body bytes → HoldsUpTo bytes list end
+of_either bytes list body end last (inl stands) =
+    record { there = stands.holds; last = last; within = stands.ends.there }
+of_either bytes list body end last (inr stands) = record {
+  there = front_there bytes 16 list body stands.holds;
+  last = last;
+  within = omega (arith, behind-append 16 list body, stands.ends.there);
+}
+
+-- ---- where a disk tells them
+
+-- each of the bytes that are told
+abbrev Each : Option Text → (Text → Type 0) → Type 0
+Each told P = (bytes : Text) → told ≡ Some bytes → P bytes
+
+only_some : (P : Text → Type 0) (bytes : Text) → P bytes → Each (Some bytes) P
+only_some P bytes is other same = subst P (some_value bytes other same) is
+
+none_told : (P : Text → Type 0) → Each None P
+none_told P other same = let wrong : None ≡ Some other = same in cc
+
+module _ (end : ℕ) (images : Text → Type 0) where
+  same_records : (told : Option Text) → Each told (λ bytes. IsSettled bytes images end)
+      → option_map (kept_of end) told ≡ option_map records_of told
+  same_records None settled = refl
+  same_records (Some bytes) settled =
+      ap Some (kept-are bytes (records_of bytes) end
+      (of_settled bytes images end (settled bytes refl)))
+
+  each_made : (h : HashFunction) (s : CosignerState) (told : Option Text)
+      → Each told (λ bytes. IsSettled bytes images end)
+      → IfSome (option_map records_of told) (λ list. cosigner_of h list ≡ Ok s)
+      → Each told (IsKept h s end)
+  each_made h s None settled made = none_told (IsKept h s end)
+  each_made h s (Some bytes) settled made = only_some (IsKept h s end) bytes
+      (kept_made h s bytes (records_of bytes) end
+      (of_settled bytes images end (settled bytes refl)) made)
+
+  -- an append that failed
+  failed_each : (h : HashFunction) (s : CosignerState) (body : Text) (old new : Option Text)
+      → Each old (λ bytes. IsSettled bytes images end) → Each old (IsKept h s end)
+      → IfSome (option_map records_of old) (λ list. IfSome new (StandsForEither list body))
+      → is_some (option_map records_of new) ≡ is_some (option_map records_of old)
+      → Each new (IsKept h s end)
+      × (option_map (kept_of end) new ≡ option_map (kept_of end) old)
+  failed_each h s body None None settled kept either same = (none_told (IsKept h s end), refl)
+  failed_each h s body None (Some now) settled kept either same =
+      let wrong : true ≡ false = same in absurd cc
+  failed_each h s body (Some was) None settled kept either same =
+      let wrong : false ≡ true = same in absurd cc
+  failed_each h s body (Some was) (Some now) settled kept either same =
+      let list = records_of was in
+      let held = of_settled was images end (settled was refl) in
+      let holds = of_either now list body end held.last either in
+      let made : cosigner_of h list ≡ Ok s =
+      subst (λ (l : List Text). cosigner_of h l ≡ Ok s) (kept-are was list end held)
+      (kept was refl).made in (
+        only_some (IsKept h s end) now (kept_made h s now list end holds made),
+        ap Some (kept-are now list end holds ∙ sym (kept-are was list end held)),
+      )
+
+-- The same of other options that are equal to these.
+pub both_told : (P : Text → List Text → Type 0) (t u : Option Text) (o p : Option (List Text))
+    → u ≡ t → p ≡ o → IfSome t (λ b. IfSome o (P b)) → IfSome u (λ b. IfSome p (P b))
+both_told P t u o p first second is =
+    subst (λ (x : Option Text). IfSome x (λ b. IfSome p (P b))) (sym first)
+    (subst (λ (y : Option (List Text)). IfSome t (λ b. IfSome y (P b))) (sym second) is)
+
+-- ---- of a journal
+
+module _ {D : Type 0} {g : Ghosts D} where
+  -- unless an append has failed they are all its records
+  pub sound_records : (journal : Journal D g) → is_broken journal ≡ false
+      → kept_records journal ≡ records journal
+  sound_records journal sound =
+      same_records (end_of journal) (g.may_leave (disk_of journal)) (g.told (disk_of journal))
+      (journal.settled sound)
+
+  -- so what holds of all holds of them
+  pub of_sound : (journal : Journal D g) (P : List Text → Type 0) → is_broken journal ≡ false
+      → IfSome (records journal) P → IfSome (kept_records journal) P
+  of_sound journal P sound is =
+      subst (λ (o : Option (List Text)). IfSome o P) (sym (sound_records journal sound)) is
+
+  module _ (h : HashFunction) (s : CosignerState) where
+    -- the records of a journal make this cosigner
+    abbrev pub Keeps : Journal D g → Type 0
+    Keeps journal = (bytes : Text) → g.told (disk_of journal) ≡ Some bytes
+        → IsKept h s (end_of journal) bytes
+
+    pub keeps_sound : (journal : Journal D g) → is_broken journal ≡ false
+        → IfSome (records journal) (λ list. cosigner_of h list ≡ Ok s) → Keeps journal
+    keeps_sound journal sound made =
+        each_made (end_of journal) (g.may_leave (disk_of journal)) h s (g.told (disk_of journal))
+        (journal.settled sound) made
+
+    pub made_of : (journal : Journal D g) → Keeps journal
+        → IfSome (kept_records journal) (λ list. cosigner_of h list ≡ Ok s)
+    made_of journal keeps = go (g.told (disk_of journal)) keeps
+      where
+        go : (told : Option Text) → Each told (IsKept h s (end_of journal))
+            → IfSome (option_map (kept_of (end_of journal)) told)
+            (λ list. cosigner_of h list ≡ Ok s)
+        go None kept = tt
+        go (Some bytes) kept = (kept bytes refl).made
+
+    pub made_sound : (journal : Journal D g) → is_broken journal ≡ false → Keeps journal
+        → IfSome (records journal) (λ list. cosigner_of h list ≡ Ok s)
+    made_sound journal sound keeps =
+        subst (λ (o : Option (List Text)). IfSome o (λ list. cosigner_of h list ≡ Ok s))
+        (sound_records journal sound) (made_of journal keeps)
+
+    -- An append that failed leaves them as they were.
+    pub failed_keeps : (old new : Journal D g) (body : Text) → is_broken old ≡ false
+        → end_of new ≡ end_of old
+        → IfSome (records old) (λ list. IfSome (g.told (disk_of new)) (StandsForEither list body))
+        → is_some (records new) ≡ is_some (records old) → Keeps old
+        → Keeps new × (kept_records new ≡ kept_records old)
+    failed_keeps old new body sound end either same keeps =
+        let is = failed_each (end_of old) (g.may_leave (disk_of old)) h s body
+        (g.told (disk_of old)) (g.told (disk_of new)) (old.settled sound) keeps either same in
+        let back = sym end in (
+          subst (λ (n : ℕ). Each (g.told (disk_of new)) (IsKept h s n)) back is.0,
+          subst (λ (n : ℕ). option_map (kept_of n) (g.told (disk_of new)) ≡ kept_records old)
+              back is.1,
+        )
