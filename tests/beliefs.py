@@ -1,5 +1,5 @@
 #!/usr/bin/env python3
-"""What the statement of `run` and its laws rests on: the definitions of its page, and those that these name.
+"""What the statement of `run`, its laws and those of courses rest on: the definitions of its page, and those that these name.
 
 docs/BELIEFS.md has the counts in a table.
 Usage: tests/beliefs.py            prints the table
@@ -16,8 +16,10 @@ from checks.sources import ROOT, crates
 PAGE = ROOT / "docs" / "BELIEFS.md"
 BEGIN, END = "<!-- counted by tests/beliefs.py -->", "<!-- end -->"
 TOP = ROOT / "crates" / "mtc_top" / "src"
-# The record that `run` ensures, and the statements of its laws.
-STATEMENT = ("mtc_top.specs.Run", "mtc_top.specs.RunLaws")
+# Each statement: what its table is headed by, the functions whose contracts it is, and its page of definitions. First the
+# record that `run` ensures with the laws of each run, and then the laws of courses.
+RUNS = ("The statement names", r"run|runs_\w+", ("mtc_top.specs.Run", "mtc_top.specs.RunLaws"))
+COURSES = ("The laws of courses name", r"(?:courses|entries|no|recovered|what)_\w+", ("mtc_top.specs.Courses", "mtc_top.specs.CourseLaws"))
 
 USE = re.compile(r"^\s*(?:pub |ghost )*(?:use|open) Rattle\.([\w.]+)\.\{([^}]*)\};?", re.M)
 HEAD = re.compile(r"^( *)(?:abbrev|unfoldable|opaque|pub record|pub data|record|data)(?: pub)? +([^\s:({]+)")
@@ -87,11 +89,11 @@ def module_of(dotted):
     return None
 
 
-def contracts():
-    """The contracts of `run` and of its laws, each with the imports of its file."""
+def contracts(functions):
+    """The contracts of these public functions of the top, each with the imports of its file."""
     for path in sorted(TOP.rglob("*.rt")):
         text = path.read_text()
-        for match in re.finditer(r"^pub fn (?:run|runs_\w+)\b.*?^\{", text, re.M | re.S):
+        for match in re.finditer(rf"^pub fn (?:{functions})\b.*?^\{{", text, re.M | re.S):
             bare = re.sub(r"//[^\n]*", "", match.group())
             yield bare, {sign_of(name): origin for name, origin in imports_of(text).items()}
 
@@ -102,10 +104,11 @@ def declared(dotted):
     return crate, place.removesuffix(".TheVariants").split(".")[-1]
 
 
-def named_first():
+def named_first(statement):
     """What the contracts name, and what the definitions of the statement name, as (module, name)."""
+    _, functions, pages = statement
     found, waiting = set(), []
-    for contract, imports in contracts():
+    for contract, imports in contracts(functions):
         waiting += [imports[token] for token in set(TOKEN.findall(contract)) if token in imports]
     while waiting:
         dotted, name = waiting.pop()
@@ -114,7 +117,7 @@ def named_first():
         if (dotted, whole) in found:
             continue
         found.add((dotted, whole))
-        if dotted in STATEMENT and whole in module.bodies:
+        if dotted in pages and whole in module.bodies:
             waiting += [(inner or dotted, other) for inner, other in module.names_in("\n".join(module.bodies[whole]))]
     return sorted(found)
 
@@ -147,15 +150,19 @@ def row(name, own, types):
     return f"| {name} | {len(own)} | {lines} | {files} | {len(types)} |"
 
 
-def first_rows():
-    """The definitions of the statement and those that it names, with their lengths."""
+def all_named():
+    return named_first(RUNS) + named_first(COURSES)
+
+
+def first_rows(statement):
+    """The definitions of a statement and those that it names, with their lengths."""
     found = {}
-    for dotted, name in named_first():
+    for dotted, name in named_first(statement):
         module = module_of(dotted)
         whole = module.owners.get(sign_of(name), name) if module else None
         if module and whole in module.bodies:
             found[dotted, whole] = len(module.bodies[whole])
-    rows = ["| The statement names | In | Lines |", "|---|---|---|"]
+    rows = [f"| {statement[0]} | In | Lines |", "|---|---|---|"]
     for (dotted, name), count in sorted(found.items()):
         crate, _, place = dotted.partition(".")
         rows.append(f"| `{name}` | `{crate}/{place.replace('.', '/')}` | {count} |")
@@ -163,10 +170,10 @@ def first_rows():
 
 
 def table():
-    own, types, kit = reached(named_first())
+    own, types, kit = reached(all_named())
     order = [crate.name for crate in crates()]
     used = {dotted.split(".")[0] for dotted, _ in own} | {crate for crate, _ in types}
-    rows = first_rows() + ["| Crate | Definitions | Lines | Files | Types of the code |", "|---|---|---|---|---|"]
+    rows = first_rows(RUNS) + first_rows(COURSES) + ["| Crate | Definitions | Lines | Files | Types of the code |", "|---|---|---|---|---|"]
     for name in sorted(used, key=order.index):
         mine = {key: body for key, body in own.items() if key[0].split(".")[0] == name}
         rows.append(row(f"`{name}`", mine, {one for crate, one in types if crate == name}))
@@ -194,7 +201,7 @@ def main(words):
         before, _, behind = between()
         PAGE.write_text(before + "\n" + table() + "\n" + behind)
     elif words == ["--list"]:
-        for (dotted, name), body in sorted(reached(named_first())[0].items()):
+        for (dotted, name), body in sorted(reached(all_named())[0].items()):
             print(f"{dotted} {name} {len(body)}")
     else:
         print(table())

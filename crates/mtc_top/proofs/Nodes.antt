@@ -1,36 +1,133 @@
 -- How a command ends, as steps of a node.
-use Rattle.std.proofs.Common.{◌≡◌, ◌⊎◌, inl, inr, ℕ, true, false, Bool, List, [], ◌∷◌, ◌++◌, length}
-use Rattle.std.proofs.Common.{Option, None, Some, IfSome, refl, sym, subst, ◌∙◌, arith, rules}
+use Rattle.std.proofs.Common.{◌≡◌, ◌≢◌, ◌⊎◌, inl, inr, ℕ, true, false, Bool, List, [], ◌∷◌, ◌++◌}
+use Rattle.std.proofs.Common.{length, Option, None, Some, IfSome, refl, sym, subst, ap, ◌∙◌, arith}
+use Rattle.std.proofs.Common.{rules, append_assoc}
 use Rattle.std.proofs.lemmas.Bool.Decides.{leb_tells}
+use Rattle.std.proofs.lemmas.List.{append-nil}
+use Rattle.byte_forms.specs.Types.{HashFunction}
 use Rattle.disk_core.specs.declared.disk.Disk.{Ghosts}
 use Rattle.mtc_room.specs.Room.{TellsFile}
-use Rattle.journal_core.specs.Format.{StandsFor, StandsForEither}
+use Rattle.journal_core.specs.Format.{StandsFor, StandsForEither, header}
 use Rattle.journal_core.proofs.Records.{records_of-stands}
 use Rattle.mtc_answers.specs.Answers.{IsEarly}
 use Rattle.mtc_answers.specs.Made.{Journaled, untouched, reads, appended, started, Images}
 use Rattle.mtc_answers.specs.Made.{images_at, IsOnOld, Kept, WasRead, HasMade, MayHaveMade}
+use Rattle.mtc_answers.specs.Valid.{AddsValid}
 use Rattle.mtc_answers.proofs.Made.{ReadsImage}
-use Rattle.mtc_top.specs.Nodes.{NodeState, StandsForNode, AllStandForNode, stop, begin, same}
+use Rattle.node_history.specs.Histories.{if_allowed}
+use Rattle.node_history.specs.Laws.{IsSoundNode, LeadsTo}
+use Rattle.node_history.specs.Nodes.{HistoryState, begin, settle, stop, with_pending}
+use Rattle.node_history.specs.Rules.{AreRecords, StartsWith, may_follow}
+use Rattle.node_history.specs.declared.start.NodeStart.{NodeStart}
+use Rattle.node_history.specs.declared.step.NodeStep.{NodeStep}
+use Rattle.node_history.specs.declared.step.NodeStep.TheVariants.{Begin, Settle, Hand, Stop}
+use Rattle.node_history.proofs.Agreement.{agree, alone}
+use Rattle.node_history.proofs.GoesOn.{goes_on}
+use Rattle.node_history.proofs.Sound.{sound}
+use Rattle.mtc_top.specs.Nodes.{StandsForNode, AllStandForNode, same, end_state, steps_of}
 use Rattle.mtc_top.specs.Nodes.{stopped, begun, has_settled, has_handed, IsRecord, NotHanded}
-use Rattle.mtc_top.specs.Nodes.{IsOneOf, TookSome, EndsWell}
+use Rattle.mtc_top.specs.Nodes.{GoesOn, IsMoment, TookSome, EndsWell, held_by}
+
+-- ---- the steps of an end are those of a history
+
+module _ (h : HashFunction) (n : HistoryState) (first : List ℕ) where
+  pub same_on : GoesOn h n first same
+  same_on begins starts steps place leads =
+      subst (λ (l : List NodeStep). LeadsTo (may_follow h) starts l place n)
+      (sym (append-nil steps)) leads
+
+  pub stop_on : (kept : Bool) → GoesOn h n first (stopped kept)
+  stop_on kept begins starts steps place leads =
+      goes_on (may_follow h) starts steps place n (stop kept n) (Stop place kept) leads refl refl
+
+  -- the record that is begun behind the stop is valid there
+  abbrev pub Allows : Bool → List ℕ → Type 0
+  Allows kept body = StartsWith n.start first
+      → (starts : List NodeStart) (steps : List NodeStep) (place : ℕ)
+      → LeadsTo (may_follow h) starts steps place n
+      → may_follow h n.start ((stop kept n).settled ++ body ∷ []) ≡ true
+
+  pub begin_on : (kept : Bool) (body : List ℕ) → Allows kept body
+      → GoesOn h n first (begun kept body)
+  begin_on kept body allows begins starts steps place leads =
+      let mid = stop kept n in
+      let one = Stop place kept in
+      subst (λ (l : List NodeStep). LeadsTo (may_follow h) starts l place (begin body mid))
+      (append_assoc steps (one ∷ []) (Begin place body ∷ []))
+      (goes_on (may_follow h) starts (steps ++ one ∷ []) place mid (begin body mid)
+      (Begin place body) (stop_on kept begins starts steps place leads) refl
+      (ap (λ (b : Bool). if_allowed b (begin body mid)) (allows begins starts steps place leads)))
+
+  pub settle_on : (kept : Bool) (body : List ℕ) → Allows kept body
+      → GoesOn h n first (has_settled kept body)
+  settle_on kept body allows begins starts steps place leads =
+      let mid = begin body (stop kept n) in
+      let two = steps_of place (begun kept body) in
+      subst (λ (l : List NodeStep). LeadsTo (may_follow h) starts l place (settle mid))
+      (append_assoc steps two (Settle place ∷ []))
+      (goes_on (may_follow h) starts (steps ++ two) place mid (settle mid) (Settle place)
+      (begin_on kept body allows begins starts steps place leads) refl refl)
+
+  pub hand_on : (kept : Bool) (body : List ℕ) → Allows kept body
+      → GoesOn h n first (has_handed kept body)
+  hand_on kept body allows begins starts steps place leads =
+      let mid = settle (begin body (stop kept n)) in
+      let three = steps_of place (has_settled kept body) in
+      subst (λ (l : List NodeStep). LeadsTo (may_follow h) starts l place
+      (end_state (has_handed kept body) n))
+      (append_assoc steps three (Hand place ∷ []))
+      (goes_on (may_follow h) starts (steps ++ three) place mid
+      (end_state (has_handed kept body) n) (Hand place)
+      (settle_on kept body allows begins starts steps place leads) refl refl)
+
+-- ---- what is read
 
 -- what was read are the records of the node behind a stop
-record Stopped (n : NodeState) (list : List (List ℕ)) : Type 0 where
+record Stopped (n : HistoryState) (first : List ℕ) (list : List (List ℕ)) : Type 0 where
   pub kept : Bool
-  pub is : list ≡ n.start ∷ (stop kept n).settled
+  pub is : list ≡ first ∷ (stop kept n).settled
 
 -- a list, or it with one more record, is that of a node with a pending record behind a stop
-either_node : (n : NodeState) (list : List (List ℕ)) (body c : List ℕ) (s : Stopped n list)
-    → StandsForEither list body c → StandsForNode (begin body (stop s.kept n)) c
-either_node n list body c s either = elim either [
+either_node : (n : HistoryState) (first : List ℕ) (list : List (List ℕ)) (body c : List ℕ)
+    (s : Stopped n first list) → StandsForEither list body c
+    → StandsForNode (begin body (stop s.kept n)) first c
+either_node n first list body c s either = elim either [
   | inl old ↦ inl (subst (StandsFor c) s.is old)
   | inr new ↦ inr (subst (λ l. StandsFor c (l ++ body ∷ [])) s.is new)
 ]
 
+-- of what was read the records are known
+pub one_list : (c : List ℕ) (xs ys : List (List ℕ)) → StandsFor c xs → StandsFor c ys → xs ≡ ys
+one_list c xs ys one two = sym (records_of-stands c xs one) ∙ records_of-stands c ys two
+
+pub tail_is : (x : List ℕ) (xs ys : List (List ℕ)) → x ∷ xs ≡ x ∷ ys → xs ≡ ys
+tail_is x xs ys is = cc
+
+pub valid_pending : (h : HashFunction) (start : NodeStart) (list : List (List ℕ))
+    (p : Option (List ℕ)) → may_follow h start list ≡ true
+    → IfSome p (λ body. may_follow h start (list ++ body ∷ []) ≡ true)
+    → may_follow h start (with_pending list p) ≡ true
+valid_pending h start list None is more = is
+valid_pending h start list (Some body) is more = more
+
+-- what an image of a node stands for is valid
+pub valid_image : (h : HashFunction) (n : HistoryState) (first c : List ℕ)
+    (bodies : List (List ℕ)) → IsSoundNode (may_follow h) n → StandsForNode n first c
+    → StandsFor c (first ∷ bodies) → may_follow h n.start bodies ≡ true
+valid_image h n first c bodies is of stands = elim of [
+  | inl settled ↦ subst (λ (l : List (List ℕ)). may_follow h n.start l ≡ true)
+      (tail_is first n.settled bodies
+      (one_list c (first ∷ n.settled) (first ∷ bodies) settled stands)) is.settled
+  | inr pending ↦ subst (λ (l : List (List ℕ)). may_follow h n.start l ≡ true)
+      (tail_is first (with_pending n.settled n.pending) bodies
+      (one_list c (first ∷ with_pending n.settled n.pending) (first ∷ bodies) pending stands))
+      (valid_pending h n.start n.settled n.pending is.settled is.pending)
+]
+
 -- each image before stands for the node
-module _ (status : ℕ) (took : Type 0) (n : NodeState) (before now since : Images)
-    (all : AllStandForNode n before) where
-  stop_of : (list : List (List ℕ)) → WasRead before list → Stopped n list
+module _ (h : HashFunction) (status : ℕ) (took : Type 0) (n : HistoryState) (first : List ℕ)
+    (before now since : Images) (all : AllStandForNode n first before) where
+  stop_of : (list : List (List ℕ)) → WasRead before list → Stopped n first list
   stop_of list was =
       let is : list ≡ _ = sym (records_of-stands was.bytes list was.stands) in
       elim (all was.bytes was.image) [
@@ -38,86 +135,145 @@ module _ (status : ℕ) (took : Type 0) (n : NodeState) (before now since : Imag
         | inr new ↦ record { kept = true; is = is ∙ records_of-stands was.bytes _ new }
       ]
 
+  -- the record that is added is valid: by the rules, or since it is the pending one
+  allowed : (list : List (List ℕ)) (body c : List ℕ) (s : Stopped n first list)
+      → Kept before now since ⊎ AreRecords h (list ++ body ∷ []) → now c
+      → StandsFor c (list ++ body ∷ []) → Allows h n first s.kept body
+  allowed list body c s valid is stands begins starts steps place leads = elim valid [
+    | inl kept ↦ valid_image h n first c ((stop s.kept n).settled ++ body ∷ [])
+        (sound (may_follow h) (alone h) starts steps place n leads) (all c (kept.now_is c is))
+        (subst (λ (l : List (List ℕ)). StandsFor c (l ++ body ∷ [])) s.is stands)
+    | inr records ↦ agree h n.start first ((stop s.kept n).settled ++ body ∷ []) begins
+        (subst (λ (l : List (List ℕ)). AreRecords h (l ++ body ∷ [])) s.is records)
+  ]
+
+  past : (did : Journaled) (c : List ℕ) → before c → IsMoment h did n first c
+  past did c is = record {
+    end = same;
+    may = tt;
+    goes_on = same_on h n first;
+    stands = all c is;
+  }
+
   since_node : (did : Journaled) (list : List (List ℕ)) (body c : List ℕ) → IsRecord did body
-      → (s : Stopped n list) → before c ⊎ StandsForEither list body c → IsOneOf did n c
-  since_node did list body c is s either = elim either [
-    | inl past ↦ inl (all c past)
-    | inr new ↦ inr (s.kept, (body, (is, either_node n list body c s new)))
+      → (s : Stopped n first list) → Allows h n first s.kept body
+      → before c ⊎ StandsForEither list body c → IsMoment h did n first c
+  since_node did list body c is s allows either = elim either [
+    | inl was ↦ past did c was
+    | inr new ↦ record {
+      end = begun s.kept body;
+      may = is;
+      goes_on = begin_on h n first s.kept body allows;
+      stands = either_node n first list body c s new;
+    }
   ]
 
   stays : (did : Journaled) → IsEarly status → NotHanded did took → Kept before now since
-      → EndsWell did status took n now since
-  stays did early not kept = record {
+      → (status ≢ 5 → status ≢ 8 → IfSome (held_by did) (λ list. list ≡ first ∷ n.settled))
+      → EndsWell h did status took n first now since
+  stays did early not kept holds = record {
     end = same;
     may = (early, not);
+    goes_on = same_on h n first;
     stands = λ c is. all c (kept.now_is c is);
-    each = λ c is. inl (all c (kept.since_is c is));
+    each = λ c is. past did c (kept.since_is c is);
+    holds = holds;
   }
 
   -- want of memory, or a failure of the room, has ended it
-  pub kept_ends : (did : Journaled) → IsEarly status → (took → ⊥) → Kept before now since
-      → EndsWell did status took n now since
-  kept_ends did early none kept = stays did early (λ body is. none) kept
+  pub kept_ends : (did : Journaled) → (status ≡ 5) ⊎ (status ≡ 8) → (took → ⊥)
+      → Kept before now since → EndsWell h did status took n first now since
+  kept_ends did ended none kept =
+      stays did (elim ended [
+        | inl is5 ↦ inr (inr (inl is5))
+        | inr is8 ↦ inr (inr (inr (inr (inl is8))))
+      ]) (λ body is. none) kept (λ not5 not8. elim ended [
+        | inl is5 ↦ absurd (not5 is5)
+        | inr is8 ↦ absurd (not8 is8)
+      ])
 
   pub failed_ends : (did : Journaled) → status ≡ 5 → IsOnOld did → (took → ⊥)
-      → MayHaveMade did before now since → EndsWell did status took n now since
-  failed_ends untouched is on none made = kept_ends untouched (inr (inr (inl is))) none made
-  failed_ends (reads list) is on none made = kept_ends (reads list) (inr (inr (inl is))) none made
-  failed_ends (appended list body) is on none made = elim made [
-    | inl kept ↦ kept_ends (appended list body) (inr (inr (inl is))) none kept
-    | inr may ↦
-        (let s = stop_of list may.read in
-        record {
-          end = begun s.kept body;
-          may = ((list, refl), is, none);
-          stands = λ c at. either_node n list body c s (may.now_is c at);
-          each = λ c at.
-              since_node (appended list body) list body c (list, refl) s (may.since_is c at);
-        })
+      → MayHaveMade did before now since → Kept before now since ⊎ AddsValid (AreRecords h) did
+      → EndsWell h did status took n first now since
+  failed_ends untouched is on none made valid = kept_ends untouched (inl is) none made
+  failed_ends (reads list) is on none made valid = kept_ends (reads list) (inl is) none made
+  failed_ends (appended list body) is on none made valid = elim valid [
+    | inl kept ↦ kept_ends (appended list body) (inl is) none kept
+    | inr records ↦ elim made [
+      | inl kept ↦ kept_ends (appended list body) (inl is) none kept
+      | inr may ↦
+          (let s = stop_of list may.read in
+          let allows : Allows h n first s.kept body = λ begins starts steps place leads.
+          agree h n.start first ((stop s.kept n).settled ++ body ∷ []) begins
+          (subst (λ (l : List (List ℕ)). AreRecords h (l ++ body ∷ [])) s.is records) in
+          record {
+            end = begun s.kept body;
+            may = ((list, refl), is, none);
+            goes_on = begin_on h n first s.kept body allows;
+            stands = λ c at. either_node n first list body c s (may.now_is c at);
+            each = λ c at. since_node (appended list body) list body c (list, refl) s allows
+                (may.since_is c at);
+            holds = λ not5. absurd (not5 is);
+          })
+    ]
   ]
-  failed_ends (started body) is on none made = absurd on
+  failed_ends (started body) is on none made valid = absurd on
 
   -- it ended without either
   added_ends : (list : List (List ℕ)) (body : List ℕ) → took ⊎ (took → ⊥)
       → HasMade (appended list body) before now since
-      → EndsWell (appended list body) status took n now since
-  added_ends list body dec made =
+      → Kept before now since ⊎ AddsValid (AreRecords h) (appended list body)
+      → (c : List ℕ) × now c → EndsWell h (appended list body) status took n first now since
+  added_ends list body dec made valid some =
       let s = stop_of list made.read in
-      let each : (c : List ℕ) → since c → IsOneOf (appended list body) n c
-      = λ c is. since_node (appended list body) list body c (list, refl) s (made.since_is c is) in
+      let allows : Allows h n first s.kept body
+      = allowed list body some.0 s valid some.1 (made.now_is some.0 some.1) in
+      let each : (c : List ℕ) → since c → IsMoment h (appended list body) n first c
+      = λ c is. since_node (appended list body) list body c (list, refl) s allows
+      (made.since_is c is) in
       let stands : (c : List ℕ) → now c
-      → StandsFor c (n.start ∷ ((stop s.kept n).settled ++ body ∷ []))
+      → StandsFor c (first ∷ ((stop s.kept n).settled ++ body ∷ []))
       = λ c is. subst (λ l. StandsFor c (l ++ body ∷ [])) s.is (made.now_is c is) in
+      let holds : list ++ body ∷ [] ≡ first ∷ ((stop s.kept n).settled ++ body ∷ [])
+      = ap (λ (l : List (List ℕ)). l ++ body ∷ []) s.is in
       elim dec [
         | inl went ↦ record {
           end = has_handed s.kept body;
           may = ((list, refl), went);
+          goes_on = hand_on h n first s.kept body allows;
           stands = λ c is. inl (stands c is);
           each = each;
+          holds = λ not5 not8. holds;
         }
         | inr kept_back ↦ record {
           end = has_settled s.kept body;
           may = ((list, refl), kept_back);
+          goes_on = settle_on h n first s.kept body allows;
           stands = λ c is. inl (stands c is);
           each = each;
+          holds = λ not5 not8. holds;
         }
       ]
 
   pub made_ends : (did : Journaled) → IsOnOld did → took ⊎ (took → ⊥)
       → (did ≡ untouched → IsEarly status) → HasMade did before now since
-      → EndsWell did status took n now since
-  made_ends untouched on dec early made =
-      stays untouched (early refl) (λ body is. absurd (grind (rules, is.1))) made
-  made_ends (reads list) on dec early made =
+      → Kept before now since ⊎ AddsValid (AreRecords h) did → (c : List ℕ) × now c
+      → EndsWell h did status took n first now since
+  made_ends untouched on dec early made valid some = stays untouched (early refl)
+      (λ body is. absurd (grind (rules, is.1))) made (λ not5 not8. tt)
+  made_ends (reads list) on dec early made valid some =
       let s = stop_of list made.read in
       record {
         end = stopped s.kept;
         may = λ body is. absurd (grind (rules, is.1));
+        goes_on = stop_on h n first s.kept;
         stands = λ c is. inl (subst (StandsFor c) s.is (made.now_is c is));
-        each = λ c is. inl (all c (made.since_is c is));
+        each = λ c is. past (reads list) c (made.since_is c is);
+        holds = λ not5 not8. s.is;
       }
-  made_ends (appended list body) on dec early made = added_ends list body dec made
-  made_ends (started body) on dec early made = absurd on
+  made_ends (appended list body) on dec early made valid some =
+      added_ends list body dec made valid some
+  made_ends (started body) on dec early made valid some = absurd on
 
 -- whether a byte went out
 pub took_dec : (old new : Option (List ℕ)) → TookSome old new ⊎ (TookSome old new → ⊥)
@@ -129,9 +285,30 @@ took_dec (Some old) (Some new) = elim (leb_tells (length new) (length old)) [
 ]
 
 -- what the room tells of a file stands for what all images stand for
-pub file_stands : {D : Type 0} (g : Ghosts D) (n : NodeState) (file : Option (List ℕ))
-    (x : Option D) → ReadsImage g → TellsFile g.told file x
-    → AllStandForNode n (images_at g x) → IfSome file (StandsForNode n)
-file_stands g n None x image tells all = tt
-file_stands g n (Some b) None image tells all = absurd (grind (rules, tells))
-file_stands g n (Some b) (Some d) image tells all = all b (image d b tells.0)
+pub file_stands : {D : Type 0} (g : Ghosts D) (n : HistoryState) (first : List ℕ)
+    (file : Option (List ℕ)) (x : Option D) → ReadsImage g → TellsFile g.told file x
+    → AllStandForNode n first (images_at g x) → IfSome file (StandsForNode n first)
+file_stands g n first None x image tells all = tt
+file_stands g n first (Some b) None image tells all = absurd (grind (rules, tells))
+file_stands g n first (Some b) (Some d) image tells all = all b (image d b tells.0)
+
+-- a file has an image
+pub some_image : {D : Type 0} (g : Ghosts D) (file : Option (List ℕ)) (x : Option D)
+    → ReadsImage g → TellsFile g.told file x → (c : List ℕ) × images_at g x c
+some_image g file None image tells = ([], refl)
+some_image g None (Some d) image tells = absurd (grind (rules, tells))
+some_image g (Some b) (Some d) image tells = (b, image d b tells.0)
+
+-- where there is no file, none of its images is a node's journal
+pub none_stands : {D : Type 0} (g : Ghosts D) (n : HistoryState) (first : List ℕ)
+    (file : Option (List ℕ)) (x : Option D) → TellsFile g.told file x
+    → AllStandForNode n first (images_at g x) → file ≡ None → ⊥
+none_stands g n first file None tells all none = elim (all [] refl) [
+  | inl is ↦ no_header is.begins
+  | inr is ↦ no_header is.begins
+]
+  where
+    no_header : [] ≡ header → ⊥
+    no_header is = absurd cc
+none_stands g n first None (Some d) tells all none = absurd (grind (rules, tells))
+none_stands g n first (Some b) (Some d) tells all none = absurd cc

@@ -1,6 +1,6 @@
 -- What follows of each run, and how it ends as steps of a node.
-use Rattle.std.proofs.Common.{◌≡◌, ◌≢◌, ◌≤◌, inl, inr, ℕ, List, [], ◌∷◌, ◌++◌, Option, None, Some}
-use Rattle.std.proofs.Common.{sym, subst, arith, rules}
+use Rattle.std.proofs.Common.{◌≡◌, ◌≢◌, ◌≤◌, ◌⊎◌, inl, inr, ℕ, List, [], ◌∷◌, ◌++◌, Option}
+use Rattle.std.proofs.Common.{None, Some, sym, subst, arith, rules}
 use Rattle.std.proofs.lemmas.Bool.Decides.{eqb_tells}
 use Rattle.std.specs.Io.KnownBytes.{Appends}
 use Rattle.disk_core.specs.declared.disk.Disk.{Ghosts as Disks}
@@ -9,21 +9,30 @@ use Rattle.mtc_room.specs.Room.{TellsFile}
 use Rattle.mtc_room.specs.declared.room.Room.{Ghosts as Rooms}
 use Rattle.journal_core.specs.Format.{StandsFor}
 use Rattle.mtc_answers.specs.Answers.{Reply, said, refused, IsEarly, status_of, out_of}
-use Rattle.mtc_answers.specs.Made.{Journaled, Images, Leaving, untouched, appended, started}
-use Rattle.mtc_answers.specs.Made.{HasKept, HasMade, MayHaveMade, Leaves}
-use Rattle.mtc_answers.specs.Served.{OfEach}
+use Rattle.mtc_answers.specs.Made.{Journaled, Images, Leaving, untouched, reads, appended, started}
+use Rattle.mtc_answers.specs.Made.{HasKept, HasMade, IsOnOld, Kept, MayHaveMade, Leaves}
+use Rattle.mtc_answers.specs.Made.{images_at, images_since, moment_at}
+use Rattle.mtc_answers.specs.Served.{Journals, OfEach}
+use Rattle.mtc_answers.specs.Valid.{AddsValid}
 use Rattle.mtc_answers.specs.declared.answer.Said.TheVariants.{Done, Against}
 use Rattle.mtc_answers.proofs.Made.{ReadsImage}
 use Rattle.mtc_answers.proofs.Served.{each_so, both_so}
 use Rattle.mtc_top.specs.Concluded.{Prints}
-use Rattle.mtc_top.specs.Nodes.{AllStandForNode, TookSome, fresh_node}
+use Rattle.mtc_words.specs.Words.{command_of}
+use Rattle.node_history.specs.Nodes.{HistoryState, fresh_node}
+use Rattle.node_history.specs.Rules.{AreRecords}
+use Rattle.node_history.specs.declared.start.NodeStart.{NodeStart}
+use Rattle.mtc_top.specs.Nodes.{AllStandForNode, TookSome}
+use Rattle.mtc_top.specs.Outcome.{spoken_rules}
 use Rattle.mtc_top.specs.Run.{journals, HasRun}
 use Rattle.mtc_top.specs.RunLaws.{RunShows, RunSteps, took}
 use Rattle.mtc_top.proofs.Runs.{reply_code}
+use Rattle.mtc_top.proofs.Commands.{IsNewAt, spoken_new, spoken_records}
 use Rattle.mtc_top.proofs.Nodes.{kept_ends, failed_ends, made_ends, took_dec, file_stands}
+use Rattle.mtc_top.proofs.Nodes.{none_stands, some_image}
 
 -- where nothing was appended, no byte went out
-took_none : (old new : Option (List ℕ)) → Appends old new [] → TookSome old new → ⊥
+pub took_none : (old new : Option (List ℕ)) → Appends old new [] → TookSome old new → ⊥
 took_none None new none took = took
 took_none (Some xs) None none took = took
 took_none (Some xs) (Some ys) none took = grind (rules, arith, none, took)
@@ -35,6 +44,14 @@ silent_reply P (said Done text) status is not0 not3 prints = absurd (not0 is)
 silent_reply P (said Against text) status is not0 not3 prints = absurd (not3 is)
 silent_reply P (refused why file reason) status is not0 not3 prints = prints
 
+-- by other rules that follow from these
+adds_so : (P Q : List (List ℕ) → Type 0) → ((list : List (List ℕ)) → P list → Q list)
+    → (did : Journaled) → AddsValid P did → AddsValid Q did
+adds_so P Q so untouched is = tt
+adds_so P Q so (reads list) is = tt
+adds_so P Q so (appended list body) is = so (list ++ body ∷ []) is
+adds_so P Q so (started body) is = so (body ∷ []) is
+
 -- each image holds the record that was added, or that a new journal begins with
 module _ (did : Journaled) (before now since : Images) (made : HasMade did before now since) where
   has_recorded : (list : List (List ℕ)) (body : List ℕ) → did ≡ appended list body → (c : List ℕ)
@@ -43,8 +60,9 @@ module _ (did : Journaled) (before now since : Images) (made : HasMade did befor
       let added = subst (λ d. HasMade d before now since) is made in
       added.now_is
 
-  has_begun : (body : List ℕ) → did ≡ started body → AllStandForNode (fresh_node body) now
-  has_begun body is =
+  has_begun : (body : List ℕ) → did ≡ started body → (start : NodeStart)
+      → AllStandForNode (fresh_node start) body now
+  has_begun body is start =
       let new = subst (λ d. HasMade d before now since) is made in
       λ c at. inl (new c at)
 
@@ -80,10 +98,24 @@ module _ {R S D O E : Type 0} (h : List ℕ → List ℕ) (rooms : Rooms R S D) 
     ];
   }
 
-  abbrev pub TellsFiles : Type 0
-  TellsFiles = (name : List ℕ) → TellsFile disks.told (rooms.file new name) (rooms.device new name)
+  abbrev pub TellsFiles : R → Type 0
+  TellsFiles room =
+      (name : List ℕ) → TellsFile disks.told (rooms.file room name) (rooms.device room name)
 
-  module _ (image : ReadsImage disks) (file : TellsFiles) where
+  module _ (image : ReadsImage disks) (was : TellsFiles old) (file : TellsFiles new) where
+    abbrev js : Journals
+    js = journals h rooms disks outs errs words old new out out' err err'
+
+    abbrev before : List ℕ → Images
+    before name = images_at disks (rooms.device old name)
+
+    abbrev after : List ℕ → Images
+    after name = images_at disks (rooms.device new name)
+
+    abbrev between : List ℕ → Images
+    between name =
+        images_since disks (rooms.device new name) (moment_at disks (rooms.device old name))
+
     abbrev went : Type 0
     went = took h rooms disks outs errs words old new out out' err err'
 
@@ -93,54 +125,91 @@ module _ {R S D O E : Type 0} (h : List ℕ → List ℕ) (rooms : Rooms R S D) 
     abbrev LeftBoth : (Journaled → Leaving) → List ℕ → Journaled → Type 0
     LeftBoth How name did = Leaves disks (How did) (rooms.device old name) (rooms.device new name)
 
+    -- What is known of each journal beside what it left: nothing new is left, or its records are a
+    -- node's; and it was there, or its name had no file.
+    abbrev Knows : List ℕ → Journaled → Type 0
+    Knows name did = (LeftBoth HasKept name did ⊎ AddsValid (AreRecords h) did)
+        × IsNewAt (rooms.file old) name did
+
+    knows : rooms.tells old → OfEach Knows js
+    knows tells = both_so _ _ Knows (λ name did valid is_new. (
+      elim valid [
+        | inl kept ↦ inl kept
+        | inr adds ↦ inr (adds_so (spoken_rules h (command_of words)) (AreRecords h)
+            (spoken_records h (command_of words)) did adds)
+      ],
+      is_new,
+    )) js (run.valid tells) (spoken_new h (command_of words) (rooms.file old))
+
+    images_valid : (name : List ℕ) (did : Journaled) → Knows name did
+        → Kept (before name) (after name) (between name) ⊎ AddsValid (AreRecords h) did
+    images_valid name did known = elim known.0 [
+      | inl kept ↦ inl kept.images
+      | inr adds ↦ inr adds
+    ]
+
+    -- the journal of a node was there
+    on_old : (name : List ℕ) (did : Journaled) → Knows name did → (n : HistoryState)
+        (first : List ℕ) → AllStandForNode n first (before name) → IsOnOld did
+    on_old name did known n first all = elim known.1 [
+      | inl on ↦ on
+      | inr none ↦ absurd (none_stands disks n first _ _ (was name) all none)
+    ]
+
     kept_steps : status ≡ 8 → (went → ⊥) → (name : List ℕ) (did : Journaled)
         → LeftBoth HasKept name did → Steps name did
     kept_steps is none name did kept = record {
-      ends = λ on n all. kept_ends status went n _ _ _ all did
-          (inr (inr (inr (inr (inl is))))) none kept.images;
-      as_read = λ n stands. file_stands disks n _ _ image (file name) stands;
+      ends = λ n first all. kept_ends h status went n first _ _ _ all did (inr is) none kept.images;
+      as_read = λ n first stands. file_stands disks n first _ _ image (file name) stands;
       later = kept.later;
       recorded = λ list body of some. absurd (none some);
       begins = λ zero_. absurd (omega (arith, is, zero_));
     }
 
     failed_steps : status ≡ 5 → (went → ⊥) → (name : List ℕ) (did : Journaled)
-        → LeftBoth MayHaveMade name did → Steps name did
-    failed_steps is none name did made = record {
-      ends = λ on n all. failed_ends status went n _ _ _ all did is on none made.images;
-      as_read = λ n stands. file_stands disks n _ _ image (file name) stands;
+        → LeftBoth MayHaveMade name did → Knows name did → Steps name did
+    failed_steps is none name did made known = record {
+      ends = λ n first all. failed_ends h status went n first _ _ _ all did is
+          (on_old name did known n first all) none made.images (images_valid name did known);
+      as_read = λ n first stands. file_stands disks n first _ _ image (file name) stands;
       later = made.later;
       recorded = λ list body of some. absurd (none some);
       begins = λ zero_. absurd (omega (arith, is, zero_));
     }
 
-    made_steps : (name : List ℕ) (did : Journaled) → LeftBoth HasMade name did
-        → (did ≡ untouched → IsEarly status) → Steps name did
-    made_steps name did made early = record {
-      ends = λ on n all. made_ends status went n _ _ _ all did on (took_dec _ _) early made.images;
-      as_read = λ n stands. file_stands disks n _ _ image (file name) stands;
-      later = made.later;
-      recorded = λ list body of some. has_recorded did _ _ _ made.images list body of;
-      begins = λ zero_. has_begun did _ _ _ made.images;
+    abbrev MadeEarly : List ℕ → Journaled → Type 0
+    MadeEarly name did = LeftBoth HasMade name did × (did ≡ untouched → IsEarly status)
+
+    made_steps : (name : List ℕ) (did : Journaled) → MadeEarly name did → Knows name did
+        → Steps name did
+    made_steps name did made known = record {
+      ends = λ n first all. made_ends h status went n first _ _ _ all did
+          (on_old name did known n first all) (took_dec _ _) made.1 made.0.images
+          (images_valid name did known) (some_image disks _ _ image (file name));
+      as_read = λ n first stands. file_stands disks n first _ _ image (file name) stands;
+      later = made.0.later;
+      recorded = λ list body of some. has_recorded did _ _ _ made.0.images list body of;
+      begins = λ zero_. has_begun did _ _ _ made.0.images;
     }
 
-    pub run_steps : rooms.tells old
-        → OfEach Steps (journals h rooms disks outs errs words old new out out' err err')
-    run_steps tells =
-        let js = journals h rooms disks outs errs words old new out out' err err' in
-        elim (eqb_tells status 8) [
-          | inl is8 ↦
-              (let r = run.no_memory is8.1 in
-              each_so _ Steps (kept_steps is8.1 (took_none _ _ r.text)) js (r.made tells))
-          | inr not8 ↦ elim (eqb_tells status 5) [
-            | inl is5 ↦
-                (let r = run.room_failed is5.1 in
-                each_so _ Steps (failed_steps is5.1 (took_none _ _ r.text)) js (r.made tells))
-            | inr not5 ↦ elim (eqb_tells status 6) [
-              | inl is6 ↦ both_so _ _ Steps made_steps js
-                  ((run.out_failed is6.1).made tells) (run.early tells)
-              | inr not6 ↦ both_so _ _ Steps made_steps js
-                  ((run.answered not5.1 not6.1 not8.1).made tells) (run.early tells)
-            ]
-          ]
+    answered_steps : rooms.tells old → OfEach (LeftBoth HasMade) js → OfEach Steps js
+    answered_steps tells made = both_so _ _ Steps made_steps js
+        (both_so _ _ MadeEarly (λ name did left early. (left, early)) js made (run.early tells))
+        (knows tells)
+
+    pub run_steps : rooms.tells old → OfEach Steps js
+    run_steps tells = elim (eqb_tells status 8) [
+      | inl is8 ↦
+          (let r = run.no_memory is8.1 in
+          each_so _ Steps (kept_steps is8.1 (took_none _ _ r.text)) js (r.made tells))
+      | inr not8 ↦ elim (eqb_tells status 5) [
+        | inl is5 ↦
+            (let r = run.room_failed is5.1 in
+            both_so _ _ Steps (failed_steps is5.1 (took_none _ _ r.text)) js (r.made tells)
+            (knows tells))
+        | inr not5 ↦ elim (eqb_tells status 6) [
+          | inl is6 ↦ answered_steps tells ((run.out_failed is6.1).made tells)
+          | inr not6 ↦ answered_steps tells ((run.answered not5.1 not6.1 not8.1).made tells)
         ]
+      ]
+    ]

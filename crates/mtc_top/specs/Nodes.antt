@@ -1,78 +1,25 @@
 -- A node's journal as a state of a history, and how a command may end: which steps of the history
 -- it was.
-use Rattle.std.specs.Prelude.{◌≡◌, ◌⊎◌, ℕ, ◌<◌, Bool, true, false, List, [], ◌∷◌, ◌++◌, length}
-use Rattle.std.specs.Prelude.{Option, None, Some, if◌then◌else◌}
+use Rattle.std.specs.Prelude.{◌≡◌, ◌≢◌, ◌⊎◌, ℕ, ◌<◌, Bool, List, [], ◌∷◌, ◌++◌, length, Option}
+use Rattle.std.specs.Prelude.{None, Some, IfSome}
+use Rattle.byte_forms.specs.Types.{HashFunction}
 use Rattle.journal_core.specs.Format.{StandsFor}
 use Rattle.mtc_answers.specs.Answers.{IsEarly}
-use Rattle.mtc_answers.specs.Made.{Images, Journaled, appended}
+use Rattle.mtc_answers.specs.Made.{Images, Journaled, untouched, reads, appended, started}
+use Rattle.node_history.specs.Laws.{LeadsTo}
+use Rattle.node_history.specs.Nodes.{HistoryState, begin, hand, settle, stop, with_pending}
+use Rattle.node_history.specs.Rules.{StartsWith, may_follow}
+use Rattle.node_history.specs.declared.start.NodeStart.{NodeStart}
+use Rattle.node_history.specs.declared.step.NodeStep.{NodeStep}
+use Rattle.node_history.specs.declared.step.NodeStep.TheVariants.{Begin, Settle, Hand, Stop}
 
--- The first record of a node, those that are settled behind it, at most one that is pending, the
--- numbers of those that were handed out, and whether the last one may be.
-pub record NodeState : Type 0 where
-  pub start : List ℕ
-  pub settled : List (List ℕ)
-  pub pending : Option (List ℕ)
-  pub handed : List ℕ
-  pub may_hand : Bool
+-- The bytes stand for this first record and the settled ones, or for these and the pending one.
+abbrev pub StandsForNode : HistoryState → List ℕ → List ℕ → Type 0
+StandsForNode n first c = StandsFor c (first ∷ n.settled)
+    ⊎ StandsFor c (first ∷ with_pending n.settled n.pending)
 
-abbrev pub with_pending : List (List ℕ) → Option (List ℕ) → List (List ℕ)
-with_pending list None = list
-with_pending list (Some body) = list ++ body ∷ []
-
--- The bytes stand for its settled records, or for these and the pending one.
-abbrev pub StandsForNode : NodeState → List ℕ → Type 0
-StandsForNode n c = StandsFor c (n.start ∷ n.settled)
-    ⊎ StandsFor c (n.start ∷ with_pending n.settled n.pending)
-
-abbrev pub AllStandForNode : NodeState → Images → Type 0
-AllStandForNode n images = (c : List ℕ) → images c → StandsForNode n c
-
--- The steps: a stop, after which a pending record is settled or gone; a record begun; settled;
--- handed out.
-abbrev pub stop : Bool → NodeState → NodeState
-stop kept n = record {
-  start = n.start;
-  settled = if kept then with_pending n.settled n.pending else n.settled;
-  pending = None;
-  handed = n.handed;
-  may_hand = false;
-}
-
-abbrev pub begin : List ℕ → NodeState → NodeState
-begin body n = record {
-  start = n.start;
-  settled = n.settled;
-  pending = Some body;
-  handed = n.handed;
-  may_hand = n.may_hand;
-}
-
-abbrev pub settle : NodeState → NodeState
-settle n = record {
-  start = n.start;
-  settled = with_pending n.settled n.pending;
-  pending = None;
-  handed = n.handed;
-  may_hand = true;
-}
-
-abbrev pub hand : NodeState → NodeState
-hand n = record {
-  start = n.start;
-  settled = n.settled;
-  pending = n.pending;
-  handed = n.handed ++ length n.settled ∷ [];
-  may_hand = false;
-}
-
-abbrev pub fresh_node : List ℕ → NodeState
-fresh_node start = record {
-  start = start;
-  settled = [];
-  pending = None;
-  handed = [];
-  may_hand = false;
-}
+abbrev pub AllStandForNode : HistoryState → List ℕ → Images → Type 0
+AllStandForNode n first images = (c : List ℕ) → images c → StandsForNode n first c
 
 -- How a command may end: without a step, with a stop, and then with a record begun, settled and
 -- handed out.
@@ -83,12 +30,30 @@ pub data End : Type 0 where
   has_settled : Bool → List ℕ → End
   has_handed : Bool → List ℕ → End
 
-abbrev pub end_state : End → NodeState → NodeState
+abbrev pub end_state : End → HistoryState → HistoryState
 end_state same n = n
 end_state (stopped kept) n = stop kept n
 end_state (begun kept body) n = begin body (stop kept n)
 end_state (has_settled kept body) n = settle (begin body (stop kept n))
 end_state (has_handed kept body) n = hand (settle (begin body (stop kept n)))
+
+-- The steps of the node with this place that are so an end.
+abbrev pub steps_of : ℕ → End → List NodeStep
+steps_of place same = []
+steps_of place (stopped kept) = Stop place kept ∷ []
+steps_of place (begun kept body) = Stop place kept ∷ (Begin place body ∷ [])
+steps_of place (has_settled kept body) =
+    Stop place kept ∷ (Begin place body ∷ (Settle place ∷ []))
+steps_of place (has_handed kept body) =
+    Stop place kept ∷ (Begin place body ∷ (Settle place ∷ (Hand place ∷ [])))
+
+-- Each history that led to the state, of a node which began with this first record, goes on by the
+-- steps of the end.
+abbrev pub GoesOn : HashFunction → HistoryState → List ℕ → End → Type 0
+GoesOn h n first end = StartsWith n.start first
+    → (starts : List NodeStart) (steps : List NodeStep) (place : ℕ)
+    → LeadsTo (may_follow h) starts steps place n
+    → LeadsTo (may_follow h) starts (steps ++ steps_of place end) place (end_state end n)
 
 -- The command adds this record.
 abbrev pub IsRecord : Journaled → List ℕ → Type 0
@@ -106,11 +71,29 @@ MayEnd did status took (begun kept body) = IsRecord did body × (status ≡ 5) �
 MayEnd did status took (has_settled kept body) = IsRecord did body × (took → ⊥)
 MayEnd did status took (has_handed kept body) = IsRecord did body × took
 
--- The bytes stand for the state before, or for one with the command's record begun behind a stop.
-abbrev pub IsOneOf : Journaled → NodeState → List ℕ → Type 0
-IsOneOf did n c = StandsForNode n c
-    ⊎ ((kept : Bool) × ((body : List ℕ)
-    × (IsRecord did body × StandsForNode (begin body (stop kept n)) c)))
+-- The records that a command leaves in its journal, where it opens it.
+abbrev pub held_by : Journaled → Option (List (List ℕ))
+held_by untouched = None
+held_by (reads list) = Some list
+held_by (appended list body) = Some (list ++ body ∷ [])
+held_by (started body) = Some (body ∷ [])
+
+-- The end in the middle of a command: its record isn't settled yet.
+abbrev pub IsUnsettled : Journaled → End → Type 0
+IsUnsettled did same = Unit {0}
+IsUnsettled did (stopped kept) = ⊥
+IsUnsettled did (begun kept body) = IsRecord did body
+IsUnsettled did (has_settled kept body) = ⊥
+IsUnsettled did (has_handed kept body) = ⊥
+
+-- What a crash may leave at a moment of the command stands for the state before, or for one with
+-- the command's record begun behind a stop.
+pub record IsMoment (h : HashFunction) (did : Journaled) (n : HistoryState)
+    (first c : List ℕ) : Type 0 where
+  pub end : End
+  pub may : IsUnsettled did end
+  pub goes_on : GoesOn h n first end
+  pub stands : StandsForNode (end_state end n) first c
 
 -- A byte went out, where the sink tells.
 abbrev pub TookSome : Option (List ℕ) → Option (List ℕ) → Type 0
@@ -118,10 +101,15 @@ TookSome None new = ⊥
 TookSome (Some old) None = ⊥
 TookSome (Some old) (Some new) = length old < length new
 
--- A command's end, over a state of the node for which each image before stands.
-pub record EndsWell (did : Journaled) (status : ℕ) (took : Type 0) (n : NodeState)
-    (now since : Images) : Type 0 where
+-- A command's end, over a state of the node for which each image before stands, with this first
+-- record.
+pub record EndsWell (h : HashFunction) (did : Journaled) (status : ℕ) (took : Type 0)
+    (n : HistoryState) (first : List ℕ) (now since : Images) : Type 0 where
   pub end : End
   pub may : MayEnd did status took end
-  pub stands : AllStandForNode (end_state end n) now
-  pub each : (c : List ℕ) → since c → IsOneOf did n c
+  pub goes_on : GoesOn h n first end
+  pub stands : AllStandForNode (end_state end n) first now
+  pub each : (c : List ℕ) → since c → IsMoment h did n first c
+  -- Where it answered, what it opened has the node's records.
+  pub holds : status ≢ 5 → status ≢ 8
+      → IfSome (held_by did) (λ list. list ≡ first ∷ (end_state end n).settled)

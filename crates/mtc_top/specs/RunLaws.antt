@@ -5,12 +5,13 @@ use Rattle.journal_core.specs.Format.{StandsFor}
 use Rattle.mtc_io.specs.Counts.{Rose}
 use Rattle.mtc_io.specs.declared.sink.Sink.{Ghosts as Sinks}
 use Rattle.mtc_room.specs.declared.room.Room.{Ghosts as Rooms}
-use Rattle.mtc_answers.specs.Made.{Journaled, appended, started, Images, IsOnOld, images_at}
-use Rattle.mtc_answers.specs.Made.{moment_at, images_since}
+use Rattle.mtc_answers.specs.Made.{Journaled, appended, started, Images, images_at, moment_at}
+use Rattle.mtc_answers.specs.Made.{images_since}
 use Rattle.mtc_answers.specs.Served.{OfEach}
 use Rattle.mtc_top.specs.Concluded.{Prints}
-use Rattle.mtc_top.specs.Nodes.{NodeState, StandsForNode, AllStandForNode, EndsWell, TookSome}
-use Rattle.mtc_top.specs.Nodes.{fresh_node}
+use Rattle.node_history.specs.Nodes.{HistoryState, fresh_node}
+use Rattle.node_history.specs.declared.start.NodeStart.{NodeStart}
+use Rattle.mtc_top.specs.Nodes.{StandsForNode, AllStandForNode, EndsWell, TookSome}
 use Rattle.mtc_top.specs.Run.{journals, Answered, HasRun}
 
 module _ {R S D O E : Type 0} (h : List ℕ → List ℕ) (rooms : Rooms R S D) (disks : Disks D)
@@ -45,20 +46,21 @@ module _ {R S D O E : Type 0} (h : List ℕ → List ℕ) (rooms : Rooms R S D) 
 
   -- The run as steps of a node, whose journal has this name.
   pub record RunSteps (status : ℕ) (name : List ℕ) (did : Journaled) : Type 0 where
-    -- It ends in one of five ways, for each state for which all images stood before.
-    pub ends : IsOnOld did → (n : NodeState) → AllStandForNode n (images_before name)
-        → EndsWell did status took n (images_after name) (images_between name)
+    -- It ends in one of five ways, for each state and first record for which all images stood
+    -- before.
+    pub ends : (n : HistoryState) (first : List ℕ) → AllStandForNode n first (images_before name)
+        → EndsWell h did status took n first (images_after name) (images_between name)
     -- What the room tells of the file stands for each state for which all images stand.
-    pub as_read : (n : NodeState) → AllStandForNode n (images_after name)
-        → IfSome (rooms.file new name) (StandsForNode n)
+    pub as_read : (n : HistoryState) (first : List ℕ) → AllStandForNode n first (images_after name)
+        → IfSome (rooms.file new name) (StandsForNode n first)
     -- Time goes on.
     pub later : moment_at disks (rooms.device old name) ≤ moment_at disks (rooms.device new name)
     -- Where a byte went out each image holds the record.
     pub recorded : (list : List (List ℕ)) (body : List ℕ) → did ≡ appended list body → took
         → (c : List ℕ) → images_after name c → StandsFor c (list ++ body ∷ [])
-    -- A new journal that was made is a node with its first record alone.
-    pub begins : status ≡ 0 → (body : List ℕ) → did ≡ started body
-        → AllStandForNode (fresh_node body) (images_after name)
+    -- A new journal that was made is that of a node that has begun with this record, and no more.
+    pub begins : status ≡ 0 → (body : List ℕ) → did ≡ started body → (start : NodeStart)
+        → AllStandForNode (fresh_node start) body (images_after name)
 
 -- So it is of each run.
 abbrev pub RunsShow : {R S D O E : Type 0} → (List ℕ → List ℕ) → Rooms R S D → Disks D

@@ -1,4 +1,6 @@
-//! Laws of runs: the clauses are the laws, and the function does nothing.
+//! Laws of runs, and of courses of runs and stops: the clauses are the laws, and the functions do
+//! nothing.
+ghost use Rattle.mtc_top.specs.CourseLaws.{CoursesAreHistories, EntriesStand, HandedOutStand, JournalsAreRead, KeysSignOnce, KeysSignOneMessage, RecoveredListsGrow};
 ghost use Rattle.mtc_top.specs.RunLaws.{RunsShow, RunsAreSteps};
 
 use mtc_io::Sink;
@@ -10,4 +12,43 @@ use tree_core::TreeHash;
 pub fn runs_are_steps<H: TreeHash, R: Room, O: Sink, E: Sink>()
     ensures shows { RunsShow H.hash R.Room R.Dsk.Disk O.Sink E.Sink }
     ensures steps { RunsAreSteps H.hash R.Room R.Dsk.Disk O.Sink E.Sink }
+{}
+
+/// Behind the run that made a journal, whatever runs there are by any words, wherever they fail,
+/// and wherever the machine stops between two runs or in the middle of one: what became of the
+/// journal is a history of its node.
+pub fn courses_are_histories<H: TreeHash, R: Room, O: Sink, E: Sink>()
+    ensures { CoursesAreHistories H.hash R.Room R.Dsk.Disk O.Sink E.Sink }
+{}
+
+/// In no course two records of a cosigner have the number of one one-time key: the i-th Sign record
+/// of a journal that may be recovered, counted from 0, has the number i. Where bytes of two
+/// cosignatures by one key went out, both are of one record, and so of one message.
+pub fn no_one_time_key_signs_twice<H: TreeHash, R: Room, O: Sink, E: Sink>()
+    ensures records { KeysSignOnce H.hash R.Room R.Dsk.Disk O.Sink E.Sink }
+    ensures messages { KeysSignOneMessage H.hash R.Room R.Dsk.Disk O.Sink E.Sink }
+{}
+
+/// Where a byte of a cosignature, or of what else stands for a record, went out, each journal that
+/// may be recovered afterwards holds that record, behind those that were there.
+pub fn what_was_handed_out_stands<H: TreeHash, R: Room, O: Sink, E: Sink>()
+    ensures { HandedOutStand H.hash R.Room R.Dsk.Disk O.Sink E.Sink }
+{}
+
+/// What a run found in a journal, or added to it, is a front of each list that may be recovered
+/// afterwards.
+pub fn recovered_lists_only_grow<H: TreeHash, R: Room, O: Sink, E: Sink>()
+    ensures { RecoveredListsGrow H.hash R.Room R.Dsk.Disk O.Sink E.Sink }
+{}
+
+/// Each entry of a log that a run found or added keeps its index, with its key, in each log that
+/// may be recovered afterwards.
+pub fn entries_keep_their_places<H: TreeHash, R: Room, O: Sink, E: Sink>()
+    ensures { EntriesStand H.hash R.Room R.Dsk.Disk O.Sink E.Sink }
+{}
+
+/// No journal that a course has reached is refused: what a crash may leave of it, and what the room
+/// tells, is read as the log or the cosigner with records that keep to the rules.
+pub fn no_journal_is_refused<H: TreeHash, R: Room, O: Sink, E: Sink>()
+    ensures { JournalsAreRead H.hash R.Room R.Dsk.Disk O.Sink E.Sink }
 {}

@@ -11,6 +11,10 @@ mod laws;
 mod refused_words;
 mod top;
 
-pub use laws::runs_are_steps;
+pub use laws::{
+    courses_are_histories, entries_keep_their_places, no_journal_is_refused,
+    no_one_time_key_signs_twice, recovered_lists_only_grow, runs_are_steps,
+    what_was_handed_out_stands,
+};
 pub use mtc_room::{MemRoom, Room, RoomError};
 pub use top::run;

@@ -2,6 +2,8 @@ pub mod Agreement
 pub mod Begun
 pub mod Chains
 pub mod GoesOn
+pub mod Items
+pub mod Keys
 mod Replays
 pub mod Sound
 pub mod Steps

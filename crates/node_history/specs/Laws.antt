@@ -2,6 +2,7 @@
 use Rattle.std.specs.Prelude.{◌≡◌, ℕ, ◌+◌, ◌<◌, ◌≤◌, true, List, [], ◌∷◌, ◌++◌, length, slice_get}
 use Rattle.std.specs.Prelude.{Some, IfSome, Contains, Ok}
 use Rattle.byte_forms.specs.Types.{Text}
+use Rattle.issuance_log.specs.Folds.{LogState}
 use Rattle.node_history.specs.Histories.{Valid, history_of}
 use Rattle.node_history.specs.Nodes.{HistoryState}
 use Rattle.node_history.specs.declared.start.NodeStart.{NodeStart}
@@ -61,3 +62,8 @@ pub record LeadsTo (valid : Valid) (starts : List NodeStart) (steps : List NodeS
   pub states : List HistoryState
   pub allowed : history_of valid starts steps ≡ Ok states
   pub there : slice_get states place ≡ Some s
+
+-- The entries and the keys of a log are still there, at their places, in a later one.
+pub record KeepsItems (s t : LogState) : Type 0 where
+  pub entries : Begins s.entries t.entries
+  pub keys : Begins s.keys t.keys

@@ -4,8 +4,9 @@ ghost use Rattle.byte_forms.specs.Types.{HashFunction, Text};
 ghost use Rattle.cosigner_core.specs.Counts.{AreCounted};
 ghost use Rattle.cosigner_core.specs.declared.settings.CosignerSettings.{CosignerSettings};
 ghost use Rattle.journal_core.specs.Format.{StandsFor};
+ghost use Rattle.issuance_log.specs.Folds.{LogState, log_of};
 ghost use Rattle.node_history.specs.Histories.{history_of, moved};
-ghost use Rattle.node_history.specs.Laws.{HasGrown, IsOfSettled, IsSoundNode, LeadsTo, WereBegun};
+ghost use Rattle.node_history.specs.Laws.{HasGrown, IsOfSettled, IsSoundNode, KeepsItems, LeadsTo, WereBegun};
 ghost use Rattle.node_history.specs.Nodes.{HistoryState, fresh_node, node_of_step};
 ghost use Rattle.node_history.specs.Rules.{AreRecords, IsReadAs, StartsWith, may_follow as valid};
 ghost use Rattle.node_history.specs.declared.start.NodeStart.{NodeStart};
@@ -69,4 +70,10 @@ pub fn journals_and_histories_agree()
     ensures read { (h : HashFunction) (start : NodeStart) (first : Text) (bodies : List Text)
         (bytes : Text) → StartsWith start first → valid h start bodies ≡ true
         → StandsFor bytes (first ∷ bodies) → IsReadAs h start bytes (first ∷ bodies) }
+{}
+
+/// The entries of a log and their keys keep their places, whatever records come behind its own.
+pub fn logs_keep_their_items()
+    ensures { (h : HashFunction) (list more : List Text) (s t : LogState) → log_of h list ≡ Ok s
+        → log_of h (list ++ more) ≡ Ok t → KeepsItems s t }
 {}

@@ -22,7 +22,7 @@ mod step;
 pub use error::HistoryError;
 pub use laws::{
     histories_go_on, histories_keep_to_the_rules, journals_and_histories_agree,
-    one_time_keys_are_used_once, states_only_grow,
+    logs_keep_their_items, one_time_keys_are_used_once, states_only_grow,
 };
 pub use replay::history;
 pub use start::NodeStart;

@@ -1,0 +1,250 @@
+-- What may be recovered of a node's journal behind a course.
+use Rattle.std.proofs.Common.{◌≡◌, ◌⊎◌, inl, inr, ℕ, true, List, [], ◌∷◌, ◌++◌, Option, None, Some}
+use Rattle.std.proofs.Common.{Result, Ok, Err, refl, sym, subst, ap, ◌∙◌, rules}
+use Rattle.std.proofs.lemmas.List.{append-nil}
+use Rattle.std.specs.Prelude.{IsOk, is_ok}
+use Rattle.byte_forms.specs.Types.{HashFunction}
+use Rattle.disk_core.specs.declared.disk.Disk.{Ghosts as Disks}
+use Rattle.journal_core.specs.Format.{StandsFor}
+use Rattle.mtc_io.specs.declared.sink.Sink.{Ghosts as Sinks}
+use Rattle.mtc_room.specs.Room.{TellsFile}
+use Rattle.mtc_room.specs.declared.room.Room.{Ghosts as Rooms}
+use Rattle.cosigner_core.specs.Counts.{AreCounted}
+use Rattle.cosigner_core.specs.declared.settings.CosignerSettings.{CosignerSettings}
+use Rattle.cosigner_core.proofs.Behind.{once_each}
+use Rattle.issuance_log.specs.Folds.{LogState, log_of}
+use Rattle.issuance_log.specs.Settings.{Settings}
+use Rattle.issuance_log.proofs.Behind.{begins_so}
+use Rattle.mtc_answers.specs.Made.{images_at}
+use Rattle.mtc_answers.proofs.Made.{OnlyNow, ReadsImage}
+use Rattle.node_history.specs.Laws.{Begins, IsSoundNode}
+use Rattle.node_history.specs.Nodes.{HistoryState, fresh_node, with_pending}
+use Rattle.node_history.specs.Rules.{StartsWith, may_follow}
+use Rattle.node_history.specs.declared.start.NodeStart.{NodeStart}
+use Rattle.node_history.specs.declared.start.NodeStart.TheVariants.{Log, Cosigner}
+use Rattle.node_history.proofs.Agreement.{alone, read}
+use Rattle.node_history.proofs.Items.{items_kept}
+use Rattle.node_history.proofs.Keys.{one_record}
+use Rattle.node_history.proofs.Sound.{sound}
+use Rattle.node_history.proofs.Steps.{begins_on}
+use Rattle.mtc_top.specs.CourseLaws.{AreOfNode, IsReadAsNode}
+use Rattle.mtc_top.specs.CourseLaws.{CoursesAreHistories, EntriesStand, HandedOutStand}
+use Rattle.mtc_top.specs.CourseLaws.{JournalsAreRead, KeysSignOnce, KeysSignOneMessage}
+use Rattle.mtc_top.specs.CourseLaws.{RecoveredListsGrow}
+use Rattle.mtc_top.specs.Courses.{Link, IsCourse, IsReached, IsRecovered, WasHeld, WasMade}
+use Rattle.mtc_top.specs.Courses.{images_of}
+use Rattle.mtc_top.specs.Nodes.{StandsForNode}
+use Rattle.mtc_top.proofs.Courses.{IsLater, all_held, course_held, course_later}
+use Rattle.mtc_top.proofs.Courses.{made_at, start_of}
+use Rattle.mtc_top.proofs.Nodes.{one_list, some_image, valid_pending}
+
+-- ---- the list of an image
+
+-- its records are the settled ones, or these and the pending one
+module _ (h : HashFunction) (s : HistoryState) (first : List ℕ)
+    (is_sound : IsSoundNode (may_follow h) s) where
+  pub of_node : (c : List ℕ) (list : List (List ℕ)) → StandsForNode s first c → StandsFor c list
+      → AreOfNode h s.start first list
+  of_node c list of stands = elim of [
+    | inl settled ↦ record {
+      bodies = s.settled;
+      is = one_list c list (first ∷ s.settled) stands settled;
+      valid = is_sound.settled;
+    }
+    | inr pending ↦ record {
+      bodies = with_pending s.settled s.pending;
+      is = one_list c list (first ∷ with_pending s.settled s.pending) stands pending;
+      valid = valid_pending h s.start s.settled s.pending is_sound.settled is_sound.pending;
+    }
+  ]
+
+  pub read_node : (c : List ℕ) → StartsWith s.start first → StandsForNode s first c
+      → IsReadAsNode h s.start first c
+  read_node c begins of = elim of [
+    | inl settled ↦ record {
+      list = first ∷ s.settled;
+      of_node = record { bodies = s.settled; is = refl; valid = is_sound.settled };
+      read = read h s.start first s.settled c begins is_sound.settled settled;
+    }
+    | inr pending ↦
+        (let valid = valid_pending h s.start s.settled s.pending is_sound.settled is_sound.pending
+        in record {
+          list = first ∷ with_pending s.settled s.pending;
+          of_node =
+              record { bodies = with_pending s.settled s.pending; is = refl; valid = valid };
+          read = read h s.start first (with_pending s.settled s.pending) c begins valid pending;
+        })
+  ]
+
+more_behind : (first : List ℕ) (list : List (List ℕ)) (p : Option (List ℕ))
+    → Begins (first ∷ list) (first ∷ with_pending list p)
+more_behind first list None = ([], append-nil (first ∷ list))
+more_behind first list (Some body) = (body ∷ [], refl)
+
+-- a front of the settled records is one of what may be recovered
+front_on : (s : HistoryState) (first c : List ℕ) (list found : List (List ℕ))
+    → StandsForNode s first c → StandsFor c found → Begins list (first ∷ s.settled)
+    → Begins list found
+front_on s first c list found of stands front = elim of [
+  | inl settled ↦ subst (λ (l : List (List ℕ)). Begins list l)
+      (one_list c (first ∷ s.settled) found settled stands) front
+  | inr pending ↦ subst (λ (l : List (List ℕ)). Begins list l)
+      (one_list c (first ∷ with_pending s.settled s.pending) found pending stands)
+      (begins_on list (first ∷ s.settled) (first ∷ with_pending s.settled s.pending) front
+      (more_behind first s.settled s.pending))
+]
+
+-- an image stands for some records
+some_list : (s : HistoryState) (first c : List ℕ) → StandsForNode s first c
+    → (bodies : List (List ℕ)) × StandsFor c (first ∷ bodies)
+some_list s first c of = elim of [
+  | inl settled ↦ (s.settled, settled)
+  | inr pending ↦ (with_pending s.settled s.pending, pending)
+]
+
+made_log : (r : Result LogState ℕ) → IsOk r → (s : LogState) × (r ≡ Ok s)
+made_log (Ok s) is = (s, refl)
+made_log (Err k) is = absurd (grind (rules, is))
+
+-- a node that began as a log has one
+log_found : (h : HashFunction) (start : NodeStart) (settings : Settings) (first : List ℕ)
+    (list : List (List ℕ)) → start ≡ Log settings → StartsWith start first
+    → AreOfNode h start first list → (t : LogState) × (log_of h list ≡ Ok t)
+log_found h (Log settings') settings first list is begins of =
+    made_log (log_of h list) (subst (λ (l : List (List ℕ)). IsOk (log_of h l)) (sym of.is)
+    (ap (λ (r : Result LogState ℕ). is_ok r) (begins_so h first settings' of.bodies begins)
+    ∙ of.valid))
+log_found h (Cosigner settings' public) settings first list is begins of = absurd cc
+
+cons_both : (x y : List ℕ) (xs ys : List (List ℕ)) → x ∷ xs ≡ y ∷ ys → xs ≡ ys
+cons_both x y xs ys is = cc
+
+keys_of : (h : HashFunction) (start : NodeStart) (settings : CosignerSettings)
+    (public : List ℕ) (bodies : List (List ℕ)) → start ≡ Cosigner settings public
+    → may_follow h start bodies ≡ true → AreCounted bodies
+keys_of h start settings public bodies is valid =
+    once_each h settings bodies
+    (subst (λ (s : NodeStart). may_follow h s bodies ≡ true) is valid)
+
+module _ {R S D O E : Type 0} (h : HashFunction) (rooms : Rooms R S D) (disks : Disks D)
+    (outs : Sinks O) (errs : Sinks E) (image : ReadsImage disks) (only : OnlyNow disks)
+    (told : (room : R) (name : List ℕ) → rooms.tells room
+    → TellsFile disks.told (rooms.file room name) (rooms.device room name)) where
+  -- the end of a course
+  abbrev Ends : List ℕ → (start : NodeStart) (first : List ℕ) → StartsWith start first → R → Type 0
+  Ends name start first begins room =
+      IsLater h rooms disks outs errs image only told name start first begins [] room
+
+  module _ (name : List ℕ) (start : NodeStart) (first : List ℕ) (made new : R)
+      (links : List (Link R O E)) (was : WasMade h rooms disks outs errs name start first made)
+      (course : IsCourse h rooms disks outs errs made links new) where
+    pub last : Ends name start first was.starts new
+    last = course_later h rooms disks outs errs image only told name start first was.starts []
+        (fresh_node start) made new links
+        (made_at h rooms disks outs errs image only told name start first was.starts made was)
+        course
+
+    sound_of : (later : Ends name start first was.starts new)
+        → IsSoundNode (may_follow h) later.state
+    sound_of later =
+        sound (may_follow h) (alone h) (start ∷ []) later.more 0 later.state later.at.leads
+
+    same_start : (later : Ends name start first was.starts new) → later.state.start ≡ start
+    same_start later = start_of h rooms disks outs errs image only told name start first
+        was.starts later.more later.state new later.at
+
+    pub reached : IsReached h rooms disks outs errs name start first new
+    reached = record {
+      steps = last.more;
+      state = last.state;
+      leads = last.at.leads;
+      stands = last.at.stands;
+    }
+
+    pub node_list : (list : List (List ℕ))
+        → IsRecovered h rooms disks outs errs name new list → AreOfNode h start first list
+    node_list list found =
+        subst (λ (s : NodeStart). AreOfNode h s first list) (same_start last)
+        (of_node h last.state first (sound_of last) found.0 list
+        (last.at.stands found.0 found.1.0) found.1.1)
+
+    pub read_file : (c : List ℕ) → images_of h rooms disks outs errs new name c
+        ⊎ (rooms.file new name ≡ Some c) → IsReadAsNode h start first c
+    read_file c is =
+        subst (λ (s : NodeStart). IsReadAsNode h s first c) (same_start last)
+        (read_node h last.state first (sound_of last) c
+        (subst (λ (s : NodeStart). StartsWith s first) (sym (same_start last)) was.starts)
+        (last.at.stands c (elim is [
+          | inl left ↦ left
+          | inr tells ↦ told_image (rooms.file new name) (rooms.device new name)
+              (told new name last.at.tells) tells
+        ])))
+      where
+        told_image : (file : Option (List ℕ)) (x : Option D) → TellsFile disks.told file x
+            → file ≡ Some c → images_at disks x c
+        told_image file None tells same = absurd cc
+        told_image file (Some d) tells same = image d c (tells.0 ∙ same)
+
+    pub held_front : (list found : List (List ℕ))
+        → WasHeld h rooms disks outs errs name made links list
+        → IsRecovered h rooms disks outs errs name new found → Begins list found
+    held_front list found held is =
+        let fronts = course_held h rooms disks outs errs image only told name start first
+        was.starts [] (fresh_node start) made new links list
+        (made_at h rooms disks outs errs image only told name start first was.starts made was)
+        course held in
+        front_on fronts.later.state first is.0 list found
+        (fronts.later.at.stands is.0 is.1.0) is.1.1 fronts.front
+
+  pub histories : CoursesAreHistories h rooms disks outs errs
+  histories = reached
+
+  pub read_again : JournalsAreRead h rooms disks outs errs
+  read_again = read_file
+
+  pub lists_grow : RecoveredListsGrow h rooms disks outs errs
+  lists_grow = held_front
+
+  pub handed_stand : HandedOutStand h rooms disks outs errs
+  handed_stand name start first made new links was course list found body hands is =
+      held_front name start first made new links was course (list ++ body ∷ []) found
+      (all_held h rooms disks outs errs image only told name made new links list body course hands)
+      is
+
+  pub keys_once : KeysSignOnce h rooms disks outs errs
+  keys_once name start first made new links was course settings public is record0 bodies found =
+      let of = node_list name start first made new links was course (record0 ∷ bodies) found in
+      keys_of h start settings public bodies is
+      (subst (λ (l : List (List ℕ)). may_follow h start l ≡ true)
+      (sym (cons_both record0 first bodies of.bodies of.is)) of.valid)
+
+  pub one_message : KeysSignOneMessage h rooms disks outs errs
+  one_message name start first made new links was course settings public is list other body
+      message number hands hands' uses uses' =
+      let end = last name start first made new links was course in
+      let c = some_image disks (rooms.file new name) (rooms.device new name) image
+      (told new name end.at.tells) in
+      let found = some_list end.state first c.0 (end.at.stands c.0 c.1) in
+      let recovered : IsRecovered h rooms disks outs errs name new (first ∷ found.0)
+      = (c.0, (c.1, found.1)) in
+      let front = handed_stand name start first made new links was course list
+      (first ∷ found.0) body hands recovered in
+      let front' = handed_stand name start first made new links was course other
+      (first ∷ found.0) message hands' recovered in
+      one_record first found.0 list other body message front.0 front'.0 number
+      (keys_once name start first made new links was course settings public is first found.0
+      recovered) front.1 front'.1 uses uses'
+
+  pub entries_stand : EntriesStand h rooms disks outs errs
+  entries_stand name start first made new links was course settings list found s is held log
+      recovered =
+      let of = node_list name start first made new links was course found recovered in
+      let t = log_found h start settings first found is was.starts of in
+      let front = held_front name start first made new links was course list found held recovered
+      in
+      record {
+        log = t.0;
+        is = t.1;
+        keeps = items_kept h list front.0 s t.0 log
+            (subst (λ (l : List (List ℕ)). log_of h l ≡ Ok t.0) (sym front.1) t.1);
+      }

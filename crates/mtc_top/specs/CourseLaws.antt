@@ -1,0 +1,98 @@
+-- What holds of each course behind the run that made a journal.
+use Rattle.std.specs.Prelude.{◌≡◌, ◌⊎◌, ℕ, true, List, [], ◌∷◌, ◌++◌, Some, Ok}
+use Rattle.byte_forms.specs.Types.{HashFunction}
+use Rattle.disk_core.specs.declared.disk.Disk.{Ghosts as Disks}
+use Rattle.mtc_io.specs.declared.sink.Sink.{Ghosts as Sinks}
+use Rattle.mtc_room.specs.declared.room.Room.{Ghosts as Rooms}
+use Rattle.cosigner_core.specs.Counts.{AreCounted, indices_of}
+use Rattle.cosigner_core.specs.declared.settings.CosignerSettings.{CosignerSettings}
+use Rattle.issuance_log.specs.Folds.{LogState, log_of}
+use Rattle.issuance_log.specs.Settings.{Settings}
+use Rattle.node_history.specs.Laws.{Begins, KeepsItems}
+use Rattle.node_history.specs.Rules.{IsReadAs, may_follow}
+use Rattle.node_history.specs.declared.start.NodeStart.{NodeStart}
+use Rattle.node_history.specs.declared.start.NodeStart.TheVariants.{Log, Cosigner}
+use Rattle.mtc_top.specs.Courses.{Link, IsCourse, WasMade, IsReached, IsRecovered, WasHeld}
+use Rattle.mtc_top.specs.Courses.{WasHandedOut, images_of}
+
+-- These records begin with the first one of the node's journal, and the others may stand behind it.
+pub record AreOfNode (h : HashFunction) (start : NodeStart) (first : List ℕ)
+    (list : List (List ℕ)) : Type 0 where
+  pub bodies : List (List ℕ)
+  pub is : list ≡ first ∷ bodies
+  pub valid : may_follow h start bodies ≡ true
+
+-- A file is read as the log or the cosigner that has these records, which are the node's.
+pub record IsReadAsNode (h : HashFunction) (start : NodeStart) (first c : List ℕ) : Type 0 where
+  pub list : List (List ℕ)
+  pub of_node : AreOfNode h start first list
+  pub read : IsReadAs h start c list
+
+-- The records make a log that still has these entries and keys at their indices.
+pub record HasItemsOf (h : HashFunction) (s : LogState) (list : List (List ℕ)) : Type 0 where
+  pub log : LogState
+  pub is : log_of h list ≡ Ok log
+  pub keeps : KeepsItems s log
+
+-- The record adds this number to those of the one-time keys that these records have used.
+abbrev pub UsesKey : List (List ℕ) → List ℕ → ℕ → Type 0
+UsesKey list body number = indices_of (list ++ body ∷ []) ≡ indices_of list ++ number ∷ []
+
+module _ {R S D O E : Type 0} (h : HashFunction) (rooms : Rooms R S D) (disks : Disks D)
+    (outs : Sinks O) (errs : Sinks E) where
+  -- So it is of each course behind a run that made the journal.
+  abbrev pub OfCourses : (List ℕ → NodeStart → List ℕ → R → List (Link R O E) → R → Type 0)
+      → Type 0
+  OfCourses P = (name : List ℕ) (start : NodeStart) (first : List ℕ) (made new : R)
+      (links : List (Link R O E)) → WasMade h rooms disks outs errs name start first made
+      → IsCourse h rooms disks outs errs made links new → P name start first made links new
+
+  -- It is a history of the node.
+  abbrev pub CoursesAreHistories : Type 0
+  CoursesAreHistories = OfCourses (λ name start first made links new.
+      IsReached h rooms disks outs errs name start first new)
+
+  -- No journal is refused: what a crash may leave of the file, and what the room tells of it, is
+  -- read as the node.
+  abbrev pub JournalsAreRead : Type 0
+  JournalsAreRead = OfCourses (λ name start first made links new.
+      (c : List ℕ) → images_of h rooms disks outs errs new name c ⊎ (rooms.file new name ≡ Some c)
+      → IsReadAsNode h start first c)
+
+  -- The i-th Sign record of a cosigner, counted from 0, has the number i, so no number stands
+  -- twice.
+  abbrev pub KeysSignOnce : Type 0
+  KeysSignOnce = OfCourses (λ name start first made links new.
+      (settings : CosignerSettings) (public : List ℕ) → start ≡ Cosigner settings public
+      → (record0 : List ℕ) (bodies : List (List ℕ))
+      → IsRecovered h rooms disks outs errs name new (record0 ∷ bodies) → AreCounted bodies)
+
+  -- Two records behind which a byte went out, and which used one key, are one record.
+  abbrev pub KeysSignOneMessage : Type 0
+  KeysSignOneMessage = OfCourses (λ name start first made links new.
+      (settings : CosignerSettings) (public : List ℕ) → start ≡ Cosigner settings public
+      → (list other : List (List ℕ)) (body message : List ℕ) (number : ℕ)
+      → WasHandedOut h rooms disks outs errs name made links list body
+      → WasHandedOut h rooms disks outs errs name made links other message
+      → UsesKey list body number → UsesKey other message number → body ≡ message)
+
+  -- The records that a run found or made are the first ones of each list that may be recovered
+  -- behind it.
+  abbrev pub RecoveredListsGrow : Type 0
+  RecoveredListsGrow = OfCourses (λ name start first made links new. (list found : List (List ℕ))
+      → WasHeld h rooms disks outs errs name made links list
+      → IsRecovered h rooms disks outs errs name new found → Begins list found)
+
+  -- So are those with the record behind which a byte went out.
+  abbrev pub HandedOutStand : Type 0
+  HandedOutStand = OfCourses (λ name start first made links new. (list found : List (List ℕ))
+      (body : List ℕ) → WasHandedOut h rooms disks outs errs name made links list body
+      → IsRecovered h rooms disks outs errs name new found → Begins (list ++ body ∷ []) found)
+
+  -- Each entry that a log had where a run found or made its records has its index in each log that
+  -- may be recovered behind it, and so has its key.
+  abbrev pub EntriesStand : Type 0
+  EntriesStand = OfCourses (λ name start first made links new. (settings : Settings)
+      (list found : List (List ℕ)) (s : LogState) → start ≡ Log settings
+      → WasHeld h rooms disks outs errs name made links list → log_of h list ≡ Ok s
+      → IsRecovered h rooms disks outs errs name new found → HasItemsOf h s found)

@@ -1,0 +1,143 @@
+-- Courses: what happens to a room, one run after the other, with stops of the machine between the
+-- runs and in the middle of one.
+use Rattle.std.specs.Prelude.{◌≡◌, ◌≢◌, ◌⊎◌, ℕ, List, [], ◌∷◌, Some}
+use Rattle.byte_forms.specs.Types.{HashFunction}
+use Rattle.disk_core.specs.declared.disk.Disk.{Ghosts as Disks}
+use Rattle.journal_core.specs.Format.{StandsFor}
+use Rattle.mtc_io.specs.declared.sink.Sink.{Ghosts as Sinks}
+use Rattle.mtc_room.specs.declared.room.Room.{Ghosts as Rooms}
+use Rattle.mtc_answers.specs.Made.{Journaled, appended, started, images_at, images_since, moment_at}
+use Rattle.mtc_answers.specs.Served.{Journals}
+use Rattle.node_history.specs.Laws.{LeadsTo}
+use Rattle.node_history.specs.Nodes.{HistoryState}
+use Rattle.node_history.specs.Rules.{StartsWith, may_follow}
+use Rattle.node_history.specs.declared.start.NodeStart.{NodeStart}
+use Rattle.node_history.specs.declared.step.NodeStep.{NodeStep}
+use Rattle.mtc_top.specs.Nodes.{AllStandForNode, TookSome, held_by}
+use Rattle.mtc_top.specs.Run.{HasRun, journals}
+
+-- A run: its words, standard output and standard error before and after, its status, and the room
+-- that it leaves.
+pub record Turn (R O E : Type 0) : Type 0 where
+  pub words : List (List ℕ)
+  pub out : O
+  pub out_after : O
+  pub err : E
+  pub err_after : E
+  pub status : ℕ
+  pub room : R
+
+-- What happens to a room, and the room that it leaves.
+pub data Link (R O E : Type 0) : Type 0 where
+  -- a run
+  ran : Turn R O E → Link R O E
+  -- the machine stops between two runs
+  stops : R → Link R O E
+  -- it stops in the middle of a run, before a byte of it went out: the run as it would have ended
+  cut : Turn R O E → R → Link R O E
+
+abbrev pub room_after : {R O E : Type 0} → Link R O E → R
+room_after (ran turn) = turn.room
+room_after (stops room) = room
+room_after (cut turn room) = room
+
+-- One of these journals has this name, and so it was worked on.
+abbrev pub IsAmong : Journals → List ℕ → Journaled → Type 0
+IsAmong [] name did = ⊥
+IsAmong (journal ∷ rest) name did =
+    ((journal.0 ≡ name) × (journal.1 ≡ did)) ⊎ IsAmong rest name did
+
+module _ {R S D O E : Type 0} (h : HashFunction) (rooms : Rooms R S D) (disks : Disks D)
+    (outs : Sinks O) (errs : Sinks E) where
+  -- The run began with this room.
+  abbrev pub HasTurned : R → Turn R O E → Type 0
+  HasTurned old turn = HasRun h rooms disks outs errs turn.words old turn.room
+      turn.out turn.out_after turn.err turn.err_after turn.status
+
+  -- It did this with the journal of this name.
+  abbrev pub DidWith : R → Turn R O E → List ℕ → Journaled → Type 0
+  DidWith old turn = IsAmong (journals h rooms disks outs errs turn.words old turn.room
+      turn.out turn.out_after turn.err turn.err_after)
+
+  -- what a crash may leave of the file of a name
+  abbrev pub images_of : R → List ℕ → List ℕ → Type 0
+  images_of room name = images_at disks (rooms.device room name)
+
+  -- what a crash may have left of it at some moment since the room was so
+  abbrev pub images_from : R → R → List ℕ → List ℕ → Type 0
+  images_from old room name =
+      images_since disks (rooms.device room name) (moment_at disks (rooms.device old name))
+
+  -- A stop leaves of each file one of those that it may leave, and no other from then on.
+  pub record HasStopped (May : List ℕ → List ℕ → Type 0) (old new : R) : Type 0 where
+    pub tells : rooms.tells old → rooms.tells new
+    pub image : List ℕ → List ℕ
+    pub may : (name : List ℕ) → May name (image name)
+    pub only : (name c : List ℕ) → images_of new name c → c ≡ image name
+
+  -- The link begins with this room.
+  abbrev pub IsLink : R → Link R O E → Type 0
+  IsLink old (ran turn) = HasTurned old turn
+  IsLink old (stops new) = HasStopped (images_of old) old new
+  IsLink old (cut turn new) =
+      HasTurned old turn × HasStopped (images_from old turn.room) turn.room new
+
+  -- The links lead from one room to the other.
+  abbrev pub IsCourse : R → List (Link R O E) → R → Type 0
+  IsCourse old [] new = new ≡ old
+  IsCourse old (link ∷ links) new = IsLink old link × IsCourse (room_after link) links new
+
+  -- A run made this journal, with status 0, and its first record is one with which such a node
+  -- begins.
+  pub record WasMade (name : List ℕ) (start : NodeStart) (first : List ℕ) (made : R) : Type 0 where
+    pub old : R
+    pub tells : rooms.tells old
+    pub turn : Turn R O E
+    pub turned : HasTurned old turn
+    pub done : turn.status ≡ 0
+    pub leaves : turn.room ≡ made
+    pub did : DidWith old turn name (started first)
+    pub starts : StartsWith start first
+
+  -- The journal of this name is that of a node at the end of a history of it.
+  pub record IsReached (name : List ℕ) (start : NodeStart) (first : List ℕ) (room : R)
+      : Type 0 where
+    pub steps : List NodeStep
+    pub state : HistoryState
+    pub leads : LeadsTo (may_follow h) (start ∷ []) steps 0 state
+    pub stands : AllStandForNode state first (images_of room name)
+
+  -- With these records the journal may be recovered: a crash may leave a file that stands for them.
+  abbrev pub IsRecovered : List ℕ → R → List (List ℕ) → Type 0
+  IsRecovered name room list = (c : List ℕ) × (images_of room name c × StandsFor c list)
+
+  -- The run opened or made the journal of this name, which then had these records, and ended
+  -- without a failure of the room and without want of memory.
+  pub record HasHeld (name : List ℕ) (old : R) (turn : Turn R O E) (list : List (List ℕ))
+      : Type 0 where
+    pub did : Journaled
+    pub among : DidWith old turn name did
+    pub held : held_by did ≡ Some list
+    pub no_failure : turn.status ≢ 5
+    pub no_want : turn.status ≢ 8
+
+  -- A run of the course did so.
+  abbrev pub WasHeld : List ℕ → R → List (Link R O E) → List (List ℕ) → Type 0
+  WasHeld name old [] list = ⊥
+  WasHeld name old (ran turn ∷ links) list =
+      HasHeld name old turn list ⊎ WasHeld name turn.room links list
+  WasHeld name old (stops new ∷ links) list = WasHeld name new links list
+  WasHeld name old (cut turn new ∷ links) list = WasHeld name new links list
+
+  -- The run added this record behind those, and a byte went out.
+  abbrev pub HandsOut : List ℕ → R → Turn R O E → List (List ℕ) → List ℕ → Type 0
+  HandsOut name old turn list body = DidWith old turn name (appended list body)
+      × TookSome (outs.taken turn.out) (outs.taken turn.out_after)
+
+  -- A run of the course did so.
+  abbrev pub WasHandedOut : List ℕ → R → List (Link R O E) → List (List ℕ) → List ℕ → Type 0
+  WasHandedOut name old [] list body = ⊥
+  WasHandedOut name old (ran turn ∷ links) list body =
+      HandsOut name old turn list body ⊎ WasHandedOut name turn.room links list body
+  WasHandedOut name old (stops new ∷ links) list body = WasHandedOut name new links list body
+  WasHandedOut name old (cut turn new ∷ links) list body = WasHandedOut name new links list body
