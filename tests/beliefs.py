@@ -19,7 +19,7 @@ TOP = ROOT / "crates" / "mtc_top" / "src"
 # Each statement: what its table is headed by, the functions whose contracts it is, and its page of definitions. First the
 # record that `run` ensures with the laws of each run, and then the laws of courses.
 RUNS = ("The statement names", r"run|runs_\w+", ("mtc_top.specs.Run", "mtc_top.specs.RunLaws"))
-COURSES = ("The laws of courses name", r"(?:courses|entries|no|recovered|what)_\w+", ("mtc_top.specs.Courses", "mtc_top.specs.CourseLaws"))
+COURSES = ("The laws of courses name", r"(?:courses|entries|made|no|recovered|what)_\w+", ("mtc_top.specs.Courses", "mtc_top.specs.CourseLaws"))
 
 USE = re.compile(r"^\s*(?:pub |ghost )*(?:use|open) Rattle\.([\w.]+)\.\{([^}]*)\};?", re.M)
 HEAD = re.compile(r"^( *)(?:abbrev|unfoldable|opaque|pub record|pub data|record|data)(?: pub)? +([^\s:({]+)")

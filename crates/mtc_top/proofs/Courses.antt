@@ -1,6 +1,6 @@
 -- A course is a history of each node: link by link.
 use Rattle.std.proofs.Common.{◌≡◌, ◌⊎◌, inl, inr, ℕ, true, false, Bool, List, [], ◌∷◌, ◌++◌}
-use Rattle.std.proofs.Common.{Option, None, Some, refl, sym, subst, ap, ◌∙◌, append_assoc}
+use Rattle.std.proofs.Common.{Option, None, Some, refl, sym, subst, ap, ◌∙◌, append_assoc, arith}
 use Rattle.std.proofs.Common.{true≢false, IfSome}
 use Rattle.std.proofs.lemmas.List.{append-nil}
 use Rattle.std.proofs.lemmas.Slice.Eq.{bytes_eq-Decides}
@@ -14,10 +14,12 @@ use Rattle.mtc_words.specs.Words.{command_of}
 use Rattle.mtc_answers.specs.Made.{Journaled, appended, started, images_at, images_since, moment_at}
 use Rattle.mtc_answers.specs.Served.{Journals, IsOther, OfEach, done_with, first_journaled}
 use Rattle.mtc_answers.specs.Served.{rest_journaled}
+use Rattle.mtc_answers.specs.Made.{HasMade, Leaves}
+use Rattle.mtc_answers.specs.Valid.{LeavesValid}
 use Rattle.mtc_answers.proofs.Made.{OnlyNow, ReadsImage}
 use Rattle.node_history.specs.Laws.{Begins, HasGrown, LeadsTo}
 use Rattle.node_history.specs.Nodes.{HistoryState, fresh_node}
-use Rattle.node_history.specs.Rules.{StartsWith, may_follow}
+use Rattle.node_history.specs.Rules.{AreRecords, StartsWith, may_follow}
 use Rattle.node_history.specs.declared.start.NodeStart.{NodeStart}
 use Rattle.node_history.specs.declared.step.NodeStep.{NodeStep}
 use Rattle.node_history.proofs.GoesOn.{begins_fresh}
@@ -31,6 +33,9 @@ use Rattle.mtc_top.specs.Nodes.{end_state, steps_of}
 use Rattle.mtc_top.specs.Outcome.{journals_of, outcome, spoken}
 use Rattle.mtc_top.specs.Run.{journals}
 use Rattle.mtc_top.specs.RunLaws.{RunSteps}
+use Rattle.mtc_top.specs.Outcome.{spoken_rules}
+use Rattle.mtc_top.proofs.Commands.{IsNewAt, spoken_new, spoken_records}
+use Rattle.mtc_top.proofs.Nodes.{no_file_stands, some_image}
 use Rattle.mtc_top.proofs.RunLaws.{run_steps, took_none}
 
 -- ---- the journals of a run
@@ -100,6 +105,33 @@ module _ {R S D O E : Type 0} (h : HashFunction) (rooms : Rooms R S D) (disks : 
       (run_steps h rooms disks outs errs turn.words old turn.room turn.out turn.out_after
       turn.err turn.err_after turn.status run image (λ n. told old n tells)
       (λ n. told turn.room n (run.back.tells tells)) tells) among
+
+  -- a journal that was made has the records of a log or a cosigner
+  pub made_records : (name first : List ℕ) (old : R) (turn : Turn R O E) → rooms.tells old
+      → Turned old turn → turn.status ≡ 0 → Did old turn name (started first)
+      → AreRecords h (first ∷ [])
+  made_records name first old turn tells run done did =
+      let js = journals h rooms disks outs errs turn.words old turn.room turn.out turn.out_after
+      turn.err turn.err_after in
+      let answered = run.answered (λ is. omega (arith, done, is)) (λ is. omega (arith, done, is))
+      (λ is. omega (arith, done, is)) in
+      let left = of_each (λ n d. Leaves disks (HasMade d) (rooms.device old n)
+      (rooms.device turn.room n)) js name (started first) (answered.made tells) did in
+      let is_new = of_each (IsNewAt (rooms.file old)) js name (started first)
+      (spoken_new h (command_of turn.words) (rooms.file old)) did in
+      let valid = of_each (LeavesValid rooms disks (spoken_rules h (command_of turn.words)) old
+      turn.room) js name (started first) (run.valid tells) did in
+      let c = some_image disks (rooms.file turn.room name) (rooms.device turn.room name) image
+      (told turn.room name (run.back.tells tells)) in
+      elim valid [
+        | inl kept ↦ elim is_new [
+          | inl on ↦ absurd on
+          | inr none ↦ absurd (no_file_stands disks (rooms.file old name)
+              (rooms.device old name) c.0 (first ∷ []) (told old name tells) none
+              (kept.images.now_is c.0 c.1) (left.images c.0 c.1))
+        ]
+        | inr adds ↦ spoken_records h (command_of turn.words) (first ∷ []) adds
+      ]
 
   -- behind a byte that went out the run neither failed nor wanted memory
   handed_held : (name : List ℕ) (old : R) (turn : Turn R O E) (list : List (List ℕ))

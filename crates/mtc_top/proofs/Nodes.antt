@@ -1,7 +1,7 @@
 -- How a command ends, as steps of a node.
 use Rattle.std.proofs.Common.{◌≡◌, ◌≢◌, ◌⊎◌, inl, inr, ℕ, true, false, Bool, List, [], ◌∷◌, ◌++◌}
 use Rattle.std.proofs.Common.{length, Option, None, Some, IfSome, refl, sym, subst, ap, ◌∙◌, arith}
-use Rattle.std.proofs.Common.{rules, append_assoc}
+use Rattle.std.proofs.Common.{rules, append_assoc, take}
 use Rattle.std.proofs.lemmas.Bool.Decides.{leb_tells}
 use Rattle.std.proofs.lemmas.List.{append-nil}
 use Rattle.byte_forms.specs.Types.{HashFunction}
@@ -299,16 +299,25 @@ some_image g file None image tells = ([], refl)
 some_image g None (Some d) image tells = absurd (grind (rules, tells))
 some_image g (Some b) (Some d) image tells = (b, image d b tells.0)
 
--- where there is no file, none of its images is a node's journal
+no_header : [] ≡ header → ⊥
+no_header is = absurd cc
+
+-- where there is no file, none of its images is a journal
+pub no_file_stands : {D : Type 0} (g : Ghosts D) (file : Option (List ℕ)) (x : Option D)
+    (c : List ℕ) (list : List (List ℕ)) → TellsFile g.told file x → file ≡ None
+    → images_at g x c → StandsFor c list → ⊥
+no_file_stands g file None c list tells none is stands =
+    no_header (subst (λ (b : List ℕ). take 16 b ≡ header) is stands.begins)
+no_file_stands g None (Some d) c list tells none is stands = absurd (grind (rules, tells))
+no_file_stands g (Some b) (Some d) c list tells none is stands = absurd cc
+
+-- and so none is a node's
 pub none_stands : {D : Type 0} (g : Ghosts D) (n : HistoryState) (first : List ℕ)
-    (file : Option (List ℕ)) (x : Option D) → TellsFile g.told file x
+    (file : Option (List ℕ)) (x : Option D) → ReadsImage g → TellsFile g.told file x
     → AllStandForNode n first (images_at g x) → file ≡ None → ⊥
-none_stands g n first file None tells all none = elim (all [] refl) [
-  | inl is ↦ no_header is.begins
-  | inr is ↦ no_header is.begins
-]
-  where
-    no_header : [] ≡ header → ⊥
-    no_header is = absurd cc
-none_stands g n first None (Some d) tells all none = absurd (grind (rules, tells))
-none_stands g n first (Some b) (Some d) tells all none = absurd cc
+none_stands g n first file x image tells all none =
+    let c = some_image g file x image tells in elim (all c.0 c.1) [
+      | inl is ↦ no_file_stands g file x c.0 (first ∷ n.settled) tells none c.1 is
+      | inr is ↦ no_file_stands g file x c.0 (first ∷ with_pending n.settled n.pending) tells none
+          c.1 is
+    ]

@@ -22,12 +22,12 @@ use Rattle.node_history.specs.Nodes.{HistoryState, fresh_node, with_pending}
 use Rattle.node_history.specs.Rules.{StartsWith, may_follow}
 use Rattle.node_history.specs.declared.start.NodeStart.{NodeStart}
 use Rattle.node_history.specs.declared.start.NodeStart.TheVariants.{Log, Cosigner}
-use Rattle.node_history.proofs.Agreement.{alone, read}
-use Rattle.node_history.proofs.Items.{items_kept}
+use Rattle.node_history.proofs.Agreement.{alone, read, starts_so}
+use Rattle.node_history.proofs.Items.{item_added, items_kept}
 use Rattle.node_history.proofs.Keys.{one_record}
 use Rattle.node_history.proofs.Sound.{sound}
 use Rattle.node_history.proofs.Steps.{begins_on}
-use Rattle.mtc_top.specs.CourseLaws.{AreOfNode, IsReadAsNode}
+use Rattle.mtc_top.specs.CourseLaws.{AddedEntriesStand, AreOfNode, IsReadAsNode, MadeOfNodes}
 use Rattle.mtc_top.specs.CourseLaws.{CoursesAreHistories, EntriesStand, HandedOutStand}
 use Rattle.mtc_top.specs.CourseLaws.{JournalsAreRead, KeysSignOnce, KeysSignOneMessage}
 use Rattle.mtc_top.specs.CourseLaws.{RecoveredListsGrow}
@@ -35,7 +35,7 @@ use Rattle.mtc_top.specs.Courses.{Link, IsCourse, IsReached, IsRecovered, WasHel
 use Rattle.mtc_top.specs.Courses.{images_of}
 use Rattle.mtc_top.specs.Nodes.{StandsForNode}
 use Rattle.mtc_top.proofs.Courses.{IsLater, all_held, course_held, course_later}
-use Rattle.mtc_top.proofs.Courses.{made_at, start_of}
+use Rattle.mtc_top.proofs.Courses.{made_at, made_records, start_of}
 use Rattle.mtc_top.proofs.Nodes.{one_list, some_image, valid_pending}
 
 -- ---- the list of an image
@@ -248,3 +248,35 @@ module _ {R S D O E : Type 0} (h : HashFunction) (rooms : Rooms R S D) (disks : 
         keeps = items_kept h list front.0 s t.0 log
             (subst (λ (l : List (List ℕ)). log_of h l ≡ Ok t.0) (sym front.1) t.1);
       }
+
+  pub added_stand : AddedEntriesStand h rooms disks outs errs
+  added_stand name start first made new links was course settings list found body entry key s is
+      held log item recovered =
+      let of = node_list name start first made new links was course found recovered in
+      let t = log_found h start settings first found is was.starts of in
+      let front = held_front name start first made new links was course (list ++ body ∷ []) found
+      held recovered in
+      record {
+        log = t.0;
+        is = t.1;
+        item = item_added h list body front.0 entry key s t.0 log item
+            (subst (λ (l : List (List ℕ)). log_of h l ≡ Ok t.0) (sym front.1) t.1);
+      }
+
+  pub made_of_nodes : MadeOfNodes h rooms disks outs errs
+  made_of_nodes name first old turn tells run done did =
+      let records = made_records h rooms disks outs errs image only told name first old turn tells
+      run done did in
+      let start = starts_so h first [] records in (
+        start.0,
+        record {
+          old = old;
+          tells = tells;
+          turn = turn;
+          turned = run;
+          done = done;
+          leaves = refl;
+          did = did;
+          starts = start.1;
+        },
+      )

@@ -153,7 +153,7 @@ module _ {R S D O E : Type 0} (h : List ℕ → List ℕ) (rooms : Rooms R S D) 
         (first : List ℕ) → AllStandForNode n first (before name) → IsOnOld did
     on_old name did known n first all = elim known.1 [
       | inl on ↦ on
-      | inr none ↦ absurd (none_stands disks n first _ _ (was name) all none)
+      | inr none ↦ absurd (none_stands disks n first _ _ image (was name) all none)
     ]
 
     kept_steps : status ≡ 8 → (went → ⊥) → (name : List ℕ) (did : Journaled)

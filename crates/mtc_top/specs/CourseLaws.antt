@@ -1,5 +1,5 @@
 -- What holds of each course behind the run that made a journal.
-use Rattle.std.specs.Prelude.{◌≡◌, ◌⊎◌, ℕ, true, List, [], ◌∷◌, ◌++◌, Some, Ok}
+use Rattle.std.specs.Prelude.{◌≡◌, ◌⊎◌, ℕ, true, List, [], ◌∷◌, ◌++◌, length, Some, Ok}
 use Rattle.byte_forms.specs.Types.{HashFunction}
 use Rattle.disk_core.specs.declared.disk.Disk.{Ghosts as Disks}
 use Rattle.mtc_io.specs.declared.sink.Sink.{Ghosts as Sinks}
@@ -7,13 +7,15 @@ use Rattle.mtc_room.specs.declared.room.Room.{Ghosts as Rooms}
 use Rattle.cosigner_core.specs.Counts.{AreCounted, indices_of}
 use Rattle.cosigner_core.specs.declared.settings.CosignerSettings.{CosignerSettings}
 use Rattle.issuance_log.specs.Folds.{LogState, log_of}
+use Rattle.issuance_log.specs.Records.{item_in}
 use Rattle.issuance_log.specs.Settings.{Settings}
-use Rattle.node_history.specs.Laws.{Begins, KeepsItems}
+use Rattle.mtc_answers.specs.Made.{started}
+use Rattle.node_history.specs.Laws.{Begins, HasItemAt, KeepsItems}
 use Rattle.node_history.specs.Rules.{IsReadAs, may_follow}
 use Rattle.node_history.specs.declared.start.NodeStart.{NodeStart}
 use Rattle.node_history.specs.declared.start.NodeStart.TheVariants.{Log, Cosigner}
 use Rattle.mtc_top.specs.Courses.{Link, IsCourse, WasMade, IsReached, IsRecovered, WasHeld}
-use Rattle.mtc_top.specs.Courses.{WasHandedOut, images_of}
+use Rattle.mtc_top.specs.Courses.{DidWith, HasTurned, Turn, WasHandedOut, images_of}
 
 -- These records begin with the first one of the node's journal, and the others may stand behind it.
 pub record AreOfNode (h : HashFunction) (start : NodeStart) (first : List ℕ)
@@ -33,6 +35,13 @@ pub record HasItemsOf (h : HashFunction) (s : LogState) (list : List (List ℕ))
   pub log : LogState
   pub is : log_of h list ≡ Ok log
   pub keeps : KeepsItems s log
+
+-- The records make a log that has this entry and this key at an index.
+pub record HasLogWith (h : HashFunction) (index : ℕ) (entry key : List ℕ)
+    (list : List (List ℕ)) : Type 0 where
+  pub log : LogState
+  pub is : log_of h list ≡ Ok log
+  pub item : HasItemAt index entry key log
 
 -- The record adds this number to those of the one-time keys that these records have used.
 abbrev pub UsesKey : List (List ℕ) → List ℕ → ℕ → Type 0
@@ -96,3 +105,21 @@ module _ {R S D O E : Type 0} (h : HashFunction) (rooms : Rooms R S D) (disks : 
       (list found : List (List ℕ)) (s : LogState) → start ≡ Log settings
       → WasHeld h rooms disks outs errs name made links list → log_of h list ≡ Ok s
       → IsRecovered h rooms disks outs errs name new found → HasItemsOf h s found)
+
+  -- The item of a record that a run added is in each such log. Its index counts the entries before
+  -- it, and is the one that `issue` prints.
+  abbrev pub AddedEntriesStand : Type 0
+  AddedEntriesStand = OfCourses (λ name start first made links new. (settings : Settings)
+      (list found : List (List ℕ)) (body entry key : List ℕ) (s : LogState)
+      → start ≡ Log settings
+      → WasHeld h rooms disks outs errs name made links (list ++ body ∷ [])
+      → log_of h list ≡ Ok s → item_in body ≡ Some (entry, key)
+      → IsRecovered h rooms disks outs errs name new found
+      → HasLogWith h (length s.entries) entry key found)
+
+  -- Each journal that a run made with status 0 is that of a node, as the laws of courses suppose.
+  abbrev pub MadeOfNodes : Type 0
+  MadeOfNodes = (name first : List ℕ) (old : R) (turn : Turn R O E) → rooms.tells old
+      → HasTurned h rooms disks outs errs old turn → turn.status ≡ 0
+      → DidWith h rooms disks outs errs old turn name (started first)
+      → (start : NodeStart) × WasMade h rooms disks outs errs name start first turn.room

@@ -1,6 +1,6 @@
 //! Laws of runs, and of courses of runs and stops: the clauses are the laws, and the functions do
 //! nothing.
-ghost use Rattle.mtc_top.specs.CourseLaws.{CoursesAreHistories, EntriesStand, HandedOutStand, JournalsAreRead, KeysSignOnce, KeysSignOneMessage, RecoveredListsGrow};
+ghost use Rattle.mtc_top.specs.CourseLaws.{AddedEntriesStand, CoursesAreHistories, EntriesStand, HandedOutStand, JournalsAreRead, KeysSignOnce, KeysSignOneMessage, MadeOfNodes, RecoveredListsGrow};
 ghost use Rattle.mtc_top.specs.RunLaws.{RunsShow, RunsAreSteps};
 
 use mtc_io::Sink;
@@ -42,9 +42,16 @@ pub fn recovered_lists_only_grow<H: TreeHash, R: Room, O: Sink, E: Sink>()
 {}
 
 /// Each entry of a log that a run found or added keeps its index, with its key, in each log that
-/// may be recovered afterwards.
+/// may be recovered afterwards. The entry that a run added has the index that it printed.
 pub fn entries_keep_their_places<H: TreeHash, R: Room, O: Sink, E: Sink>()
-    ensures { EntriesStand H.hash R.Room R.Dsk.Disk O.Sink E.Sink }
+    ensures found { EntriesStand H.hash R.Room R.Dsk.Disk O.Sink E.Sink }
+    ensures added { AddedEntriesStand H.hash R.Room R.Dsk.Disk O.Sink E.Sink }
+{}
+
+/// Each journal that a run made with status 0 is that of a log or a cosigner, so the laws of
+/// courses are of every journal that was made.
+pub fn made_journals_are_of_nodes<H: TreeHash, R: Room, O: Sink, E: Sink>()
+    ensures { MadeOfNodes H.hash R.Room R.Dsk.Disk O.Sink E.Sink }
 {}
 
 /// No journal that a course has reached is refused: what a crash may leave of it, and what the room

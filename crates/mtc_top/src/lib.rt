@@ -12,8 +12,8 @@ mod refused_words;
 mod top;
 
 pub use laws::{
-    courses_are_histories, entries_keep_their_places, no_journal_is_refused,
-    no_one_time_key_signs_twice, recovered_lists_only_grow, runs_are_steps,
+    courses_are_histories, entries_keep_their_places, made_journals_are_of_nodes,
+    no_journal_is_refused, no_one_time_key_signs_twice, recovered_lists_only_grow, runs_are_steps,
     what_was_handed_out_stands,
 };
 pub use mtc_room::{MemRoom, Room, RoomError};

@@ -23,6 +23,8 @@ use Rattle.cosigner_core.specs.Progress.{progress_by, progress_in, steps_in}
 use Rattle.cosigner_core.specs.Records.{cosigner_in, first_by_tag}
 use Rattle.cosigner_core.specs.declared.settings.CosignerSettings.{CosignerSettings}
 use Rattle.cosigner_core.proofs.Behind as cosigners
+use Rattle.hss_core.specs.Hss.{one_level_public}
+use Rattle.lms_core.specs.Trees.{private_key}
 use Rattle.node_history.specs.Laws.{IsSoundNode}
 use Rattle.node_history.specs.Nodes.{HistoryState}
 use Rattle.node_history.specs.Rules.{AreRecords, IsReadAs, StartsWith, may_follow}
@@ -103,6 +105,19 @@ first_of_cosigner h first bodies is =
     let found = cosigners.only_begins h (first ∷ bodies) made.0 made.1 in
     let same = cons_is first found.0 bodies found.1.0 found.1.1.1.1.0 in
     ((found.1.1.0, found.1.1.1.0), ap cosigner_in same ∙ found.1.1.1.1.1)
+
+-- each journal of a log or a cosigner is that of a node
+pub starts_so : (h : HashFunction) (first : Text) (bodies : List Text)
+    → AreRecords h (first ∷ bodies) → (start : NodeStart) × StartsWith start first
+starts_so h first bodies (inl is) =
+    let found = first_of_log h first bodies is in (Log found.0, found.1)
+starts_so h first bodies (inr is) =
+    let found = first_of_cosigner h first bodies is in
+    let s = found.0.0 in
+    let secret = found.0.1 in (
+      Cosigner s (one_level_public (private_key s.lms s.ots secret)),
+      (secret, (found.1, refl)),
+    )
 
 pub back : (h : HashFunction) (start : NodeStart) (first : Text) (bodies : List Text)
     → StartsWith start first → may_follow h start bodies ≡ true → AreRecords h (first ∷ bodies)

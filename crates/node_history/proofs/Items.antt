@@ -1,17 +1,19 @@
 -- A log keeps its items whatever records come behind its own.
 use Rattle.std.proofs.Common.{◌≡◌, ℕ, ◌+◌, List, [], ◌∷◌, ◌++◌, length}
-use Rattle.std.proofs.Common.{Option, Some, None, Ok, refl, sym, ◌∙◌, subst}
-use Rattle.std.proofs.lemmas.List.{append-nil}
+use Rattle.std.proofs.Common.{Option, Some, None, Ok, refl, ap, sym, ◌∙◌, subst, append_assoc}
+use Rattle.std.proofs.Common.{slice_get, zero, suc}
+use Rattle.std.proofs.lemmas.List.{append-nil, length-append}
 use Rattle.byte_forms.specs.Types.{HashFunction, Text}
 use Rattle.byte_forms.proofs.Steps.{bind_ok, ok_is, some_or_ok}
 use Rattle.journal_core.specs.Folds.{taken_from}
 use Rattle.journal_core.proofs.Folds.{state_more}
-use Rattle.issuance_log.specs.Folds.{LogState, changed, log_fold, log_of, next_log}
+use Rattle.issuance_log.specs.Folds.{LogState, changed, log_fold, log_of, new_log, next_log}
 use Rattle.issuance_log.specs.Folds.{with_entry, with_item, with_landmark, with_mark}
 use Rattle.issuance_log.specs.Records.{item_in, mark_in}
-use Rattle.node_history.specs.Laws.{Begins, KeepsItems}
+use Rattle.issuance_log.proofs.Behind.{only_begins}
+use Rattle.node_history.specs.Laws.{Begins, HasItemAt, KeepsItems}
 use Rattle.node_history.proofs.Chains.{no_some}
-use Rattle.node_history.proofs.Steps.{begins_on, when}
+use Rattle.node_history.proofs.Steps.{begins_on, some_is, when}
 
 kept_same : (s : LogState) → KeepsItems s s
 kept_same s = record {
@@ -63,3 +65,91 @@ pub items_kept : (h : HashFunction) (list more : List Text) (s t : LogState)
     → log_of h list ≡ Ok s → log_of h (list ++ more) ≡ Ok t → KeepsItems s t
 items_kept h list more s t is whole =
     taken_kept h (length list) s t more (sym (state_more (log_fold h) list more s is) ∙ whole)
+
+-- ---- an item that was added is at the end of those before it
+
+-- each item has a key
+even_item : (h : HashFunction) (s t : LogState) (x : Text × Text)
+    → length s.keys ≡ length s.entries → with_entry h s x ≡ Some t
+    → length t.keys ≡ length t.entries
+even_item h s t x even is =
+    let went = (when _ (with_item x.0 x.1 s) t is).1 in
+    subst (λ (u : LogState). length u.keys ≡ length u.entries) went
+    (length-append s.keys (x.1 ∷ []) ∙ ap (λ (n : ℕ). n + 1) even
+    ∙ sym (length-append s.entries (x.0 ∷ [])))
+
+even_changed : (h : HashFunction) (s t : LogState) (item : Option (Text × Text))
+    (mark : Option ℕ) → length s.keys ≡ length s.entries → changed h s item mark ≡ Some t
+    → length t.keys ≡ length t.entries
+even_changed h s t (Some x) mark even is = even_item h s t x even is
+even_changed h s t None (Some size) even is =
+    subst (λ (u : LogState). length u.keys ≡ length u.entries) (when _ (with_mark s) t is).1 even
+even_changed h s t None None even is = no_some t is
+
+even_next : (h : HashFunction) (s t : LogState) (body : Text) → length s.keys ≡ length s.entries
+    → next_log h s body ≡ Some t → length t.keys ≡ length t.entries
+unfolding next_log
+even_next h s t body even is = even_changed h s t (item_in body) (mark_in body) even is
+
+even_taken : (h : HashFunction) (k : ℕ) (s t : LogState) (bodies : List Text)
+    → length s.keys ≡ length s.entries → taken_from (log_fold h) k s bodies ≡ Ok t
+    → length t.keys ≡ length t.entries
+unfolding taken_from
+even_taken h k s t [] even is =
+    subst (λ (u : LogState). length u.keys ≡ length u.entries) (ok_is ℕ s t is) even
+even_taken h k s t (body ∷ bodies) even is =
+    let step = bind_ok _ _ t is in
+    even_taken h (k + 1) step.0 t bodies
+    (even_next h s step.0 body even (some_or_ok k (next_log h s body) step.0 step.1)) step.2
+
+even_log : (h : HashFunction) (list : List Text) (s : LogState) → log_of h list ≡ Ok s
+    → length s.keys ≡ length s.entries
+even_log h list s is =
+    let found = only_begins h list s is in
+    even_taken h 1 (new_log s.settings) s found.1.0 refl found.1.1.2
+
+added_changed : (h : HashFunction) (s t : LogState) (item : Option (Text × Text))
+    (mark : Option ℕ) (x : Text × Text) → item ≡ Some x → changed h s item mark ≡ Some t
+    → with_item x.0 x.1 s ≡ t
+added_changed h s t (Some y) mark x same is =
+    subst (λ (z : Text × Text). with_item z.0 z.1 s ≡ t) (some_is y x same)
+    (when _ (with_item y.0 y.1 s) t is).1
+added_changed h s t None mark x same is = no_some x same
+
+added_next : (h : HashFunction) (s t : LogState) (body : Text) (x : Text × Text)
+    → item_in body ≡ Some x → next_log h s body ≡ Some t → with_item x.0 x.1 s ≡ t
+unfolding next_log
+added_next h s t body x same is = added_changed h s t (item_in body) (mark_in body) x same is
+
+first_taken : (h : HashFunction) (k : ℕ) (s t : LogState) (body : Text) (bodies : List Text)
+    → taken_from (log_fold h) k s (body ∷ bodies) ≡ Ok t
+    → (u : LogState) × ((next_log h s body ≡ Some u)
+    × (taken_from (log_fold h) (k + 1) u bodies ≡ Ok t))
+unfolding taken_from
+first_taken h k s t body bodies is =
+    let step = bind_ok _ _ t is in
+    (step.0, (some_or_ok k (next_log h s body) step.0 step.1, step.2))
+
+-- the item behind a list
+at_end : (xs : List Text) (x : Text) (ys : List Text) → Begins (xs ++ x ∷ []) ys
+    → slice_get ys (length xs) ≡ Some x
+at_end [] x ys front = ap (λ (l : List Text). slice_get l 0) (sym front.1)
+at_end (z ∷ xs) x [] front = absurd (let is = front.1 in cc)
+at_end (z ∷ xs) x (y ∷ ys) front = at_end xs x ys (front.0, (let is = front.1 in cc))
+
+pub item_added : (h : HashFunction) (list : List Text) (body : Text) (more : List Text)
+    (entry key : Text) (s t : LogState) → log_of h list ≡ Ok s → item_in body ≡ Some (entry, key)
+    → log_of h ((list ++ body ∷ []) ++ more) ≡ Ok t → HasItemAt (length s.entries) entry key t
+item_added h list body more entry key s t is same whole =
+    let joined = ap (λ (l : List Text). log_of h l) (append_assoc list (body ∷ []) more) in
+    let rest = sym (state_more (log_fold h) list (body ∷ more) s is) ∙ sym joined ∙ whole in
+    let next = first_taken h (length list) s t body more rest in
+    let made = added_next h s next.0 body (entry, key) same next.1.0 in
+    let keeps = taken_kept h (length list + 1) next.0 t more next.1.1 in
+    let kept : KeepsItems (with_item entry key s) t
+    = subst (λ (u : LogState). KeepsItems u t) (sym made) keeps in
+    record {
+      entry_is = at_end s.entries entry t.entries kept.entries;
+      key_is = subst (λ (n : ℕ). slice_get t.keys n ≡ Some key) (even_log h list s is)
+          (at_end s.keys key t.keys kept.keys);
+    }

@@ -67,3 +67,8 @@ pub record LeadsTo (valid : Valid) (starts : List NodeStart) (steps : List NodeS
 pub record KeepsItems (s t : LogState) : Type 0 where
   pub entries : Begins s.entries t.entries
   pub keys : Begins s.keys t.keys
+
+-- A log has this entry and this key at an index.
+pub record HasItemAt (index : ℕ) (entry key : Text) (s : LogState) : Type 0 where
+  pub entry_is : slice_get s.entries index ≡ Some entry
+  pub key_is : slice_get s.keys index ≡ Some key

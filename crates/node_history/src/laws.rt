@@ -1,12 +1,13 @@
 //! Laws of histories: the clauses are the laws, and the functions do nothing.
-ghost use Rattle.std.specs.Prelude.{◌≡◌, ℕ, true, List, [], ◌∷◌, ◌++◌, slice_get, Some, IfSome, Contains, Ok};
+ghost use Rattle.std.specs.Prelude.{◌≡◌, ℕ, true, List, [], ◌∷◌, ◌++◌, length, slice_get, Some, IfSome, Contains, Ok};
 ghost use Rattle.byte_forms.specs.Types.{HashFunction, Text};
 ghost use Rattle.cosigner_core.specs.Counts.{AreCounted};
 ghost use Rattle.cosigner_core.specs.declared.settings.CosignerSettings.{CosignerSettings};
 ghost use Rattle.journal_core.specs.Format.{StandsFor};
 ghost use Rattle.issuance_log.specs.Folds.{LogState, log_of};
+ghost use Rattle.issuance_log.specs.Records.{item_in};
 ghost use Rattle.node_history.specs.Histories.{history_of, moved};
-ghost use Rattle.node_history.specs.Laws.{HasGrown, IsOfSettled, IsSoundNode, KeepsItems, LeadsTo, WereBegun};
+ghost use Rattle.node_history.specs.Laws.{HasGrown, HasItemAt, IsOfSettled, IsSoundNode, KeepsItems, LeadsTo, WereBegun};
 ghost use Rattle.node_history.specs.Nodes.{HistoryState, fresh_node, node_of_step};
 ghost use Rattle.node_history.specs.Rules.{AreRecords, IsReadAs, StartsWith, may_follow as valid};
 ghost use Rattle.node_history.specs.declared.start.NodeStart.{NodeStart};
@@ -60,8 +61,11 @@ pub fn one_time_keys_are_used_once()
 {}
 
 /// Bodies may stand behind the first record of a node's journal exactly where a history may begin
-/// them, and each file that stands for such records is opened with them.
+/// them, and each file that stands for such records is opened with them. Each journal of a log or a
+/// cosigner is that of a node.
 pub fn journals_and_histories_agree()
+    ensures start { (h : HashFunction) (first : Text) (bodies : List Text)
+        → AreRecords h (first ∷ bodies) → (start : NodeStart) × StartsWith start first }
     ensures alone { (h : HashFunction) (start : NodeStart) → valid h start [] ≡ true }
     ensures agree { (h : HashFunction) (start : NodeStart) (first : Text) (bodies : List Text)
         → StartsWith start first → AreRecords h (first ∷ bodies) → valid h start bodies ≡ true }
@@ -73,7 +77,12 @@ pub fn journals_and_histories_agree()
 {}
 
 /// The entries of a log and their keys keep their places, whatever records come behind its own.
+/// The item of a record is the next one behind those of the records before it.
 pub fn logs_keep_their_items()
-    ensures { (h : HashFunction) (list more : List Text) (s t : LogState) → log_of h list ≡ Ok s
-        → log_of h (list ++ more) ≡ Ok t → KeepsItems s t }
+    ensures added { (h : HashFunction) (list : List Text) (body : Text) (more : List Text)
+        (entry key : Text) (s t : LogState) → log_of h list ≡ Ok s
+        → item_in body ≡ Some (entry, key) → log_of h ((list ++ body ∷ []) ++ more) ≡ Ok t
+        → HasItemAt (length s.entries) entry key t }
+    ensures kept { (h : HashFunction) (list more : List Text) (s t : LogState)
+        → log_of h list ≡ Ok s → log_of h (list ++ more) ≡ Ok t → KeepsItems s t }
 {}

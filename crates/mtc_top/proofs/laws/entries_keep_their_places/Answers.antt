@@ -1,6 +1,10 @@
-use Rattle.mtc_top.proofs.Recovered.{entries_stand}
+use Rattle.mtc_top.proofs.Recovered.{added_stand, entries_stand}
 use Rattle.mtc_top.proofs.laws.entries_keep_their_places.Goals as goal
 
-pub returns : goal.returns
-returns g c = entries_stand g.H.TreeHash.hash g.R.Room g.R.Dsk.Disk g.O.Sink g.E.Sink
+pub returns-clause-found : goal.returns-clause-found
+returns-clause-found g c = entries_stand g.H.TreeHash.hash g.R.Room g.R.Dsk.Disk g.O.Sink g.E.Sink
+    g.met.R.Dsk.Disk.reads_image g.met.R.Dsk.Disk.only_now g.met.R.Room.told_file
+
+pub returns-clause-added : goal.returns-clause-added
+returns-clause-added g c = added_stand g.H.TreeHash.hash g.R.Room g.R.Dsk.Disk g.O.Sink g.E.Sink
     g.met.R.Dsk.Disk.reads_image g.met.R.Dsk.Disk.only_now g.met.R.Room.told_file

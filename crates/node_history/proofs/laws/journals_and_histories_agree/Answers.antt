@@ -1,5 +1,8 @@
-use Rattle.node_history.proofs.Agreement.{agree, alone, back, read}
+use Rattle.node_history.proofs.Agreement.{agree, alone, back, read, starts_so}
 use Rattle.node_history.proofs.laws.journals_and_histories_agree.Goals as goal
+
+pub returns-clause-start : goal.returns-clause-start
+returns-clause-start c = starts_so
 
 pub returns-clause-alone : goal.returns-clause-alone
 returns-clause-alone c = alone
