@@ -1,7 +1,7 @@
 -- What holds of the list behind what a cosigner has signed, for a hash function h.
 use Rattle.std.specs.Prelude.{◌≡◌, ◌⊎◌, List, length, Contains}
 use Rattle.std.specs.List.{AllByRecursion}
-use Rattle.byte_forms.specs.Types.{Hash, HashFunction, Text}
+use Rattle.byte_forms.specs.Types.{HashFunction, Text}
 use Rattle.cosigner_core.specs.declared.step.Step.{Step}
 use Rattle.cosigner_core.specs.declared.step.Step.TheVariants.{Advance, Sign}
 use Rattle.collide.specs.Extraction.{HasCollision}
