@@ -28,12 +28,18 @@ const MOST: [u8; 32] = [
     0xE6, 0x2A, 0xB1, 0x2D, 0xE5, 0x8C, 0x2E, 0x47, 0xDC, 0xB7, 0xE2, 0x8E, 0x38, 0xF5, 0x79, 0x25,
 ];
 
+// Adds the one entry, behind the null entry.
+fn add_entry(alloc: Global, log: &mut Log<Sha, MemDisk>) -> Result<bool, Fail> {
+    Ok(issued(alloc, log, &[DATES, DNS, KEY])? == Ok(1))
+}
+
 // The log with the null entry and the one entry.
 fn log_of_two(alloc: Global) -> Result<Log<Sha, MemDisk>, Fail> {
     let mut log = open(alloc, new_log(alloc, 64)?)?;
-    match issued(alloc, &mut log, &[DATES, DNS, KEY])? {
-        Ok(1) => Ok(log),
-        _ => Err(Fail::from("not issued")),
+    if add_entry(alloc, &mut log)? {
+        Ok(log)
+    } else {
+        Err(Fail::from("not issued"))
     }
 }
 
@@ -55,6 +61,23 @@ fn signatures(alloc: Global, size: Option<u16>) -> Result<Bytes, Fail> {
 }
 
 // What the log answers: the leaf hash of the certificate's bytes, or why there is none.
+fn written(
+    alloc: Global,
+    log: &mut Log<Sha, MemDisk>,
+    index: u64,
+    interval: (u64, u64),
+    signed: &[u8],
+) -> Result<Result<[u8; 32], WriteError>, Fail> {
+    if check_signatures(signed).is_err() {
+        return Err(Fail::from("no signatures"));
+    }
+    match cert(alloc, log, index, interval.0, interval.1, signed) {
+        Ok(bytes) => Ok(Ok(leaf::<Sha>(bytes.as_slice()))),
+        Err(why) => Ok(Err(why)),
+    }
+}
+
+// The same of the log of two, with one signature that has so many bytes, or none.
 fn answer(
     alloc: Global,
     index: u64,
@@ -63,14 +86,7 @@ fn answer(
 ) -> Result<Result<[u8; 32], WriteError>, Fail> {
     let mut log = log_of_two(alloc)?;
     let signed = signatures(alloc, size)?;
-    if check_signatures(signed.as_slice()).is_err() {
-        return Err(Fail::from("no signatures"));
-    }
-    let (start, end) = interval;
-    match cert(alloc, &mut log, index, start, end, signed.as_slice()) {
-        Ok(bytes) => Ok(Ok(leaf::<Sha>(bytes.as_slice()))),
-        Err(why) => Ok(Err(why)),
-    }
+    written(alloc, &mut log, index, interval, signed.as_slice())
 }
 
 #[test]
@@ -81,29 +97,44 @@ fn an_entry_gets_its_certificate(rt: HostRuntime) -> Result<(), Fail> {
     Ok(())
 }
 
-// Each refusal, and which of two comes first.
+// An index, an interval, the length of a signature or a hyphen, and the refusal: which of two comes
+// first is told too.
+const REFUSED: &str = "\
+2 0 2 - NoSuchEntry
+2 1 3 - NoSuchEntry
+0 0 2 - NullEntry
+0 1 3 - NullEntry
+1 1 3 - BadSubtree
+1 2 2 - BadSubtree
+1 0 1 - Outside
+1 2 4 - Outside
+1 0 4 65532 Beyond(2)
+1 0 2 65532 TooManySignatures
+";
+
+// Whether the certificate of this line is refused as the line says.
+fn is_refused(alloc: Global, line: &str) -> Result<bool, Fail> {
+    let mut words = line.split(' ');
+    let index = number(words.next())?;
+    let interval = (number(words.next())?, number(words.next())?);
+    let size = words.next().and_then(|word| word.parse::<u16>().ok());
+    match answer(alloc, index, interval, size)? {
+        Ok(_) => Ok(false),
+        Err(why) => Ok(words.next() == Some(format!(in alloc; "{why:?}")?.as_str())),
+    }
+}
+
+fn number(word: Option<&str>) -> Result<u64, Fail> {
+    Ok(word.unwrap_or("").parse::<u64>()?)
+}
+
 #[test]
 fn a_certificate_is_refused(rt: HostRuntime) -> Result<(), Fail> {
-    let cases: [(u64, (u64, u64), Option<u16>, WriteError); 10] = [
-        (2, (0, 2), None, WriteError::NoSuchEntry),
-        (2, (1, 3), None, WriteError::NoSuchEntry),
-        (0, (0, 2), None, WriteError::NullEntry),
-        (0, (1, 3), None, WriteError::NullEntry),
-        (1, (1, 3), None, WriteError::BadSubtree),
-        (1, (2, 2), None, WriteError::BadSubtree),
-        (1, (0, 1), None, WriteError::Outside),
-        (1, (2, 4), None, WriteError::Outside),
-        (1, (0, 4), Some(65_532), WriteError::Beyond(2)),
-        (1, (0, 2), Some(65_532), WriteError::TooManySignatures),
-    ];
-    for (index, interval, size, wanted) in cases {
-        let found = answer(rt.alloc(), index, interval, size)?;
-        assert!(rt;
-            found == Err(wanted),
-            "{index} in {} to {}",
-            interval.0,
-            interval.1
-        );
+    let mut count = 0u64;
+    for line in REFUSED.lines() {
+        assert!(rt; is_refused(rt.alloc(), line)?, "{line}");
+        count = count.saturating_add(1);
     }
+    assert!(rt; count == 10);
     Ok(())
 }

@@ -10,35 +10,23 @@ use std::test::Fail;
 use tls_wire::AnchorId;
 use tree_core::Sha;
 
-// The keys of the cosigners with the numbers 2 to 4.
-#[derive(Drop)]
-struct Keys {
-    first: Key,
-    second: Key,
-    third: Key,
-}
-
-// A key whose secret is made of this number.
-fn key_of(alloc: Global, number: u8) -> Result<Key, Fail> {
-    Ok(Key::make(alloc, LmsType::H5, OtsType::W4, &[number; 48], 0)?)
-}
-
-impl Keys {
-    fn make(alloc: Global) -> Result<Keys, Fail> {
-        Ok(Keys {
-            first: key_of(alloc, 2)?,
-            second: key_of(alloc, 3)?,
-            third: key_of(alloc, 4)?,
-        })
+// The keys of the cosigners with the numbers 2 to 4, each of a secret that is made of its number.
+fn keys_of(alloc: Global) -> Result<Vec<Key>, Fail> {
+    let mut keys = Vec::new(alloc);
+    for number in 2..5u8 {
+        keys.push(Key::make(alloc, LmsType::H5, OtsType::W4, &[number; 48], 0)?)?;
     }
+    Ok(keys)
+}
 
-    // Signs a text by the key of this number.
-    fn sign(&mut self, number: u8, text: &[u8], out: &mut SigBuf) {
-        let key = match number {
-            2 => &mut self.first,
-            3 => &mut self.second,
-            _ => &mut self.third,
-        };
+// The place of the key of the cosigner with this number.
+fn place_of(number: u8) -> usize {
+    usize::from(number.saturating_sub(2))
+}
+
+// Signs a text by the key of this number.
+fn sign(keys: &mut Vec<Key>, number: u8, text: &[u8], out: &mut SigBuf) {
+    if let Some(key) = keys.get_mut(place_of(number)) {
         if key.left() > 0 {
             key.sign(text, out);
         }
@@ -96,24 +84,21 @@ fn mark_of(letter: u8) -> Mark {
     }
 }
 
-// The signature with this mark.
-fn signature_of(alloc: Global, keys: &mut Keys, mark: &Mark) -> Result<SigBuf, Fail> {
+// What is signed with this mark.
+fn signed_text(alloc: Global, mark: &Mark, text: &mut InputBuf) -> Result<(), Fail> {
     let cosigner = id_of(alloc, mark.cosigner)?;
     let log = id_of(alloc, mark.log)?;
     let mut hash = TRUSTED;
     hash[0] ^= mark.change;
-    let mut text = InputBuf::new();
     signature_input(
         cosigner.as_bytes(),
         log.as_bytes(),
         mark.start,
         mark.end,
         &hash,
-        &mut text,
+        text,
     );
-    let mut out = SigBuf::new();
-    keys.sign(mark.key, text.as_slice(), &mut out);
-    Ok(out)
+    Ok(())
 }
 
 // A length in two bytes.
@@ -124,29 +109,41 @@ fn two_bytes(length: usize) -> Result<[u8; 2], Fail> {
     }
 }
 
-// Puts the signature of this letter behind the bytes; `s` is one that is a byte short.
-fn put_signature(
-    alloc: Global,
-    keys: &mut Keys,
-    bytes: &mut Vec<u8>,
-    letter: u8,
-) -> Result<(), Fail> {
-    let mark = mark_of(letter);
-    let id = id_of(alloc, mark.id)?;
-    let whole = signature_of(alloc, keys, &mark)?;
-    let signature = match whole.as_slice() {
+// The signature of this letter; `s` is one that is a byte short.
+fn shortened(letter: u8, whole: &[u8]) -> &[u8] {
+    match whole {
         [short @ .., _] if letter == b's' => short,
         all => all,
-    };
-    bytes.push(u8::try_from(id.as_bytes().len()).unwrap_or(0))?;
-    bytes.extend_from_slice(id.as_bytes())?;
+    }
+}
+
+// Puts a signature behind the bytes, with its cosigner's id and its length before it.
+fn append(bytes: &mut Vec<u8>, id: &[u8], signature: &[u8]) -> Result<(), Fail> {
+    bytes.push(u8::try_from(id.len()).unwrap_or(0))?;
+    bytes.extend_from_slice(id)?;
     bytes.extend_from_slice(&two_bytes(signature.len())?)?;
     bytes.extend_from_slice(signature)?;
     Ok(())
 }
 
+// Puts the signature of this letter behind the bytes.
+fn put_signature(
+    alloc: Global,
+    keys: &mut Vec<Key>,
+    bytes: &mut Vec<u8>,
+    letter: u8,
+) -> Result<(), Fail> {
+    let mark = mark_of(letter);
+    let mut text = InputBuf::new();
+    signed_text(alloc, &mark, &mut text)?;
+    let mut whole = SigBuf::new();
+    sign(keys, mark.key, text.as_slice(), &mut whole);
+    let id = id_of(alloc, mark.id)?;
+    append(bytes, id.as_bytes(), shortened(letter, whole.as_slice()))
+}
+
 // The signatures of these letters.
-fn signatures_of(alloc: Global, keys: &mut Keys, letters: &str) -> Result<Vec<u8>, Fail> {
+fn signatures_of(alloc: Global, keys: &mut Vec<Key>, letters: &str) -> Result<Vec<u8>, Fail> {
     let mut bytes = Vec::new(alloc);
     for letter in letters.as_bytes() {
         if *letter != b'-' {
@@ -190,6 +187,19 @@ fn known(alloc: Global, number: u8, key: &Key) -> Result<Known, Fail> {
     })
 }
 
+// The cosigners with these three keys.
+fn cosigners_of(alloc: Global, keys: &[Key]) -> Result<Cosigners, Fail> {
+    let [first, second, third] = keys else {
+        return Err(Fail::from("no keys"));
+    };
+    let cosigners = vec![in alloc;
+        known(alloc, 2, first)?,
+        known(alloc, 3, second)?,
+        known(alloc, 4, third)?,
+    ]?;
+    Ok(Cosigners::from_vec(cosigners))
+}
+
 // A rule, as `COUNT:NUMBERS`, where the cosigners have the numbers 2 to 4.
 fn rule_of(alloc: Global, word: &str) -> Result<Rule, Fail> {
     let mut places = Vec::new(alloc);
@@ -203,29 +213,24 @@ fn rule_of(alloc: Global, word: &str) -> Result<Rule, Fail> {
     })
 }
 
-// A store of three cosigners with these rules, which trusts the hash that ends with this byte.
-fn store_with(alloc: Global, keys: &Keys, words: &str, last: &str) -> Result<Store, Fail> {
+// The rules of these words, none of a hyphen.
+fn rules_of(alloc: Global, words: &str) -> Result<Rules, Fail> {
     let mut rules = Vec::new(alloc);
     for word in words.split(',') {
         if word != "-" {
             rules.push(rule_of(alloc, word)?)?;
         }
     }
-    let cosigners = vec![in alloc;
-        known(alloc, 2, &keys.first)?,
-        known(alloc, 3, &keys.second)?,
-        known(alloc, 4, &keys.third)?,
-    ]?;
+    Ok(Rules::from_vec(rules))
+}
+
+// A store of three cosigners with these rules, which trusts the hash that ends with this byte.
+fn store_with(alloc: Global, keys: &[Key], words: &str, last: &str) -> Result<Store, Fail> {
     let subtrees = trusted_in(alloc, last)?;
-    let plain = store_of(alloc, "32473.1", subtrees.as_slice(), &[])?;
-    Ok(Store {
-        log: plain.log,
-        name: plain.name,
-        cosigners: Cosigners::from_vec(cosigners),
-        rules: Rules::from_vec(rules),
-        subtrees: plain.subtrees,
-        revoked: plain.revoked,
-    })
+    let mut store = store_of(alloc, "32473.1", subtrees.as_slice(), &[])?;
+    store.cosigners = cosigners_of(alloc, keys)?;
+    store.rules = rules_of(alloc, words)?;
+    Ok(store)
 }
 
 // Signatures by their letters, rules, the last byte of the hash that is trusted for the interval or
@@ -269,23 +274,19 @@ fn judged(alloc: Global, certificate: &[u8], store: &Store) -> Result<String, Fa
     }
 }
 
-fn is_judged(alloc: Global, keys: &mut Keys, line: &str) -> Result<bool, Fail> {
+fn is_judged(alloc: Global, keys: &mut Vec<Key>, line: &str) -> Result<bool, Fail> {
     let mut words = line.split(' ');
     let signatures = signatures_of(alloc, keys, words.next().unwrap_or(""))?;
     let certificate = certificate_of(alloc, signatures.as_slice())?;
-    let store = store_with(
-        alloc,
-        keys,
-        words.next().unwrap_or(""),
-        words.next().unwrap_or(""),
-    )?;
+    let (rules, last) = (words.next().unwrap_or(""), words.next().unwrap_or(""));
+    let store = store_with(alloc, keys.as_slice(), rules, last)?;
     let found = judged(alloc, certificate.as_slice(), &store)?;
     Ok(Some(found.as_str()) == words.next())
 }
 
 #[test]
 fn the_cosigners_decide(rt: HostRuntime) -> Result<(), Fail> {
-    let mut keys = Keys::make(rt.alloc())?;
+    let mut keys = keys_of(rt.alloc())?;
     let mut count = 0u64;
     for line in CASES.lines() {
         assert!(rt; is_judged(rt.alloc(), &mut keys, line)?, "{line}");

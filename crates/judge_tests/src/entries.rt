@@ -2,6 +2,7 @@
 
 use crate::texts::joined;
 use authority_core::{entry_of_request, read_request};
+use mtc_io::Bytes;
 use std::alloc::Global;
 use std::test::Fail;
 use tls_wire::AnchorId;
@@ -106,15 +107,26 @@ const CASES: [Case; 4] = [
     },
 ];
 
-// The entry of the case's request in the log 32473.1 has its length and is its fields.
-fn has_its_fields(alloc: Global, case: &Case) -> Result<bool, Fail> {
+// The entry of the request of these lines in the log 32473.1.
+pub(crate) fn entry_in_log(alloc: Global, lines: &[&str]) -> Result<Bytes, Fail> {
     let id = AnchorId::from_text(alloc, "32473.1")?;
-    let request = read_request(alloc, joined(alloc, case.request)?.as_bytes())?;
-    let entry = entry_of_request::<Sha>(alloc, &id, &request)?;
-    let mut wanted = Vec::new(alloc);
-    for field in case.fields {
-        wanted.extend_from_slice(field)?;
+    let request = read_request(alloc, joined(alloc, lines)?.as_bytes())?;
+    Ok(entry_of_request::<Sha>(alloc, &id, &request)?)
+}
+
+// The fields, one behind the other.
+fn fields_of(alloc: Global, fields: &[&[u8]]) -> Result<Vec<u8>, Fail> {
+    let mut bytes = Vec::new(alloc);
+    for field in fields {
+        bytes.extend_from_slice(field)?;
     }
+    Ok(bytes)
+}
+
+// The entry of the case's request has its length and is its fields.
+fn has_its_fields(alloc: Global, case: &Case) -> Result<bool, Fail> {
+    let entry = entry_in_log(alloc, case.request)?;
+    let wanted = fields_of(alloc, case.fields)?;
     Ok(entry.len() == case.length && entry.as_slice() == wanted.as_slice())
 }
 

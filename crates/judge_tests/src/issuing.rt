@@ -1,7 +1,8 @@
 //! Issuing into a small log, also over a disk that fails.
 
+use crate::entries::entry_in_log;
 use crate::texts::joined;
-use authority_core::{IssueError, entry_of_request, issue, read_request};
+use authority_core::{IssueError, issue, read_request};
 use disk_core::MemDisk;
 use issuance_log::{Log, LogError, LogSettings, create};
 use journal_core::AppendError;
@@ -54,19 +55,24 @@ pub(crate) fn issued(
     Ok(issue(alloc, log, &asked))
 }
 
-// The log that is opened from a disk has the entry of the request of these lines at index 1, and no
-// further one.
-fn holds(alloc: Global, disk: MemDisk, lines: &[&str]) -> Result<bool, Fail> {
-    let mut log = open(alloc, disk)?;
-    let asked = read_request(alloc, joined(alloc, lines)?.as_bytes())?;
-    let settings = log.settings();
-    let wanted = entry_of_request::<Sha>(alloc, &settings.id, &asked)?;
+// The entry at index 1 of the log, where it has one.
+fn first_entry(alloc: Global, log: &mut Log<Sha, MemDisk>) -> Option<Bytes> {
     let mut entry = Bytes::new(alloc);
     let mut key = Bytes::new(alloc);
-    if log.entry(1, &mut entry, &mut key).is_err() {
-        return Ok(false);
+    match log.entry(1, &mut entry, &mut key) {
+        Ok(()) => Some(entry),
+        Err(_) => None,
     }
-    Ok(log.size() == 2 && entry.as_slice() == wanted.as_slice())
+}
+
+// The log that is opened from a disk has this entry at index 1, and no further one.
+fn holds(alloc: Global, disk: MemDisk, wanted: &[u8]) -> Result<bool, Fail> {
+    let mut log = open(alloc, disk)?;
+    let size = log.size();
+    match first_entry(alloc, &mut log) {
+        Some(entry) => Ok(size == 2 && entry.as_slice() == wanted),
+        None => Ok(false),
+    }
 }
 
 #[test]
@@ -78,30 +84,31 @@ fn a_request_is_issued_where_there_is_room(rt: HostRuntime) -> Result<(), Fail> 
     assert!(rt; issued(alloc, &mut log, &lines)? == Err(IssueError::Log(LogError::Full)));
     let disk = log.into_disk();
     assert!(rt; disk.bytes().len() == 221);
-    assert!(rt; holds(alloc, disk, &lines)?);
+    assert!(rt; holds(alloc, disk, entry_in_log(alloc, &lines)?.as_slice())?);
     Ok(())
 }
 
-// What a log answers to the request of these lines, and its size then, where this call of its disk
-// fails; none where the log isn't opened.
+// The log in these bytes, on a disk of which this call fails; none where it isn't opened.
+fn failing_log(alloc: Global, bytes: &[u8], call: u64) -> Result<Option<Log<Sha, MemDisk>>, Fail> {
+    let failing = Vec::from_slice(alloc, &[call])?;
+    let disk = MemDisk::over(alloc, Bytes::copy_of(alloc, bytes)?, failing);
+    Ok(Log::<Sha, MemDisk>::open(alloc, disk).ok())
+}
+
+// Whether a failure of the log's disk is told of this request, and its size then; none where the
+// log isn't opened.
 fn issued_at_failure(
     alloc: Global,
     bytes: &[u8],
     call: u64,
     lines: &[&str],
-) -> Result<Option<(Result<u64, IssueError>, u64)>, Fail> {
-    let disk = MemDisk::over(
-        alloc,
-        Bytes::copy_of(alloc, bytes)?,
-        Vec::from_slice(alloc, &[call])?,
-    );
-    match Log::<Sha, MemDisk>::open(alloc, disk) {
-        Ok(mut log) => {
-            let answer = issued(alloc, &mut log, lines)?;
-            Ok(Some((answer, log.size())))
-        }
-        Err(_) => Ok(None),
-    }
+) -> Result<Option<(bool, u64)>, Fail> {
+    let Some(mut log) = failing_log(alloc, bytes, call)? else {
+        return Ok(None);
+    };
+    let failed = Err(IssueError::Log(LogError::Append(AppendError::Failed)));
+    let told = issued(alloc, &mut log, lines)? == failed;
+    Ok(Some((told, log.size())))
 }
 
 #[test]
@@ -111,7 +118,7 @@ fn a_failure_of_the_disk_is_told_and_adds_nothing(rt: HostRuntime) -> Result<(),
     let mut failed = false;
     for call in 0..16u64 {
         let told = issued_at_failure(alloc, bytes.as_slice(), call, &[DATES, DNS, KEY, NAMED])?;
-        if let Some((Err(IssueError::Log(LogError::Append(AppendError::Failed))), size)) = told {
+        if let Some((true, size)) = told {
             assert!(rt; size == 1, "{call}");
             failed = true;
         }

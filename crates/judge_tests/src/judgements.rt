@@ -147,15 +147,21 @@ fn change(bytes: &mut [u8; 231], word: &str) -> Result<bool, Fail> {
     }
 }
 
+// The judgement of the certificate, or of changes to it, as the cases say it.
+fn told(alloc: Global, certificate: &[u8], store: &Store) -> Result<String, Fail> {
+    match answer(certificate, store, FIRST) {
+        Ok(accepted) if accepted == ACCEPTED => Ok(String::from_str(alloc, "accepted")?),
+        Ok(_) => Ok(String::from_str(alloc, "accepted otherwise")?),
+        Err(found) => Ok(format!(in alloc; "{found:?}")?),
+    }
+}
+
 // Whether the certificate with the changes of a line is refused as the line says.
 fn is_refused(alloc: Global, store: &Store, line: &str) -> Result<bool, Fail> {
     let mut bytes = CERTIFICATE;
     for word in line.split(' ') {
         if !change(&mut bytes, word)? {
-            return match answer(&bytes, store, FIRST) {
-                Ok(_) => Ok(false),
-                Err(found) => Ok(format!(in alloc; "{found:?}")?.as_str() == word),
-            };
+            return Ok(told(alloc, &bytes, store)?.as_str() == word);
         }
     }
     Ok(false)
@@ -223,11 +229,9 @@ fn store_in(alloc: Global, line: &str) -> Result<Store, Fail> {
 
 // Whether the store of this line judges as the line says.
 fn is_judged(alloc: Global, line: &str) -> Result<bool, Fail> {
-    let wanted = line.split(' ').nth(3).unwrap_or("");
-    match answer(&CERTIFICATE, &store_in(alloc, line)?, FIRST) {
-        Ok(accepted) => Ok(accepted == ACCEPTED && wanted == "accepted"),
-        Err(found) => Ok(format!(in alloc; "{found:?}")?.as_str() == wanted),
-    }
+    let store = store_in(alloc, line)?;
+    let found = told(alloc, &CERTIFICATE, &store)?;
+    Ok(line.split(' ').nth(3) == Some(found.as_str()))
 }
 
 #[test]
