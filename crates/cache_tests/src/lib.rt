@@ -1,0 +1,5 @@
+//! Tests of the nodes that are kept.
+#![tactic(auto)]
+
+#[cfg(test)]
+mod keeping;

@@ -1,0 +1,94 @@
+//! The rows of a tree, from the leaves up.
+
+ghost use Rattle.std.specs.Prelude.{◌≡◌, ℕ, ◌^◌, ◌<◌, List, [], ◌∷◌, ◌++◌, length, IfOk, OnOk};
+ghost use Rattle.byte_forms.specs.Types.{Hash};
+ghost use Rattle.tree_cache.specs.Rows.{AreRowsOf, HaveGrown, HaveLevels, HaveNone, HaveRoom, HoldUpTo, first_row};
+
+use crate::row::Row;
+use mtc_io::Memory;
+use std::alloc::Global;
+use tree_core::TreeHash;
+
+// The levels that a list of fewer than 2^64 leaves has full subtrees of.
+const LEVELS: usize = 64;
+
+// The rows of no leaves.
+pub(crate) fn empty_rows(alloc: Global) -> Result<Vec<Row>, Memory>
+    ensures count { IfOk result (λ rows. length rows.items ≡ 64) }
+    ensures none { IfOk result (λ rows. HaveNone rows.items) }
+{
+    let mut rows = Vec::new(alloc);
+    for _level in 0..LEVELS {
+        rows.push(Row::new(alloc))?;
+    }
+    Ok(rows)
+}
+
+// How many leaves there are.
+pub(crate) fn leaf_count(rows: &[Row]) -> u64
+    ensures { result ≡ length (first_row rows.now) }
+{
+    match rows.first() {
+        Some(row) => row.as_slice().len() as u64,
+        None => 0,
+    }
+}
+
+// Makes the rows, where there are none yet.
+fn add_levels(alloc: Global, rows: &mut Vec<Row>) -> Result<(), Memory>
+    requires { HaveLevels rows.old.items }
+    ensures grown { HaveGrown rows.old.items rows.new.items }
+    ensures levels { HaveLevels rows.new.items }
+    ensures all { OnOk result (length rows.new.items ≡ 64) }
+{
+    if rows.is_empty() {
+        *rows = empty_rows(alloc)?;
+    }
+    Ok(())
+}
+
+// Makes room for so many nodes in the first of these rows, and for those above them.
+fn grow(rows: &mut [Row], room: u64) -> Result<(), Memory>
+    requires { room < 2 ^ length rows.old }
+    ensures grown { HaveGrown rows.old rows.new }
+    ensures holds { OnOk result (HoldUpTo room rows.new) }
+{
+    match rows.split_first_mut() {
+        None => Ok(()),
+        Some((row, above)) => {
+            let count = row.as_slice().len() as u64;
+            row.reserve(room.saturating_sub(count) as usize)?;
+            grow(above, room / 2)
+        }
+    }
+}
+
+// Makes room for so many leaves in all.
+pub(crate) fn make_room(alloc: Global, rows: &mut Vec<Row>, room: u64) -> Result<(), Memory>
+    requires { HaveLevels rows.old.items }
+    ensures grown { HaveGrown rows.old.items rows.new.items }
+    ensures levels { HaveLevels rows.new.items }
+    ensures holds { OnOk result (HoldUpTo room rows.new.items) }
+{
+    add_levels(alloc, rows)?;
+    grow(rows.as_mut_slice(), room)
+}
+
+// Puts a leaf, or a node of the first of these rows, behind the others, and above it each node of
+// which it is the last part.
+pub(crate) fn push_up<H: TreeHash>(rows: &mut [Row], hash: &[u8; 32])
+    requires room { HaveRoom H.hash rows.old }
+    ensures pushed { (leaves : List Hash)
+        → AreRowsOf H.hash leaves rows.old → AreRowsOf H.hash (leaves ++ hash.now ∷ []) rows.new }
+    ensures holds { (room : ℕ) → HoldUpTo room rows.old → HoldUpTo room rows.new }
+{
+    match rows.split_first_mut() {
+        None => unreachable!(),
+        Some((row, above)) => {
+            row.push(hash);
+            if let Some(parent) = row.last_pair::<H>() {
+                push_up::<H>(above, &parent);
+            }
+        }
+    }
+}
