@@ -3,7 +3,7 @@
 _mtc() {
     local word=${COMP_WORDS[COMP_CWORD]} kinds=()
     if [ "$COMP_CWORD" -eq 1 ]; then
-        COMPREPLY=($(compgen -W 'member show verify init-log issue checkpoint entries consist subtree keygen init-cosigner advance cosign export landmark landmarks light-cert cert' -- "$word"))
+        COMPREPLY=($(compgen -W 'member show verify init-log issue checkpoint entries consist subtree keygen init-cosigner advance cosign export landmark landmarks light-cert trust-landmarks cert audit' -- "$word"))
         return
     fi
     case ${COMP_WORDS[1]} in
@@ -24,10 +24,12 @@ _mtc() {
         landmark) kinds=(J) ;;
         landmarks) kinds=(J) ;;
         light-cert) kinds=(J INDEX) ;;
+        trust-landmarks) kinds=(LIST MAXACTIVE ENTRIES) ;;
         cert) kinds=(J INDEX START END SIGNATURES) ;;
+        audit) kinds=(CERT STORE NOW ENTRIES EXPORT) ;;
     esac
     case ${kinds[COMP_CWORD - 2]-} in
-        J | S | FILE | CERT | STORE | REQUEST | SECRET | SIGNATURES) COMPREPLY=($(compgen -f -- "$word")) ;;
+        J | S | FILE | CERT | STORE | REQUEST | SECRET | SIGNATURES | LIST | ENTRIES | EXPORT) COMPREPLY=($(compgen -f -- "$word")) ;;
         HEIGHT) COMPREPLY=($(compgen -W '5 10' -- "$word")) ;;
         WIDTH) COMPREPLY=($(compgen -W '1 2 4 8' -- "$word")) ;;
         *) COMPREPLY=() ;;

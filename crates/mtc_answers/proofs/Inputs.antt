@@ -1,6 +1,6 @@
--- A command that gets no bytes of an input file.
-use Rattle.std.proofs.Common.{◌≡◌, ◌<◌, ℕ, List, [], length, codes, Option, None, Some}
-use Rattle.std.proofs.Common.{sym, subst, ap, arith, rules}
+-- A command that gets no bytes of an input file, and one that gets them.
+use Rattle.std.proofs.Common.{◌≡◌, ◌<◌, ◌≤◌, ℕ, List, [], length, codes, Option, None, Some}
+use Rattle.std.proofs.Common.{Bool, false, nat_lt, if◌then◌else◌, ◌∙◌, sym, subst, ap, arith, rules}
 use Rattle.std.proofs.lemmas.Grind.{common_steps}
 use Rattle.std.specs.Option.{IsSomeAnd}
 use Rattle.disk_core.specs.declared.disk.Disk.{Ghosts as Disks}
@@ -9,10 +9,10 @@ use Rattle.mtc_room.specs.declared.room.Room.{Ghosts as Rooms}
 use Rattle.mtc_answers.specs.Answers.{Ending, replied, room_failed, no_memory, refused}
 use Rattle.mtc_answers.specs.Endings.{IsNamed}
 use Rattle.mtc_answers.specs.Served.{GivesBack, HasDone}
-use Rattle.mtc_answers.specs.Steps.{Outcome, answers, with_bytes}
+use Rattle.mtc_answers.specs.Steps.{Outcome, answers, stops_at, with_bytes}
 use Rattle.mtc_answers.specs.declared.answer.Stopped.TheVariants.{Missing, Beyond}
 use Rattle.mtc_answers.proofs.Made.{OnlyNow}
-use Rattle.mtc_answers.proofs.Served.{stopped}
+use Rattle.mtc_answers.proofs.Served.{behind, stopped}
 
 module _ (limit : ℕ) (name : List ℕ) (next : List ℕ → Outcome) where
   no_file : (file : Option (List ℕ)) (reason : List ℕ) → reason ≡ codes "Absent" → file ≡ None
@@ -60,3 +60,27 @@ module _ {R S D : Type 0} (rooms : Rooms R S D) (disks : Disks D) (limit : ℕ) 
   pub starved : Done rooms disks limit name old new no_memory
   starved = λ files names next among.
       stopped rooms disks files names _ old new read only_now no_memory tt tt
+
+-- a file is there and short enough
+pub bytes_read : (limit : ℕ) (name : List ℕ) (file : Option (List ℕ)) (bytes : List ℕ)
+    (next : List ℕ → Outcome) → file ≡ Some bytes → length bytes ≤ limit
+    → with_bytes limit name file next ≡ next bytes
+bytes_read limit name file bytes next is few =
+    let short : nat_lt limit (length bytes) ≡ false = grind (arith, common_steps) in
+    ap (λ x. with_bytes limit name x next) is
+    ∙ ap (λ (over : Bool). if over then stops_at Beyond name (codes "TooLong") else next bytes)
+    short
+
+module _ {R S D : Type 0} (rooms : Rooms R S D) (disks : Disks D) (limit : ℕ) (name : List ℕ)
+    (old mid new : R) (bytes : List ℕ) (back : GivesBack rooms old mid [])
+    (is : rooms.tells old → (rooms.file old name ≡ Some bytes) × (length bytes ≤ limit)) where
+  -- a command that has read a file does the rest of its work
+  pub behind_file : (files names : List (List ℕ)) (next : List ℕ → Outcome) (wanted : Outcome)
+      (ending : Ending) → (rooms.tells old → wanted ≡ next bytes)
+      → HasDone rooms disks ⊥ files names wanted mid new ending
+      → HasDone rooms disks ⊥ files names (with_bytes limit name (rooms.file old name) next)
+      old new ending
+  behind_file files names next wanted ending same done =
+      behind rooms disks files files names _ wanted old mid new ending back
+      (λ t. same t ∙ sym (bytes_read limit name (rooms.file old name) bytes next (is t).0 (is t).1))
+      (λ file among. among) done

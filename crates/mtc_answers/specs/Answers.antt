@@ -5,7 +5,7 @@ use Rattle.std.specs.Prelude.{Result, Ok, Err}
 use Rattle.std.specs.Fmt.{decimal}
 use Rattle.mtc_answers.specs.Lines.{line_of}
 use Rattle.mtc_answers.specs.declared.answer.Said.{Said}
-use Rattle.mtc_answers.specs.declared.answer.Said.TheVariants.{Done, Against}
+use Rattle.mtc_answers.specs.declared.answer.Said.TheVariants.{Done, Against, Collided}
 use Rattle.mtc_answers.specs.declared.answer.Stopped.{Stopped}
 use Rattle.mtc_answers.specs.declared.answer.Stopped.TheVariants.{BadWords, BadForm}
 use Rattle.mtc_answers.specs.declared.answer.Stopped.TheVariants.{NotAllowed}
@@ -36,6 +36,7 @@ pub data Ending : Type 0 where
 abbrev pub said_code : Said → ℕ
 said_code Done = 0
 said_code Against = 3
+said_code Collided = 10
 
 abbrev pub stopped_code : Stopped → ℕ
 stopped_code BadWords = 1

@@ -1,5 +1,5 @@
 //! What a command answers, and why it is refused.
-ghost use Rattle.std.specs.Prelude.{◌≡◌};
+ghost use Rattle.std.specs.Prelude.{◌≡◌, string_bytes};
 
 use mtc_io::{Bytes, Memory};
 use std::alloc::AllocError;
@@ -11,6 +11,8 @@ pub enum Said {
     Done,
     /// The judgement is against.
     Against,
+    /// Two different strings with one hash were found.
+    Collided,
 }
 
 /// Why a command was refused.
@@ -58,6 +60,18 @@ pub struct Refusal<'a> {
 pub struct Answer {
     pub status: Said,
     pub text: Bytes,
+}
+
+impl Answer {
+    /// The answer with this status and this text.
+    pub fn of_text(status: Said, text: String) -> Answer
+        ensures { result ≡ record { status = status; text = string_bytes text } }
+    {
+        Answer {
+            status,
+            text: Bytes::from_vec(text.into_bytes()),
+        }
+    }
 }
 
 /// What ends a command without an answer.

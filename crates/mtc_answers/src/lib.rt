@@ -12,6 +12,6 @@ mod journal;
 mod reason;
 
 pub use answer::{Answer, More, Reason, Refusal, Said, Stop, Stopped};
-pub use input::{INPUT_LIMIT, read_input};
+pub use input::{INPUT_LIMIT, LIST_LIMIT, read_input};
 pub use journal::{give_back, lend, make_journal};
 pub use reason::{refuse, refuse_file};

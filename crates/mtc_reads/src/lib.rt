@@ -9,3 +9,5 @@ mod reasons;
 mod replies;
 pub mod show;
 pub mod verify;
+
+pub use reasons::store_reason;

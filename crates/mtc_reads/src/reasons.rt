@@ -82,7 +82,7 @@ fn key_name(key: Key) -> &'static str
     }
 }
 
-// Why a file is no store.
+/// Why a file is no store.
 pub fn store_reason(fault: StoreError) -> Reason
     ensures { reason_text result ≡ store_fault_text fault }
 {

@@ -15,8 +15,8 @@ use relying_party::judge;
 use std::alloc::Global;
 use tree_core::TreeHash;
 
-// The answer to a judgement.
-fn verdict_answer<'a>(
+/// The answer to a judgement on the certificate of this file.
+pub fn verdict_answer<'a>(
     alloc: Global,
     cert: &'a str,
     verdict: Result<Accepted, Refusal>,

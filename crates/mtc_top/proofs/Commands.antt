@@ -8,7 +8,7 @@ use Rattle.mtc_words.specs.declared.error.WordError.{WordError}
 use Rattle.mtc_words.specs.Commands.{CommandValue, member, show, verify, init_log, issue}
 use Rattle.mtc_words.specs.Commands.{checkpoint, entries, consist, subtree, keygen}
 use Rattle.mtc_words.specs.Commands.{init_cosigner, advance, cosign, export, landmark, landmarks}
-use Rattle.mtc_words.specs.Commands.{light_cert, cert}
+use Rattle.mtc_words.specs.Commands.{light_cert, trust_landmarks, cert, audit}
 use Rattle.authority_core.specs.Files.{request_of}
 use Rattle.authority_core.specs.Requests.{RequestParts}
 use Rattle.cosigner_core.specs.Openings.{FoundCosigner, cosigner_read}
@@ -70,7 +70,9 @@ records_of_command h (export journal) list is = inr is
 records_of_command h (landmark journal) list is = inl is
 records_of_command h (landmarks journal) list is = inl is
 records_of_command h (light_cert journal index) list is = inl is
+records_of_command h (trust_landmarks file active items) list is = inl is
 records_of_command h (cert journal index start end file) list is = inl is
+records_of_command h (audit certificate store moment items kept) list is = inl is
 
 pub spoken_records : (h : HashFunction) (r : Result CommandValue WordError)
     (list : List (List ℕ)) → spoken_rules h r list → AreRecords h list
@@ -277,8 +279,10 @@ new_of_command h (landmarks journal) files =
     (inl (on_log h journal (files journal) Landmarks), tt)
 new_of_command h (light_cert journal index) files =
     (inl (on_log h journal (files journal) (LightCert index)), tt)
+new_of_command h (trust_landmarks list active items) files = tt
 new_of_command h (cert journal index start end file) files =
     (inl (on_cert_command h journal index start end file files), tt)
+new_of_command h (audit certificate store moment items kept) files = tt
 
 pub spoken_new : (h : HashFunction) (r : Result CommandValue WordError) (files : Files)
     → OfEach (IsNewAt files) (done_with (spoken journals_of r) (spoken_outcome h r files).journals)

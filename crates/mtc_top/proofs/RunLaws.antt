@@ -14,7 +14,7 @@ use Rattle.mtc_answers.specs.Made.{HasKept, HasMade, IsOnOld, Kept, MayHaveMade,
 use Rattle.mtc_answers.specs.Made.{images_at, images_since, moment_at}
 use Rattle.mtc_answers.specs.Served.{Journals, OfEach}
 use Rattle.mtc_answers.specs.Valid.{AddsValid}
-use Rattle.mtc_answers.specs.declared.answer.Said.TheVariants.{Done, Against}
+use Rattle.mtc_answers.specs.declared.answer.Said.TheVariants.{Done, Against, Collided}
 use Rattle.mtc_answers.proofs.Made.{ReadsImage}
 use Rattle.mtc_answers.proofs.Served.{each_so, both_so}
 use Rattle.mtc_top.specs.Concluded.{Prints}
@@ -37,12 +37,13 @@ took_none None new none took = took
 took_none (Some xs) None none took = took
 took_none (Some xs) (Some ys) none took = grind (rules, arith, none, took)
 
--- a reply with another status than 0 and 3 prints nothing
+-- a reply with another status than 0, 3 and 10 prints nothing
 silent_reply : (P : List ℕ → Type 0) (reply : Reply) (status : ℕ) → status ≡ status_of reply
-    → status ≢ 0 → status ≢ 3 → P (out_of reply) → P []
-silent_reply P (said Done text) status is not0 not3 prints = absurd (not0 is)
-silent_reply P (said Against text) status is not0 not3 prints = absurd (not3 is)
-silent_reply P (refused why file reason) status is not0 not3 prints = prints
+    → status ≢ 0 → status ≢ 3 → status ≢ 10 → P (out_of reply) → P []
+silent_reply P (said Done text) status is not0 not3 not10 prints = absurd (not0 is)
+silent_reply P (said Against text) status is not0 not3 not10 prints = absurd (not3 is)
+silent_reply P (said Collided text) status is not0 not3 not10 prints = absurd (not10 is)
+silent_reply P (refused why file reason) status is not0 not3 not10 prints = prints
 
 -- by other rules that follow from these
 adds_so : (P Q : List (List ℕ) → Type 0) → ((list : List (List ℕ)) → P list → Q list)
@@ -80,20 +81,20 @@ module _ {R S D O E : Type 0} (h : List ℕ → List ℕ) (rooms : Rooms R S D) 
           | inl is8 ↦ omega (arith, is8.1)
           | inr not8 ↦
               (let a = run.answered not5.1 not6.1 not8.1 in
-              subst (λ n. n ≤ 9) (sym a.code) (reply_code a.reply).known)
+              subst (λ n. n ≤ 10) (sym a.code) (reply_code a.reply).known)
         ]
       ]
     ];
     complete = λ room sink memory. run.answered (λ is. room (run.room_failed is).cause)
         (λ is. sink (run.out_failed is).cause) memory;
-    silent = λ not0 not3 not6. elim (eqb_tells status 5) [
+    silent = λ not0 not3 not6 not10. elim (eqb_tells status 5) [
       | inl is5 ↦ (run.room_failed is5.1).text
       | inr not5 ↦ elim (eqb_tells status 8) [
         | inl is8 ↦ (run.no_memory is8.1).text
         | inr not8 ↦
             (let a = run.answered not5.1 not6 not8.1 in
             silent_reply (Prints outs out out')
-            a.reply status a.code not0 not3 a.text)
+            a.reply status a.code not0 not3 not10 a.text)
       ]
     ];
   }

@@ -13,7 +13,7 @@ use Rattle.mtc_answers.specs.Served.{HasDone, OfEach, IsUnmade, done_with}
 use Rattle.mtc_answers.specs.Steps.{Outcome}
 use Rattle.mtc_answers.specs.Valid.{KeepsValid}
 use Rattle.mtc_answers.specs.declared.answer.Said.{Said}
-use Rattle.mtc_answers.specs.declared.answer.Said.TheVariants.{Done, Against}
+use Rattle.mtc_answers.specs.declared.answer.Said.TheVariants.{Done, Against, Collided}
 use Rattle.mtc_answers.specs.declared.answer.Stopped.{Stopped}
 use Rattle.mtc_answers.specs.declared.answer.Stopped.TheVariants.{BadWords, BadForm}
 use Rattle.mtc_answers.specs.declared.answer.Stopped.TheVariants.{NotAllowed}
@@ -28,9 +28,9 @@ pub record IsReply (status : ℕ) : Type 0 where
   pub not5 : status ≡ 5 → ⊥
   pub not6 : status ≡ 6 → ⊥
   pub not8 : status ≡ 8 → ⊥
-  pub known : status ≤ 9
+  pub known : status ≤ 10
 
-is_reply : (n : ℕ) → n ≤ 4 ⊎ ((n ≡ 7) ⊎ (n ≡ 9)) → IsReply n
+is_reply : (n : ℕ) → n ≤ 4 ⊎ ((n ≡ 7) ⊎ ((n ≡ 9) ⊎ (n ≡ 10))) → IsReply n
 is_reply n of = record {
   not5 = λ is. omega (arith, is, of);
   not6 = λ is. omega (arith, is, of);
@@ -41,17 +41,19 @@ is_reply n of = record {
 pub reply_code : (reply : Reply) → IsReply (status_of reply)
 reply_code (said Done text) = is_reply 0 (inl (omega arith))
 reply_code (said Against text) = is_reply 3 (inl (omega arith))
+reply_code (said Collided text) = is_reply 10 (inr (inr (inr refl)))
 reply_code (refused BadWords file reason) = is_reply 1 (inl (omega arith))
 reply_code (refused BadForm file reason) = is_reply 2 (inl (omega arith))
 reply_code (refused NotAllowed file reason) = is_reply 4 (inl (omega arith))
 reply_code (refused Missing file reason) = is_reply 7 (inr (inl refl))
-reply_code (refused Beyond file reason) = is_reply 9 (inr (inr refl))
+reply_code (refused Beyond file reason) = is_reply 9 (inr (inr (inl refl)))
 
 -- a reply that says something doesn't come early, and not to words that are no command
 said_late : (kind : Said) (text : List ℕ) → (status_of (said kind text) ≡ 1 → ⊥)
     × (IsEarly (status_of (said kind text)) → ⊥)
 said_late Done text = (λ is. omega (arith, is), λ is. omega (arith, is))
 said_late Against text = (λ is. omega (arith, is), λ is. omega (arith, is))
+said_late Collided text = (λ is. omega (arith, is), λ is. omega (arith, is))
 
 module _ {R S D O E : Type 0} (h : List ℕ → List ℕ) (rooms : Rooms R S D) (disks : Disks D)
     (outs : Sinks O) (errs : Sinks E) (words : List (List ℕ))

@@ -1,12 +1,12 @@
 -- The outcome: what the program has to answer, as a function of the words and the room's files. One
 -- line for each command; each command's own outcome stands in a file of its own, in mtc_reads,
--- mtc_logs or mtc_cosigner.
+-- mtc_logs, mtc_cosigner or mtc_monitor.
 use Rattle.std.specs.Prelude.{ℕ, List, [], ◌∷◌, Result, Ok, Err}
 use Rattle.mtc_words.specs.declared.error.WordError.{WordError}
 use Rattle.mtc_words.specs.Commands.{CommandValue, member, show, verify, init_log, issue}
 use Rattle.mtc_words.specs.Commands.{checkpoint, entries, consist, subtree, keygen}
 use Rattle.mtc_words.specs.Commands.{init_cosigner, advance, cosign, export, landmark, landmarks}
-use Rattle.mtc_words.specs.Commands.{light_cert, cert}
+use Rattle.mtc_words.specs.Commands.{light_cert, trust_landmarks, cert, audit}
 use Rattle.mtc_words.specs.Words.{command_of}
 use Rattle.mtc_logs.specs.IssueCommand.{issue_outcome}
 use Rattle.mtc_logs.specs.CertCommand.{cert_outcome}
@@ -14,6 +14,8 @@ use Rattle.mtc_cosigner.specs.InitOutcome.{init_cosigner_outcome}
 use Rattle.mtc_cosigner.specs.KeygenOutcome.{keygen_outcome}
 use Rattle.mtc_cosigner.specs.Works.{IsCosigner, advance_outcome, cosign_outcome, export_outcome}
 use Rattle.mtc_logs.specs.LogOutcomes.{init_log_outcome}
+use Rattle.mtc_monitor.specs.AuditOutcome.{audit_outcome}
+use Rattle.mtc_monitor.specs.TrustOutcome.{trust_outcome}
 use Rattle.mtc_reads.specs.MemberOutcome.{member_outcome}
 use Rattle.mtc_reads.specs.ShowOutcome.{show_outcome}
 use Rattle.mtc_answers.specs.Steps.{Outcome, Files}
@@ -50,8 +52,12 @@ command_outcome h (landmark journal) files = journal_outcome h journal (files jo
 command_outcome h (landmarks journal) files = journal_outcome h journal (files journal) Landmarks
 command_outcome h (light_cert journal index) files =
     journal_outcome h journal (files journal) (LightCert index)
+command_outcome h (trust_landmarks list active items) files =
+    trust_outcome h list active items files
 command_outcome h (cert journal index start end file) files =
     cert_outcome h journal index start end file files
+command_outcome h (audit certificate store moment items kept) files =
+    audit_outcome h certificate store moment items kept files
 
 -- The files that a command names.
 abbrev pub files_of : CommandValue → List (List ℕ)
@@ -72,7 +78,10 @@ files_of (export journal) = journal ∷ []
 files_of (landmark journal) = journal ∷ []
 files_of (landmarks journal) = journal ∷ []
 files_of (light_cert journal index) = journal ∷ []
+files_of (trust_landmarks list active items) = list ∷ (items ∷ [])
 files_of (cert journal index start end file) = journal ∷ (file ∷ [])
+files_of (audit certificate store moment items kept) =
+    certificate ∷ (store ∷ (items ∷ (kept ∷ [])))
 
 -- The journals that it works on.
 abbrev pub journals_of : CommandValue → List (List ℕ)
@@ -93,7 +102,9 @@ journals_of (export journal) = journal ∷ []
 journals_of (landmark journal) = journal ∷ []
 journals_of (landmarks journal) = journal ∷ []
 journals_of (light_cert journal index) = journal ∷ []
+journals_of (trust_landmarks list active items) = []
 journals_of (cert journal index start end file) = journal ∷ []
+journals_of (audit certificate store moment items kept) = []
 
 -- Which lists of records are a node's, of the kind that it works on.
 abbrev pub rules_of : (List ℕ → List ℕ) → CommandValue → List (List ℕ) → Type 0
@@ -114,7 +125,9 @@ rules_of h (export journal) = IsCosigner h
 rules_of h (landmark journal) = IsLog h
 rules_of h (landmarks journal) = IsLog h
 rules_of h (light_cert journal index) = IsLog h
+rules_of h (trust_landmarks list active items) = IsLog h
 rules_of h (cert journal index start end file) = IsLog h
+rules_of h (audit certificate store moment items kept) = IsLog h
 
 -- The same where the words say this.
 abbrev pub spoken_outcome : (List ℕ → List ℕ) → Result CommandValue WordError → Files → Outcome

@@ -19,14 +19,14 @@ module _ {R S D O E : Type 0} (h : List ℕ → List ℕ) (rooms : Rooms R S D) 
     (old new : R) (out out' : O) (err err' : E) where
   -- What follows of each run.
   pub record RunShows (status : ℕ) : Type 0 where
-    -- The status is one of the ten.
-    pub known : status ≤ 9
+    -- The status is one of the eleven.
+    pub known : status ≤ 10
     -- Without a failure and want of memory it answers.
     pub complete : (Rose (rooms.faults old) (rooms.faults new) → ⊥)
         → (Rose (outs.faults out) (outs.faults out') → ⊥) → status ≢ 8
         → Answered h rooms disks outs errs words old new out out' err err' status
     -- A refusal, a failure of the room and want of memory print nothing.
-    pub silent : status ≢ 0 → status ≢ 3 → status ≢ 6
+    pub silent : status ≢ 0 → status ≢ 3 → status ≢ 6 → status ≢ 10
         → Prints outs out out' []
 
   -- A byte went out.

@@ -21,6 +21,7 @@ fn code_said(status: Said) -> u8
     match status {
         Said::Done => 0,
         Said::Against => 3,
+        Said::Collided => 10,
     }
 }
 

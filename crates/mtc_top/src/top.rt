@@ -20,6 +20,8 @@ use mtc_logs::cert::cert;
 use mtc_logs::init_log::init_log;
 use mtc_logs::issue::issue;
 use mtc_logs::{Work, on_log};
+use mtc_monitor::audit::audit;
+use mtc_monitor::trust::trust_landmarks as trust;
 use mtc_reads::member::member;
 use mtc_reads::show::show;
 use mtc_reads::verify::verify;
@@ -49,9 +51,7 @@ fn perform<'a, H: TreeHash, R: Room>(
         Command::Member(file) => member::<H, R>(alloc, room, file),
         Command::Show(file) => show(alloc, room, file),
         Command::Verify(cert, store, now) => verify::<H, R>(alloc, room, cert, store, now),
-        Command::InitLog(journal, id, max_active, limit) => {
-            init_log(alloc, room, journal, id, max_active, limit)
-        }
+        Command::InitLog(log, id, active, limit) => init_log(alloc, room, log, id, active, limit),
         Command::Issue(journal, request) => issue::<H, R>(alloc, room, journal, request),
         Command::Checkpoint(log) => on_log::<H, R>(alloc, room, log, Work::Checkpoint),
         Command::Entries(log, size) => on_log::<H, R>(alloc, room, log, Work::Entries(size)),
@@ -71,8 +71,12 @@ fn perform<'a, H: TreeHash, R: Room>(
         Command::Landmark(log) => on_log::<H, R>(alloc, room, log, Work::Landmark),
         Command::Landmarks(log) => on_log::<H, R>(alloc, room, log, Work::Landmarks),
         Command::LightCert(log, index) => on_log::<H, R>(alloc, room, log, Work::LightCert(index)),
+        Command::TrustLandmarks(list, most, items) => trust::<H, R>(alloc, room, list, most, items),
         Command::Cert(journal, index, start, end, signatures) => {
             cert::<H, R>(alloc, room, journal, index, start, end, signatures)
+        }
+        Command::Audit(cert, store, now, entries, export) => {
+            audit::<H, R>(alloc, room, cert, store, now, entries, export)
         }
     }
 }
@@ -105,13 +109,14 @@ fn answer<'a, H: TreeHash, R: Room>(
 /// writes its text to `out` or a line to `err`. Everything that the room lends is given back, each
 /// file but the command's journal stays as it was, and none is made but a new journal.
 ///
-/// Answers the status. 0 the command did its work, and 3 the judgement is against: both wrote to
-/// `out`. The others wrote a line to `err`: 1 the words are no command; 2 a named file isn't in its
-/// grammar; 4 the log or the cosigner doesn't allow what is asked; 5 the room failed; 6 `out`
-/// failed; 7 a named file isn't there, or that of a new journal is there already; 8 memory was
-/// refused; 9 an input is over its limit, or the log or a journal takes no more. Tests come in the
-/// order of the program's steps: the words, the input files, their grammars (a certificate's with
-/// its judgement), the journal, and the command's own. A fault of `err` changes no status.
+/// Answers the status. 0 the command did its work, 3 the judgement is against, and 10 two different
+/// strings with one hash were found: each wrote to `out`. The others wrote a line to `err`: 1 the
+/// words are no command; 2 a named file isn't in its grammar; 4 the log or the cosigner doesn't
+/// allow what is asked; 5 the room failed; 6 `out` failed; 7 a named file isn't there, or that of a
+/// new journal is there already; 8 memory was refused; 9 an input is over its limit, or the log or
+/// a journal takes no more. Tests come in the order of the program's steps: the words, the input
+/// files, their grammars (a certificate's with its judgement), the journal, and the command's own.
+/// A fault of `err` changes no status.
 ///
 /// What follows of each run, and how it ends as steps of a node, is [`crate::runs_are_steps`].
 pub fn run<H: TreeHash, R: Room, O: Sink, E: Sink>(

@@ -7,7 +7,7 @@ use Rattle.mtc_words.specs.declared.command.Command.TheVariants.{Consist, Subtre
 use Rattle.mtc_words.specs.declared.command.Command.TheVariants.{InitCosigner, Advance, Cosign}
 use Rattle.mtc_words.specs.declared.command.Command.TheVariants.{Export}
 use Rattle.mtc_words.specs.declared.command.Command.TheVariants.{Landmark, Landmarks, LightCert}
-use Rattle.mtc_words.specs.declared.command.Command.TheVariants.{Cert}
+use Rattle.mtc_words.specs.declared.command.Command.TheVariants.{TrustLandmarks, Cert, Audit}
 use Rattle.mtc_words.specs.declared.error.WordError.{WordError}
 
 -- A command with the values of its words: a text is the list of its bytes, and so is an id.
@@ -29,7 +29,9 @@ pub data CommandValue : Type 0 where
   landmark : List ℕ → CommandValue
   landmarks : List ℕ → CommandValue
   light_cert : List ℕ → ℕ → CommandValue
+  trust_landmarks : List ℕ → ℕ → List ℕ → CommandValue
   cert : List ℕ → ℕ → ℕ → ℕ → List ℕ → CommandValue
+  audit : List ℕ → List ℕ → ℕ → List ℕ → List ℕ → CommandValue
 
 -- The values of a command's words.
 abbrev pub command_value : Command → CommandValue
@@ -51,8 +53,12 @@ command_value (Export journal) = export journal.now
 command_value (Landmark journal) = landmark journal.now
 command_value (Landmarks journal) = landmarks journal.now
 command_value (LightCert journal index) = light_cert journal.now index
+command_value (TrustLandmarks list active items) =
+    trust_landmarks list.now active items.now
 command_value (Cert journal index start end signatures) =
     cert journal.now index start end signatures.now
+command_value (Audit certificate store moment items kept) =
+    audit certificate.now store.now moment items.now kept.now
 
 -- The answer, with the command seen by its values.
 abbrev pub said : Result Command WordError → Result CommandValue WordError
@@ -110,4 +116,6 @@ IsInRange (export journal) = Unit {0}
 IsInRange (landmark journal) = Unit {0}
 IsInRange (landmarks journal) = Unit {0}
 IsInRange (light_cert journal index) = Unit {0}
+IsInRange (trust_landmarks list active items) = is_active active ≡ true
 IsInRange (cert journal index start end signatures) = Unit {0}
+IsInRange (audit certificate store moment items kept) = is_time moment ≡ true

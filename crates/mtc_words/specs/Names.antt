@@ -5,7 +5,8 @@ use Rattle.mtc_words.specs.declared.name.Name.TheVariants.{Member, Show, Verify,
 use Rattle.mtc_words.specs.declared.name.Name.TheVariants.{Checkpoint, Entries, Consist, Subtree}
 use Rattle.mtc_words.specs.declared.name.Name.TheVariants.{Keygen, InitCosigner, Advance, Cosign}
 use Rattle.mtc_words.specs.declared.name.Name.TheVariants.{Export}
-use Rattle.mtc_words.specs.declared.name.Name.TheVariants.{Landmark, Landmarks, LightCert, Cert}
+use Rattle.mtc_words.specs.declared.name.Name.TheVariants.{Landmark, Landmarks, LightCert}
+use Rattle.mtc_words.specs.declared.name.Name.TheVariants.{TrustLandmarks, Cert, Audit}
 
 -- The command that a word names.
 unfoldable pub named_command : List ℕ → Option Name
@@ -27,8 +28,10 @@ named_command word =
     else (if bytes_eq word (codes "landmark") then Some Landmark
     else (if bytes_eq word (codes "landmarks") then Some Landmarks
     else (if bytes_eq word (codes "light-cert") then Some LightCert
+    else (if bytes_eq word (codes "trust-landmarks") then Some TrustLandmarks
     else (if bytes_eq word (codes "cert") then Some Cert
-    else None)))))))))))))))))
+    else (if bytes_eq word (codes "audit") then Some Audit
+    else None)))))))))))))))))))
 
 -- How many words stand behind a command.
 abbrev pub word_count : Name → ℕ
@@ -49,4 +52,6 @@ word_count Export = 1
 word_count Landmark = 1
 word_count Landmarks = 1
 word_count LightCert = 2
+word_count TrustLandmarks = 3
 word_count Cert = 5
+word_count Audit = 5

@@ -13,12 +13,13 @@ use Rattle.mtc_words.specs.declared.name.Name.TheVariants.{Member, Show, Verify,
 use Rattle.mtc_words.specs.declared.name.Name.TheVariants.{Checkpoint, Entries, Consist, Subtree}
 use Rattle.mtc_words.specs.declared.name.Name.TheVariants.{Keygen, InitCosigner, Advance, Cosign}
 use Rattle.mtc_words.specs.declared.name.Name.TheVariants.{Export}
-use Rattle.mtc_words.specs.declared.name.Name.TheVariants.{Landmark, Landmarks, LightCert, Cert}
+use Rattle.mtc_words.specs.declared.name.Name.TheVariants.{Landmark, Landmarks, LightCert}
+use Rattle.mtc_words.specs.declared.name.Name.TheVariants.{TrustLandmarks, Cert, Audit}
 use Rattle.mtc_words.specs.Commands.{CommandValue, member, show, verify, init_log, issue}
 use Rattle.mtc_words.specs.Commands.{checkpoint, entries, consist, subtree, keygen, is_height}
 use Rattle.mtc_words.specs.Commands.{is_width, is_time, is_active, is_limit, is_any}
 use Rattle.mtc_words.specs.Commands.{init_cosigner, advance, cosign, landmark, landmarks}
-use Rattle.mtc_words.specs.Commands.{export, light_cert, cert}
+use Rattle.mtc_words.specs.Commands.{export, light_cert, trust_landmarks, cert, audit}
 use Rattle.mtc_words.specs.Names.{named_command, word_count}
 
 -- Empty, or begins with a hyphen.
@@ -101,11 +102,17 @@ command_from Landmarks ws = Ok (landmarks (word ws 0))
 command_from LightCert ws = do
   index ← number_word 2 is_any (word ws 1)
   Ok (light_cert (word ws 0) index)
+command_from TrustLandmarks ws = do
+  active ← number_word 2 is_active (word ws 1)
+  Ok (trust_landmarks (word ws 0) active (word ws 2))
 command_from Cert ws = do
   index ← number_word 2 is_any (word ws 1)
   start ← number_word 3 is_any (word ws 2)
   end ← number_word 4 is_any (word ws 3)
   Ok (cert (word ws 0) index start end (word ws 4))
+command_from Audit ws = do
+  moment ← number_word 3 is_time (word ws 2)
+  Ok (audit (word ws 0) (word ws 1) moment (word ws 3) (word ws 4))
 
 -- The fault, or else the command.
 abbrev pub unless_fault : {A : Type 0} → Option WordError → Result A WordError → Result A WordError

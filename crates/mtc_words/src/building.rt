@@ -182,6 +182,15 @@ fn init_cosigner<'a>(alloc: Global, words: &'a [String]) -> Result<Command<'a>, 
     ))
 }
 
+fn trust_landmarks<'a>(words: &'a [String]) -> Result<Command<'a>, WordError>
+    requires { length words.now ≡ word_count Name.TrustLandmarks }
+    ensures exact { said result ≡ command_from Name.TrustLandmarks (map string_bytes words.now) }
+    ensures range { IfOk result (λ command. IsInRange (command_value command)) }
+{
+    let active = active(2, words[1].as_str())?;
+    Ok(Command::TrustLandmarks(words[0].as_str(), active, words[2].as_str()))
+}
+
 fn cert<'a>(words: &'a [String]) -> Result<Command<'a>, WordError>
     requires { length words.now ≡ word_count Name.Cert }
     ensures exact { said result ≡ command_from Name.Cert (map string_bytes words.now) }
@@ -191,6 +200,21 @@ fn cert<'a>(words: &'a [String]) -> Result<Command<'a>, WordError>
     let start = number(3, words[2].as_str())?;
     let end = number(4, words[3].as_str())?;
     Ok(Command::Cert(words[0].as_str(), index, start, end, words[4].as_str()))
+}
+
+fn audit<'a>(words: &'a [String]) -> Result<Command<'a>, WordError>
+    requires { length words.now ≡ word_count Name.Audit }
+    ensures exact { said result ≡ command_from Name.Audit (map string_bytes words.now) }
+    ensures range { IfOk result (λ command. IsInRange (command_value command)) }
+{
+    let now = time(3, words[2].as_str())?;
+    Ok(Command::Audit(
+        words[0].as_str(),
+        words[1].as_str(),
+        now,
+        words[3].as_str(),
+        words[4].as_str(),
+    ))
 }
 
 // The command of this name with its words, of which there are as many as it wants.
@@ -218,6 +242,8 @@ pub fn build<'a>(alloc: Global, name: Name, words: &'a [String]) -> Result<Comma
         Name::Landmark => Ok(Command::Landmark(words[0].as_str())),
         Name::Landmarks => Ok(Command::Landmarks(words[0].as_str())),
         Name::LightCert => light_cert(words),
+        Name::TrustLandmarks => trust_landmarks(words),
         Name::Cert => cert(words),
+        Name::Audit => audit(words),
     }
 }

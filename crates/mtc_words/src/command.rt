@@ -46,7 +46,14 @@ pub enum Command<'a> {
     /// `light-cert J INDEX`: write the certificate of an entry without signatures, with its place
     /// in the subtree that an active landmark has for it.
     LightCert(&'a str, u64),
+    /// `trust-landmarks LIST MAXACTIVE ENTRIES`: write the tables of a store that trusts the
+    /// subtrees of the active landmarks of a list, of which at most 1 to 10,000 may be active.
+    TrustLandmarks(&'a str, u64, &'a str),
     /// `cert J INDEX START END SIGNATURES`: write the certificate of an entry, with its place in
     /// the subtree from START to END and the cosigners' signatures.
     Cert(&'a str, u64, u64, u64, &'a str),
+    /// `audit CERT STORE NOW ENTRIES EXPORT`: judge a certificate by a store at a moment as
+    /// `verify` does, and hold what is accepted against the entries of a log and the export of a
+    /// cosigner.
+    Audit(&'a str, &'a str, u64, &'a str, &'a str),
 }

@@ -22,7 +22,9 @@ pub enum Name {
     Landmark,
     Landmarks,
     LightCert,
+    TrustLandmarks,
     Cert,
+    Audit,
 }
 
 // The name that a word is, if it is one.
@@ -48,7 +50,9 @@ pub fn read_name(word: &str) -> Option<Name>
         "landmark" => Some(Name::Landmark),
         "landmarks" => Some(Name::Landmarks),
         "light-cert" => Some(Name::LightCert),
+        "trust-landmarks" => Some(Name::TrustLandmarks),
         "cert" => Some(Name::Cert),
+        "audit" => Some(Name::Audit),
         _ => None,
     }
 }
@@ -61,9 +65,9 @@ pub fn wanted_count(name: Name) -> usize
         Name::Member | Name::Show | Name::Checkpoint => 1,
         Name::Export | Name::Landmark | Name::Landmarks => 1,
         Name::Issue | Name::Entries | Name::Advance | Name::Cosign | Name::LightCert => 2,
-        Name::Verify | Name::Consist | Name::Keygen => 3,
+        Name::Verify | Name::Consist | Name::Keygen | Name::TrustLandmarks => 3,
         Name::InitLog | Name::Subtree => 4,
-        Name::Cert => 5,
+        Name::Cert | Name::Audit => 5,
         Name::InitCosigner => 6,
     }
 }

@@ -1,0 +1,28 @@
+#!/bin/bash
+# Trusts the subtrees of the landmarks of logs of up to 100,000 entries, one behind each hundredth part of them, and prints
+# seconds and the most memory held. Needs python3 and GNU time. Not part of the gate.
+# Usage: bench/trust.sh [--write]   with --write the figures go into bench/trust/figures.txt
+# The variable PROGRAM names another program than that of ./mtc.
+set -eu
+root=$(cd "$(dirname "$0")/.." && pwd)
+folder=$(mktemp -d)
+trap 'rm -rf "$folder"' EXIT
+# shellcheck source=bench/program.sh
+. "$root/bench/program.sh"
+
+[ -n "${PROGRAM-}" ] || "$root/mtc" member "$root/examples/first.member" >/dev/null || exit 70
+program=${PROGRAM:-$root/crates/mtc_main/out/mtc_main}
+cd "$folder"
+for count in 1000 10000 100000; do
+    python3 "$root/bench/log/make_journal.py" "$count" journal
+    "$program" entries journal "$count" >entries
+    { echo "100 100"; seq "$count" "-$((count / 100))" 0; } >list
+    /usr/bin/time -q -f '%e %M' -o time "$program" trust-landmarks list 100 entries >trusted
+    [ "$(grep -c hash trusted)" -ge 100 ] || { echo "wrong: $count entries"; exit 1; }
+    read -r seconds held < <(tail -1 time)
+    printf "trusting the subtrees of 100 landmarks|%d entries|%s|%d MB\n" "$count" "$seconds" "$((held * 1024 / 1000000))" | tee -a figures
+done
+if [ "${1-}" = --write ]; then
+    mkdir -p "$root/bench/trust"
+    keep_figures trust "WORK|OF|SECONDS|MEMORY" <figures
+fi

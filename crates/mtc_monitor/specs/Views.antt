@@ -1,0 +1,24 @@
+-- What contracts see of the code's values, and what is told of them.
+use Rattle.cert_fields.specs.Views.{parts}
+use Rattle.mtc_answers.specs.Answers.{Reply, said}
+use Rattle.mtc_answers.specs.declared.answer.Said.TheVariants.{Done, Against, Collided}
+use Rattle.mtc_proof.specs.Views.{proof_parts}
+use Rattle.world_core.specs.declared.answer.Audit.{Audit}
+use Rattle.world_core.specs.declared.answer.Audit.TheVariants.{Foreign, Pair, Stands, Unrecorded}
+use Rattle.mtc_monitor.specs.AuditOutcome.{InputFile, Judged, collision_text, foreign_text}
+use Rattle.mtc_monitor.specs.AuditOutcome.{stands_text, unrecorded_text}
+use Rattle.mtc_monitor.specs.declared.accepted.AcceptedCert.{AcceptedCert}
+use Rattle.mtc_monitor.specs.declared.input.Input.{Input}
+
+abbrev pub judged : AcceptedCert → Judged
+judged a = record { accepted = a.accepted; cert = parts a.cert; proof = proof_parts a.proof }
+
+abbrev pub input_file : Input → InputFile
+input_file i = record { name = i.name.now; text = i.bytes.now }
+
+-- The answer of an audit as a reply.
+abbrev pub audit_reply : Audit → Reply
+audit_reply (Foreign wanted found) = said Against (foreign_text (wanted, found))
+audit_reply Unrecorded = said Against unrecorded_text
+audit_reply (Stands index) = said Done (stands_text index)
+audit_reply (Pair one other) = said Collided (collision_text one other)

@@ -1,0 +1,13 @@
+//! The commands of those who hold the entries of a log: `trust-landmarks` and `audit`.
+//!
+//! What each has to answer is a definition over its words and the room's files, in a file of
+//! `specs/` of its own.
+#![tactic(auto)]
+
+mod accepted;
+pub mod audit;
+mod found;
+mod input;
+mod reasons;
+mod tables;
+pub mod trust;
