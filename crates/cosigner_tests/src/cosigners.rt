@@ -4,7 +4,7 @@ use cosigner_core::{
     AdvanceRequest, CosignError, Cosigner, CosignerOpenError, CosignerSettings, SubtreeRequest,
     create,
 };
-use disk_core::MemDisk;
+use disk_core::{Disk, Fuse, MemDisk};
 use hss_core::{LmsType, OtsType, SigBuf};
 use journal_core::{Refused, StartError};
 use mtc_io::{Bytes, Memory};
@@ -13,6 +13,8 @@ use tls_wire::AnchorId;
 use tree_core::{Sha, TreeHash};
 
 pub(crate) type MemCosigner = Cosigner<Sha, MemDisk>;
+
+pub(crate) type FusedCosigner = Cosigner<Sha, Fuse<MemDisk>>;
 
 pub(crate) fn disk(alloc: Global, bytes: &[u8], failing: &[u64]) -> Result<MemDisk, Memory> {
     let bytes = Bytes::copy_of(alloc, bytes)?;
@@ -28,7 +30,10 @@ pub(crate) fn open(alloc: Global, disk: MemDisk) -> Result<MemCosigner, Cosigner
 
 /// Begins the journal of cosigner 32473.2 of log 32473.1, of height 5 and width 4: 16 bytes of 2
 /// are its identifier, and 32 of 7 its seed.
-pub(crate) fn begin(alloc: Global, disk: MemDisk) -> Result<(MemDisk, Option<StartError>), Memory> {
+pub(crate) fn begin<D: Disk + Drop>(
+    alloc: Global,
+    disk: D,
+) -> Result<(D, Option<StartError>), Memory> {
     let (Ok(id), Ok(log)) = (
         AnchorId::from_text(alloc, "32473.2"),
         AnchorId::from_text(alloc, "32473.1"),
@@ -57,7 +62,7 @@ pub(crate) fn is_known(bytes: &[u8], known: Known) -> bool {
 }
 
 /// Holds the first four entries of the log.
-pub(crate) fn advance_to_4(cosigner: &mut MemCosigner) -> Result<(), CosignError> {
+pub(crate) fn advance_to_4<D: Disk>(cosigner: &mut Cosigner<Sha, D>) -> Result<(), CosignError> {
     cosigner.advance(&AdvanceRequest {
         log: &LOG,
         size: 4,
@@ -67,7 +72,7 @@ pub(crate) fn advance_to_4(cosigner: &mut MemCosigner) -> Result<(), CosignError
 }
 
 /// Holds all eight.
-pub(crate) fn advance_to_8(cosigner: &mut MemCosigner) -> Result<(), CosignError> {
+pub(crate) fn advance_to_8<D: Disk>(cosigner: &mut Cosigner<Sha, D>) -> Result<(), CosignError> {
     cosigner.advance(&AdvanceRequest {
         log: &LOG,
         size: 8,
@@ -77,7 +82,10 @@ pub(crate) fn advance_to_8(cosigner: &mut MemCosigner) -> Result<(), CosignError
 }
 
 /// Signs all eight.
-pub(crate) fn sign_all(cosigner: &mut MemCosigner, out: &mut SigBuf) -> Result<(), CosignError> {
+pub(crate) fn sign_all<D: Disk>(
+    cosigner: &mut Cosigner<Sha, D>,
+    out: &mut SigBuf,
+) -> Result<(), CosignError> {
     let request = SubtreeRequest {
         log: &LOG,
         start: 0,

@@ -4,6 +4,8 @@
 #[cfg(test)]
 mod cosigners;
 #[cfg(test)]
+mod exports;
+#[cfg(test)]
 mod failures;
 #[cfg(test)]
 mod known;
@@ -11,5 +13,7 @@ mod known;
 mod openings;
 #[cfg(test)]
 mod refusals;
+#[cfg(test)]
+mod stops;
 #[cfg(test)]
 mod walks;
