@@ -1,7 +1,8 @@
 #!/usr/bin/env python3
 """Has cosigners of all widths sign subtrees of a log, and verifies their keys and signatures with BouncyCastle.
 
-The signed bytes are made here from the log's entries. Needs java and BouncyCastle's jar (BCPROV names it, or
+The signed bytes are made here from the log's entries. The keys are those of the cosigners' exports, which have to be those
+that `init-cosigner` printed, and in which the secrets may not stand. Needs java and BouncyCastle's jar (BCPROV names it, or
 /usr/share/java has it); where they aren't there it says so, and ends with status 0.
 Usage: tests/cosignatures.py [PROGRAM]
 """
@@ -91,6 +92,18 @@ def new_log(folder):
     return items(folder.run("entries", "j", str(SIZE)))
 
 
+def exported_key(export, printed, secret):
+    """The public key in an export, behind the two ids and its length."""
+    front = bytes([len(COSIGNER_ID)]) + COSIGNER_ID + bytes([len(LOG_ID)]) + LOG_ID + b"\0\74"
+    key = export[len(front):len(front) + 60]
+    if not export.startswith(front) or key != printed:
+        sys.exit(f"another key in an export: {export[:80].hex()}")
+    # The first 16 bytes of the secret are the key's identifier, which is public.
+    if any(secret[place:place + 8] in export for place in range(16, 41)):
+        sys.exit("a secret in an export")
+    return key
+
+
 def cosigned(folder, entries, height, width, count):
     """(key, signed bytes, signature) of so many signatures of a new cosigner."""
     journal = f"s{height}.{width}"
@@ -98,10 +111,13 @@ def cosigned(folder, entries, height, width, count):
     (folder.path / "secret").write_bytes(secret)
     key = base64.b64decode(folder.run("init-cosigner", journal, COSIGNER, LOG, str(height), str(width), "secret"))
     folder.run("advance", journal, "a")
+    signed = []
     for number in range(count):
         start, end = SUBTREES[number % len(SUBTREES)]
         folder.run("subtree", "j", str(start), str(end), str(SIZE), into="t")
-        yield key, signed_bytes(entries, start, end), signature_in(folder.run("cosign", journal, "t"))
+        signed.append((signed_bytes(entries, start, end), signature_in(folder.run("cosign", journal, "t"))))
+    key = exported_key(folder.run("export", journal), key, secret)
+    return [(key, message, signature) for message, signature in signed]
 
 
 def verified(folder, cases):
