@@ -7,7 +7,7 @@ use mtc_io::Bytes;
 pub enum Audit {
     /// The list is another one: it is too short, or has another hash than the one that is wanted.
     Foreign { wanted: [u8; 32], found: [u8; 32] },
-    /// Nothing that was kept of a cosigner supports the acceptance.
+    /// No export supports the acceptance.
     Unrecorded,
     /// The certificate's entry stands in the list at this index, with its key.
     Stands(u64),

@@ -6,7 +6,7 @@ ghost use Rattle.world_core.specs.Audit.{IsAudit, WasJudged};
 ghost use Rattle.world_core.specs.Walk.{AreSteps};
 
 use crate::answer::Audit;
-use crate::recorded::by_record;
+use crate::by_cosigners::by_record;
 use crate::settling::settle;
 use crate::wanted::{foreign, wanted_hash};
 use cert_fields::Cert;
@@ -18,15 +18,15 @@ use policy_core::{Accepted, By, Store};
 use std::alloc::Global;
 use tree_core::TreeHash;
 
-/// Audits the acceptance of a certificate against a list of entries, and against what was kept of a
-/// cosigner. The answer is the first of these that applies.
+/// Audits the acceptance of a certificate against a list of entries, and against the export of a
+/// cosigner, if there is one. The answer is the first of these that applies.
 ///
 /// `Foreign` where a hash is wanted and the list is too short or has another: by a landmark the
-/// accepted hash of the interval, by cosigners the tree hash of all that the cosigner holds at
-/// last, if one was kept. `Unrecorded` where cosigners decided and none was kept, or it is of
-/// another log or of a cosigner that doesn't count, or none of its Signs is of the interval with
-/// the accepted hash. `Stands` where the list's item at the index is the certificate's entry and
-/// key. `Pair` in all other cases.
+/// accepted hash of the interval, by cosigners the tree hash of all that the cosigner of the export
+/// holds at last, if there is an export. `Unrecorded` where cosigners decided and there is no
+/// export, or it is of another log or of a cosigner that doesn't count, or none of its Signs is of
+/// the interval with the accepted hash. `Stands` where the list's item at the index is the
+/// certificate's entry and key. `Pair` in all other cases.
 pub fn audit<H: TreeHash>(
     alloc: Global,
     accepted: &Accepted,

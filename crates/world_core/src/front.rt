@@ -7,7 +7,8 @@ use collide::list_hash;
 use cosigner_core::{Checkpoint, Step};
 use tree_core::TreeHash;
 
-/// What a cosigner holds behind these steps: the checkpoint of the last Advance, or none of a log.
+/// What a cosigner holds behind these steps: the checkpoint of the last Advance, or that of no
+/// entries.
 pub fn held_by<H: TreeHash>(steps: &[Step]) -> Checkpoint
     ensures { result ≡ held_by H.hash steps.now }
 {

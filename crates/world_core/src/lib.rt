@@ -1,24 +1,24 @@
 //! One list of entries behind what cosigners have signed and relying parties have accepted.
 //!
 //! [`audit`] holds the acceptance of a certificate against a list of entries that has the
-//! landmark's hash, or the root of a cosigner that was counted. It shows that the certificate's
-//! entry and key stand at their index, or two different strings with one hash. [`walk`] does the
-//! same for one signature of a cosigner: through the kept proofs, from what the cosigner holds at
-//! last back to what it held when it signed.
+//! landmark's hash, or the root of a cosigner's export. It shows that the certificate's entry and
+//! key stand at their index, or two different strings with one hash; or else that the export does
+//! not support the acceptance. [`walk`] does the same for one signature of a cosigner: through the
+//! proofs in its export, from what the cosigner holds at last back to what it held when it signed.
 #![tactic(auto)]
 
 mod answer;
 mod auditing;
+mod by_cosigners;
 mod front;
 mod laws;
-mod record;
-mod recorded;
 mod settling;
 mod signed;
+mod supporting;
 mod wanted;
 
 pub use answer::Audit;
 pub use auditing::audit;
 pub use front::{has_front, held_by};
 pub use laws::{one_list_is_behind, steps_lead_to_what_is_held, what_is_read_can_be_audited};
-pub use recorded::walk;
+pub use signed::walk;

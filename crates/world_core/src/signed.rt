@@ -1,12 +1,14 @@
 //! The walk from a signature to the list of entries behind it.
-ghost use Rattle.std.specs.Prelude.{◌≡◌, ◌<◌, ◌+◌, ◌↔◌, IsTrue, IfOk, length, slice_index_or};
+ghost use Rattle.std.specs.Prelude.{◌≡◌, ◌<◌, ◌+◌, ◌↔◌, IsTrue, IfOk, Some, length, slice_get, slice_index_or};
 ghost use Rattle.cert_fields.specs.Views.{texts};
+ghost use Rattle.cosigner_core.specs.declared.step.Step.{Step};
 ghost use Rattle.collide.specs.Extraction.{Extracts};
-ghost use Rattle.world_core.specs.Walk.{AreSteps, HasFront, IsOfList, IsSign, IsWithin, Shows, front_inputs, held_behind, proof_inputs};
+ghost use Rattle.world_core.specs.Walk.{AreSteps, HasFront, IsOfList, IsSign, IsWithin, Shows, front_inputs, held_behind, held_by, proof_inputs};
 
 use crate::front::{has_front, held_by};
 use collide::{Finding, in_consistency, list_hash};
-use cosigner_core::Step;
+use cosigner_core::{Export, Step};
+use entry_list::Items;
 use mtc_io::Memory;
 use std::alloc::Global;
 use tree_core::TreeHash;
@@ -143,6 +145,31 @@ pub(crate) fn find_signed<H: TreeHash>(
     if has_front::<H>(entries, &held_by::<H>(&steps[..place])) {
         return at_sign::<H>(alloc, entries, steps, place, step);
     }
-    let parting = parting::<H>(entries, steps, place);
-    at_advance::<H>(alloc, entries, steps, parting)
+    let last = parting::<H>(entries, steps, place);
+    at_advance::<H>(alloc, entries, steps, last)
+}
+
+/// Whether the list's own entries in the interval of a Sign have the signed hash, or else two
+/// different strings with one hash. The first is hashed in the tree hash of so many of the list's
+/// first entries as a checkpoint of the cosigner has, the second in the opening of its proofs.
+///
+/// The Sign is the step at the place `sign`, and the list begins with what the cosigner holds at
+/// last.
+pub fn walk<H: TreeHash>(
+    alloc: Global,
+    items: &Items<'_, H>,
+    kept: &Export,
+    sign: usize,
+) -> Result<Finding, Memory>
+    requires allowed { AreSteps H.hash kept.now.steps }
+    requires within { sign < length kept.now.steps }
+    requires sign { (step : Step) → slice_get kept.now.steps sign ≡ Some step → IsSign step }
+    requires whole { HasFront H.hash items.now.entries (held_by H.hash kept.now.steps) }
+    ensures { (step : Step) → slice_get kept.now.steps sign ≡ Some step → IfOk result
+        (Extracts H.hash (IsOfList H.hash items.now.entries step)
+        (front_inputs H.hash items.now.entries kept.now.steps)
+        (proof_inputs H.hash kept.now.steps)) }
+{
+    let steps = kept.steps.as_slice();
+    find_signed::<H>(alloc, items.entries(), steps, sign, &steps[sign])
 }

@@ -19,7 +19,7 @@ pub(crate) struct WantedHash {
 }
 
 /// What is wanted of a list: by a landmark the accepted hash of the interval; by cosigners that of
-/// all that is held at last by the one that was kept.
+/// all that is held at last by the one of the export.
 pub(crate) fn wanted_hash<H: TreeHash>(
     accepted: &Accepted,
     kept: Option<&Export>,

@@ -3,7 +3,7 @@ use Rattle.cert_fields.specs.Views.{parts, texts}
 use Rattle.mtc_proof.specs.Views.{proof_parts}
 use Rattle.std.proofs.Common.{Some}
 use Rattle.world_core.proofs.Settled.{own_inside, same_interval, sign_settles}
-use Rattle.world_core.proofs.recorded.by_sign.Goals as goal
+use Rattle.world_core.proofs.by_cosigners.by_sign.Goals as goal
 
 pub is_own-requires : goal.is_own-requires
 is_own-requires g c =

@@ -1,5 +1,5 @@
-//! Audits of what cosigners have signed.
-ghost use Rattle.std.specs.Prelude.{◌≡◌, ◌<◌, length, Ok, Some, IfOk, slice_get, slice_index_or, true};
+//! Audits of what was accepted by cosigners.
+ghost use Rattle.std.specs.Prelude.{◌≡◌, ◌<◌, length, Ok, Some, IfOk, slice_index_or, true};
 ghost use Rattle.cert_fields.specs.Grammar.{IsCertificate};
 ghost use Rattle.cert_fields.specs.Views.{parts};
 ghost use Rattle.tree_core.specs.Evaluation.{evaluation};
@@ -8,14 +8,13 @@ ghost use Rattle.log_entry.specs.EntryOf.{entry_of};
 ghost use Rattle.mtc_proof.specs.Views.{proof_parts};
 ghost use Rattle.cosigner_core.specs.declared.step.Step.{Step};
 ghost use Rattle.policy_core.specs.declared.store.Store.{Store};
-ghost use Rattle.collide.specs.Extraction.{Extracts};
 ghost use Rattle.world_core.specs.Audit.{Settles, SettlesRecorded, has_own, is_sign_of};
-ghost use Rattle.world_core.specs.Walk.{AreSteps, HasFront, IsOfList, IsSign, front_inputs, held_by, proof_inputs};
+ghost use Rattle.world_core.specs.Walk.{AreSteps, HasFront, held_by};
 
 use crate::answer::Audit;
-use crate::record::recorded_at;
 use crate::settling::settle;
 use crate::signed::find_signed;
+use crate::supporting::recorded_at;
 use cert_fields::Cert;
 use collide::Finding;
 use cosigner_core::Export;
@@ -26,31 +25,6 @@ use mtc_proof::Proof;
 use policy_core::{Accepted, Store};
 use std::alloc::Global;
 use tree_core::TreeHash;
-
-/// Whether the list's own entries in the interval of a Sign have the signed hash, or else two
-/// different strings with one hash. The first is hashed in the tree hash of so many of the list's
-/// first entries as a checkpoint of the cosigner has, the second in the opening of its proofs.
-///
-/// The Sign is the step at the place `sign`, and the list begins with what the cosigner holds at
-/// last. The hashes of fronts of the list are few: the place is looked for by halves.
-pub fn walk<H: TreeHash>(
-    alloc: Global,
-    items: &Items<'_, H>,
-    kept: &Export,
-    sign: usize,
-) -> Result<Finding, Memory>
-    requires allowed { AreSteps H.hash kept.now.steps }
-    requires within { sign < length kept.now.steps }
-    requires sign { (step : Step) → slice_get kept.now.steps sign ≡ Some step → IsSign step }
-    requires whole { HasFront H.hash items.now.entries (held_by H.hash kept.now.steps) }
-    ensures { (step : Step) → slice_get kept.now.steps sign ≡ Some step → IfOk result
-        (Extracts H.hash (IsOfList H.hash items.now.entries step)
-        (front_inputs H.hash items.now.entries kept.now.steps)
-        (proof_inputs H.hash kept.now.steps)) }
-{
-    let steps = kept.steps.as_slice();
-    find_signed::<H>(alloc, items.entries(), steps, sign, &steps[sign])
-}
 
 // Whether the list has the certificate's entry at the accepted index, with its key.
 fn is_own<H: TreeHash>(
@@ -105,7 +79,7 @@ fn by_sign<H: TreeHash>(
     }
 }
 
-/// The answer where cosigners decided, and this was kept of one of them.
+/// The answer where cosigners decided, and this is the export of one.
 pub(crate) fn by_record<H: TreeHash>(
     alloc: Global,
     set: u64,

@@ -1,6 +1,6 @@
 use Rattle.std.proofs.Common.{◌≡◌, drop}
 use Rattle.world_core.specs.Audit.{is_counted_as, some_place}
-use Rattle.world_core.proofs.record.is_counted.Given as goal
+use Rattle.world_core.proofs.supporting.is_counted.Given as goal
 
 -- none of the cosigners so far
 abbrev pub invariant-loop-place : goal.invariant-loop-place

@@ -1,4 +1,4 @@
-//! What was kept of a cosigner, beside what was accepted.
+//! Whether an export supports what was accepted.
 ghost use Rattle.std.specs.Prelude.{◌≡◌, ◌<◌, true, false, MatchOption, IfSome, Some};
 ghost use Rattle.std.specs.List.{position};
 ghost use Rattle.policy_core.specs.Counting.{is_in_set};
@@ -15,7 +15,7 @@ fn is_in_set(set: u64, place: usize) -> bool
     (set >> place) & 1 == 1
 }
 
-// The cosigner at this place counts, and is the one that was kept.
+// The cosigner at this place counts, and is that of the export.
 fn is_counted_as(set: u64, export: &Export, place: usize, known: &Known) -> bool
     requires { place < 64 }
     ensures { result ≡ is_counted_as set export.now.cosigner export.now.public place known.now }
@@ -25,7 +25,7 @@ fn is_counted_as(set: u64, export: &Export, place: usize, known: &Known) -> bool
         && known.key == export.public
 }
 
-// A cosigner that counts is the one that was kept.
+// A cosigner that counts is that of the export.
 fn is_counted(store: &Store, set: u64, export: &Export) -> bool
     ensures { result ≡ is_counted store.now set export.now }
 {
@@ -59,7 +59,7 @@ fn sign_place(accepted: &Accepted, steps: &[Step]) -> Option<usize>
     steps.iter().position(|step| is_sign_of(accepted, step))
 }
 
-/// The place of a Sign of what was accepted, where what was kept is of the store's log and of a
+/// The place of a Sign of what was accepted, where the export is of the store's log and of a
 /// cosigner that counts.
 #[tactic(auto, unfolding(crate::specs::Audit::is_recorded))]
 pub(crate) fn recorded_at(

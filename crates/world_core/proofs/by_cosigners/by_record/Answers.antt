@@ -3,7 +3,7 @@ use Rattle.cert_fields.specs.Views.{parts}
 use Rattle.mtc_proof.specs.Views.{proof_parts}
 use Rattle.world_core.proofs.Settled.{recorded_settles, sign_at}
 use Rattle.world_core.proofs.Walks.{ok_still}
-use Rattle.world_core.proofs.recorded.by_record.Goals as goal
+use Rattle.world_core.proofs.by_cosigners.by_record.Goals as goal
 
 pub by_sign-requires-clause-sign : goal.by_sign-requires-clause-sign
 by_sign-requires-clause-sign g c =
