@@ -16,4 +16,6 @@ mod stops;
 #[cfg(test)]
 mod streams;
 #[cfg(test)]
+mod system;
+#[cfg(test)]
 mod windows;

@@ -1,14 +1,9 @@
 //! The program `mtc`: a certification authority, its cosigners and its relying party for Merkle
-//! Tree Certificates. All that it does is done by [`mtc_top::run`]; here stand the real files and
-//! streams.
+//! Tree Certificates. All that it does is done by [`mtc_top::run`], over the system's files and the
+//! standard streams.
 #![tactic(auto)]
 
-mod file_room;
-mod journal;
-#[cfg(test)]
-mod tests;
-
-use file_room::FileRoom;
+use mtc_files::FileRoom;
 use mtc_io::{Sink, StdSink, write_all};
 use mtc_top::run;
 use std::env::Env;

@@ -1,14 +1,13 @@
 //! The room of real files.
-use crate::file_room::FileRoom;
-use crate::journal::open_to_write;
 use disk_core::Disk;
+use mtc_files::FileRoom;
 use mtc_io::read_all;
 use mtc_room::{Room, RoomError};
 use std::fs::{File, TryLockError};
 use std::os::unix::fs::MetadataExt;
 use std::rt::Files;
 use std::test::Fail;
-use std::{env, fs};
+use std::{env, fs, io};
 
 #[test]
 fn lends_the_files_of_the_system(rt: HostRuntime) -> Result<(), Fail> {
@@ -112,6 +111,11 @@ fn each_error_of_the_system_has_its_answer(rt: HostRuntime) -> Result<(), Fail> 
     assert!(rt; !fs::exists(&rt, path.join(rt.alloc(), "none")?)?);
     fs::remove_dir_all(&rt, &path)?;
     Ok(())
+}
+
+// A file that exists, open to be read and written.
+fn open_to_write<R: Files>(files: &R, name: &str) -> io::Result<R::File> {
+    File::options().read(true).write(true).open(files, name)
 }
 
 // Whether a room can lend the journal of that name.

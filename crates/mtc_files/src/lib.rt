@@ -1,0 +1,7 @@
+//! The files of the system as a room: what the program reads, makes and locks.
+#![tactic(auto)]
+
+mod file_room;
+mod journal;
+
+pub use file_room::FileRoom;
