@@ -5,6 +5,8 @@ use Rattle.std.proofs.lemmas.Option.{IfSome_then}
 use Rattle.byte_forms.specs.Types.{HashFunction, Text}
 use Rattle.disk_core.specs.Moments.{Looks}
 use Rattle.disk_core.specs.declared.disk.Disk.{Ghosts}
+use Rattle.journal_core.specs.Format.{StandsFor}
+use Rattle.journal_core.specs.Words.{AllStandFor}
 use Rattle.journal_core.specs.declared.error.OpenError.TheVariants as open_error
 use Rattle.cosigner_core.specs.Folds.{CosignerState}
 use Rattle.cosigner_core.specs.Openings.{FoundCosigner, HasCauseOf, cosigner_read}
@@ -16,6 +18,14 @@ use Rattle.mtc_answers.specs.Works.{HasWorkedOn}
 use Rattle.mtc_answers.specs.declared.answer.Stopped.TheVariants.{BadForm}
 use Rattle.mtc_answers.proofs.Works.{not_opened}
 use Rattle.mtc_cosigner.specs.Works.{bytes_say, found_cosigner, open_ending, open_fault_text}
+
+-- What is known behind an opening of these records: the outcome of the bytes is that of them, and
+-- the device and each image of it stand for them.
+pub record IsFound {D : Type 0} (g : Ghosts D) (says : Text → Outcome) (next : List Text → Outcome)
+    (old new : D) (records : Option (List Text)) : Type 0 where
+  pub told : IfSome (g.told old) (λ b. IfSome records (λ list. says b ≡ next list))
+  pub stands : IfSome (g.told new) (λ b. IfSome records (StandsFor b))
+  pub all : IfSome records (AllStandFor g new)
 
 module _ (h : HashFunction) (name : Text) (says : FoundCosigner → Outcome) where
   -- the outcome of the bytes is that of the cosigner that was found

@@ -1,15 +1,14 @@
-use Rattle.std.proofs.Common.{◌≡◌, inl, List, Option, IfSome, subst, sym}
+use Rattle.std.proofs.Common.{inl, List, Option, subst, sym}
 use Rattle.byte_forms.specs.Types.{Text}
-use Rattle.journal_core.specs.Format.{StandsFor}
-use Rattle.journal_core.specs.Words.{AllStandFor}
 use Rattle.cosigner_core.specs.Words.{cosigner_disk, cosigner_records, state_of}
 use Rattle.mtc_answers.specs.Answers.{Ending, ending_of}
+use Rattle.mtc_answers.specs.Steps.{Outcome}
 use Rattle.mtc_answers.specs.Valid.{WorksValidly}
 use Rattle.mtc_answers.specs.Works.{HasWorked as HasWorkedWith, HasWorkedOn}
 use Rattle.mtc_answers.proofs.Works.{worked_on}
 use Rattle.mtc_answers.proofs.Valid.{valid_on}
 use Rattle.mtc_cosigner.specs.Works.{IsCosigner, bytes_say, found_cosigner, work_says}
-use Rattle.mtc_cosigner.proofs.Opened.{found_says, refused_says}
+use Rattle.mtc_cosigner.proofs.Opened.{IsFound, found_says, refused_says}
 use Rattle.mtc_cosigner.proofs.cosigner_command.on_device.Goals as goal
 
 pub returns-in-Ok-clause-serves : goal.returns-in-Ok-clause-serves
@@ -20,21 +19,20 @@ returns-in-Ok-clause-serves g c =
     let says = work_says h c.args.work.now in
     let it = c.in-Ok.cosigner in
     let opened = c.in-Ok.ensures in
-    rw c.into_disk.ensures (worked_on d name (bytes_say h name says)
-    (λ list. says (found_cosigner (state_of it) list)) c.args.disk (cosigner_disk it)
-    (cosigner_disk c.carry_out-answer.new.cosigner) (ending_of c.carry_out-answer.result)
-    g.met.D.Disk.reads_image opened.looks opened.fine
-    (subst (λ (o : Option (List Text)). IfSome (d.told c.args.disk) (λ b. IfSome o
-    (λ l. bytes_say h name says b ≡ says (found_cosigner (state_of it) l)))) opened.list
-    (found_says h name says (d.told c.args.disk) (cosigner_records it) (state_of it)
-    opened.found))
-    (subst (λ (o : Option (List Text)). IfSome (d.told (cosigner_disk it))
-    (λ b. IfSome o (StandsFor b))) opened.list opened.stands)
-    (subst (λ (o : Option (List Text)). IfSome o (AllStandFor d (cosigner_disk it))) opened.list
-    opened.all)
-    (subst (λ (o : Option (List Text)). HasWorkedWith d name o
-    (λ list. says (found_cosigner (state_of it) list)) (cosigner_disk it)
-    (cosigner_disk c.carry_out-answer.new.cosigner) (ending_of c.carry_out-answer.result))
+    let next : List Text → Outcome = λ list. says (found_cosigner (state_of it) list) in
+    let done = cosigner_disk c.carry_out-answer.new.cosigner in
+    let ending = ending_of c.carry_out-answer.result in
+    let found = subst (IsFound d (bytes_say h name says) next c.args.disk (cosigner_disk it))
+    opened.list (record {
+      told = found_says h name says (d.told c.args.disk) (cosigner_records it) (state_of it)
+          opened.found;
+      stands = opened.stands;
+      all = opened.all;
+    }) in
+    rw c.into_disk.ensures (worked_on d name (bytes_say h name says) next c.args.disk
+    (cosigner_disk it) done ending g.met.D.Disk.reads_image opened.looks opened.fine found.told
+    found.stands found.all
+    (subst (λ (o : Option (List Text)). HasWorkedWith d name o next (cosigner_disk it) done ending)
     opened.list c.carry_out-answer.ensures.works))
 
 pub returns-in-Err-clause-serves : goal.returns-in-Err-clause-serves
@@ -56,21 +54,19 @@ returns-in-Ok-clause-valid g c =
     let says = work_says h c.args.work.now in
     let it = c.in-Ok.cosigner in
     let opened = c.in-Ok.ensures in
-    rw c.into_disk.ensures (valid_on d (IsCosigner h) name (bytes_say h name says)
-    (λ list. says (found_cosigner (state_of it) list)) c.args.disk (cosigner_disk it)
-    (cosigner_disk c.carry_out-answer.new.cosigner) opened.looks
-    (subst (λ (o : Option (List Text)). IfSome (d.told c.args.disk) (λ b. IfSome o
-    (λ l. bytes_say h name says b ≡ says (found_cosigner (state_of it) l)))) opened.list
-    (found_says h name says (d.told c.args.disk) (cosigner_records it) (state_of it)
-    opened.found))
-    (subst (λ (o : Option (List Text)). IfSome (d.told (cosigner_disk it))
-    (λ b. IfSome o (StandsFor b))) opened.list opened.stands)
-    (subst (λ (o : Option (List Text)). IfSome o (AllStandFor d (cosigner_disk it))) opened.list
-    opened.all)
-    (subst (λ (o : Option (List Text)). WorksValidly d (IsCosigner h) o
-    (λ list. says (found_cosigner (state_of it) list)) (cosigner_disk it)
-    (cosigner_disk c.carry_out-answer.new.cosigner))
-    opened.list c.carry_out-answer.ensures.valid))
+    let next : List Text → Outcome = λ list. says (found_cosigner (state_of it) list) in
+    let done = cosigner_disk c.carry_out-answer.new.cosigner in
+    let found = subst (IsFound d (bytes_say h name says) next c.args.disk (cosigner_disk it))
+    opened.list (record {
+      told = found_says h name says (d.told c.args.disk) (cosigner_records it) (state_of it)
+          opened.found;
+      stands = opened.stands;
+      all = opened.all;
+    }) in
+    rw c.into_disk.ensures (valid_on d (IsCosigner h) name (bytes_say h name says) next
+    c.args.disk (cosigner_disk it) done opened.looks found.told found.stands found.all
+    (subst (λ (o : Option (List Text)). WorksValidly d (IsCosigner h) o next (cosigner_disk it)
+    done) opened.list c.carry_out-answer.ensures.valid))
 
 pub returns-in-Err-clause-valid : goal.returns-in-Err-clause-valid
 returns-in-Err-clause-valid g c = inl c.in-Err.ensures.err
