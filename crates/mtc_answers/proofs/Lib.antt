@@ -3,3 +3,4 @@ pub mod Served
 pub mod Inputs
 pub mod Works
 pub mod Valid
+pub mod Begins

@@ -1,7 +1,8 @@
 -- What follows of the way in which a command ends.
-use Rattle.std.specs.Prelude.{◌≡◌, ◌≢◌, ◌⊎◌, ℕ, List, [], ◌∷◌}
+use Rattle.std.specs.Prelude.{◌≡◌, ◌≢◌, ◌⊎◌, ℕ, List, [], ◌∷◌, codes, Some}
 use Rattle.disk_core.specs.declared.disk.Disk.{Ghosts}
-use Rattle.mtc_answers.specs.Answers.{Ending, replied, room_failed, no_memory, status_of}
+use Rattle.mtc_answers.specs.Answers.{Ending, replied, room_failed, no_memory, refused, status_of}
+use Rattle.mtc_answers.specs.declared.answer.Stopped.TheVariants.{Beyond, Missing}
 use Rattle.mtc_answers.specs.Made.{Journaled, Leaving, HasKept, HasMade, MayHaveMade}
 use Rattle.mtc_answers.specs.Made.{Adds, MayAdd, OnlyLooks}
 use Rattle.mtc_answers.specs.Wanted.{Wanted, Meets}
@@ -16,6 +17,13 @@ LeftBy no_memory did = HasKept did
 abbrev pub IsNamed : List (List ℕ) → List ℕ → Type 0
 IsNamed [] file = ⊥
 IsNamed (name ∷ names) file = (file ≡ name) ⊎ IsNamed names file
+
+-- What an input file stops a command with: it isn't there, it is over its limit, the room failed at
+-- it, or memory was refused.
+abbrev pub IsInputStop : List ℕ → Ending → Type 0
+IsInputStop file ending = (ending ≡ replied (refused Missing (Some file) (codes "Absent")))
+    ⊎ ((ending ≡ replied (refused Beyond (Some file) (codes "TooLong")))
+    ⊎ ((ending ≡ room_failed file) ⊎ (ending ≡ no_memory)))
 
 -- The room is named as the cause only where it failed, and at one of these files; want of memory is
 -- free.

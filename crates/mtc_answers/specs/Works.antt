@@ -3,10 +3,12 @@ use Rattle.std.specs.Prelude.{◌≡◌, ◌≢◌, ◌⊎◌, ◌≤◌, ◌+�
 use Rattle.std.specs.Prelude.{IsSome, codes, Result, Ok, Err}
 use Rattle.std.specs.Option.{IsSomeAnd}
 use Rattle.mtc_io.specs.Counts.{Rose, with_count}
+use Rattle.disk_core.specs.Moments.{Looks}
 use Rattle.disk_core.specs.Same.{SameDevice}
 use Rattle.disk_core.specs.declared.disk.Disk.{Ghosts}
 use Rattle.journal_core.specs.Format.{StandsFor}
-use Rattle.mtc_room.specs.Room.{AllStay, LendsBytes, OthersStay}
+use Rattle.journal_core.specs.Starts.{IsNotStarted}
+use Rattle.mtc_room.specs.Room.{AllStay, LendsBytes, OthersStay, Stays}
 use Rattle.mtc_room.specs.declared.room.Room.{Ghosts as Rooms}
 use Rattle.journal_core.specs.declared.error.StartError.{StartError}
 use Rattle.journal_core.specs.declared.error.StartError.TheVariants.{Failed, Memory, NotEmpty}
@@ -74,28 +76,37 @@ module _ {R S D : Type 0} (rooms : Rooms R S D) (g : Ghosts D) (name : List ℕ)
     pub device : rooms.tells old → IsSome (rooms.file old name)
         → IsSomeAnd (rooms.device new name) (λ d. SameDevice g disk d)
 
+-- The refusal of a new journal of this name.
+abbrev pub not_new : List ℕ → List ℕ → Ending
+not_new name reason = replied (refused Missing (Some name) reason)
+
 -- What comes of making a journal with this text: all memory for it was taken before.
 abbrev pub made_ending : List ℕ → List ℕ → Result (Unit {0}) StartError → Ending
 made_ending file text (Ok done) = replied (said Done text)
-made_ending file text (Err NotEmpty) = replied (refused Missing (Some file) (codes "NotEmpty"))
+made_ending file text (Err NotEmpty) = not_new file (codes "NotEmpty")
 made_ending file text (Err Failed) = room_failed file
 made_ending file text (Err Memory) = no_memory
 
--- What came of beginning a journal with this record on a device: it was empty and is a journal, or
--- it held bytes, or it failed.
+-- What came of beginning a journal with this record on a device. It was empty and is a journal; or
+-- it held bytes, and was only looked at; or it failed, and was only looked at where it held bytes.
 abbrev pub BeginsOn : {D : Type 0} → Ghosts D → List ℕ → D → D → Result (Unit {0}) StartError
     → Type 0
-BeginsOn g first old new (Ok done) = IfSome (g.told old) (λ bytes. (bytes ≡ [])
+BeginsOn g first old new (Ok done) = (g.faults new ≡ g.faults old)
+    × IfSome (g.told old) (λ bytes. (bytes ≡ [])
     × ((c : List ℕ) → g.may_leave new c → StandsFor c (first ∷ [])))
-BeginsOn g first old new (Err NotEmpty) = IfSome (g.told old) (λ bytes. bytes ≢ [])
-BeginsOn g first old new (Err Failed) = Rose (g.faults old) (g.faults new)
-BeginsOn g first old new (Err Memory) = ⊥
+BeginsOn g first old new (Err why) = IsNotStarted g old new why × (why ≢ Memory)
+    × IfSome (g.told old) (λ bytes. bytes ≢ [] → Looks g old new)
 
 module _ {R S D : Type 0} (rooms : Rooms R S D) (g : Ghosts D) (name : List ℕ) where
-  -- No device was lent for a new file: the name has one, or the room failed.
-  abbrev pub IsNotLent : R → R → Ending → Type 0
-  IsNotLent old new ending = (ending ≡ replied (refused Missing (Some name) (codes "Exists")))
-      ⊎ ((ending ≡ room_failed name) × Rose (rooms.faults old) (rooms.faults new))
+  -- No device was lent for a new file, and none is made: the name has one, or the room failed.
+  pub record IsNotLent (old new : R) (ending : Ending) : Type 0 where
+    pub lent : rooms.lent new ≡ rooms.lent old
+    pub others : OthersStay (rooms.file old) (rooms.file new)
+        (rooms.device old) (rooms.device new) name
+    pub stays : Stays (rooms.file old) (rooms.file new) (rooms.device old) (rooms.device new) name
+    pub cause : ((ending ≡ not_new name (codes "Exists")) × (rooms.faults new ≡ rooms.faults old)
+        × (rooms.tells old → IsSome (rooms.file old name)))
+        ⊎ ((ending ≡ room_failed name) × Rose (rooms.faults old) (rooms.faults new))
 
   -- A device was lent, the journal begun on it and the device put back, over any room. The ending
   -- is what came of it.
@@ -108,3 +119,15 @@ module _ {R S D : Type 0} (rooms : Rooms R S D) (g : Ghosts D) (name : List ℕ)
     pub begins : BeginsOn g first lent left made
     pub taken : HasTaken rooms g name mid new left
     pub ends : ending ≡ made_ending name text made
+
+  -- Of a command that makes a journal of this name, over any room: none was begun, and the name's
+  -- file and device stay; or one was begun on a device that was lent for it, and the ending is what
+  -- came of it. So `NotEmpty` is told exactly where the start answered it.
+  abbrev pub IsNotBegun : R → R → Ending → Type 0
+  IsNotBegun old new ending =
+      Stays (rooms.file old) (rooms.file new) (rooms.device old) (rooms.device new) name
+      × (ending ≢ not_new name (codes "NotEmpty"))
+
+  abbrev pub TellsNew : R → R → Ending → Type 0
+  TellsNew old new ending = IsNotBegun old new ending
+      ⊎ ((first : List ℕ) × (text : List ℕ) × HasBegunOn first text new ending)

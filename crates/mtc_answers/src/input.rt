@@ -2,7 +2,7 @@
 ghost use Rattle.std.specs.Prelude.{◌≡◌, ◌<◌, ◌≤◌, ◌^◌, ℕ, List, [], Some, length, IfOk, IfErr};
 ghost use Rattle.mtc_answers.specs.Answers.{stop_ending};
 ghost use Rattle.mtc_answers.specs.Served.{GivesBack, HasDone};
-ghost use Rattle.mtc_answers.specs.Endings.{IsNamed};
+ghost use Rattle.mtc_answers.specs.Endings.{IsInputStop, IsNamed};
 ghost use Rattle.mtc_answers.specs.Steps.{Outcome, with_bytes};
 
 use crate::answer::{Reason, Stop, Stopped};
@@ -28,6 +28,7 @@ pub fn read_input<'a, R: Room>(
     ensures settled { GivesBack R.Room room.old room.new [] }
     ensures bytes { IfOk result (λ bytes. R.tells room.old
         → (R.file room.old name.now ≡ Some bytes) × (length bytes ≤ limit)) }
+    ensures kind { IfErr result (λ stop. IsInputStop name.now (stop_ending stop)) }
     ensures stops { IfErr result (λ stop. (files names : List (List ℕ))
         (next : List ℕ → Outcome) → IsNamed files name.now
         → HasDone R.Room R.Dsk.Disk ⊥ files names

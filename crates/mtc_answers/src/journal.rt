@@ -80,8 +80,9 @@ fn made_answer<'a>(
 ///
 /// Errors, in the order of the tests: `Exists` (status 7) where the name has a file, `NotEmpty`
 /// (status 7) where the new file has bytes, which one of a room that tells its files hasn't, and
-/// `Room` where the room failed, which may leave the new file with anything. Each of them, and the
-/// answer too, has its cause in the device over any room.
+/// `Room` where the room failed, which may leave a new file without bytes with anything; one with
+/// bytes is only looked at. Each of them, and the answer too, has its cause in the room or in the
+/// device that it lent, over any room.
 pub fn make_journal<'a, R: Room>(
     room: &mut R,
     journal: &'a str,

@@ -6,6 +6,7 @@ ghost use Rattle.mtc_words.specs.Commands.{is_height, is_width};
 ghost use Rattle.mtc_answers.specs.Answers.{ending_of};
 ghost use Rattle.mtc_answers.specs.Served.{HasServed};
 ghost use Rattle.mtc_answers.specs.Valid.{KeepsValid};
+ghost use Rattle.mtc_answers.specs.Works.{TellsNew};
 ghost use Rattle.mtc_cosigner.specs.InitOutcome.{init_cosigner_outcome, init_says};
 ghost use Rattle.mtc_cosigner.specs.Works.{IsCosigner};
 
@@ -34,6 +35,7 @@ fn init_with<'a, R: Room>(
         → KeepsValid R.Room R.Dsk.Disk (IsCosigner h) (journal.now ∷ [])
         (init_says journal.now settings.now file.now (R.file room.old journal.now) secret.now)
         room.old room.new }
+    ensures begins { TellsNew R.Room R.Dsk.Disk journal.now room.old room.new (ending_of result) }
 {
     match <[u8; SECRET_LENGTH]>::try_from(secret) {
         Ok(secret) => {
@@ -67,6 +69,7 @@ pub fn init_cosigner<'a, R: Room>(
         → KeepsValid R.Room R.Dsk.Disk (IsCosigner h) (journal.now ∷ [])
         (init_cosigner_outcome journal.now id log height width file.now (R.file room.old))
         room.old room.new }
+    ensures begins { TellsNew R.Room R.Dsk.Disk journal.now room.old room.new (ending_of result) }
 {
     let settings = CosignerSettings {
         id,

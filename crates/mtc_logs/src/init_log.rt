@@ -5,6 +5,7 @@ ghost use Rattle.mtc_words.specs.Commands.{is_active, is_limit};
 ghost use Rattle.mtc_answers.specs.Answers.{ending_of};
 ghost use Rattle.mtc_answers.specs.Served.{HasServed};
 ghost use Rattle.mtc_answers.specs.Valid.{KeepsValid};
+ghost use Rattle.mtc_answers.specs.Works.{TellsNew};
 ghost use Rattle.mtc_logs.specs.LogOutcomes.{log_line, init_log_outcome};
 ghost use Rattle.mtc_logs.specs.Works.{IsLog};
 
@@ -42,6 +43,7 @@ pub fn init_log<'a, R: Room>(
     ensures valid { (h : HashFunction)
         → KeepsValid R.Room R.Dsk.Disk (IsLog h) (journal.now ∷ [])
         (init_log_outcome journal.now id max_active limit (R.file room.old)) room.old room.new }
+    ensures begins { TellsNew R.Room R.Dsk.Disk journal.now room.old room.new (ending_of result) }
 {
     let settings = LogSettings {
         id,

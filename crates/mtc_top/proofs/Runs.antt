@@ -1,6 +1,6 @@
 -- A command that was done, and whose ending went out, is a run.
 use Rattle.std.proofs.Common.{◌≡◌, ◌≤◌, ◌⊎◌, inl, inr, ℕ, List, [], Option, None, Some, codes}
-use Rattle.std.proofs.Common.{refl, sym, subst, ◌∙◌, arith, IsErr}
+use Rattle.std.proofs.Common.{refl, sym, subst, ◌∙◌, arith, IsErr, IfSome}
 use Rattle.disk_core.specs.declared.disk.Disk.{Ghosts as Disks}
 use Rattle.mtc_io.specs.Counts.{Rose}
 use Rattle.mtc_io.specs.declared.sink.Sink.{Ghosts as Sinks}
@@ -18,9 +18,11 @@ use Rattle.mtc_answers.specs.declared.answer.Stopped.{Stopped}
 use Rattle.mtc_answers.specs.declared.answer.Stopped.TheVariants.{BadWords, BadForm}
 use Rattle.mtc_answers.specs.declared.answer.Stopped.TheVariants.{NotAllowed}
 use Rattle.mtc_answers.specs.declared.answer.Stopped.TheVariants.{Missing, Beyond}
+use Rattle.mtc_answers.specs.Works.{TellsNew}
 use Rattle.mtc_answers.proofs.Served.{each_so, each_is}
 use Rattle.mtc_top.specs.Concluded.{Wrote, Lost, Told, Concludes}
-use Rattle.mtc_top.specs.Outcome.{outcome, files_of, journals_of, spoken, spoken_rules}
+use Rattle.mtc_top.specs.Outcome.{outcome, files_of, journals_of, spoken, spoken_new}
+use Rattle.mtc_top.specs.Outcome.{spoken_rules}
 use Rattle.mtc_top.specs.Run.{HasRun}
 
 -- a reply's status is none of those without a reply
@@ -71,6 +73,10 @@ module _ {R S D O E : Type 0} (h : List ℕ → List ℕ) (rooms : Rooms R S D) 
   Did = HasDone rooms disks Bad (spoken files_of (command_of words))
       (spoken journals_of (command_of words)) want old new
 
+  abbrev New : Ending → Type 0
+  New ending = IfSome (spoken_new (command_of words)) (λ name.
+      TellsNew rooms disks name old new ending)
+
   abbrev Valid : Type 0
   Valid = KeepsValid rooms disks (spoken_rules h (command_of words))
       (spoken journals_of (command_of words)) want old new
@@ -81,9 +87,10 @@ module _ {R S D O E : Type 0} (h : List ℕ → List ℕ) (rooms : Rooms R S D) 
   no_file ending done tells = (done.made tells).no_file
 
   -- the reply went out
-  run_wrote : (reply : Reply) (status : ℕ) → Valid → Did (replied reply)
+  run_wrote : (reply : Reply) (status : ℕ) → Valid → New (replied reply)
+      → Did (replied reply)
       → Wrote outs errs (known_word words) out out' err err' reply status → Run status
-  run_wrote reply status valid done wrote =
+  run_wrote reply status valid began done wrote =
       let code = reply_code reply in
       record {
         read = record {
@@ -92,6 +99,7 @@ module _ {R S D O E : Type 0} (h : List ℕ → List ℕ) (rooms : Rooms R S D) 
         };
         answered = λ not5 not6 not8. record {
           reply = reply;
+          began = began;
           is = λ where_. elim where_ [
             | inl tells ↦ done.ends.reply tells
             | inr bad ↦ (done.ends.words bad).0
@@ -113,9 +121,10 @@ module _ {R S D O E : Type 0} (h : List ℕ → List ℕ) (rooms : Rooms R S D) 
       }
 
   -- standard output failed
-  run_lost : (kind : Said) (text : List ℕ) (status : ℕ) → Valid → Did (replied (said kind text))
+  run_lost : (kind : Said) (text : List ℕ) (status : ℕ) → Valid → New (replied (said kind text))
+      → Did (replied (said kind text))
       → Lost outs errs (known_word words) out out' err err' text status → Run status
-  run_lost kind text status valid done lost = record {
+  run_lost kind text status valid began done lost = record {
     read = record {
       only = λ one. absurd (omega (arith, lost.code, one));
       first = λ bad not8. absurd ((said_late kind text).0 (done.ends.words bad).1);
@@ -125,6 +134,7 @@ module _ {R S D O E : Type 0} (h : List ℕ → List ℕ) (rooms : Rooms R S D) 
     out_failed = λ is. record {
       cause = lost.cause;
       reply = said kind text;
+      began = began;
       is = λ where_. elim where_ [
         | inl tells ↦ done.ends.reply tells
         | inr bad ↦ (done.ends.words bad).0
@@ -145,10 +155,11 @@ module _ {R S D O E : Type 0} (h : List ℕ → List ℕ) (rooms : Rooms R S D) 
   }
 
   -- the room failed
-  run_failed : (file : List ℕ) (status : ℕ) → Valid → Did (room_failed file)
+  run_failed : (file : List ℕ) (status : ℕ) → Valid → New (room_failed file)
+      → Did (room_failed file)
       → Told outs errs (known_word words) out out' err err' 5 (Some file) (codes "Failed") status
       → Run status
-  run_failed file status valid done told = record {
+  run_failed file status valid began done told = record {
     read = record {
       only = λ one. absurd (omega (arith, told.is, one));
       first = λ bad not8. absurd (done.ends.words bad);
@@ -158,6 +169,7 @@ module _ {R S D O E : Type 0} (h : List ℕ → List ℕ) (rooms : Rooms R S D) 
       cause = done.ends.fault.0;
       text = told.nothing;
       file = file;
+      began = began;
       named = done.ends.fault.1;
       line = told.line;
       made = λ tells. (done.made tells).left;
@@ -173,10 +185,10 @@ module _ {R S D O E : Type 0} (h : List ℕ → List ℕ) (rooms : Rooms R S D) 
   }
 
   -- memory was refused
-  run_starved : (status : ℕ) → Valid → Did no_memory
+  run_starved : (status : ℕ) → Valid → New no_memory → Did no_memory
       → Told outs errs (known_word words) out out' err err' 8 None (codes "Memory") status
       → Run status
-  run_starved status valid done told = record {
+  run_starved status valid began done told = record {
     read = record {
       only = λ one. absurd (omega (arith, told.is, one));
       first = λ bad not8. absurd (not8 told.is);
@@ -185,6 +197,7 @@ module _ {R S D O E : Type 0} (h : List ℕ → List ℕ) (rooms : Rooms R S D) 
     room_failed = λ is. absurd (omega (arith, told.is, is));
     out_failed = λ is. absurd (omega (arith, told.is, is));
     no_memory = λ is. record {
+      began = began;
       text = told.nothing;
       line = told.line;
       made = λ tells. (done.made tells).left;
@@ -203,13 +216,15 @@ module _ {R S D O E : Type 0} (h : List ℕ → List ℕ) (rooms : Rooms R S D) 
       (outcome h words (rooms.file old)) old new ending
       → KeepsValid rooms disks (spoken_rules h (command_of words))
       (spoken journals_of (command_of words)) (outcome h words (rooms.file old)) old new
+      → IfSome (spoken_new (command_of words)) (λ name. TellsNew rooms disks name old new ending)
       → Concludes outs errs (known_word words) out out' err err' ending status
       → HasRun h rooms disks outs errs words old new out out' err err' status
-  has_run (replied (said kind text)) status done valid ends = elim ends [
-    | inl wrote ↦ run_wrote (said kind text) status valid done wrote
-    | inr lost ↦ run_lost kind text status valid done lost
+  has_run (replied (said kind text)) status done valid began ends = elim ends [
+    | inl wrote ↦ run_wrote (said kind text) status valid began done wrote
+    | inr lost ↦ run_lost kind text status valid began done lost
   ]
-  has_run (replied (refused why file reason)) status done valid wrote =
-      run_wrote (refused why file reason) status valid done wrote
-  has_run (room_failed file) status done valid told = run_failed file status valid done told
-  has_run no_memory status done valid told = run_starved status valid done told
+  has_run (replied (refused why file reason)) status done valid began wrote =
+      run_wrote (refused why file reason) status valid began done wrote
+  has_run (room_failed file) status done valid began told =
+      run_failed file status valid began done told
+  has_run no_memory status done valid began told = run_starved status valid began done told

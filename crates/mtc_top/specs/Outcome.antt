@@ -1,7 +1,7 @@
 -- The outcome: what the program has to answer, as a function of the words and the room's files. One
 -- line for each command; each command's own outcome stands in a file of its own, in mtc_reads,
 -- mtc_logs, mtc_cosigner or mtc_monitor.
-use Rattle.std.specs.Prelude.{ℕ, List, [], ◌∷◌, Result, Ok, Err}
+use Rattle.std.specs.Prelude.{ℕ, List, [], ◌∷◌, Option, None, Some, Result, Ok, Err}
 use Rattle.mtc_words.specs.declared.error.WordError.{WordError}
 use Rattle.mtc_words.specs.Commands.{CommandValue, member, show, verify, init_log, issue}
 use Rattle.mtc_words.specs.Commands.{checkpoint, entries, consist, subtree, keygen}
@@ -106,6 +106,29 @@ journals_of (trust_landmarks list active items) = []
 journals_of (cert journal index start end file) = journal ∷ []
 journals_of (audit certificate store moment items kept) = []
 
+-- The journal that it makes.
+abbrev pub new_of : CommandValue → Option (List ℕ)
+new_of (member file) = None
+new_of (show file) = None
+new_of (verify certificate store moment) = None
+new_of (init_log journal id active limit) = Some journal
+new_of (issue journal request) = None
+new_of (checkpoint journal) = None
+new_of (entries journal size) = None
+new_of (consist journal old new) = None
+new_of (subtree journal start end size) = None
+new_of (keygen height width file) = None
+new_of (init_cosigner journal id log height width file) = Some journal
+new_of (advance journal request) = None
+new_of (cosign journal request) = None
+new_of (export journal) = None
+new_of (landmark journal) = None
+new_of (landmarks journal) = None
+new_of (light_cert journal index) = None
+new_of (trust_landmarks list active items) = None
+new_of (cert journal index start end file) = None
+new_of (audit certificate store moment items kept) = None
+
 -- Which lists of records are a node's, of the kind that it works on.
 abbrev pub rules_of : (List ℕ → List ℕ) → CommandValue → List (List ℕ) → Type 0
 rules_of h (member file) = IsLog h
@@ -138,6 +161,10 @@ abbrev pub spoken : (CommandValue → List (List ℕ)) → Result CommandValue W
     → List (List ℕ)
 spoken names (Ok command) = names command
 spoken names (Err why) = []
+
+abbrev pub spoken_new : Result CommandValue WordError → Option (List ℕ)
+spoken_new (Ok command) = new_of command
+spoken_new (Err why) = None
 
 abbrev pub spoken_rules : (List ℕ → List ℕ) → Result CommandValue WordError → List (List ℕ)
     → Type 0

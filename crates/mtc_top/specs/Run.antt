@@ -1,11 +1,12 @@
 -- What a run of the program did, by these words, over a room and two sinks, each before and after.
-use Rattle.std.specs.Prelude.{◌≡◌, ◌≢◌, ◌⊎◌, ◌≤◌, ℕ, List, [], None, Some, codes, IsErr}
+use Rattle.std.specs.Prelude.{◌≡◌, ◌≢◌, ◌⊎◌, ℕ, List, [], None, Some, codes, IfSome, IsErr}
 use Rattle.disk_core.specs.declared.disk.Disk.{Ghosts as Disks}
 use Rattle.mtc_io.specs.Counts.{Rose}
 use Rattle.mtc_io.specs.declared.sink.Sink.{Ghosts as Sinks}
 use Rattle.mtc_room.specs.declared.room.Room.{Ghosts as Rooms}
 use Rattle.mtc_words.specs.Words.{command_of, known_word}
-use Rattle.mtc_answers.specs.Answers.{Reply, status_of, out_of, err_of, IsEarly}
+use Rattle.mtc_answers.specs.Answers.{Ending, Reply, replied, room_failed, no_memory}
+use Rattle.mtc_answers.specs.Answers.{status_of, out_of, err_of, IsEarly}
 use Rattle.mtc_answers.specs.Endings.{IsNamed}
 use Rattle.mtc_answers.specs.Lines.{line_of}
 use Rattle.mtc_answers.specs.Made.{Journaled, Leaving, untouched, IsOnOld, HasKept, HasMade}
@@ -14,8 +15,10 @@ use Rattle.mtc_answers.specs.Served.{Journals, OfEach, LeavesEach, done_with, Gi
 use Rattle.mtc_answers.specs.Steps.{Outcome}
 use Rattle.mtc_answers.specs.Valid.{KeepsValid}
 use Rattle.mtc_answers.specs.Wanted.{Meets}
+use Rattle.mtc_answers.specs.Works.{TellsNew}
 use Rattle.mtc_top.specs.Concluded.{Prints, PrintsFront, Reports}
-use Rattle.mtc_top.specs.Outcome.{outcome, files_of, journals_of, spoken, spoken_rules}
+use Rattle.mtc_top.specs.Outcome.{outcome, files_of, journals_of, spoken, spoken_new}
+use Rattle.mtc_top.specs.Outcome.{spoken_rules}
 
 module _ {R S D O E : Type 0} (h : List ℕ → List ℕ) (rooms : Rooms R S D) (disks : Disks D)
     (outs : Sinks O) (errs : Sinks E) (words : List (List ℕ))
@@ -39,6 +42,11 @@ module _ {R S D O E : Type 0} (h : List ℕ → List ℕ) (rooms : Rooms R S D) 
   abbrev pub Left : (Journaled → Leaving) → Type 0
   Left How = rooms.tells old → LeavesEach rooms disks old new journals How
 
+  -- Of a command that makes a journal, over any room: how it ended is what came of that.
+  abbrev pub Began : Ending → Type 0
+  Began ending =
+      IfSome (spoken_new (command_of words)) (λ name. TellsNew rooms disks name old new ending)
+
   -- It answered: the status, the text and the line are those of one reply, the one asked for, and
   -- it did with its journals what was asked.
   pub record Answered (status : ℕ) : Type 0 where
@@ -48,6 +56,7 @@ module _ {R S D O E : Type 0} (h : List ℕ → List ℕ) (rooms : Rooms R S D) 
     pub text : Prints outs out out' (out_of reply)
     pub line : Reports errs err err' (err_of (known_word words) reply)
     pub made : Left HasMade
+    pub began : Began (replied reply)
 
   -- The room failed: nothing went out, and the line names a file of the command. A journal that was
   -- there has its record or not; of a new one nothing is said.
@@ -58,6 +67,7 @@ module _ {R S D O E : Type 0} (h : List ℕ → List ℕ) (rooms : Rooms R S D) 
     pub named : IsNamed (spoken files_of (command_of words)) file
     pub line : Reports errs err err' (line_of (known_word words) (Some file) (codes "Failed"))
     pub made : Left MayHaveMade
+    pub began : Began (room_failed file)
 
   -- Standard output failed: a front of the text went out, and a journal has its record.
   pub record OutFailed : Type 0 where
@@ -67,12 +77,14 @@ module _ {R S D O E : Type 0} (h : List ℕ → List ℕ) (rooms : Rooms R S D) 
     pub text : PrintsFront outs out out' (out_of reply)
     pub line : Reports errs err err' (line_of (known_word words) None (codes "OutputFailed"))
     pub made : Left HasMade
+    pub began : Began (replied reply)
 
   -- Memory was refused: nothing went out, no journal has a new record, and no file is made.
   pub record NoMemory : Type 0 where
     pub text : Prints outs out out' []
     pub line : Reports errs err err' (line_of (known_word words) None (codes "Memory"))
     pub made : Left HasKept
+    pub began : Began no_memory
     pub unmade : rooms.tells old → OfEach (λ name did. IsUnmade rooms old new name) journals
 
   -- Status 1 says that the words are no command, and such words are answered by it.

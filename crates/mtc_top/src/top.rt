@@ -1,11 +1,12 @@
 //! The program's one call: the words, the work, and what goes out.
-ghost use Rattle.std.specs.Prelude.{◌≡◌, ◌<◌, ◌^◌, map, string_bytes, IsErr};
+ghost use Rattle.std.specs.Prelude.{◌≡◌, ◌<◌, ◌^◌, map, string_bytes, IfSome, IsErr};
 ghost use Rattle.mtc_words.specs.Commands.{command_value, IsInRange};
 ghost use Rattle.mtc_words.specs.Words.{command_of};
 ghost use Rattle.mtc_answers.specs.Answers.{ending_of};
 ghost use Rattle.mtc_answers.specs.Served.{HasDone};
 ghost use Rattle.mtc_answers.specs.Valid.{KeepsValid};
-ghost use Rattle.mtc_top.specs.Outcome.{command_outcome, files_of, journals_of, outcome, rules_of, spoken, spoken_rules};
+ghost use Rattle.mtc_answers.specs.Works.{TellsNew};
+ghost use Rattle.mtc_top.specs.Outcome.{command_outcome, files_of, journals_of, new_of, outcome, rules_of, spoken, spoken_new, spoken_rules};
 ghost use Rattle.mtc_top.specs.Run.{HasRun};
 
 use crate::finish::conclude;
@@ -46,6 +47,8 @@ fn perform<'a, H: TreeHash, R: Room>(
         (journals_of (command_value command.entry))
         (command_outcome H.hash (command_value command.entry) (R.file room.old))
         room.old room.new }
+    ensures began { IfSome (new_of (command_value command.entry)) (λ name.
+        TellsNew R.Room R.Dsk.Disk name room.old room.new (ending_of result)) }
 {
     match command {
         Command::Member(file) => member::<H, R>(alloc, room, file),
@@ -97,6 +100,8 @@ fn answer<'a, H: TreeHash, R: Room>(
         (spoken_rules H.hash (command_of (map string_bytes words.now)))
         (spoken journals_of (command_of (map string_bytes words.now)))
         (outcome H.hash (map string_bytes words.now) (R.file room.old)) room.old room.new }
+    ensures began { IfSome (spoken_new (command_of (map string_bytes words.now))) (λ name.
+        TellsNew R.Room R.Dsk.Disk name room.old room.new (ending_of result)) }
 {
     match read_words(alloc, words) {
         Ok(command) => perform::<H, R>(alloc, room, command),

@@ -12,9 +12,11 @@ begun (Some bytes) empty then_ = (empty, then_ bytes refl)
 
 pub returns-in-Ok-clause-begins : goal.returns-in-Ok-clause-begins
 returns-in-Ok-clause-begins g c =
-    let started = c.in-Ok.ensures.ok in
-    begun (g.D.Disk.told c.args.disk) started.empty (λ bytes told image left.
-    let all = subst (λ (list : Option (List (List ℕ))). IfSome list
-    (AllStandFor g.D.Disk (disk_of c.in-Ok.journal)))
-    (started.list ∙ ap (option_map (λ _. first_body c.args.first ∷ [])) told) started.all in
-    all image (subst (λ d. g.D.Disk.may_leave d image) c.into_disk.ensures left))
+    let started = c.in-Ok.ensures.ok in (
+      ap g.D.Disk.faults c.into_disk.ensures ∙ started.fine,
+      begun (g.D.Disk.told c.args.disk) started.empty (λ bytes told image left.
+          let all = subst (λ (list : Option (List (List ℕ))). IfSome list
+          (AllStandFor g.D.Disk (disk_of c.in-Ok.journal)))
+          (started.list ∙ ap (option_map (λ _. first_body c.args.first ∷ [])) told) started.all in
+          all image (subst (λ d. g.D.Disk.may_leave d image) c.into_disk.ensures left)),
+    )

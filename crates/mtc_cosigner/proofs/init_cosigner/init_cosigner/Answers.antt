@@ -1,6 +1,7 @@
 use Rattle.std.proofs.Common.{[], ◌∷◌, inl, inr, refl}
 use Rattle.std.proofs.lemmas.Result.{err_from_is_err_and}
 use Rattle.mtc_answers.specs.Answers.{ending_of}
+use Rattle.mtc_answers.proofs.Begins.{begins_behind, begins_stopped}
 use Rattle.mtc_answers.proofs.Served.{behind}
 use Rattle.mtc_answers.proofs.Valid.{behind_valid, kept_valid}
 use Rattle.mtc_cosigner.specs.InitOutcome.{init_cosigner_outcome, init_says, settings_of}
@@ -74,3 +75,15 @@ returns-clause-valid g c = λ h.
     c.chains_of_width.result c.tree_of_height.ensures.is c.chains_of_width.ensures
     c.as_slice.ensures (read.settled.others journal tt).bytes (read.bytes t).0 (read.bytes t).1)
     (c.init_with.ensures.valid h)
+
+pub returns-in_err-secret-clause-begins : goal.returns-in_err-secret-clause-begins
+returns-in_err-secret-clause-begins g c =
+    let stopped = err_from_is_err_and c.from_residual.result c.from_residual.ensures.1 in
+    rw (stopped.1, stopped.2) (begins_stopped g.R.Room g.R.Dsk.Disk c.args.journal.now
+    c.args.file.now c.args.room.now c.read_input.new.room _
+    (c.in_err-secret.ensures.settled.others c.args.journal.now tt) c.in_err-secret.ensures.kind)
+
+pub returns-clause-begins : goal.returns-clause-begins
+returns-clause-begins g c = begins_behind g.R.Room g.R.Dsk.Disk c.args.journal.now
+    c.args.room.now c.read_input.new.room c.init_with.new.room (ending_of c.init_with.result)
+    (c.in_ok-secret.ensures.settled.others c.args.journal.now tt) c.init_with.ensures.begins

@@ -6,6 +6,7 @@ use Rattle.mtc_answers.specs.Answers.{ending_of, no_memory}
 use Rattle.mtc_answers.specs.Served.{HasServed}
 use Rattle.mtc_answers.specs.Steps.{Outcome}
 use Rattle.mtc_answers.specs.Valid.{KeepsValid}
+use Rattle.mtc_answers.proofs.Begins.{begins_of}
 use Rattle.mtc_answers.proofs.Served.{stopped}
 use Rattle.mtc_answers.proofs.Valid.{new_valid, same_valid}
 use Rattle.mtc_cosigner.specs.InitOutcome.{init_says}
@@ -80,3 +81,7 @@ returns-in_ok-first-in-Ok-clause-valid g c = λ h.
     c.in_ok-text-in-Ok.ensures
     (new_valid g.R.Room g.R.Dsk.Disk (IsCosigner h) name first c.in_ok-text-in-Ok.text at
     c.args.room.now c.make_journal.new.room sound)
+
+pub returns-in_ok-first-in-Ok-clause-begins : goal.returns-in_ok-first-in-Ok-clause-begins
+returns-in_ok-first-in-Ok-clause-begins g c = begins_of g.R.Room g.R.Dsk.Disk _ _ _ _ _ _
+    c.make_journal.ensures.begins

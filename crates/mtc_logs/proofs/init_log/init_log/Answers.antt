@@ -4,6 +4,7 @@ use Rattle.issuance_log.specs.Records.{settings_record}
 use Rattle.mtc_answers.specs.Answers.{ending_of}
 use Rattle.mtc_answers.specs.Served.{HasServed}
 use Rattle.mtc_answers.specs.Steps.{starts, with_fresh}
+use Rattle.mtc_answers.proofs.Begins.{begins_of}
 use Rattle.mtc_answers.proofs.Valid.{new_valid, same_valid}
 use Rattle.mtc_logs.specs.LogOutcomes.{init_log_outcome, log_line, settings_of}
 use Rattle.mtc_logs.specs.Works.{IsLog}
@@ -40,3 +41,7 @@ returns-clause-valid g c = λ h.
     new_valid g.R.Room g.R.Dsk.Disk (IsLog h) name record_of text
     (g.R.Room.file c.args.room.now name) c.args.room.now c.make_journal.new.room
     (subst IsOk (sym (c.in_ok-first.ensures.valid h)) refl)
+
+pub returns-clause-begins : goal.returns-clause-begins
+returns-clause-begins g c = begins_of g.R.Room g.R.Dsk.Disk _ _ _ _ _ _
+    c.make_journal.ensures.begins

@@ -2,6 +2,7 @@ use Rattle.mtc_top.proofs.Runs.{has_run}
 use Rattle.mtc_top.proofs.top.run.Goals as goal
 
 pub returns : goal.returns
-returns g c = has_run g.H.TreeHash.hash g.R.Room g.R.Dsk.Disk g.O.Sink g.E.Sink _ _ _ _ _ _ _ _ _
-    c.answer-ended.ensures.done
-    c.answer-ended.ensures.valid (rw (← c.command_word.ensures) c.conclude.ensures)
+returns g c =
+    let done = c.answer-ended.ensures in
+    has_run g.H.TreeHash.hash g.R.Room g.R.Dsk.Disk g.O.Sink g.E.Sink _ _ _ _ _ _ _ _ _
+    done.done done.valid done.began (rw (← c.command_word.ensures) c.conclude.ensures)
