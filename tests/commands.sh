@@ -76,6 +76,10 @@ cosign w c >e|0|27220956792bf043|
 cosign w d|4|-|mtc: cosign: Beyond 3
 cosign w a|2|-|mtc: cosign: a: Short 21
 cosign j c|2|-|mtc: cosign: j: BadRecord 0
+export w|0|0e90356f9b484d1f|
+export j|2|-|mtc: export: j: BadRecord 0
+export k|7|-|mtc: export: k: Absent
+export w w|1|-|mtc: export: WrongCount 2 1
 checkpoint w|2|-|mtc: checkpoint: w: BadRecord 0
 cert j 1 0 2 e >f|0|2716e6bd45de1336|
 show f|0|9d9f0b3faa998625|
