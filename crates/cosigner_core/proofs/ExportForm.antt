@@ -4,6 +4,7 @@ use Rattle.std.proofs.Common.{length, Option, Some, None, Result, Ok, refl, sym,
 use Rattle.std.proofs.Common.{subst, append-nil, arith, inl, inr}
 use Rattle.std.specs.Prelude.{◌==◌, map}
 use Rattle.std.specs.Int.{w8, w16, w32}
+use Rattle.std.specs.List.{AllByRecursion}
 use Rattle.std.proofs.lemmas.Bool.{eqb-true}
 use Rattle.std.proofs.lemmas.List.{length-append, nil_from_length}
 use Rattle.byte_forms.specs.Types.{HashFunction, Text}
@@ -27,7 +28,7 @@ use Rattle.cosigner_core.specs.ExportReading.{signing_keys}
 use Rattle.cosigner_core.specs.ExportReading.{steps_left}
 use Rattle.cosigner_core.specs.Exports.{front_text, records_text}
 use Rattle.cosigner_core.specs.Progress.{first_progress, is_allowed, progress_by, with_step}
-use Rattle.cosigner_core.specs.Records.{step_in, step_record}
+use Rattle.cosigner_core.specs.Records.{FitsStep, step_in, step_record}
 use Rattle.cosigner_core.specs.declared.error.ReadExportError.{ReadExportError}
 use Rattle.cosigner_core.specs.declared.error.ReadExportError.TheVariants.{BadId, BadKey, BadRecord}
 use Rattle.cosigner_core.specs.declared.lists.Export.{Export}
@@ -54,7 +55,7 @@ allowed_is h keys p (Some s) step is =
 
 exported_takes : (h : HashFunction) (keys k : ℕ) (p : Progress) (a : At) (x : Step × At)
     → IsBytes a.rest → exported_at h keys k p a ≡ Ok x
-    → Stands a (vector w32 (step_record x.0)) x.1 × (is_allowed h keys p x.0 ≡ true)
+    → Stands a (vector w32 (step_record x.0)) x.1 × (is_allowed h keys p x.0 ≡ true) × FitsStep x.0
 unfolding exported_at
 exported_takes h keys k p a x are e =
     let s = bind_ok (lifted short_export (vector_at w32 a)) (λ (body : Text
@@ -69,8 +70,8 @@ exported_takes h keys k p a x are e =
     let body = step_takes s.0.0 t.0
     (vector_bytes a (number w32 (length s.0.0)) s.0.0 s.0.1 are stands.0) fits.0 in
     subst (λ (y : Step × At). Stands a (vector w32 (step_record y.0)) y.1
-    × (is_allowed h keys p y.0 ≡ true)) (ok_is ReadExportError (t.0, s.0.1) x t.2)
-    (subst (λ (text : Text). Stands a (vector w32 text) s.0.1) body.0 stands.0, fits.1)
+    × (is_allowed h keys p y.0 ≡ true) × FitsStep y.0) (ok_is ReadExportError (t.0, s.0.1) x t.2)
+    (subst (λ (text : Text). Stands a (vector w32 text) s.0.1) body.0 stands.0, fits.1, body.1)
 
 -- ---- all records
 
@@ -79,6 +80,7 @@ record TakesSteps (h : HashFunction) (keys : ℕ) (p : Progress) (a : At)
     (x : List Step × At) : Type 0 where
   pub stands : Stands a (records_text (map step_record x.0)) x.1
   pub end : x.1.rest ≡ []
+  pub fits : AllByRecursion FitsStep x.0
   pub progress : Progress
   pub valid : progress_by h keys p x.0 ≡ Some progress
 
@@ -88,21 +90,23 @@ unfolding progress_by
 no_steps h keys p a are none = record {
   stands = Stands-none a are;
   end = none;
+  fits = tt;
   progress = p;
   valid = refl;
 }
 
 more_steps : (h : HashFunction) (keys : ℕ) (p : Progress) (a : At) (x : Step) (b : At)
     (xs : List Step × At) → Stands a (vector w32 (step_record x)) b
-    → is_allowed h keys p x ≡ true → TakesSteps h keys (with_step p x) b xs
+    → is_allowed h keys p x ≡ true → FitsStep x → TakesSteps h keys (with_step p x) b xs
     → TakesSteps h keys p a (x ∷ xs.0, xs.1)
 unfolding progress_by
-more_steps h keys p a x b xs stands fits rest = record {
+more_steps h keys p a x b xs stands allowed fits rest = record {
   stands = Stands-then a (vector w32 (step_record x)) b (records_text (map step_record xs.0)) xs.1
       stands rest.stands;
   end = rest.end;
+  fits = (fits, rest.fits);
   progress = rest.progress;
-  valid = rw fits rest.valid;
+  valid = rw allowed rest.valid;
 }
 
 steps_take : (h : HashFunction) (keys most k : ℕ) (p : Progress) (a : At) (x : List Step × At)
@@ -135,7 +139,7 @@ steps_take h keys (suc most) k p a x are few e =
           let rest = steps_take h keys most (k + 1) (with_step p s.0.0) s.0.1 t.0 one.0.bytes
           less t.1 in
           subst (TakesSteps h keys p a) (ok_is ReadExportError (s.0.0 ∷ t.0.0, t.0.1) x t.2)
-          (more_steps h keys p a s.0.0 s.0.1 t.0 one.0 one.1 rest)
+          (more_steps h keys p a s.0.0 s.0.1 t.0 one.0 one.1 one.2 rest)
     ]
 
 -- ---- the front
@@ -241,6 +245,7 @@ export_takes h bytes e are is =
           let made : IsExport h (export_with s.0.0 v.0.0) = record {
             cosigner = front.cosigner;
             log = front.log;
+            fits = steps.fits;
             progress = steps.progress;
             valid = rw front.keys steps.valid;
           } in

@@ -3,6 +3,7 @@ use Rattle.std.specs.Prelude.{◌≡◌, ◌≢◌, ℕ, zero, suc, ◌+◌, ◌
 use Rattle.std.specs.Prelude.{length, Option, Some, None, option_and_then, Result, Ok, Err}
 use Rattle.std.specs.Prelude.{if◌then◌else◌, map, ◌++◌}
 use Rattle.std.specs.Int.{w8, w16, w32}
+use Rattle.std.specs.List.{AllByRecursion}
 use Rattle.byte_forms.specs.Types.{HashFunction, Text}
 use Rattle.byte_forms.specs.Places.{At, at}
 use Rattle.byte_forms.specs.Readings.{Reading, ◌>>=◌, blamed, both_at, lifted_at, some_or}
@@ -17,7 +18,7 @@ use Rattle.tls_wire.specs.declared.cursor.Short.{Short as ShortForm}
 use Rattle.cosigner_core.specs.Exports.{front_text, records_text}
 use Rattle.cosigner_core.specs.Folds.{CosignerState}
 use Rattle.cosigner_core.specs.Progress.{first_progress, is_allowed, progress_by, with_step}
-use Rattle.cosigner_core.specs.Records.{step_in, step_record}
+use Rattle.cosigner_core.specs.Records.{FitsStep, step_in, step_record}
 use Rattle.cosigner_core.specs.declared.error.ReadExportError.{ReadExportError}
 use Rattle.cosigner_core.specs.declared.error.ReadExportError.TheVariants.{BadId, BadKey}
 use Rattle.cosigner_core.specs.declared.error.ReadExportError.TheVariants.{BadRecord, Short}
@@ -113,10 +114,11 @@ export_progress h e =
     option_and_then (λ keys. progress_by h keys (first_progress h) e.steps)
     (signing_keys e.public)
 
--- The ids are anchor ids, the key is one that signs, and each step is allowed.
+-- The ids are anchor ids, the key is one that signs, and each step fits a record and is allowed.
 pub record IsExport (h : HashFunction) (e : Export) : Type 0 where
   pub cosigner : IsAnchorId e.cosigner
   pub log : IsAnchorId e.log
+  pub fits : AllByRecursion FitsStep e.steps
   pub progress : Progress
   pub valid : export_progress h e ≡ Some progress
 

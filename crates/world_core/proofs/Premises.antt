@@ -2,6 +2,7 @@
 -- read as an export.
 use Rattle.std.proofs.Common.{◌≡◌, ℕ, List, [], ◌∷◌, Option, Some, None, Ok, sym, ap, subst, ◌∙◌}
 use Rattle.std.specs.Prelude.{IfSome, ℤ}
+use Rattle.std.specs.List.{AllByRecursion}
 use Rattle.byte_forms.specs.Types.{HashFunction, Text}
 use Rattle.byte_forms.specs.Places.{IsBytes}
 use Rattle.byte_forms.specs.Readings.{lifted}
@@ -16,13 +17,16 @@ use Rattle.policy_core.specs.declared.refusal.Refusal.TheVariants.{Grammar}
 use Rattle.policy_core.specs.declared.store.Store.{Store}
 use Rattle.cosigner_core.specs.ExportReading.{IsExport, export_in, signing_keys}
 use Rattle.cosigner_core.specs.Progress.{first_progress, is_allowed, progress_by, with_step}
+use Rattle.cosigner_core.specs.Records.{FitsStep}
 use Rattle.cosigner_core.specs.declared.lists.Export.{Export}
 use Rattle.cosigner_core.specs.declared.progress.Progress.{Progress}
 use Rattle.cosigner_core.specs.declared.step.Step.{Step}
+use Rattle.cosigner_core.specs.declared.step.Step.TheVariants.{Advance, Sign}
 use Rattle.cosigner_core.proofs.ExportForm.{export_takes}
 use Rattle.cosigner_core.proofs.FirstRecords.{then_some}
 use Rattle.cosigner_core.proofs.Tagged.{some_value}
 use Rattle.world_core.specs.Audit.{WasJudged}
+use Rattle.world_core.specs.Laws.{HasHashes}
 use Rattle.world_core.specs.Walk.{AreSteps, held_by, with_steps}
 use Rattle.world_core.proofs.Steps.{step_first}
 
@@ -55,6 +59,18 @@ pub export_steps : (h : HashFunction) (bytes : Text) (kept : Option Export) → 
     → export_in h bytes ≡ Ok kept → IfSome kept (λ e. AreSteps h e.steps)
 export_steps h bytes None are read = tt
 export_steps h bytes (Some e) are read = are_steps h e (export_takes h bytes e are read).1
+
+hashes_of : (step : Step) → FitsStep step → HasHashes step
+hashes_of (Advance size root proof) fits = fits.all_hashes.0
+hashes_of (Sign index start end hash proof) fits = fits.all_hashes.0
+
+all_hashes : (steps : List Step) → AllByRecursion FitsStep steps → AllByRecursion HasHashes steps
+all_hashes [] fits = tt
+all_hashes (step ∷ steps) fits = (hashes_of step fits.0, all_hashes steps fits.1)
+
+pub have_hashes : (h : HashFunction) (e : Export) → IsExport h e
+    → AllByRecursion HasHashes e.steps
+have_hashes h e is = all_hashes e.steps is.fits
 
 -- ---- what is held
 

@@ -1,5 +1,6 @@
 //! Laws of audits: the clauses are the laws, and the functions do nothing.
 ghost use Rattle.std.specs.Prelude.{◌≡◌, ℕ, ℤ, IfSome, List, Ok, Option, Some};
+ghost use Rattle.std.specs.List.{AllByRecursion};
 ghost use Rattle.byte_forms.specs.Places.{IsBytes};
 ghost use Rattle.byte_forms.specs.Types.{HashFunction, Text};
 ghost use Rattle.cert_fields.specs.Certificate.{Parts, parts_of};
@@ -14,14 +15,15 @@ ghost use Rattle.policy_core.specs.Judgement.{judgement};
 ghost use Rattle.policy_core.specs.declared.answer.Accepted.{Accepted};
 ghost use Rattle.policy_core.specs.declared.store.Store.{Store};
 ghost use Rattle.world_core.specs.Audit.{WasJudged};
-ghost use Rattle.world_core.specs.Laws.{OneListBehind};
+ghost use Rattle.world_core.specs.Laws.{HasHashes, OneListBehind};
 ghost use Rattle.world_core.specs.Walk.{AreSteps, held_by};
 
 use tree_core::TreeHash;
 
 /// What callers hold meets the conditions of [`audit`](crate::audit): a certificate that is read,
 /// with the proof that is read from it, where the store accepts its bytes at some moment; and what
-/// is read as an export, or is one by its rules.
+/// is read as an export, or is one by its rules. The proofs of an export have 32-byte hashes, as
+/// [`one_list_is_behind`] asks.
 pub fn what_is_read_can_be_audited()
     ensures judged { (h : HashFunction) (bytes : Text) (store : Store) (moment : ℤ) (a : Accepted)
         (c : Parts) (p : ProofParts) → IsBytes bytes → judgement h bytes store moment ≡ Ok a
@@ -29,6 +31,8 @@ pub fn what_is_read_can_be_audited()
     ensures read { (h : HashFunction) (bytes : Text) (kept : Option Export) → IsBytes bytes
         → export_in h bytes ≡ Ok kept → IfSome kept (λ e. AreSteps h e.steps) }
     ensures export { (h : HashFunction) (e : Export) → IsExport h e → AreSteps h e.steps }
+    ensures hashes { (h : HashFunction) (e : Export) → IsExport h e
+        → AllByRecursion HasHashes e.steps }
 {}
 
 /// What is held at last by steps that are allowed is the checkpoint to which they lead.
