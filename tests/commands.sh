@@ -20,6 +20,9 @@ request 2026-01-08T00:00:00Z 2026-01-01T00:00:00Z '"a.example"' '' "$key" >t
 request 2026-01-01T00:00:00Z 2026-01-08T00:00:00Z '"-a.example"' '' "$key" >u
 printf %048d 0 >secret
 printf '[log]\nid = "32473.1"\n' | tee store >other
+printf '[[%s]]\n%s\n%s\n' cosigner 'id = "32473.2"' 'key = "AAAAAQAAAAUAAAADMDAwMDAwMDAwMDAwMDAwMIB1NLdgPEPM0E/kvwFyxip3db1CJTKwvsyumrhWwUuV"' \
+    rule 'cosigners = ["32473.2"]' 'count = 1' >>other
+: >empty
 
 wrong=0
 count=0
@@ -146,6 +149,53 @@ landmark o|0|bef8121959deb7cd|
 landmarks o|0|17fd6ec7ca35bcf7|
 light-cert o 3|4|-|mtc: light-cert: NotCovered
 light-cert o 6|0|5c128867dc86b357|
+trust-landmarks l 2 n >>store|0|5604a2a7070a0217|
+verify h store 1767225600|0|2e99ef8832618704|
+verify i store 2524607999|0|43cba64a1d8af684|
+verify g store 1767225600|0|ceb4c9d10ac68f69|
+trust-landmarks l 3 n|0|5604a2a7070a0217|
+trust-landmarks l 1 n|2|-|mtc: trust-landmarks: l: TooManyActive
+trust-landmarks l 0 n|1|-|mtc: trust-landmarks: BadNumber 2
+trust-landmarks l 10001 n|1|-|mtc: trust-landmarks: BadNumber 2
+trust-landmarks l 2|1|-|mtc: trust-landmarks: WrongCount 2 3
+trust-landmarks n 2 n|2|-|mtc: trust-landmarks: n: BadLine 0
+trust-landmarks l 2 l|2|-|mtc: trust-landmarks: l: Short 0
+trust-landmarks n 2 l|2|-|mtc: trust-landmarks: l: Short 0
+trust-landmarks empty 2 n|2|-|mtc: trust-landmarks: empty: BadLine 0
+trust-landmarks l 2 empty|2|-|mtc: trust-landmarks: l: BeyondLog
+trust-landmarks k 2 n|7|-|mtc: trust-landmarks: k: Absent
+trust-landmarks l 2 k|7|-|mtc: trust-landmarks: k: Absent
+entries m 8 >p|0|abe387ebd9c42115|
+trust-landmarks l 2 p|2|-|mtc: trust-landmarks: l: BeyondLog
+audit h store 1767225600 n empty|0|b872ef9159f7401a|
+audit h store 1767225600 p empty|0|b872ef9159f7401a|
+audit i store 2524607999 p empty|3|521bf736109885c5|
+entries o 9 >q|0|5d348117ea63b2b2|
+audit h store 1767225600 q empty|3|f6877c3953f4af60|
+audit h store 1767225600 empty empty|3|9af4323c498831d8|
+verify f other 1767225600|0|1ce12c1c8a98c089|
+export w >x|0|0e90356f9b484d1f|
+entries j 3 >y|0|a183d917c04cb5db|
+entries j 2 >z|0|b7e4cc5fa6329a75|
+audit f other 1767225600 y x|0|d5e1ed673f1ca1d7|
+audit f other 1767225600 n x|0|d5e1ed673f1ca1d7|
+audit f other 1767225600 z x|3|7f0f7d3403e18591|
+audit f other 1767225600 q x|3|63e1d9e5388f0703|
+audit f other 1767225600 y empty|3|b4994d0e3661d7e0|
+audit f other 1767225600 z empty|3|b4994d0e3661d7e0|
+audit f store 1767225600 y x|3|0c01d7f4d8ef0652|
+audit f other 1800000000 y x|3|705d1d9f5ff4db00|
+audit f other 01 y x|1|-|mtc: audit: BadNumber 3
+audit f other 1767225600 y|1|-|mtc: audit: WrongCount 4 5
+audit f empty 1767225600 y x|2|-|mtc: audit: empty: Missing LogId
+audit f other 1767225600 e x|2|-|mtc: audit: e: Short 1155
+audit f other 1767225600 y e|2|-|mtc: audit: e: BadKey
+audit f other 1767225600 y r|2|-|mtc: audit: r: Short 111
+audit e other 1767225600 y x|2|-|mtc: audit: e: WrongTag 0
+audit k other 1767225600 y x|7|-|mtc: audit: k: Absent
+audit f k 1767225600 y x|7|-|mtc: audit: k: Absent
+audit f other 1767225600 k x|7|-|mtc: audit: k: Absent
+audit f other 1767225600 y k|7|-|mtc: audit: k: Absent
 TABLE
 if [ "$(cat j w m o | sha256sum | cut -d' ' -f1)" != 153ee80fdbc66fc3537da1ad8c52b9d396d1b3c54c20f578ea8d95bd831e0b36 ]; then
     echo "wrong: the journals"
