@@ -32,10 +32,11 @@ use Rattle.mtc_top.specs.CourseLaws.{CoursesAreHistories, EntriesStand, HandedOu
 use Rattle.mtc_top.specs.CourseLaws.{JournalsAreRead, KeysSignOnce, KeysSignOneMessage}
 use Rattle.mtc_top.specs.CourseLaws.{RecoveredListsGrow}
 use Rattle.mtc_top.specs.Courses.{Link, IsCourse, IsReached, IsRecovered, WasHeld, WasMade}
-use Rattle.mtc_top.specs.Courses.{images_of}
+use Rattle.mtc_top.specs.Courses.{WentOut, images_of}
 use Rattle.mtc_top.specs.Nodes.{StandsForNode}
-use Rattle.mtc_top.proofs.Courses.{IsLater, all_held, course_held, course_later}
-use Rattle.mtc_top.proofs.Courses.{made_at, made_records, start_of}
+use Rattle.mtc_top.proofs.Courses.{IsLater, Goes, course_goes, course_held}
+use Rattle.mtc_top.proofs.Courses.{made_at, start_of}
+use Rattle.mtc_top.proofs.Turns.{all_held, made_records}
 use Rattle.mtc_top.proofs.Nodes.{one_list, some_image, valid_pending}
 
 -- ---- the list of an image
@@ -138,11 +139,15 @@ module _ {R S D O E : Type 0} (h : HashFunction) (rooms : Rooms R S D) (disks : 
   module _ (name : List ℕ) (start : NodeStart) (first : List ℕ) (made new : R)
       (links : List (Link R O E)) (was : WasMade h rooms disks outs errs name start first made)
       (course : IsCourse h rooms disks outs errs made links new) where
-    pub last : Ends name start first was.starts new
-    last = course_later h rooms disks outs errs image only told name start first was.starts []
+    abbrev goes : Goes h rooms disks outs errs image only told name start first was.starts []
+        (fresh_node start) made new links
+    goes = course_goes h rooms disks outs errs image only told name start first was.starts []
         (fresh_node start) made new links
         (made_at h rooms disks outs errs image only told name start first was.starts made was)
         course
+
+    abbrev pub last : Ends name start first was.starts new
+    last = goes.later
 
     sound_of : (later : Ends name start first was.starts new)
         → IsSoundNode (may_follow h) later.state
@@ -153,12 +158,13 @@ module _ {R S D O E : Type 0} (h : HashFunction) (rooms : Rooms R S D) (disks : 
     same_start later = start_of h rooms disks outs errs image only told name start first
         was.starts later.more later.state new later.at
 
-    pub reached : IsReached h rooms disks outs errs name start first new
+    pub reached : IsReached h rooms disks outs errs name start first made links new
     reached = record {
       steps = last.more;
       state = last.state;
       leads = last.at.leads;
       stands = last.at.stands;
+      handed = subst (WentOut h rooms disks outs errs name made links) (sym goes.handed) goes.went;
     }
 
     pub node_list : (list : List (List ℕ))
@@ -241,13 +247,14 @@ module _ {R S D O E : Type 0} (h : HashFunction) (rooms : Rooms R S D) (disks : 
       let of = node_list name start first made new links was course found recovered in
       let t = log_found h start settings first found is was.starts of in
       let front = held_front name start first made new links was course list found held recovered
-      in
-      record {
-        log = t.0;
-        is = t.1;
-        keeps = items_kept h list front.0 s t.0 log
-            (subst (λ (l : List (List ℕ)). log_of h l ≡ Ok t.0) (sym front.1) t.1);
-      }
+      in (
+        t.0,
+        (
+          t.1,
+          items_kept h list front.0 s t.0 log
+              (subst (λ (l : List (List ℕ)). log_of h l ≡ Ok t.0) (sym front.1) t.1),
+        ),
+      )
 
   pub added_stand : AddedEntriesStand h rooms disks outs errs
   added_stand name start first made new links was course settings list found body entry key s is
@@ -255,13 +262,14 @@ module _ {R S D O E : Type 0} (h : HashFunction) (rooms : Rooms R S D) (disks : 
       let of = node_list name start first made new links was course found recovered in
       let t = log_found h start settings first found is was.starts of in
       let front = held_front name start first made new links was course (list ++ body ∷ []) found
-      held recovered in
-      record {
-        log = t.0;
-        is = t.1;
-        item = item_added h list body front.0 entry key s t.0 log item
-            (subst (λ (l : List (List ℕ)). log_of h l ≡ Ok t.0) (sym front.1) t.1);
-      }
+      held recovered in (
+        t.0,
+        (
+          t.1,
+          item_added h list body front.0 entry key s t.0 log item
+              (subst (λ (l : List (List ℕ)). log_of h l ≡ Ok t.0) (sym front.1) t.1),
+        ),
+      )
 
   pub made_of_nodes : MadeOfNodes h rooms disks outs errs
   made_of_nodes name first old turn tells run done did =

@@ -30,19 +30,6 @@ pub record IsReadAsNode (h : HashFunction) (start : NodeStart) (first c : List �
   pub of_node : AreOfNode h start first list
   pub read : IsReadAs h start c list
 
--- The records make a log that still has these entries and keys at their indices.
-pub record HasItemsOf (h : HashFunction) (s : LogState) (list : List (List ℕ)) : Type 0 where
-  pub log : LogState
-  pub is : log_of h list ≡ Ok log
-  pub keeps : KeepsItems s log
-
--- The records make a log that has this entry and this key at an index.
-pub record HasLogWith (h : HashFunction) (index : ℕ) (entry key : List ℕ)
-    (list : List (List ℕ)) : Type 0 where
-  pub log : LogState
-  pub is : log_of h list ≡ Ok log
-  pub item : HasItemAt index entry key log
-
 -- The record adds this number to those of the one-time keys that these records have used.
 abbrev pub UsesKey : List (List ℕ) → List ℕ → ℕ → Type 0
 UsesKey list body number = indices_of (list ++ body ∷ []) ≡ indices_of list ++ number ∷ []
@@ -59,7 +46,7 @@ module _ {R S D O E : Type 0} (h : HashFunction) (rooms : Rooms R S D) (disks : 
   -- It is a history of the node.
   abbrev pub CoursesAreHistories : Type 0
   CoursesAreHistories = OfCourses (λ name start first made links new.
-      IsReached h rooms disks outs errs name start first new)
+      IsReached h rooms disks outs errs name start first made links new)
 
   -- No journal is refused: what a crash may leave of the file, and what the room tells of it, is
   -- read as the node.
@@ -104,7 +91,8 @@ module _ {R S D O E : Type 0} (h : HashFunction) (rooms : Rooms R S D) (disks : 
   EntriesStand = OfCourses (λ name start first made links new. (settings : Settings)
       (list found : List (List ℕ)) (s : LogState) → start ≡ Log settings
       → WasHeld h rooms disks outs errs name made links list → log_of h list ≡ Ok s
-      → IsRecovered h rooms disks outs errs name new found → HasItemsOf h s found)
+      → IsRecovered h rooms disks outs errs name new found
+      → (log : LogState) × ((log_of h found ≡ Ok log) × KeepsItems s log))
 
   -- The item of a record that a run added is in each such log. Its index counts the entries before
   -- it, and is the one that `issue` prints.
@@ -115,7 +103,8 @@ module _ {R S D O E : Type 0} (h : HashFunction) (rooms : Rooms R S D) (disks : 
       → WasHeld h rooms disks outs errs name made links (list ++ body ∷ [])
       → log_of h list ≡ Ok s → item_in body ≡ Some (entry, key)
       → IsRecovered h rooms disks outs errs name new found
-      → HasLogWith h (length s.entries) entry key found)
+      → (log : LogState) × ((log_of h found ≡ Ok log)
+      × HasItemAt (length s.entries) entry key log))
 
   -- Each journal that a run made with status 0 is that of a node, as the laws of courses suppose.
   abbrev pub MadeOfNodes : Type 0

@@ -1,6 +1,6 @@
 -- Courses: what happens to a room, one run after the other, with stops of the machine between the
 -- runs and in the middle of one.
-use Rattle.std.specs.Prelude.{◌≡◌, ◌≢◌, ◌⊎◌, ℕ, List, [], ◌∷◌, Some}
+use Rattle.std.specs.Prelude.{◌≡◌, ◌≢◌, ◌⊎◌, ℕ, List, [], ◌∷◌, ◌++◌, Some}
 use Rattle.byte_forms.specs.Types.{HashFunction}
 use Rattle.disk_core.specs.declared.disk.Disk.{Ghosts as Disks}
 use Rattle.journal_core.specs.Format.{StandsFor}
@@ -8,7 +8,7 @@ use Rattle.mtc_io.specs.declared.sink.Sink.{Ghosts as Sinks}
 use Rattle.mtc_room.specs.declared.room.Room.{Ghosts as Rooms}
 use Rattle.mtc_answers.specs.Made.{Journaled, appended, started, images_at, images_since, moment_at}
 use Rattle.mtc_answers.specs.Served.{Journals}
-use Rattle.node_history.specs.Laws.{LeadsTo}
+use Rattle.node_history.specs.Laws.{LeadsTo, handed_bodies}
 use Rattle.node_history.specs.Nodes.{HistoryState}
 use Rattle.node_history.specs.Rules.{StartsWith, may_follow}
 use Rattle.node_history.specs.declared.start.NodeStart.{NodeStart}
@@ -99,14 +99,6 @@ module _ {R S D O E : Type 0} (h : HashFunction) (rooms : Rooms R S D) (disks : 
     pub did : DidWith old turn name (started first)
     pub starts : StartsWith start first
 
-  -- The journal of this name is that of a node at the end of a history of it.
-  pub record IsReached (name : List ℕ) (start : NodeStart) (first : List ℕ) (room : R)
-      : Type 0 where
-    pub steps : List NodeStep
-    pub state : HistoryState
-    pub leads : LeadsTo (may_follow h) (start ∷ []) steps 0 state
-    pub stands : AllStandForNode state first (images_of room name)
-
   -- With these records the journal may be recovered: a crash may leave a file that stands for them.
   abbrev pub IsRecovered : List ℕ → R → List (List ℕ) → Type 0
   IsRecovered name room list = (c : List ℕ) × (images_of room name c × StandsFor c list)
@@ -133,6 +125,32 @@ module _ {R S D O E : Type 0} (h : HashFunction) (rooms : Rooms R S D) (disks : 
   abbrev pub HandsOut : List ℕ → R → Turn R O E → List (List ℕ) → List ℕ → Type 0
   HandsOut name old turn list body = DidWith old turn name (appended list body)
       × TookSome (outs.taken turn.out) (outs.taken turn.out_after)
+
+  -- These records went out in a run, each by a byte behind it: one that it added, or none.
+  abbrev pub WentOutBy : List ℕ → R → Turn R O E → List (List ℕ) → Type 0
+  WentOutBy name old turn bodies = ((list : List (List ℕ)) × ((body : List ℕ)
+      × ((bodies ≡ body ∷ []) × HandsOut name old turn list body)))
+      ⊎ ((bodies ≡ [])
+      × ((list : List (List ℕ)) (body : List ℕ) → HandsOut name old turn list body → ⊥))
+
+  -- So they did in the runs of a course, in this order.
+  abbrev pub WentOut : List ℕ → R → List (Link R O E) → List (List ℕ) → Type 0
+  WentOut name old [] bodies = bodies ≡ []
+  WentOut name old (ran turn ∷ links) bodies = (now : List (List ℕ)) × ((later : List (List ℕ))
+      × ((bodies ≡ now ++ later) × WentOutBy name old turn now
+      × WentOut name turn.room links later))
+  WentOut name old (stops new ∷ links) bodies = WentOut name new links bodies
+  WentOut name old (cut turn new ∷ links) bodies = WentOut name new links bodies
+
+  -- The journal of this name is that of a node at the end of a history, in which the records were
+  -- handed out that went out in the course.
+  pub record IsReached (name : List ℕ) (start : NodeStart) (first : List ℕ) (made : R)
+      (links : List (Link R O E)) (room : R) : Type 0 where
+    pub steps : List NodeStep
+    pub state : HistoryState
+    pub leads : LeadsTo (may_follow h) (start ∷ []) steps 0 state
+    pub stands : AllStandForNode state first (images_of room name)
+    pub handed : WentOut name made links (handed_bodies state)
 
   -- A run of the course did so.
   abbrev pub WasHandedOut : List ℕ → R → List (Link R O E) → List (List ℕ) → List ℕ → Type 0

@@ -1,6 +1,6 @@
 -- What holds in every history.
 use Rattle.std.specs.Prelude.{◌≡◌, ℕ, ◌+◌, ◌<◌, ◌≤◌, true, List, [], ◌∷◌, ◌++◌, length, slice_get}
-use Rattle.std.specs.Prelude.{Some, IfSome, Contains, Ok}
+use Rattle.std.specs.Prelude.{slice_index_or, map, Some, IfSome, Contains, Ok}
 use Rattle.byte_forms.specs.Types.{Text}
 use Rattle.issuance_log.specs.Folds.{LogState}
 use Rattle.node_history.specs.Histories.{Valid, history_of}
@@ -55,6 +55,14 @@ pub record IsOfSettled (steps : List NodeStep) (place : ℕ) (s : HistoryState)
   pub body : Text
   pub settled : slice_get s.settled before ≡ Some body
   pub began : Contains steps (Begin place body)
+
+-- The body of the settled record with this number: the first of them has number 1.
+abbrev pub body_in : List Text → ℕ → Text
+body_in settled number = slice_index_or ([] ∷ settled) number []
+
+-- The bodies of the records that were handed out, in their order.
+abbrev pub handed_bodies : HistoryState → List Text
+handed_bodies s = map (body_in s.settled) s.handed
 
 -- These steps of nodes that begin so are allowed, and leave the node with this place so.
 pub record LeadsTo (valid : Valid) (starts : List NodeStart) (steps : List NodeStep) (place : ℕ)

@@ -1,0 +1,150 @@
+-- What is known of one run of a course.
+use Rattle.std.proofs.Common.{◌≡◌, ◌⊎◌, inl, inr, ℕ, true, false, Bool, List, [], ◌∷◌, ◌++◌}
+use Rattle.std.proofs.Common.{Option, None, Some, refl, sym, subst, ◌∙◌}
+use Rattle.std.proofs.Common.{arith}
+use Rattle.std.proofs.Common.{true≢false}
+use Rattle.std.proofs.lemmas.Slice.Eq.{bytes_eq-Decides}
+use Rattle.std.specs.Str.{bytes_eq}
+use Rattle.byte_forms.specs.Types.{HashFunction}
+use Rattle.disk_core.specs.declared.disk.Disk.{Ghosts as Disks}
+use Rattle.mtc_io.specs.declared.sink.Sink.{Ghosts as Sinks}
+use Rattle.mtc_room.specs.Room.{TellsFile}
+use Rattle.mtc_room.specs.declared.room.Room.{Ghosts as Rooms}
+use Rattle.mtc_words.specs.Words.{command_of}
+use Rattle.mtc_answers.specs.Made.{Journaled, appended, started, images_at, images_since, moment_at}
+use Rattle.mtc_answers.specs.Served.{Journals, IsOther, OfEach, done_with, first_journaled}
+use Rattle.mtc_answers.specs.Served.{rest_journaled}
+use Rattle.mtc_answers.specs.Made.{HasMade, Leaves}
+use Rattle.mtc_answers.specs.Valid.{LeavesValid}
+use Rattle.mtc_answers.proofs.Made.{OnlyNow, ReadsImage}
+use Rattle.node_history.specs.Rules.{AreRecords}
+use Rattle.mtc_top.specs.Courses.{Turn, Link, ran, stops, cut, IsAmong, HasTurned, DidWith}
+use Rattle.mtc_top.specs.Courses.{images_of, images_from, IsCourse, HasHeld}
+use Rattle.mtc_top.specs.Courses.{WasHeld, HandsOut, WasHandedOut}
+use Rattle.mtc_top.specs.Run.{journals}
+use Rattle.mtc_top.specs.RunLaws.{RunSteps}
+use Rattle.mtc_top.specs.Outcome.{spoken_rules}
+use Rattle.mtc_top.proofs.Commands.{IsNewAt, spoken_new, spoken_records}
+use Rattle.mtc_top.proofs.Nodes.{no_file_stands, some_image}
+use Rattle.mtc_top.proofs.RunLaws.{run_steps, took_none}
+
+-- ---- the journals of a run
+
+-- a name is that of one of the journals, or of none
+pub find_name : (names : List (List ℕ)) (dids : List Journaled) (name : List ℕ)
+    → IsOther names name ⊎ ((did : Journaled) × IsAmong (done_with names dids) name did)
+find_name [] dids name = inl tt
+find_name (other ∷ others) dids name =
+    go (bytes_eq other name) refl (find_name others (rest_journaled dids) name)
+  where
+    go : (b : Bool) → bytes_eq other name ≡ b → IsOther others name
+        ⊎ ((did : Journaled) × IsAmong (done_with others (rest_journaled dids)) name did)
+        → IsOther (other ∷ others) name
+        ⊎ ((did : Journaled) × IsAmong (done_with (other ∷ others) dids) name did)
+    go true is rest =
+        inr (first_journaled dids, inl ((bytes_eq-Decides other name).0 is, refl))
+    go false is rest = elim rest [
+      | inl none ↦ inl (
+        λ same. absurd (true≢false (sym ((bytes_eq-Decides other name).1 (sym same)) ∙ is)),
+        none,
+      )
+      | inr found ↦ inr (found.0, inr found.1)
+    ]
+
+pub of_each : (P : List ℕ → Journaled → Type 0) (journals : Journals) (name : List ℕ)
+    (did : Journaled) → OfEach P journals → IsAmong journals name did → P name did
+of_each P [] name did all among = absurd among
+of_each P (j ∷ js) name did all among = elim among [
+  | inl here ↦ subst (λ (d : Journaled). P name d) here.1
+      (subst (λ (n : List ℕ). P n j.1) here.0 all.0)
+  | inr there ↦ of_each P js name did all.1 there
+]
+
+-- of this moment there are the images of now
+pub now_of : {D : Type 0} (g : Disks D) → OnlyNow g → (x : Option D) (c : List ℕ)
+    → images_since g x (moment_at g x) c → images_at g x c
+now_of g only None c is = is
+now_of g only (Some d) c is = only d c is
+
+module _ {R S D O E : Type 0} (h : HashFunction) (rooms : Rooms R S D) (disks : Disks D)
+    (outs : Sinks O) (errs : Sinks E) (image : ReadsImage disks) (only : OnlyNow disks)
+    (told : (room : R) (name : List ℕ) → rooms.tells room
+    → TellsFile disks.told (rooms.file room name) (rooms.device room name)) where
+  abbrev Turned : R → Turn R O E → Type 0
+  Turned = HasTurned h rooms disks outs errs
+
+  abbrev Images : R → List ℕ → List ℕ → Type 0
+  Images = images_of h rooms disks outs errs
+
+  abbrev Between : R → R → List ℕ → List ℕ → Type 0
+  Between = images_from h rooms disks outs errs
+
+  abbrev Did : R → Turn R O E → List ℕ → Journaled → Type 0
+  Did = DidWith h rooms disks outs errs
+
+  -- a run is steps of each of its journals
+  pub steps_with : (old : R) (turn : Turn R O E) (name : List ℕ) (did : Journaled) → Turned old turn
+      → rooms.tells old → Did old turn name did
+      → RunSteps h rooms disks outs errs turn.words old turn.room turn.out turn.out_after
+      turn.err turn.err_after turn.status name did
+  steps_with old turn name did run tells among =
+      of_each (RunSteps h rooms disks outs errs turn.words old turn.room turn.out turn.out_after
+      turn.err turn.err_after turn.status)
+      (journals h rooms disks outs errs turn.words old turn.room turn.out turn.out_after
+      turn.err turn.err_after) name did
+      (run_steps h rooms disks outs errs turn.words old turn.room turn.out turn.out_after
+      turn.err turn.err_after turn.status run image (λ n. told old n tells)
+      (λ n. told turn.room n (run.back.tells tells)) tells) among
+
+  -- a journal that was made has the records of a log or a cosigner
+  pub made_records : (name first : List ℕ) (old : R) (turn : Turn R O E) → rooms.tells old
+      → Turned old turn → turn.status ≡ 0 → Did old turn name (started first)
+      → AreRecords h (first ∷ [])
+  made_records name first old turn tells run done did =
+      let js = journals h rooms disks outs errs turn.words old turn.room turn.out turn.out_after
+      turn.err turn.err_after in
+      let answered = run.answered (λ is. omega (arith, done, is)) (λ is. omega (arith, done, is))
+      (λ is. omega (arith, done, is)) in
+      let left = of_each (λ n d. Leaves disks (HasMade d) (rooms.device old n)
+      (rooms.device turn.room n)) js name (started first) (answered.made tells) did in
+      let is_new = of_each (IsNewAt (rooms.file old)) js name (started first)
+      (spoken_new h (command_of turn.words) (rooms.file old)) did in
+      let valid = of_each (LeavesValid rooms disks (spoken_rules h (command_of turn.words)) old
+      turn.room) js name (started first) (run.valid tells) did in
+      let c = some_image disks (rooms.file turn.room name) (rooms.device turn.room name) image
+      (told turn.room name (run.back.tells tells)) in
+      elim valid [
+        | inl kept ↦ elim is_new [
+          | inl on ↦ absurd on
+          | inr none ↦ absurd (no_file_stands disks (rooms.file old name)
+              (rooms.device old name) c.0 (first ∷ []) (told old name tells) none
+              (kept.images.now_is c.0 c.1) (left.images c.0 c.1))
+        ]
+        | inr adds ↦ spoken_records h (command_of turn.words) (first ∷ []) adds
+      ]
+
+  -- behind a byte that went out the run neither failed nor wanted memory
+  handed_held : (name : List ℕ) (old : R) (turn : Turn R O E) (list : List (List ℕ))
+      (body : List ℕ) → Turned old turn → HandsOut h rooms disks outs errs name old turn list body
+      → HasHeld h rooms disks outs errs name old turn (list ++ body ∷ [])
+  handed_held name old turn list body run hands = record {
+    did = appended list body;
+    among = hands.0;
+    held = refl;
+    no_failure = λ is. took_none _ _ (run.room_failed is).text hands.1;
+    no_want = λ is. took_none _ _ (run.no_memory is).text hands.1;
+  }
+
+  pub all_held : (name : List ℕ) (old new : R) (links : List (Link R O E))
+      (list : List (List ℕ)) (body : List ℕ) → IsCourse h rooms disks outs errs old links new
+      → WasHandedOut h rooms disks outs errs name old links list body
+      → WasHeld h rooms disks outs errs name old links (list ++ body ∷ [])
+  all_held name old new [] list body course was = absurd was
+  all_held name old new (ran turn ∷ links) list body course was = elim was [
+    | inl hands ↦ inl (handed_held name old turn list body course.0 hands)
+    | inr later ↦ inr (all_held name turn.room new links list body course.1 later)
+  ]
+  all_held name old new (stops room ∷ links) list body course was =
+      all_held name room new links list body course.1 was
+  all_held name old new (cut turn room ∷ links) list body course was =
+      all_held name room new links list body course.1 was
