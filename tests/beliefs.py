@@ -17,8 +17,9 @@ PAGE = ROOT / "docs" / "BELIEFS.md"
 BEGIN, END = "<!-- counted by tests/beliefs.py -->", "<!-- end -->"
 TOP = ROOT / "crates" / "mtc_top" / "src"
 # Each statement: what its table is headed by, the functions whose contracts it is, and its page of definitions. First the
-# record that `run` ensures with the laws of each run, and then the laws of courses.
+# record that `run` ensures with the laws of each run, then the laws of courses, and that of what `export` prints behind them.
 RUNS = ("The statement names", r"run|runs_\w+", ("mtc_top.specs.Run", "mtc_top.specs.RunLaws"))
+EXPORTS = ("The law of exports names", r"exports_\w+", ("mtc_top.specs.ExportLaws",))
 COURSES = ("The laws of courses name", r"(?:courses|entries|made|no|recovered|what)_\w+", ("mtc_top.specs.Courses", "mtc_top.specs.CourseLaws"))
 
 USE = re.compile(r"^\s*(?:pub |ghost )*(?:use|open) Rattle\.([\w.]+)\.\{([^}]*)\};?", re.M)
@@ -151,7 +152,7 @@ def row(name, own, types):
 
 
 def all_named():
-    return named_first(RUNS) + named_first(COURSES)
+    return named_first(RUNS) + named_first(COURSES) + named_first(EXPORTS)
 
 
 def first_rows(statement):
@@ -173,7 +174,7 @@ def table():
     own, types, kit = reached(all_named())
     order = [crate.name for crate in crates()]
     used = {dotted.split(".")[0] for dotted, _ in own} | {crate for crate, _ in types}
-    rows = first_rows(RUNS) + first_rows(COURSES) + ["| Crate | Definitions | Lines | Files | Types of the code |", "|---|---|---|---|---|"]
+    rows = first_rows(RUNS) + first_rows(COURSES) + first_rows(EXPORTS) + ["| Crate | Definitions | Lines | Files | Types of the code |", "|---|---|---|---|---|"]
     for name in sorted(used, key=order.index):
         mine = {key: body for key, body in own.items() if key[0].split(".")[0] == name}
         rows.append(row(f"`{name}`", mine, {one for crate, one in types if crate == name}))

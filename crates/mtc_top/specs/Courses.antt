@@ -33,7 +33,9 @@ pub data Link (R O E : Type 0) : Type 0 where
   ran : Turn R O E → Link R O E
   -- the machine stops between two runs
   stops : R → Link R O E
-  -- it stops in the middle of a run, before a byte of it went out: the run as it would have ended
+  -- It stops in the middle of a run, before a byte of it went out: the run as it would have ended.
+  -- A stop behind the first byte is `ran`, with a standard output that failed there, and then
+  -- `stops`: the run has worked on the room before its first byte.
   cut : Turn R O E → R → Link R O E
 
 abbrev pub room_after : {R O E : Type 0} → Link R O E → R

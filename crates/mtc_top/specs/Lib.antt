@@ -5,4 +5,5 @@ pub mod Run
 pub mod RunLaws
 pub mod Courses
 pub mod CourseLaws
+pub mod ExportLaws
 pub mod WordsOutcome

@@ -1,6 +1,7 @@
 //! Laws of runs, and of courses of runs and stops: the clauses are the laws, and the functions do
 //! nothing.
 ghost use Rattle.mtc_top.specs.CourseLaws.{AddedEntriesStand, CoursesAreHistories, EntriesStand, HandedOutStand, JournalsAreRead, KeysSignOnce, KeysSignOneMessage, MadeOfNodes, RecoveredListsGrow};
+ghost use Rattle.mtc_top.specs.ExportLaws.{ExportsHoldTheSteps};
 ghost use Rattle.mtc_top.specs.RunLaws.{RunsShow, RunsAreSteps};
 
 use mtc_io::Sink;
@@ -58,4 +59,11 @@ pub fn made_journals_are_of_nodes<H: TreeHash, R: Room, O: Sink, E: Sink>()
 /// tells, is read as the log or the cosigner with records that keep to the rules.
 pub fn no_journal_is_refused<H: TreeHash, R: Room, O: Sink, E: Sink>()
     ensures { JournalsAreRead H.hash R.Room R.Dsk.Disk O.Sink E.Sink }
+{}
+
+/// A run of `export` with status 0 behind a course of a cosigner's journal prints the export of a
+/// list with which the journal might have been recovered then. What it prints is read as the steps
+/// of these records, each of which is allowed, and each step that was handed out before is one.
+pub fn exports_hold_what_went_out<H: TreeHash, R: Room, O: Sink, E: Sink>()
+    ensures { ExportsHoldTheSteps H.hash R.Room R.Dsk.Disk O.Sink E.Sink }
 {}

@@ -1,0 +1,198 @@
+-- A run of `export` behind a course.
+use Rattle.std.proofs.Common.{◌≡◌, ◌⊎◌, inl, inr, ℕ, suc, List, [], ◌∷◌, ◌++◌, length, drop, Option}
+use Rattle.std.proofs.Common.{None, Some, Result, Ok, Err, codes, refl, sym, subst, ap, ◌∙◌, arith}
+use Rattle.std.proofs.Common.{append_assoc}
+use Rattle.std.proofs.lemmas.Option.{option_and_then_some}
+use Rattle.std.specs.Prelude.{Contains, option_map, option_and_then}
+use Rattle.byte_forms.specs.Places.{IsBytes}
+use Rattle.byte_forms.specs.Types.{HashFunction}
+use Rattle.disk_core.specs.declared.disk.Disk.{Ghosts as Disks}
+use Rattle.journal_core.specs.Format.{StandsFor}
+use Rattle.journal_core.proofs.Standing.{found_stands}
+use Rattle.mtc_io.specs.declared.sink.Sink.{Ghosts as Sinks}
+use Rattle.mtc_room.specs.Room.{TellsFile}
+use Rattle.mtc_room.specs.declared.room.Room.{Ghosts as Rooms}
+use Rattle.mtc_words.specs.Commands.{CommandValue, export}
+use Rattle.mtc_words.specs.Words.{command_of}
+use Rattle.mtc_words.specs.declared.error.WordError.{WordError}
+use Rattle.cosigner_core.specs.ExportReading.{export_of}
+use Rattle.cosigner_core.specs.Folds.{progress_of}
+use Rattle.cosigner_core.specs.Exports.{export_text}
+use Rattle.cosigner_core.specs.Folds.{CosignerState, cosigner_fold}
+use Rattle.cosigner_core.specs.Openings.{FoundCosigner, cosigner_read}
+use Rattle.cosigner_core.specs.Progress.{steps_in}
+use Rattle.cosigner_core.specs.Records.{step_in}
+use Rattle.cosigner_core.specs.declared.error.CosignerOpenError.{CosignerOpenError}
+use Rattle.cosigner_core.specs.declared.settings.CosignerSettings.{CosignerSettings}
+use Rattle.cosigner_core.specs.declared.step.Step.{Step}
+use Rattle.cosigner_core.proofs.ExportAgain.{export_again}
+use Rattle.mtc_answers.specs.Answers.{Reply, out_of, status_of}
+use Rattle.mtc_answers.specs.Made.{images_at}
+use Rattle.mtc_answers.specs.Steps.{Files, Outcome, stops_at, with_file, with_form}
+use Rattle.mtc_answers.specs.Wanted.{Meets}
+use Rattle.mtc_answers.specs.declared.answer.Stopped.TheVariants.{Missing}
+use Rattle.mtc_answers.proofs.Made.{OnlyNow, ReadsImage}
+use Rattle.mtc_cosigner.specs.CosignerOutcomes.{export_says}
+use Rattle.mtc_cosigner.specs.Works.{bytes_say, export_outcome, open_fault_text}
+use Rattle.node_history.specs.Rules.{IsReadAs}
+use Rattle.node_history.specs.declared.start.NodeStart.{NodeStart}
+use Rattle.node_history.specs.declared.start.NodeStart.TheVariants.{Cosigner}
+use Rattle.node_history.proofs.Chains.{map_some}
+use Rattle.node_history.proofs.Steps.{some_is}
+use Rattle.mtc_top.specs.Concluded.{Prints}
+use Rattle.mtc_top.specs.Courses.{Link, Turn, HasTurned, IsCourse, IsRecovered, WasHandedOut}
+use Rattle.mtc_top.specs.Courses.{WasMade}
+use Rattle.mtc_top.specs.ExportLaws.{ExportsHoldTheSteps, HasExported}
+use Rattle.mtc_top.specs.Outcome.{outcome, spoken_outcome}
+use Rattle.mtc_top.proofs.Recovered.{handed_stand, last, read_again}
+
+-- ---- the steps of records
+
+contains_more : (x y : Step) (xs : List Step) → Contains xs y → Contains (x ∷ xs) y
+contains_more x y xs there = (suc there.0, omega (arith, there.1), there.2)
+
+-- a record among others is read as one of their steps
+step_there : (front : List (List ℕ)) (body : List ℕ) (rest : List (List ℕ)) (steps : List Step)
+    (step : Step) → steps_in (front ++ body ∷ rest) ≡ Some steps → step_in body ≡ Some step
+    → Contains steps step
+unfolding steps_in
+step_there [] body rest steps step is read =
+    option_and_then_some (λ x. option_map (λ xs. x ∷ xs) (steps_in rest)) (step_in body) steps is
+    (λ x found more.
+    let tail = map_some (λ (xs : List Step). x ∷ xs) (steps_in rest) steps more in
+    let same : x ≡ step = some_is x step (sym found ∙ read) in
+    subst (λ (l : List Step). Contains l step) (ap (λ (y : Step). y ∷ tail.0) (sym same) ∙ tail.2)
+    (0, omega arith, refl))
+step_there (z ∷ front) body rest steps step is read =
+    option_and_then_some (λ x. option_map (λ xs. x ∷ xs) (steps_in (front ++ body ∷ rest)))
+    (step_in z) steps is (λ x found more.
+    let tail = map_some (λ (xs : List Step). x ∷ xs) (steps_in (front ++ body ∷ rest)) steps more in
+    subst (λ (l : List Step). Contains l step) tail.2
+    (contains_more x step tail.0 (step_there front body rest tail.0 step tail.1 read)))
+
+behind_first : (first : List ℕ) (front : List (List ℕ)) (body : List ℕ)
+    (rest list : List (List ℕ)) → (first ∷ front ++ body ∷ []) ++ rest ≡ list
+    → drop 1 list ≡ front ++ body ∷ rest
+behind_first first front body rest list is =
+    ap (λ (l : List (List ℕ)). drop 1 l) (sym is) ∙ append_assoc front (body ∷ []) rest
+
+-- ---- what is asked for
+
+asked_absent : (h : HashFunction) (name : List ℕ) (files : Files) → files name ≡ None
+    → export_outcome h name files ≡ stops_at Missing name (codes "Absent")
+unfolding export_outcome
+asked_absent h name files none =
+    ap (λ (o : Option (List ℕ)). with_file name o (bytes_say h name export_says)) none
+
+asked_there : (h : HashFunction) (name : List ℕ) (files : Files) (bytes : List ℕ)
+    (found : FoundCosigner) → files name ≡ Some bytes → cosigner_read h bytes ≡ Ok found
+    → export_outcome h name files ≡ export_says found
+unfolding export_outcome
+asked_there h name files bytes found there read =
+    ap (λ (o : Option (List ℕ)). with_file name o (bytes_say h name export_says)) there
+    ∙ ap (λ (r : Result FoundCosigner CosignerOpenError).
+    with_form open_fault_text name r export_says) read
+
+spoken_export : (h : HashFunction) (r : Result CommandValue WordError) (name : List ℕ)
+    (files : Files) → r ≡ Ok (export name)
+    → spoken_outcome h r files ≡ export_outcome h name files
+spoken_export h r name files is =
+    ap (λ (q : Result CommandValue WordError). spoken_outcome h q files) is
+
+-- a node that began as a cosigner is read as one
+read_cosigner : (h : HashFunction) (start : NodeStart) (settings : CosignerSettings)
+    (public bytes : List ℕ) (list : List (List ℕ)) → start ≡ Cosigner settings public
+    → IsReadAs h start bytes list → (s : CosignerState)
+    × (cosigner_read h bytes ≡ Ok (record { records = list; state = s }))
+read_cosigner h start settings public bytes list is read =
+    subst (λ (n : NodeStart). IsReadAs h n bytes list) is read
+
+file_image : {D : Type 0} (g : Disks D) (file : Option (List ℕ)) (x : Option D) (c : List ℕ)
+    → ReadsImage g → TellsFile g.told file x → file ≡ Some c → images_at g x c
+file_image g file None c image tells is = absurd cc
+file_image g file (Some d) c image tells is = image d c (tells.0 ∙ is)
+
+file_bytes : {D : Type 0} (g : Disks D) (file : Option (List ℕ)) (x : Option D) (c : List ℕ)
+    → ((d : D) (b : List ℕ) → g.told d ≡ Some b → IsBytes b) → TellsFile g.told file x
+    → file ≡ Some c → IsBytes c
+file_bytes g file None c bytes tells is = absurd cc
+file_bytes g file (Some d) c bytes tells is = bytes d c (tells.0 ∙ is)
+
+module _ {R S D O E : Type 0} (h : HashFunction) (rooms : Rooms R S D) (disks : Disks D)
+    (outs : Sinks O) (errs : Sinks E) (image : ReadsImage disks) (only : OnlyNow disks)
+    (told : (room : R) (name : List ℕ) → rooms.tells room
+    → TellsFile disks.told (rooms.file room name) (rooms.device room name))
+    (bytes : (d : D) (b : List ℕ) → disks.told d ≡ Some b → IsBytes b) where
+  module _ (name : List ℕ) (start : NodeStart) (first : List ℕ) (made new : R)
+      (links : List (Link R O E)) (was : WasMade h rooms disks outs errs name start first made)
+      (course : IsCourse h rooms disks outs errs made links new) (settings : CosignerSettings)
+      (public : List ℕ) (is : start ≡ Cosigner settings public) (turn : Turn R O E)
+      (run : HasTurned h rooms disks outs errs new turn)
+      (spoken : command_of turn.words ≡ Ok (export name)) (done : turn.status ≡ 0)
+      (tells : rooms.tells new) where
+    -- the reply is the one that is asked for
+    record Replied (wanted : Outcome) : Type 0 where
+      pub reply : Reply
+      pub meets : Meets wanted.answer reply
+      pub code : status_of reply ≡ 0
+      pub text : Prints outs turn.out turn.out_after (out_of reply)
+
+    replied : (wanted : Outcome) → export_outcome h name (rooms.file new) ≡ wanted → Replied wanted
+    replied wanted asked =
+        let a = run.answered (λ five. omega (arith, done, five)) (λ six. omega (arith, done, six))
+        (λ eight. omega (arith, done, eight)) in
+        record {
+          reply = a.reply;
+          meets = subst (λ (w : Outcome). Meets w.answer a.reply)
+              (spoken_export h (command_of turn.words) name (rooms.file new) spoken ∙ asked)
+              (a.is (inl tells));
+          code = sym a.code ∙ done;
+          text = a.text;
+        }
+
+    exported : (file : Option (List ℕ)) → rooms.file new name ≡ file
+        → HasExported h rooms disks outs errs name made links new turn
+    exported None none =
+        let r = replied (stops_at Missing name (codes "Absent"))
+        (asked_absent h name (rooms.file new) none) in
+        let seven : 7 ≡ 0 = ap status_of (sym r.meets) ∙ r.code in absurd (omega (arith, seven))
+    exported (Some c) there =
+        let node = read_again h rooms disks outs errs image only told name start first made new
+        links was course c (inr there) in
+        let opened = read_cosigner h start settings public c node.list is node.read in
+        let tells_file = told new name tells in
+        let are = file_bytes disks (rooms.file new name) (rooms.device new name) c bytes tells_file
+        there in
+        let found : FoundCosigner = record { records = node.list; state = opened.0 } in
+        let stands = found_stands (cosigner_fold h) c found are opened.1 in
+        let again = export_again h c node.list opened.0 are stands.0 stands.1 in
+        let r = replied (export_says found)
+        (asked_there h name (rooms.file new) c found there opened.1) in
+        let text = export_text opened.0 node.list in
+        let recovered : IsRecovered h rooms disks outs errs name new node.list
+        = (c, (file_image disks (rooms.file new name) (rooms.device new name) c image
+        tells_file there, stands.0)) in
+        record {
+          list = node.list;
+          recovered = recovered;
+          text = text;
+          printed = subst (λ (reply : Reply). Prints outs turn.out turn.out_after (out_of reply))
+              r.meets r.text;
+          export = export_of opened.0 again.0;
+          read = again.2;
+          progress = progress_of opened.0;
+          allowed = again.3;
+          steps = again.1;
+          signed = λ record0 front body step hands says.
+              let begins = handed_stand h rooms disks outs errs image only told name start first
+              made new links was course (record0 ∷ front) node.list body hands recovered in
+              step_there front body begins.0 again.0 step
+              (subst (λ (l : List (List ℕ)). steps_in l ≡ Some again.0)
+              (behind_first record0 front body begins.0 node.list begins.1) again.1) says;
+        }
+
+  pub exports_hold : ExportsHoldTheSteps h rooms disks outs errs
+  exports_hold name start first made new links was course settings public is turn run spoken done =
+      exported name start first made new links was course settings public is turn run spoken done
+      (last h rooms disks outs errs image only told name start first made new links was
+      course).at.tells (rooms.file new name) refl

@@ -1,0 +1,47 @@
+-- What a run of `export` prints behind a course.
+use Rattle.std.specs.Prelude.{◌≡◌, ℕ, List, ◌∷◌, drop, Some, Ok, Contains}
+use Rattle.byte_forms.specs.Types.{HashFunction}
+use Rattle.disk_core.specs.declared.disk.Disk.{Ghosts as Disks}
+use Rattle.mtc_io.specs.declared.sink.Sink.{Ghosts as Sinks}
+use Rattle.mtc_room.specs.declared.room.Room.{Ghosts as Rooms}
+use Rattle.mtc_words.specs.Commands.{export}
+use Rattle.mtc_words.specs.Words.{command_of}
+use Rattle.cosigner_core.specs.ExportReading.{export_in, export_progress}
+use Rattle.cosigner_core.specs.Records.{step_in}
+use Rattle.cosigner_core.specs.Progress.{steps_in}
+use Rattle.cosigner_core.specs.declared.lists.Export.{Export}
+use Rattle.cosigner_core.specs.declared.progress.Progress.{Progress}
+use Rattle.cosigner_core.specs.declared.settings.CosignerSettings.{CosignerSettings}
+use Rattle.cosigner_core.specs.declared.step.Step.{Step}
+use Rattle.node_history.specs.declared.start.NodeStart.TheVariants.{Cosigner}
+use Rattle.mtc_top.specs.Concluded.{Prints}
+use Rattle.mtc_top.specs.CourseLaws.{OfCourses}
+use Rattle.mtc_top.specs.Courses.{Link, Turn, HasTurned, IsRecovered, WasHandedOut}
+
+module _ {R S D O E : Type 0} (h : HashFunction) (rooms : Rooms R S D) (disks : Disks D)
+    (outs : Sinks O) (errs : Sinks E) where
+  -- The run printed the export of a list with which the journal might have been recovered then. It
+  -- is read as the steps of these records, each of which is allowed, and each step that was handed
+  -- out before is among them.
+  pub record HasExported (name : List ℕ) (made : R) (links : List (Link R O E)) (old : R)
+      (turn : Turn R O E) : Type 0 where
+    pub list : List (List ℕ)
+    pub recovered : IsRecovered h rooms disks outs errs name old list
+    pub text : List ℕ
+    pub printed : Prints outs turn.out turn.out_after text
+    pub export : Export
+    pub read : export_in h text ≡ Ok (Some export)
+    pub progress : Progress
+    pub allowed : export_progress h export ≡ Some progress
+    pub steps : steps_in (drop 1 list) ≡ Some export.steps
+    pub signed : (first : List ℕ) (front : List (List ℕ)) (body : List ℕ) (step : Step)
+        → WasHandedOut h rooms disks outs errs name made links (first ∷ front) body
+        → step_in body ≡ Some step → Contains export.steps step
+
+  -- So it is of each run of `export` with status 0 behind a course of a cosigner's journal.
+  abbrev pub ExportsHoldTheSteps : Type 0
+  ExportsHoldTheSteps = OfCourses h rooms disks outs errs (λ name start first made links new.
+      (settings : CosignerSettings) (public : List ℕ) → start ≡ Cosigner settings public
+      → (turn : Turn R O E) → HasTurned h rooms disks outs errs new turn
+      → command_of turn.words ≡ Ok (export name) → turn.status ≡ 0
+      → HasExported name made links new turn)
