@@ -17,9 +17,9 @@ PAGE = ROOT / "docs" / "BELIEFS.md"
 BEGIN, END = "<!-- counted by tests/beliefs.py -->", "<!-- end -->"
 TOP = ROOT / "crates" / "mtc_top" / "src"
 # Each statement: what its table is headed by, the functions whose contracts it is, and its page of definitions. First the
-# record that `run` ensures with the laws of each run, then the laws of courses, and that of what `export` prints behind them.
+# record that `run` ensures with the laws of each run, then the laws of courses, and those of what `export` and `audit` print behind them.
 RUNS = ("The statement names", r"run|runs_\w+", ("mtc_top.specs.Run", "mtc_top.specs.RunLaws"))
-EXPORTS = ("The law of exports names", r"exports_\w+", ("mtc_top.specs.ExportLaws",))
+AUDITS = ("The laws of exports and audits name", r"(?:exports|audits)_\w+", ("mtc_top.specs.ExportLaws", "mtc_top.specs.AuditLaws"))
 COURSES = ("The laws of courses name", r"(?:courses|entries|made|no|recovered|what)_\w+", ("mtc_top.specs.Courses", "mtc_top.specs.CourseLaws"))
 
 USE = re.compile(r"^\s*(?:pub |ghost )*(?:use|open) Rattle\.([\w.]+)\.\{([^}]*)\};?", re.M)
@@ -152,7 +152,7 @@ def row(name, own, types):
 
 
 def all_named():
-    return named_first(RUNS) + named_first(COURSES) + named_first(EXPORTS)
+    return named_first(RUNS) + named_first(COURSES) + named_first(AUDITS)
 
 
 def first_rows(statement):
@@ -174,7 +174,7 @@ def table():
     own, types, kit = reached(all_named())
     order = [crate.name for crate in crates()]
     used = {dotted.split(".")[0] for dotted, _ in own} | {crate for crate, _ in types}
-    rows = first_rows(RUNS) + first_rows(COURSES) + first_rows(EXPORTS) + ["| Crate | Definitions | Lines | Files | Types of the code |", "|---|---|---|---|---|"]
+    rows = first_rows(RUNS) + first_rows(COURSES) + first_rows(AUDITS) + ["| Crate | Definitions | Lines | Files | Types of the code |", "|---|---|---|---|---|"]
     for name in sorted(used, key=order.index):
         mine = {key: body for key, body in own.items() if key[0].split(".")[0] == name}
         rows.append(row(f"`{name}`", mine, {one for crate, one in types if crate == name}))

@@ -1,13 +1,12 @@
 -- A run of `export` behind a course.
-use Rattle.std.proofs.Common.{◌≡◌, ◌⊎◌, inl, inr, ℕ, suc, List, [], ◌∷◌, ◌++◌, length, drop, Option}
-use Rattle.std.proofs.Common.{None, Some, Result, Ok, Err, codes, refl, sym, subst, ap, ◌∙◌, arith}
+use Rattle.std.proofs.Common.{◌≡◌, inl, inr, ℕ, suc, List, [], ◌∷◌, ◌++◌, drop, Option}
+use Rattle.std.proofs.Common.{None, Some, Result, Ok, codes, refl, sym, subst, ap, ◌∙◌, arith}
 use Rattle.std.proofs.Common.{append_assoc}
 use Rattle.std.proofs.lemmas.Option.{option_and_then_some}
-use Rattle.std.specs.Prelude.{Contains, option_map, option_and_then}
+use Rattle.std.specs.Prelude.{Contains, option_map}
 use Rattle.byte_forms.specs.Places.{IsBytes}
 use Rattle.byte_forms.specs.Types.{HashFunction}
 use Rattle.disk_core.specs.declared.disk.Disk.{Ghosts as Disks}
-use Rattle.journal_core.specs.Format.{StandsFor}
 use Rattle.journal_core.proofs.Standing.{found_stands}
 use Rattle.mtc_io.specs.declared.sink.Sink.{Ghosts as Sinks}
 use Rattle.mtc_room.specs.Room.{TellsFile}
@@ -40,10 +39,10 @@ use Rattle.node_history.specs.declared.start.NodeStart.TheVariants.{Cosigner}
 use Rattle.node_history.proofs.Chains.{map_some}
 use Rattle.node_history.proofs.Steps.{some_is}
 use Rattle.mtc_top.specs.Concluded.{Prints}
-use Rattle.mtc_top.specs.Courses.{Link, Turn, HasTurned, IsCourse, IsRecovered, WasHandedOut}
+use Rattle.mtc_top.specs.Courses.{Link, Turn, HasTurned, IsCourse, IsRecovered}
 use Rattle.mtc_top.specs.Courses.{WasMade}
 use Rattle.mtc_top.specs.ExportLaws.{ExportsHoldTheSteps, HasExported}
-use Rattle.mtc_top.specs.Outcome.{outcome, spoken_outcome}
+use Rattle.mtc_top.specs.Outcome.{spoken_outcome}
 use Rattle.mtc_top.proofs.Recovered.{handed_stand, last, read_again}
 
 -- ---- the steps of records
@@ -170,8 +169,14 @@ module _ {R S D O E : Type 0} (h : HashFunction) (rooms : Rooms R S D) (disks : 
         (asked_there h name (rooms.file new) c found there opened.1) in
         let text = export_text opened.0 node.list in
         let recovered : IsRecovered h rooms disks outs errs name new node.list
-        = (c, (file_image disks (rooms.file new name) (rooms.device new name) c image
-        tells_file there, stands.0)) in
+        = (
+          c,
+          (
+            file_image disks (rooms.file new name) (rooms.device new name) c image
+                tells_file there,
+            stands.0,
+          ),
+        ) in
         record {
           list = node.list;
           recovered = recovered;

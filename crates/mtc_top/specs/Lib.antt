@@ -6,4 +6,5 @@ pub mod RunLaws
 pub mod Courses
 pub mod CourseLaws
 pub mod ExportLaws
+pub mod AuditLaws
 pub mod WordsOutcome

@@ -1,5 +1,6 @@
 //! Laws of runs, and of courses of runs and stops: the clauses are the laws, and the functions do
 //! nothing.
+ghost use Rattle.mtc_top.specs.AuditLaws.{AuditsStand};
 ghost use Rattle.mtc_top.specs.CourseLaws.{AddedEntriesStand, CoursesAreHistories, EntriesStand, HandedOutStand, JournalsAreRead, KeysSignOnce, KeysSignOneMessage, MadeOfNodes, RecoveredListsGrow};
 ghost use Rattle.mtc_top.specs.ExportLaws.{ExportsHoldTheSteps};
 ghost use Rattle.mtc_top.specs.RunLaws.{RunsShow, RunsAreSteps};
@@ -66,4 +67,12 @@ pub fn no_journal_is_refused<H: TreeHash, R: Room, O: Sink, E: Sink>()
 /// of these records, each of which is allowed, and each step that was handed out before is one.
 pub fn exports_hold_what_went_out<H: TreeHash, R: Room, O: Sink, E: Sink>()
     ensures { ExportsHoldTheSteps H.hash R.Room R.Dsk.Disk O.Sink E.Sink }
+{}
+
+/// A run of `audit` that ends without a failure prints that the entry stands, or two different
+/// strings with one hash: over a certificate that was accepted by a landmark, or by a signature
+/// that a course of a cosigner's journal handed out, with what `export` printed behind it, and over
+/// the list that is the wanted one.
+pub fn audits_stand<H: TreeHash, R: Room, O: Sink, E: Sink>()
+    ensures { AuditsStand H.hash R.Room R.Dsk.Disk O.Sink E.Sink }
 {}

@@ -12,7 +12,7 @@ mod refused_words;
 mod top;
 
 pub use laws::{
-    courses_are_histories, entries_keep_their_places, exports_hold_what_went_out,
+    audits_stand, courses_are_histories, entries_keep_their_places, exports_hold_what_went_out,
     made_journals_are_of_nodes, no_journal_is_refused, no_one_time_key_signs_twice,
     recovered_lists_only_grow, runs_are_steps, what_was_handed_out_stands,
 };

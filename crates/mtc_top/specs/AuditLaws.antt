@@ -1,0 +1,93 @@
+-- What `audit` prints of a certificate that was accepted by a landmark, or by what a cosigner's
+-- course handed out.
+use Rattle.std.specs.Prelude.{◌≡◌, ◌≢◌, ◌⊎◌, ℕ, ◌≤◌, true, pos, List, ◌∷◌, length, None}
+use Rattle.std.specs.Prelude.{Some, Ok}
+use Rattle.byte_forms.specs.Types.{HashFunction}
+use Rattle.disk_core.specs.declared.disk.Disk.{Ghosts as Disks}
+use Rattle.mtc_io.specs.declared.sink.Sink.{Ghosts as Sinks}
+use Rattle.mtc_room.specs.declared.room.Room.{Ghosts as Rooms}
+use Rattle.mtc_words.specs.Commands.{audit}
+use Rattle.mtc_words.specs.Words.{command_of}
+use Rattle.cosigner_core.specs.ExportReading.{export_in}
+use Rattle.cosigner_core.specs.Records.{step_in}
+use Rattle.cosigner_core.specs.declared.step.Step.TheVariants.{Sign}
+use Rattle.entry_list.specs.Reading.{items_in}
+use Rattle.policy_core.specs.Files.{store_of}
+use Rattle.policy_core.specs.declared.answer.By.TheVariants.{Cosigners, Landmark}
+use Rattle.world_core.specs.Audit.{AuditCase, firsts_of, foreign_of, has_own, is_counted}
+use Rattle.world_core.specs.Audit.{seconds_of}
+use Rattle.mtc_answers.specs.Steps.{Files}
+use Rattle.mtc_answers.specs.Wanted.{IsPair}
+use Rattle.mtc_monitor.specs.AuditOutcome.{collision_text, judged_in, stands_text}
+use Rattle.mtc_top.specs.Concluded.{Prints}
+use Rattle.mtc_top.specs.Courses.{Link, Turn, HasTurned, WasHandedOut}
+use Rattle.mtc_top.specs.ExportLaws.{HasExported}
+
+-- The file of this name has this text, which is no longer than the limit.
+pub record HoldsText (files : Files) (name : List ℕ) (limit : ℕ) (text : List ℕ) : Type 0 where
+  pub there : files name ≡ Some text
+  pub few : length text ≤ limit
+
+-- The four files are read, each by its grammar, and the store accepts the certificate at that
+-- moment: this is the case to be audited.
+pub record IsAuditOf (h : HashFunction) (files : Files) (cert store : List ℕ) (moment : ℕ)
+    (entries kept : List ℕ) (x : AuditCase) : Type 0 where
+  pub cert_text : List ℕ
+  pub has_cert : HoldsText files cert 16777216 cert_text
+  pub store_text : List ℕ
+  pub has_store : HoldsText files store 16777216 store_text
+  pub entries_text : List ℕ
+  pub has_entries : HoldsText files entries 1073741824 entries_text
+  pub kept_text : List ℕ
+  pub has_kept : HoldsText files kept 1073741824 kept_text
+  pub store_read : store_of store_text ≡ Ok x.store
+  pub items_read : items_in h entries_text ≡ Ok x.items
+  pub kept_read : export_in h kept_text ≡ Ok x.kept
+  pub judged : judged_in h cert_text x.store (pos moment)
+      ≡ Ok (record { accepted = x.accepted; cert = x.cert; proof = x.proof })
+
+module _ {R S D O E : Type 0} (h : HashFunction) (rooms : Rooms R S D) (disks : Disks D)
+    (outs : Sinks O) (errs : Sinks E) where
+  -- A cosigner that counts handed out a signature of the accepted hash, in a course of its journal,
+  -- and what was kept is an export that a run printed behind it.
+  pub record IsSignedInCourse (x : AuditCase) : Type 0 where
+    pub set : ℕ
+    pub by : x.accepted.by ≡ Cosigners set
+    pub name : List ℕ
+    pub made : R
+    pub links : List (Link R O E)
+    pub old : R
+    pub turn : Turn R O E
+    pub exported : HasExported h rooms disks outs errs name made links old turn
+    pub kept : x.kept ≡ Some exported.export
+    pub of_log : exported.export.log ≡ x.store.log
+    pub counts : is_counted x.store set exported.export ≡ true
+    pub first : List ℕ
+    pub front : List (List ℕ)
+    pub body : List ℕ
+    pub handed : WasHandedOut h rooms disks outs errs name made links (first ∷ front) body
+    pub index : ℕ
+    pub proof : List (List ℕ)
+    pub signs : step_in body
+        ≡ Some (Sign index x.accepted.start x.accepted.end x.accepted.hash proof)
+
+  -- It prints that the entry stands, with status 0, and the list has the certificate's entry and
+  -- key at the index; or, with status 10, two different strings with one hash.
+  abbrev pub StandsOrPair : AuditCase → Turn R O E → Type 0
+  StandsOrPair x turn = ((turn.status ≡ 0) × (has_own h x.items x.accepted x.cert ≡ true)
+      × Prints outs turn.out turn.out_after (stands_text x.accepted.index))
+      ⊎ ((text : List ℕ) × ((turn.status ≡ 10)
+      × IsPair h collision_text (firsts_of h x) (seconds_of h x) text
+      × Prints outs turn.out turn.out_after text))
+
+  -- So it is of each run of `audit` that ends without a failure and without want of memory, over a
+  -- certificate that a landmark or such a signature backs, and a list that is the wanted one.
+  abbrev pub AuditsStand : Type 0
+  AuditsStand = (old : R) (turn : Turn R O E) (cert store : List ℕ) (moment : ℕ)
+      (entries kept : List ℕ) (x : AuditCase) → rooms.tells old
+      → HasTurned h rooms disks outs errs old turn
+      → command_of turn.words ≡ Ok (audit cert store moment entries kept)
+      → IsAuditOf h (rooms.file old) cert store moment entries kept x
+      → foreign_of h x ≡ None
+      → (x.accepted.by ≡ Landmark) ⊎ IsSignedInCourse x
+      → turn.status ≢ 5 → turn.status ≢ 6 → turn.status ≢ 8 → StandsOrPair x turn
