@@ -3,6 +3,8 @@
 #![tactic(auto)]
 
 #[cfg(test)]
+mod audits;
+#[cfg(test)]
 mod certificates;
 #[cfg(test)]
 mod cosigners;
@@ -18,5 +20,7 @@ mod marks;
 mod one_file;
 #[cfg(test)]
 mod scripts;
+#[cfg(test)]
+mod trust;
 #[cfg(test)]
 mod words;

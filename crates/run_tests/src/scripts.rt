@@ -5,6 +5,7 @@
 //! ```text
 //! # TEXT          a remark
 //! case TEXT       a new room, without files
+//! toy             in it the program hashes by the sum of the bytes
 //! name X BYTES    from here on X stands for these bytes
 //! file F BYTES    the room has this file
 //! cut N           of its bytes the first N alone
@@ -17,6 +18,7 @@
 //! $ WORD ..       a run with these words, '' for an empty one; it has to do what follows
 //! status N        the status, if it isn't 0
 //! ! TEXT          a line of its standard error
+//! > F BYTES       its output isn't compared: it becomes this file, behind these bytes
 //! left F BYTES    what a file holds then
 //! gone F          there is no such file then
 //! ```
@@ -45,6 +47,7 @@ enum Begun {
     File(String),
     Left(String),
     Run,
+    Kept(String),
 }
 
 // What a run answers.
@@ -201,7 +204,17 @@ impl Script {
                 self.runs = self.runs.saturating_add(1);
                 Ok(self.found.is(&self.wanted))
             }
+            Begun::Kept(name) => self.keep(name.as_str(), bytes),
         }
+    }
+
+    // Makes a file of what the run wrote behind these bytes: whether it ended as is wanted.
+    fn keep(&mut self, name: &str, mut bytes: Vec<u8>) -> Result<bool, Fail> {
+        bytes.extend_from_slice(self.found.out.as_slice())?;
+        let bytes = Bytes::from_vec(bytes);
+        self.desk.place(name, bytes, Vec::new(self.alloc))?;
+        self.runs = self.runs.saturating_add(1);
+        Ok(self.found.status == self.wanted.status && self.found.err == self.wanted.err)
     }
 
     fn run(&mut self, words: &str) -> Result<bool, Fail> {
@@ -236,6 +249,13 @@ impl Script {
         self.append(bytes)
     }
 
+    // The output of the run that was begun is kept.
+    fn keep_into(&mut self, words: &str) -> Result<bool, Fail> {
+        let (name, bytes) = parted(words);
+        self.begun = Begun::Kept(String::from_str(self.alloc, name)?);
+        self.append(bytes)
+    }
+
     // A line that ends what was begun.
     fn start(&mut self, what: &str, words: &str) -> Result<bool, Fail> {
         if !self.end()? {
@@ -248,6 +268,10 @@ impl Script {
             }
             "fresh" => {
                 self.desk.fail_fresh(numbers(self.alloc, words)?);
+                Ok(true)
+            }
+            "toy" => {
+                self.desk.use_toy();
                 Ok(true)
             }
             "$" => self.run(words),
@@ -273,7 +297,7 @@ impl Script {
     // Whether a line that says more of a run, or of a file, stands behind one.
     fn is_in_place(&self, what: &str) -> bool {
         match what {
-            "status" | "!" | "!=" => matches!(self.begun, Begun::Run),
+            "status" | "!" | "!=" | ">" => matches!(self.begun, Begun::Run),
             "fails" => matches!(self.begun, Begun::File(_)),
             _ => true,
         }
@@ -291,6 +315,7 @@ impl Script {
             "|=" => self.append_text(words, ""),
             "!" => self.want_error(words, "\n"),
             "!=" => self.want_error(words, ""),
+            ">" => self.keep_into(words),
             "byte" => self.change(words),
             _ => self.set(what, words),
         }
@@ -329,8 +354,8 @@ pub fn desk_of(alloc: Global, text: &str) -> Result<Option<Desk>, Fail> {
 
 // Scripts that fail in their last line: another status, no line of an error, an output that isn't
 // written, bytes that a file doesn't have, a file that is there, a cut behind the end, no such
-// line, and a status of no run.
-const WRONG: [&str; 8] = [
+// line, a status of no run, and an output of a refusal.
+const WRONG: [&str; 9] = [
     "$ frob\n! mtc: UnknownCommand",
     "$ frob\nstatus 1",
     "$ frob\nstatus 1\n! mtc: UnknownCommand\n| frob",
@@ -339,6 +364,7 @@ const WRONG: [&str; 8] = [
     "file f 00\ncut 1",
     "$ frob\nstatus 1\n! mtc: UnknownCommand\nfrob",
     "file f 00\nstatus 1",
+    "$ frob\n> f",
 ];
 
 #[test]
