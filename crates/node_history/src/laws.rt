@@ -51,8 +51,8 @@ pub fn histories_go_on()
         → LeadsTo (valid h) starts (steps ++ step ∷ []) place t }
 {}
 
-/// In no history two records of a cosigner have the number of one one-time key, the pending record
-/// among them: the i-th Sign record, counted from 0, has the number i.
+/// In no history two records of a cosigner have the number of the same one-time key, the pending
+/// record among them: the i-th Sign record, counted from 0, has the number i.
 pub fn one_time_keys_are_used_once()
     ensures { (h : HashFunction) (starts : List NodeStart) (steps : List NodeStep) (place : ℕ)
         (s : HistoryState) (settings : CosignerSettings) (public : Text)
