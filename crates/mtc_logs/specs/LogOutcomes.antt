@@ -1,14 +1,12 @@
 -- The outcomes of the commands on a log: `init-log`, `checkpoint` and `entries`.
-use Rattle.std.specs.Prelude.{ℕ, nat_lt, List, [], ◌++◌, length, slice_index_or, map, codes, None}
+use Rattle.std.specs.Prelude.{ℕ, nat_lt, List, [], ◌++◌, length, slice_index_or, codes, None}
 use Rattle.std.specs.Prelude.{◌≡◌, ◌<◌, if◌then◌else◌}
 use Rattle.std.specs.Fmt.{decimal}
-use Rattle.std.specs.Int.{w16}
-use Rattle.std.specs.List.{concat, range_with_len}
 use Rattle.byte_forms.specs.Types.{HashFunction, Text}
 use Rattle.hex.specs.Hex.{encode_lower}
 use Rattle.tls_wire.specs.Anchors.{text_of}
-use Rattle.tls_wire.specs.Spelling.{vector}
 use Rattle.tree_core.specs.Tree.{tree_hash}
+use Rattle.entry_list.specs.Items.{ItemLists, file_text}
 use Rattle.issuance_log.specs.Folds.{LogState}
 use Rattle.issuance_log.specs.Openings.{FoundLog}
 use Rattle.issuance_log.specs.Records.{settings_record}
@@ -41,14 +39,9 @@ checkpoint_reply h entries = said Done (codes "size " ++ (decimal (length entrie
 abbrev pub checkpoint_says : HashFunction → FoundLog → Outcome
 checkpoint_says h found = answers_on found.records (checkpoint_reply h found.state.entries)
 
--- An item: the entry, and its key, each behind its length of two bytes.
-abbrev pub item_text : LogState → ℕ → Text
-item_text s index =
-    vector w16 (slice_index_or s.entries index []) ++ vector w16 (slice_index_or s.keys index [])
-
--- So many of the first items.
-abbrev pub items_text : LogState → ℕ → Text
-items_text s count = concat (map (item_text s) (range_with_len 0 count))
+-- The items of a log: its entries, and the key of each.
+abbrev pub items_of : LogState → ItemLists
+items_of s = record { entries = s.entries; keys = s.keys }
 
 -- The state of the log doesn't allow it.
 abbrev pub not_allowed : Text → Reply
@@ -62,7 +55,7 @@ beyond size = not_allowed (codes "Beyond " ++ decimal size)
 abbrev pub entries_reply : ℕ → LogState → Reply
 entries_reply size s =
     if nat_lt (length s.entries) size then beyond (length s.entries)
-    else said Done (items_text s size)
+    else said Done (file_text (items_of s) size)
 
 abbrev pub entries_says : ℕ → FoundLog → Outcome
 entries_says size found = answers_on found.records (entries_reply size found.state)

@@ -4,7 +4,8 @@ ghost use Rattle.issuance_log.specs.Words.{state_of};
 ghost use Rattle.mtc_answers.specs.Answers.{stop_ending, ending_of, replied};
 ghost use Rattle.mtc_answers.specs.Endings.{Replies};
 ghost use Rattle.mtc_answers.specs.Wanted.{exactly};
-ghost use Rattle.mtc_logs.specs.LogOutcomes.{IsItem, beyond, checkpoint_reply, entries_reply, item_text, items_text};
+ghost use Rattle.entry_list.specs.Items.{file_text, listed_text};
+ghost use Rattle.mtc_logs.specs.LogOutcomes.{IsItem, beyond, checkpoint_reply, entries_reply, items_of};
 
 use crate::tree::root_of;
 use disk_core::Disk;
@@ -70,7 +71,8 @@ fn put_item<H: TreeHash, D: Disk>(
     out: &mut Bytes,
 ) -> Result<(), Memory>
     requires { index < length (state_of log.old).entries }
-    ensures text { OnOk result (out.new ≡ out.old ++ item_text (state_of log.old) index) }
+    ensures text { OnOk result
+        (out.new ≡ out.old ++ listed_text (items_of (state_of log.old)) index) }
     ensures same { log.new ≡ log.old }
 {
     read_item(log, index, entry, key)?;
@@ -85,7 +87,7 @@ fn items<H: TreeHash, D: Disk>(
     count: u64,
 ) -> Result<Bytes, Memory>
     requires { count ≤ length (state_of log.old).entries }
-    ensures text { IfOk result (λ text. text ≡ items_text (state_of log.old) count) }
+    ensures text { IfOk result (λ text. text ≡ file_text (items_of (state_of log.old)) count) }
     ensures same { log.new ≡ log.old }
 {
     let mut out = Bytes::new(alloc);

@@ -10,11 +10,13 @@ pub mod cert;
 mod checkpoint;
 pub mod init_log;
 pub mod issue;
+mod laws;
 mod log_command;
 mod marks;
 mod requests;
 mod tree;
 mod work;
 
+pub use laws::printed_entries_are_read;
 pub use log_command::on_log;
 pub use work::Work;
