@@ -10,13 +10,14 @@ use Rattle.mtc_answers.specs.Endings.{Replies}
 use Rattle.mtc_answers.proofs.Inputs.{behind_file, bytes_read}
 use Rattle.mtc_answers.proofs.Made.{OnlyNow}
 use Rattle.mtc_answers.proofs.Served.{answered}
-use Rattle.mtc_monitor.specs.AuditOutcome.{InputFile, store_says}
+use Rattle.mtc_monitor.specs.AuditOutcome.{InputFile, audit_store_says}
 
 module _ (h : HashFunction) (moment : ℕ) (cert store entries export : Text) where
   -- What is to be answered to the bytes of all files.
   abbrev pub says : Text → Text → Text → Text → Outcome
-  says c s e x = store_says h (record { name = cert; text = c }) (record { name = store; text = s })
-      moment (record { name = entries; text = e }) (record { name = export; text = x })
+  says c s e x = audit_store_says h (record { name = cert; text = c })
+      (record { name = store; text = s }) moment (record { name = entries; text = e })
+      (record { name = export; text = x })
 
   -- The same where those from here on hold this, and the bytes of the ones before are known.
   abbrev pub of_export : Option Text → Text → Text → Text → Outcome
@@ -38,17 +39,17 @@ module _ (h : HashFunction) (moment : ℕ) (cert store entries export : Text) wh
   replies_so : (c s e x : InputFile) (c' s' e' x' : Text) (ending : Ending)
       → c ≡ record { name = cert; text = c' } → s ≡ record { name = store; text = s' }
       → e ≡ record { name = entries; text = e' } → x ≡ record { name = export; text = x' }
-      → Replies (store_says h c s moment e x).answer ending
+      → Replies (audit_store_says h c s moment e x).answer ending
       → Replies (says c' s' e' x').answer ending
   replies_so c s e x c' s' e' x' ending is_c is_s is_e is_x replies =
-      subst (λ (k : InputFile). Replies (store_says h (record { name = cert; text = c' })
+      subst (λ (k : InputFile). Replies (audit_store_says h (record { name = cert; text = c' })
       (record { name = store; text = s' }) moment (record { name = entries; text = e' }) k).answer
       ending) is_x
-      (subst (λ (k : InputFile). Replies (store_says h (record { name = cert; text = c' })
+      (subst (λ (k : InputFile). Replies (audit_store_says h (record { name = cert; text = c' })
       (record { name = store; text = s' }) moment k x).answer ending) is_e
-      (subst (λ (k : InputFile). Replies (store_says h (record { name = cert; text = c' }) k moment
-      e x).answer ending) is_s
-      (subst (λ (k : InputFile). Replies (store_says h k s moment e x).answer ending) is_c
+      (subst (λ (k : InputFile). Replies (audit_store_says h (record { name = cert; text = c' }) k
+      moment e x).answer ending) is_s
+      (subst (λ (k : InputFile). Replies (audit_store_says h k s moment e x).answer ending) is_c
       replies)))
 
   module _ {R S D : Type 0} (rooms : Rooms R S D) (disks : Disks D) (old mid new : R)
@@ -100,7 +101,7 @@ module _ (h : HashFunction) (moment : ℕ) (cert store entries export : Text) wh
         → (rooms.tells old → (rooms.file old export ≡ Some x) × (length x ≤ 1073741824))
         → fc ≡ record { name = cert; text = c } → fs ≡ record { name = store; text = s }
         → fe ≡ record { name = entries; text = e } → fx ≡ record { name = export; text = x }
-        → Replies (store_says h fc fs moment fe fx).answer ending
+        → Replies (audit_store_says h fc fs moment fe fx).answer ending
         → HasAnswered rooms disks names (of_export (rooms.file old export) c s e) old new ending
     behind_export fc fs fe fx c s e x is is_c is_s is_e is_x replies =
         answered rooms disks names [] (of_export (rooms.file old export) c s e) old new back

@@ -31,21 +31,21 @@ use Rattle.mtc_monitor.specs.Reasons.{export_fault_text, items_fault_text}
 -- ---- what is audited
 
 -- What was accepted, of a certificate with these parts, by a proof with these.
-pub record Judged : Type 0 where
+pub record AcceptedParts : Type 0 where
   pub accepted : Accepted
   pub cert : Parts
   pub proof : ProofParts
 
 -- The judgement of a certificate's bytes, and the parts of one that is accepted.
-abbrev pub judged_in : HashFunction → Text → Store → ℤ → Result Judged Refusal
-judged_in h bytes store moment =
+abbrev pub accepted_in : HashFunction → Text → Store → ℤ → Result AcceptedParts Refusal
+accepted_in h bytes store moment =
     judgement h bytes store moment >>= λ a.
     lifted Grammar (parts_of bytes) >>= λ c.
     lifted ProofGrammar (proof_in c.proof) >>= λ p.
     Ok (record { accepted = a; cert = c; proof = p })
 
 -- The same as a case of an audit, against these items and what was kept of a cosigner.
-abbrev pub case_of : Store → ItemLists → Option Export → Judged → AuditCase
+abbrev pub case_of : Store → ItemLists → Option Export → AcceptedParts → AuditCase
 case_of store items kept j = record {
   accepted = j.accepted;
   cert = j.cert;
@@ -97,33 +97,36 @@ pub record InputFile : Type 0 where
   pub text : Text
 
 -- A refused certificate is told as by `verify`.
-abbrev pub judged_says : HashFunction → Text → Store → ItemLists → Option Export
-    → Result Judged Refusal → Outcome
-judged_says h cert store items kept (Ok j) = audit_says h (case_of store items kept j)
-judged_says h cert store items kept (Err why) = verdict_says cert (Err why)
+abbrev pub audit_accepted_says : HashFunction → Text → Store → ItemLists → Option Export
+    → Result AcceptedParts Refusal → Outcome
+audit_accepted_says h cert store items kept (Ok j) = audit_says h (case_of store items kept j)
+audit_accepted_says h cert store items kept (Err why) = verdict_says cert (Err why)
 
 -- The certificate is judged, which is the last step.
-abbrev pub cert_says : HashFunction → InputFile → ℕ → Store → ItemLists → Option Export → Outcome
-cert_says h cert moment store items kept =
-    judged_says h cert.name store items kept (judged_in h cert.text store (pos moment))
+abbrev pub audit_cert_says : HashFunction → InputFile → ℕ → Store → ItemLists → Option Export
+    → Outcome
+audit_cert_says h cert moment store items kept =
+    audit_accepted_says h cert.name store items kept (accepted_in h cert.text store (pos moment))
 
 -- The export is read before it.
-abbrev pub export_says : HashFunction → InputFile → ℕ → InputFile → Store → ItemLists → Outcome
-export_says h cert moment export store items =
+abbrev pub audit_export_says : HashFunction → InputFile → ℕ → InputFile → Store → ItemLists
+    → Outcome
+audit_export_says h cert moment export store items =
     with_form export_fault_text export.name (export_in h export.text)
-    (cert_says h cert moment store items)
+    (audit_cert_says h cert moment store items)
 
 -- The entries are read before that.
-abbrev pub items_say : HashFunction → InputFile → ℕ → InputFile → InputFile → Store → Outcome
-items_say h cert moment entries export store =
+abbrev pub audit_items_say : HashFunction → InputFile → ℕ → InputFile → InputFile → Store → Outcome
+audit_items_say h cert moment entries export store =
     with_form items_fault_text entries.name (items_in h entries.text)
-    (export_says h cert moment export store)
+    (audit_export_says h cert moment export store)
 
 -- And the store before all of these.
-abbrev pub store_says : HashFunction → InputFile → InputFile → ℕ → InputFile → InputFile → Outcome
-store_says h cert store moment entries export =
+abbrev pub audit_store_says : HashFunction → InputFile → InputFile → ℕ → InputFile → InputFile
+    → Outcome
+audit_store_says h cert store moment entries export =
     with_form store_fault_text store.name (store_of store.text)
-    (items_say h cert moment entries export)
+    (audit_items_say h cert moment entries export)
 
 -- An input file of at most so many bytes.
 abbrev pub with_input : ℕ → Text → Files → (InputFile → Outcome) → Outcome
@@ -136,4 +139,4 @@ audit_outcome h cert store moment entries export files =
     (λ c. with_input 16777216 store files
     (λ s. with_input 1073741824 entries files
     (λ e. with_input 1073741824 export files
-    (λ x. store_says h c s moment e x))))
+    (λ x. audit_store_says h c s moment e x))))

@@ -5,13 +5,14 @@ use Rattle.mtc_answers.specs.declared.answer.Said.TheVariants.{Done, Against, Co
 use Rattle.mtc_proof.specs.Views.{proof_parts}
 use Rattle.world_core.specs.declared.answer.Audit.{Audit}
 use Rattle.world_core.specs.declared.answer.Audit.TheVariants.{Foreign, Pair, Stands, Unrecorded}
-use Rattle.mtc_monitor.specs.AuditOutcome.{InputFile, Judged, collision_text, foreign_text}
+use Rattle.mtc_monitor.specs.AuditOutcome.{InputFile, AcceptedParts, collision_text, foreign_text}
 use Rattle.mtc_monitor.specs.AuditOutcome.{stands_text, unrecorded_text}
 use Rattle.mtc_monitor.specs.declared.accepted.AcceptedCert.{AcceptedCert}
 use Rattle.mtc_monitor.specs.declared.input.Input.{Input}
 
-abbrev pub judged : AcceptedCert → Judged
-judged a = record { accepted = a.accepted; cert = parts a.cert; proof = proof_parts a.proof }
+abbrev pub accepted_parts : AcceptedCert → AcceptedParts
+accepted_parts a =
+    record { accepted = a.accepted; cert = parts a.cert; proof = proof_parts a.proof }
 
 abbrev pub input_file : Input → InputFile
 input_file i = record { name = i.name.now; text = i.bytes.now }

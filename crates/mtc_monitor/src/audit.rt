@@ -12,8 +12,8 @@ ghost use Rattle.mtc_answers.specs.Served.{HasAnswered};
 ghost use Rattle.mtc_proof.specs.Views.{proof_parts};
 ghost use Rattle.world_core.specs.Audit.{WasJudged};
 ghost use Rattle.world_core.specs.Walk.{AreSteps};
-ghost use Rattle.mtc_monitor.specs.AuditOutcome.{audit_outcome, cert_says, export_says, items_say, judged_in, store_says};
-ghost use Rattle.mtc_monitor.specs.Views.{input_file, judged};
+ghost use Rattle.mtc_monitor.specs.AuditOutcome.{audit_outcome, audit_cert_says, audit_export_says, audit_items_say, accepted_in, audit_store_says};
+ghost use Rattle.mtc_monitor.specs.Views.{accepted_parts, input_file};
 
 use crate::accepted::AcceptedCert;
 use crate::found::audited;
@@ -34,12 +34,12 @@ use std::alloc::Global;
 use tree_core::TreeHash;
 
 // Judges a certificate, and gives the parts of one that is accepted.
-fn judged<'b, H: TreeHash>(
+fn accepted_in<'b, H: TreeHash>(
     bytes: &'b [u8],
     store: &Store,
     now: i64,
 ) -> Result<AcceptedCert<'b>, Refusal>
-    ensures exact { Gives judged result (judged_in H.hash bytes.now store.now now) }
+    ensures exact { Gives accepted_parts result (accepted_in H.hash bytes.now store.now now) }
     ensures judged { IfOk result (λ a. WasJudged H.hash store.now (parts a.cert)
         (proof_parts a.proof) a.accepted) }
 {
@@ -72,16 +72,16 @@ fn cert_answer<'a, H: TreeHash>(
 ) -> Result<Answer, Stop<'a>>
     requires time { is_time now ≡ true }
     requires allowed { IfSome kept (λ e. AreSteps H.hash e.now.steps) }
-    ensures { Replies (cert_says H.hash (input_file cert.entry) now store.now items.now
+    ensures { Replies (audit_cert_says H.hash (input_file cert.entry) now store.now items.now
         (option_map (λ e. e.now) kept.entry)).answer (ending_of result) }
 {
-    match judged::<H>(cert.bytes, store, now as i64) {
+    match accepted_in::<H>(cert.bytes, store, now as i64) {
         Ok(accepted) => Ok(audited(alloc, &accepted, store, items, kept)?),
         Err(why) => verdict_answer(alloc, cert.name, Err(why)),
     }
 }
 
-// Reads the export before it.
+// Reads the export, and then judges the certificate.
 fn export_answer<'a, H: TreeHash>(
     alloc: Global,
     cert: Input<'a, '_>,
@@ -91,8 +91,8 @@ fn export_answer<'a, H: TreeHash>(
     items: &Items<'_, H>,
 ) -> Result<Answer, Stop<'a>>
     requires { is_time now ≡ true }
-    ensures { Replies (export_says H.hash (input_file cert.entry) now (input_file export.entry)
-        store.now items.now).answer (ending_of result) }
+    ensures { Replies (audit_export_says H.hash (input_file cert.entry) now
+        (input_file export.entry) store.now items.now).answer (ending_of result) }
 {
     match kept_in::<H>(alloc, export.bytes) {
         Ok(kept) => cert_answer(alloc, cert, now, store, items, kept.as_ref()),
@@ -101,7 +101,7 @@ fn export_answer<'a, H: TreeHash>(
     }
 }
 
-// Reads the entries before that.
+// Reads the entries, then the export, and so on.
 fn items_answer<'a, H: TreeHash>(
     alloc: Global,
     cert: Input<'a, '_>,
@@ -111,7 +111,7 @@ fn items_answer<'a, H: TreeHash>(
     store: &Store,
 ) -> Result<Answer, Stop<'a>>
     requires { is_time now ≡ true }
-    ensures { Replies (items_say H.hash (input_file cert.entry) now (input_file entries.entry)
+    ensures { Replies (audit_items_say H.hash (input_file cert.entry) now (input_file entries.entry)
         (input_file export.entry) store.now).answer (ending_of result) }
 {
     match read_items::<H>(alloc, entries.bytes) {
@@ -121,7 +121,7 @@ fn items_answer<'a, H: TreeHash>(
     }
 }
 
-// Reads the store before all of these.
+// Reads the store, then the entries, and so on.
 fn store_answer<'a, H: TreeHash>(
     alloc: Global,
     cert: Input<'a, '_>,
@@ -131,7 +131,7 @@ fn store_answer<'a, H: TreeHash>(
     export: Input<'a, '_>,
 ) -> Result<Answer, Stop<'a>>
     requires { is_time now ≡ true }
-    ensures { Replies (store_says H.hash (input_file cert.entry) (input_file store.entry) now
+    ensures { Replies (audit_store_says H.hash (input_file cert.entry) (input_file store.entry) now
         (input_file entries.entry) (input_file export.entry)).answer (ending_of result) }
 {
     match Store::read(alloc, store.bytes) {

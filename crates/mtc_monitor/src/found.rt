@@ -7,7 +7,7 @@ ghost use Rattle.mtc_proof.specs.Views.{proof_parts};
 ghost use Rattle.world_core.specs.Audit.{WasJudged};
 ghost use Rattle.world_core.specs.Walk.{AreSteps};
 ghost use Rattle.mtc_monitor.specs.AuditOutcome.{audit_says, case_of};
-ghost use Rattle.mtc_monitor.specs.Views.{audit_reply, judged};
+ghost use Rattle.mtc_monitor.specs.Views.{accepted_parts, audit_reply};
 
 use crate::accepted::AcceptedCert;
 use cosigner_core::Export;
@@ -59,7 +59,7 @@ pub(crate) fn audited<H: TreeHash>(
         (proof_parts accepted.now.proof) accepted.now.accepted }
     requires allowed { IfSome kept (λ e. AreSteps H.hash e.now.steps) }
     ensures { IfOk result (λ answer. Meets (audit_says H.hash (case_of store.now items.now
-        (option_map (λ e. e.now) kept.entry) (judged accepted.now))).answer
+        (option_map (λ e. e.now) kept.entry) (accepted_parts accepted.now))).answer
         (said answer.status answer.text)) }
 {
     let found = audit::<H>(

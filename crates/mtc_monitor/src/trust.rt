@@ -38,7 +38,7 @@ fn list_answer<'a, H: TreeHash>(
 }
 
 // Reads the entries, and then the list.
-fn answer_of<'a, H: TreeHash>(
+fn entries_answer<'a, H: TreeHash>(
     alloc: Global,
     list: &'a str,
     max_active: u32,
@@ -73,7 +73,7 @@ pub fn trust_landmarks<'a, H: TreeHash, R: Room>(
 {
     let text = read_input(alloc, room, list, INPUT_LIMIT)?;
     let bytes = read_input(alloc, room, entries, LIST_LIMIT)?;
-    answer_of::<H>(
+    entries_answer::<H>(
         alloc,
         list,
         max_active as u32,

@@ -27,8 +27,8 @@ use Rattle.mtc_answers.specs.Steps.{Files, Outcome, stops_at, with_bytes, with_f
 use Rattle.mtc_answers.specs.declared.answer.Stopped.TheVariants.{Beyond}
 use Rattle.mtc_answers.specs.Wanted.{Meets}
 use Rattle.mtc_monitor.specs.AuditOutcome.{InputFile, audit_by, audit_outcome, audit_says}
-use Rattle.mtc_monitor.specs.AuditOutcome.{cert_says, export_says, items_say}
-use Rattle.mtc_monitor.specs.AuditOutcome.{judged_says, store_says, with_input}
+use Rattle.mtc_monitor.specs.AuditOutcome.{audit_cert_says, audit_export_says, audit_items_say}
+use Rattle.mtc_monitor.specs.AuditOutcome.{audit_accepted_says, audit_store_says, with_input}
 use Rattle.mtc_monitor.specs.Reasons.{export_fault_text, items_fault_text}
 use Rattle.mtc_reads.specs.Reasons.{store_fault_text}
 use Rattle.mtc_top.specs.AuditLaws.{AuditsStand, HoldsText, IsAuditOf, IsSignedInCourse}
@@ -58,19 +58,20 @@ audit_asked h files cert store moment entries kept x is =
     let k : InputFile = record { name = kept; text = is.kept_text } in
     input_there 16777216 cert files (λ a. with_input 16777216 store files
     (λ b. with_input 1073741824 entries files (λ d. with_input 1073741824 kept files
-    (λ f. store_says h a b moment d f)))) is.cert_text is.has_cert
+    (λ f. audit_store_says h a b moment d f)))) is.cert_text is.has_cert
     ∙ input_there 16777216 store files (λ b. with_input 1073741824 entries files
-    (λ d. with_input 1073741824 kept files (λ f. store_says h c b moment d f)))
+    (λ d. with_input 1073741824 kept files (λ f. audit_store_says h c b moment d f)))
     is.store_text is.has_store
     ∙ input_there 1073741824 entries files (λ d. with_input 1073741824 kept files
-    (λ f. store_says h c s moment d f)) is.entries_text is.has_entries
-    ∙ input_there 1073741824 kept files (λ f. store_says h c s moment e f) is.kept_text is.has_kept
-    ∙ ap (λ r. with_form store_fault_text store r (items_say h c moment e k)) is.store_read
-    ∙ ap (λ r. with_form items_fault_text entries r (export_says h c moment k x.store))
+    (λ f. audit_store_says h c s moment d f)) is.entries_text is.has_entries
+    ∙ input_there 1073741824 kept files (λ f. audit_store_says h c s moment e f) is.kept_text
+    is.has_kept
+    ∙ ap (λ r. with_form store_fault_text store r (audit_items_say h c moment e k)) is.store_read
+    ∙ ap (λ r. with_form items_fault_text entries r (audit_export_says h c moment k x.store))
     is.items_read
-    ∙ ap (λ r. with_form export_fault_text kept r (cert_says h c moment x.store x.items))
+    ∙ ap (λ r. with_form export_fault_text kept r (audit_cert_says h c moment x.store x.items))
     is.kept_read
-    ∙ ap (judged_says h cert x.store x.items x.kept) is.judged
+    ∙ ap (audit_accepted_says h cert x.store x.items x.kept) is.judged
 
 -- ---- what was kept supports it
 

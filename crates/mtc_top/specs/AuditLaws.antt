@@ -18,7 +18,7 @@ use Rattle.world_core.specs.Audit.{AuditCase, firsts_of, foreign_of, has_own, is
 use Rattle.world_core.specs.Audit.{seconds_of}
 use Rattle.mtc_answers.specs.Steps.{Files}
 use Rattle.mtc_answers.specs.Wanted.{IsPair}
-use Rattle.mtc_monitor.specs.AuditOutcome.{collision_text, judged_in, stands_text}
+use Rattle.mtc_monitor.specs.AuditOutcome.{collision_text, accepted_in, stands_text}
 use Rattle.mtc_top.specs.Concluded.{Prints}
 use Rattle.mtc_top.specs.Courses.{Link, Turn, HasTurned, WasHandedOut}
 use Rattle.mtc_top.specs.ExportLaws.{HasExported}
@@ -43,7 +43,7 @@ pub record IsAuditOf (h : HashFunction) (files : Files) (cert store : List ℕ) 
   pub store_read : store_of store_text ≡ Ok x.store
   pub items_read : items_in h entries_text ≡ Ok x.items
   pub kept_read : export_in h kept_text ≡ Ok x.kept
-  pub judged : judged_in h cert_text x.store (pos moment)
+  pub judged : accepted_in h cert_text x.store (pos moment)
       ≡ Ok (record { accepted = x.accepted; cert = x.cert; proof = x.proof })
 
 module _ {R S D O E : Type 0} (h : HashFunction) (rooms : Rooms R S D) (disks : Disks D)

@@ -2,7 +2,7 @@ use Rattle.std.proofs.Common.{sym}
 use Rattle.cert_fields.specs.Views.{parts}
 use Rattle.mtc_proof.specs.Views.{proof_parts}
 use Rattle.world_core.proofs.Premises.{was_judged}
-use Rattle.mtc_monitor.proofs.audit.judged.Goals as goal
+use Rattle.mtc_monitor.proofs.audit.accepted_in.Goals as goal
 
 pub returns-clause-judged : goal.returns-clause-judged
 returns-clause-judged g c = was_judged g.H.TreeHash.hash c.args.bytes.now c.args.store.now _
