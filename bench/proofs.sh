@@ -1,9 +1,11 @@
 #!/bin/bash
 # How long proofs over a list of 65,536 leaves take: making inclusion paths and consistency proofs over `Listed`, which
 # makes each node anew, and evaluating and checking them, by SHA-256. Each is told in nanoseconds and in hashes of a pair of
-# nodes, measured in the same run. Times are processor times of one thread. Beside them stands the same work by Go's
-# package sumdb/tlog, where it is installed (Debian's golang-go and golang-golang-x-mod-dev): it keeps the hash of each
-# full subtree, and so makes a proof by looking hashes up. Usage: bench/proofs.sh
+# nodes, measured in the same run. Then pushing 2^20 leaves to `Cache`, which keeps the hash of each full subtree, and
+# making paths over all of them (kept), and over all but the last, where the subtrees at the right edge aren't full (edge).
+# Times are processor times of one thread. Beside them stands the same work by Go's package sumdb/tlog, where it is
+# installed (Debian's golang-go and golang-golang-x-mod-dev): it keeps the hash of each full subtree, and so makes a proof
+# by looking hashes up. Usage: bench/proofs.sh
 set -eu
 root=$(cd "$(dirname "$0")/.." && pwd)
 work=$(mktemp -d)
@@ -11,7 +13,7 @@ trap 'rm -rf "$work"' EXIT
 
 # shellcheck source=bench/program.sh
 . "$root/bench/program.sh"
-build_and_run proofs tree_proofs tree_core mtc_io anyhow
+build_and_run proofs tree_cache tree_proofs tree_core mtc_io anyhow
 tell() {
     grep -E '^[a-z]+ [0-9]+ [0-9]+$' "$1" | awk '
         $1 == "pair" { one = $2 / $3 }
@@ -43,6 +45,7 @@ awk '
         print "evaluating an inclusion path|sumdb/tlog in Go|" both("evaluate")
         print "checking a consistency proof|sumdb/tlog in Go|" both("check")
         print "making a path or a proof|sumdb/tlog in Go|" both("include") " " both("consist")
+        print "making a path, nodes kept|sumdb/tlog in Go|" both("kept") " " both("edge")
     }' "$work/peer.txt" "$work/printed" > "$work/figures"
 if [ "${1-}" = --write ]; then
     keep_figures proofs "WORK|AGAINST|RATIOS" < "$work/figures"

@@ -11,6 +11,7 @@ import (
 )
 
 const leaves = 65536
+const kept = 1 << 20
 
 type stored []tlog.Hash
 
@@ -43,7 +44,8 @@ func main() {
 	runtime.LockOSThread()
 	var all stored
 	var first tlog.Hash
-	for index := int64(0); index < leaves; index++ {
+	start := nanoseconds()
+	for index := int64(0); index < kept; index++ {
 		data := binary.BigEndian.AppendUint64(nil, uint64(index))
 		hashes, err := tlog.StoredHashes(index, data, all)
 		need(err)
@@ -52,17 +54,19 @@ func main() {
 		}
 		all = append(all, hashes...)
 	}
+	grown := nanoseconds() - start
 	whole, err := tlog.TreeHash(leaves, all)
 	need(err)
 	most, err := tlog.TreeHash(leaves-1, all)
 	need(err)
 
-	start := nanoseconds()
+	start = nanoseconds()
 	joined := first
 	for i := 0; i < 1000000; i++ {
 		joined = tlog.NodeHash(joined, first)
 	}
 	told("pair", start, 1000000)
+	fmt.Println("push", grown, kept)
 
 	start = nanoseconds()
 	for i := int64(0); i < 20000; i++ {
@@ -93,4 +97,16 @@ func main() {
 		need(tlog.CheckTree(proof, leaves, whole, leaves-1, most))
 	}
 	told("check", start, 20000)
+
+	for _, edge := range []struct {
+		what string
+		size int64
+	}{{"kept", kept}, {"edge", kept - 1}} {
+		start = nanoseconds()
+		for i := int64(0); i < 200000; i++ {
+			_, err = tlog.ProveRecord(edge.size, i*5, all)
+			need(err)
+		}
+		told(edge.what, start, 200000)
+	}
 }
