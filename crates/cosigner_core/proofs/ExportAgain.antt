@@ -43,7 +43,8 @@ use Rattle.cosigner_core.proofs.Tagged.{some_value, when_some}
 
 -- ---- the records
 
-exported_again : (h : HashFunction) (keys k place : ℕ) (p : Progress) (body rest : Text) (x : Step)
+pub exported_again : (h : HashFunction) (keys k place : ℕ) (p : Progress) (body rest : Text)
+    (x : Step)
     → length body < 2 ^ 32 → step_in body ≡ Some x → is_allowed h keys p x ≡ true
     → exported_at h keys k p (record { place = place; rest = vector w32 body ++ rest })
     ≡ Ok (x, record { place = place + length (vector w32 body); rest = rest })
@@ -165,7 +166,7 @@ key_again place keys key rest short is =
     let one = (vector_form w16 (2 ^ 16) wide16).again key place rest short tt in
     rw (one, is) refl
 
-front_again : (id log key rest : Text) (keys : ℕ) → IsAnchorId id → IsAnchorId log
+pub front_again : (id log key rest : Text) (keys : ℕ) → IsAnchorId id → IsAnchorId log
     → length key < 2 ^ 16 → signing_keys key ≡ Some keys
     → (place : ℕ) × (export_front_at (at (front_text id log key ++ rest) 0)
     ≡ Ok ((id, (log, (key, keys))), record { place = place; rest = rest }))

@@ -6,6 +6,7 @@ pub mod Counts
 pub mod ExportAgain
 pub mod ExportForm
 pub mod ExportLoops
+pub mod ExportWritten
 pub mod Exported
 pub mod FirstRecords
 pub mod Forms

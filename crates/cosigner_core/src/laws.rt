@@ -71,12 +71,14 @@ pub fn one_time_keys_sign_once()
         → cosigner_of h list ≡ Ok s → CountsUp list s }
 {}
 
-/// What is read as an export is spelled as one, and its steps are those of a cosigner. What a
-/// cosigner exports of a file that stands for its records is read as their steps, which bring it as
-/// far as it is.
+/// What is read as an export is spelled as one, and its steps are those of a cosigner; and the
+/// spelling of each export is read as it. What a cosigner exports of a file that stands for its
+/// records is read as their steps, which bring it as far as it is.
 pub fn exports_are_read_as_spelled()
     ensures only { (h : HashFunction) (bytes : Text) (e : Export) → IsBytes bytes
         → export_in h bytes ≡ Ok (Some e) → (bytes ≡ exported_text e) × IsExport h e }
+    ensures written { (h : HashFunction) (e : Export) → IsExport h e
+        → export_in h (exported_text e) ≡ Ok (Some e) }
     ensures again { (h : HashFunction) (bytes : Text) (list : List Text) (s : CosignerState)
         → IsBytes bytes → StandsFor bytes list → cosigner_of h list ≡ Ok s
         → (steps : List Step) × (steps_in (drop 1 list) ≡ Some steps)
