@@ -1,4 +1,3 @@
-pub mod Forward
 pub mod Forms
 pub mod Inputs
 pub mod Sequence

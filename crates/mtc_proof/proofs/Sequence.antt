@@ -15,7 +15,7 @@ use Rattle.mtc_proof.specs.Reading.{of_short, text_at, id_at, to_signature, mtc_
 use Rattle.mtc_proof.specs.Reading.{signature_then, signatures_from, signatures_left}
 use Rattle.mtc_proof.specs.declared.fault.ProofError.{ProofError}
 use Rattle.mtc_proof.specs.declared.fault.ProofError.TheVariants.{EmptyId}
-use Rattle.mtc_proof.proofs.Forward.{vector_forward}
+use Rattle.tls_wire.proofs.Vectors.{vector_forward}
 use Rattle.mtc_proof.proofs.Forms.{signature_form, signature_some}
 
 signature_forward : (a : At) (x : SigParts × At) → mtc_signature_at a ≡ Ok x

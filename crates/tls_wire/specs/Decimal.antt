@@ -8,7 +8,7 @@ use Rattle.byte_forms.specs.Types.{Text}
 -- Digits alone, at least one, and no zero before another digit.
 abbrev pub is_decimal : Text → Bool
 is_decimal text = nat_lt 0 (length text) && all_ascii_digits text && ((length text == 1) || not
-    (slice_index text 0 == 48))
+    (slice_index text 0 == 0x30))
 
 -- The number that a text is: decimal, and at most 2^63 - 1.
 unfoldable pub number_of : Text → Option ℕ

@@ -1,6 +1,6 @@
 use Rattle.std.proofs.Common.{◌+◌, ◌≤◌, length, arith}
 use Rattle.std.specs.Int.{w8, w16}
-use Rattle.mtc_proof.proofs.Forward.{vector_forward}
+use Rattle.tls_wire.proofs.Vectors.{vector_forward}
 use Rattle.mtc_proof.proofs.list.signature.Goals as goal
 
 pub returns-clause-forward : goal.returns-clause-forward
