@@ -28,11 +28,11 @@ abbrev pub id_data_at : ℕ → Data → Option Text
 id_data_at place d = if nat_lt place most_cosigners then id_data d else None
 
 -- Bytes that are an HSS public key (RFC 8554, 6.1), and the text of one in base64.
-unfoldable pub public_key : Text → Option Text
-public_key bytes = option_map (λ types. bytes) (hss_key_types bytes)
+unfoldable pub hss_key : Text → Option Text
+hss_key bytes = option_map (λ types. bytes) (hss_key_types bytes)
 
 unfoldable pub key_data : Data → Option Text
-key_data d = option_and_then public_key (bytes_data d)
+key_data d = option_and_then hss_key (bytes_data d)
 
 unfoldable pub cosigner_data : ℕ → Data → Result Known StoreError
 cosigner_data place d = do

@@ -7,7 +7,7 @@ ghost use Rattle.toml.specs.View.{items_view, table_view, view};
 ghost use Rattle.policy_core.specs.declared.error.StoreError.{StoreError};
 ghost use Rattle.policy_core.specs.Fields.{store_field};
 ghost use Rattle.policy_core.specs.Limits.{most_cosigners};
-ghost use Rattle.policy_core.specs.CosignerFields.{cosigner_data, cosigners_at, cosigners_from, id_data_at, key_data, public_key};
+ghost use Rattle.policy_core.specs.CosignerFields.{cosigner_data, cosigners_at, cosigners_from, id_data_at, hss_key, key_data};
 
 use crate::cosigners::{Cosigners, Known, MOST_COSIGNERS};
 use crate::error::{Key, StoreError};
@@ -36,9 +36,9 @@ fn id_at(alloc: Global, table: &Table, place: usize) -> Result<AnchorId, StoreEr
 }
 
 // The public key, where the bytes are one.
-#[tactic(auto, unfolding(crate::specs::CosignerFields::public_key))]
+#[tactic(auto, unfolding(crate::specs::CosignerFields::hss_key))]
 fn public_key(bytes: &[u8]) -> Option<[u8; PUBLIC_KEY_LEN]>
-    ensures { result ≡ public_key bytes.now }
+    ensures { result ≡ hss_key bytes.now }
 {
     let _types = read_key(bytes)?;
     let mut key = [0; PUBLIC_KEY_LEN];
