@@ -4,3 +4,4 @@ pub mod Readings
 pub mod Lists
 pub mod Forms
 pub mod Numbers
+pub mod Refusals

@@ -6,6 +6,7 @@ use Rattle.std.specs.Prelude.{if◌then◌else◌, is_some}
 use Rattle.std.proofs.Common.{Err, IsErrAnd, IsErrOf, IsTrue, refl, sym, ap, subst, arith}
 use Rattle.std.proofs.lemmas.Bool.{ltb-true, lt-ltb}
 use Rattle.byte_forms.specs.Types.{HashFunction, Text}
+use Rattle.byte_forms.specs.Refusals.{answer_of}
 use Rattle.disk_core.specs.declared.disk.Disk.{Ghosts}
 use Rattle.disk_core.specs.Moments.{LeavesOnly}
 use Rattle.tree_core.specs.declared.hashing.TreeHash.{Ghosts as Hashes}
@@ -18,7 +19,7 @@ use Rattle.journal_core.specs.declared.error.AppendError.{AppendError}
 use Rattle.journal_core.specs.declared.error.AppendError.TheVariants.{Broken, Failed, Full}
 use Rattle.cosigner_core.specs.Folds.{CosignerState}
 use Rattle.cosigner_core.specs.Kept.{IsKept, kept_of, kept_records}
-use Rattle.cosigner_core.specs.Refusals.{IsOfRequest, KeepsTo, answer_of, earlier}
+use Rattle.cosigner_core.specs.Refusals.{IsOfRequest, KeepsTo, earlier}
 use Rattle.cosigner_core.specs.Refusals.{journal_refusal}
 use Rattle.cosigner_core.specs.Words.{CosignerAppends, CosignerLeaves, cosigner_broken}
 use Rattle.cosigner_core.specs.Words.{cosigner_disk, cosigner_end, state_of}

@@ -69,11 +69,6 @@ IsOfRequest BadProof = Unit {0}
 IsOfRequest Exhausted = Unit {0}
 IsOfRequest (Append why) = ⊥
 
--- a refusal as an answer
-abbrev pub answer_of : Option CosignError → Result (Unit {0}) CosignError
-answer_of None = Ok tt
-answer_of (Some refusal) = Err refusal
-
 -- The answer keeps to that refusal. A fault may be told where there is none.
 abbrev pub KeepsTo : Option CosignError → Result (Unit {0}) CosignError → Type 0
 KeepsTo wanted (Ok done) = wanted ≡ None

@@ -1,10 +1,11 @@
 //! A cosigner without its journal.
 ghost use Rattle.std.specs.Prelude.{◌≡◌, ◌<◌, ◌≤◌, ◌^◌, length, IfErr, OnOk};
+ghost use Rattle.byte_forms.specs.Refusals.{answer_of};
 ghost use Rattle.hss_core.specs.Hss.{Verifies, one_level_public};
 ghost use Rattle.mtc_proof.specs.Inputs.{signed_text};
 ghost use Rattle.cosigner_core.specs.Folds.{having_signed, holding, key_count};
 ghost use Rattle.cosigner_core.specs.Records.{FitsSign, sign_record};
-ghost use Rattle.cosigner_core.specs.Refusals.{IsOfRequest, advance_refusal, answer_of, subtree_refusal};
+ghost use Rattle.cosigner_core.specs.Refusals.{IsOfRequest, advance_refusal, subtree_refusal};
 ghost use Rattle.cosigner_core.specs.Signatures.{signature_by};
 ghost use Rattle.cosigner_core.specs.Views.{advance_parts, subtree_parts};
 

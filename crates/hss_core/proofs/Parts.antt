@@ -4,8 +4,9 @@ use Rattle.std.proofs.Common.{Some, None, Ok, Err, refl}
 use Rattle.std.proofs.lemmas.Bool.{le-leb, leb-true}
 use Rattle.std.specs.Prelude.{nat_le}
 use Rattle.byte_forms.specs.Types.{Text}
+use Rattle.byte_forms.specs.Refusals.{answer_of}
 use Rattle.lms_core.specs.declared.refusals.SigError.{SigError}
-use Rattle.lms_core.specs.Refusals.{answer_of, check_refusal}
+use Rattle.lms_core.specs.Refusals.{check_refusal}
 use Rattle.hss_core.specs.Hss.{behind_key, front_length, key_behind, levels_refusal, parts_fit}
 
 -- one pair less

@@ -1,6 +1,7 @@
 //! The parts of a signature of several levels, and their checks from the top down.
+
 ghost use Rattle.std.specs.Prelude.{◌≡◌, ◌≤◌, true, length, IfSome};
-ghost use Rattle.lms_core.specs.Refusals.{answer_of};
+ghost use Rattle.byte_forms.specs.Refusals.{answer_of};
 ghost use Rattle.hss_core.specs.Hss.{front_length, levels_refusal, parts_fit};
 
 use lms_core::{PUBLIC_KEY_LEN, SigError, check, front};

@@ -15,11 +15,6 @@ use Rattle.lms_core.specs.declared.refusals.SigError.TheVariants.{BadIndex, Wron
 use Rattle.lms_core.specs.Heights.{height, lms_code, lms_type_of_code, lms_signature_length}
 use Rattle.lms_core.specs.Trees.{climbed, leaf_node, lms_public, lms_signature, private_key}
 
--- A refusal as what a call gives back.
-abbrev pub answer_of : Option SigError → Result (Unit {0}) SigError
-answer_of None = Ok tt
-answer_of (Some refusal) = Err refusal
-
 -- ---- keys (5.3)
 
 abbrev pub types_of : Option LmsType → Option OtsType → Option (LmsType × OtsType)

@@ -1,8 +1,8 @@
 -- Signatures that verify.
 use Rattle.std.proofs.Common.{◌≡◌, Option, Some, None, is_ok, refl}
 use Rattle.std.specs.Option.{is_none}
+use Rattle.byte_forms.specs.Refusals.{answer_of}
 use Rattle.lms_core.specs.declared.refusals.SigError.{SigError}
-use Rattle.lms_core.specs.Refusals.{answer_of}
 
 pub verified : (refusal : Option SigError) → is_ok (answer_of refusal) ≡ is_none refusal
 verified None = refl

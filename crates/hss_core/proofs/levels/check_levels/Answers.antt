@@ -1,6 +1,7 @@
 use Rattle.std.proofs.Common.{◌≡◌, ◌∙◌, suc, ◌+◌, ◌-◌, take, Ok, Err, refl, sym, arith}
 use Rattle.std.proofs.lemmas.List.{drop-drop}
-use Rattle.lms_core.specs.Refusals.{answer_of, check_refusal}
+use Rattle.byte_forms.specs.Refusals.{answer_of}
+use Rattle.lms_core.specs.Refusals.{check_refusal}
 use Rattle.hss_core.specs.Hss.{behind_key, key_behind}
 use Rattle.hss_core.proofs.Parts.{answer_of-err, answer_of-ok, levels_refusal-passed}
 use Rattle.hss_core.proofs.Parts.{levels_refusal-refused, parts_fit-more}
