@@ -1,14 +1,15 @@
 -- What the history of a disk in memory tells.
-use Rattle.std.specs.Prelude.{ℕ, List, length}
+use Rattle.std.specs.Prelude.{ℕ, length}
+use Rattle.byte_forms.specs.Types.{Text}
 use Rattle.disk_core.specs.Replay.{state_now, IsImage, LeftSince}
 use Rattle.disk_core.specs.declared.memory.history.History.{History}
 
 -- what a read gives
-abbrev pub seen_of : History → List ℕ
+abbrev pub seen_of : History → Text
 seen_of h = (state_now h.first h.calls.items).seen
 
 -- what a crash now may leave
-abbrev pub left_of : History → List ℕ → Type 0
+abbrev pub left_of : History → Text → Type 0
 left_of h = IsImage (state_now h.first h.calls.items)
 
 -- the number of calls
@@ -16,5 +17,5 @@ abbrev pub moment_of : History → ℕ
 moment_of h = length h.calls.items
 
 -- what a crash since that moment might have left
-abbrev pub since_of : History → ℕ → List ℕ → Type 0
+abbrev pub since_of : History → ℕ → Text → Type 0
 since_of h = LeftSince h.first h.calls.items

@@ -1,11 +1,12 @@
 -- What a `MemDisk` shows.
 use Rattle.std.specs.Prelude.{◌≡◌, ℕ, List, [], length}
+use Rattle.byte_forms.specs.Types.{Text}
 use Rattle.disk_core.specs.History.{seen_of, left_of}
 use Rattle.disk_core.specs.declared.memory.call.Made.{Made}
 use Rattle.disk_core.specs.declared.memory.mem_disk.MemDisk.{MemDisk}
 
 -- what it held at first
-abbrev pub first_of : MemDisk → List ℕ
+abbrev pub first_of : MemDisk → Text
 first_of m = m.past.first
 
 -- the record of its calls, the oldest first
@@ -13,11 +14,11 @@ abbrev pub calls_of : MemDisk → List Made
 calls_of m = m.past.calls.items
 
 -- what a read gives
-abbrev pub bytes_of : MemDisk → List ℕ
+abbrev pub bytes_of : MemDisk → Text
 bytes_of m = seen_of m.past
 
 -- what a crash now may leave
-abbrev pub images_of : MemDisk → List ℕ → Type 0
+abbrev pub images_of : MemDisk → Text → Type 0
 images_of m = left_of m.past
 
 -- the known length
@@ -41,7 +42,7 @@ abbrev pub starved_of : MemDisk → ℕ
 starved_of m = m.plan.starved
 
 -- a disk over these bytes that has had no call
-pub record IsFresh (bytes : List ℕ) (m : MemDisk) : Type 0 where
+pub record IsFresh (bytes : Text) (m : MemDisk) : Type 0 where
   pub first : first_of m ≡ bytes
   pub calls : calls_of m ≡ []
   pub known : known_of m ≡ 0

@@ -1,14 +1,15 @@
 -- What a crash leaves over more than one call of a disk.
-use Rattle.std.specs.Prelude.{◌≡◌, ◌⊎◌, ℕ, ◌≤◌, List}
+use Rattle.std.specs.Prelude.{◌≡◌, ◌⊎◌, ℕ, ◌≤◌}
+use Rattle.byte_forms.specs.Types.{Text}
 use Rattle.disk_core.specs.Disk.{NoNew}
 use Rattle.disk_core.specs.declared.disk.Disk.{Ghosts}
 
 -- From one moment of a disk to a later one, a crash at any moment leaves an image that has P.
-pub record LeavesOnly {D : Type 0} (g : Ghosts D) (old new : D) (P : List ℕ → Type 0) : Type 0 where
+pub record LeavesOnly {D : Type 0} (g : Ghosts D) (old new : D) (P : Text → Type 0) : Type 0 where
   pub later : g.moment old ≤ g.moment new
-  pub each : (c : List ℕ) → g.left_since new (g.moment old) c → P c
+  pub each : (c : Text) → g.left_since new (g.moment old) c → P c
   -- of an earlier moment there is nothing else but what was there before
-  pub before : (t : ℕ) (c : List ℕ) → t ≤ g.moment old → g.left_since new t c
+  pub before : (t : ℕ) (c : Text) → t ≤ g.moment old → g.left_since new t c
       → g.left_since old t c ⊎ P c
 
 -- Calls that only look at a disk: what it tells stays, and a crash leaves nothing new at any

@@ -1,6 +1,7 @@
 -- A disk in memory, as the replay of its calls over what it held at first.
 use Rattle.std.specs.Prelude.{◌≡◌, ℕ, ◌≤◌, Bool, if◌then◌else◌, List, [], ◌∷◌, ◌++◌, length, take}
 use Rattle.std.proofs.Props.{props}
+use Rattle.byte_forms.specs.Types.{Text}
 use Rattle.byte_forms.specs.Places.{IsBytes}
 use Rattle.disk_core.specs.Disk.{overwritten, Torn}
 use Rattle.disk_core.specs.declared.memory.call.Call.{Call}
@@ -10,12 +11,12 @@ use Rattle.disk_core.specs.declared.memory.call.Made.{Made}
 -- what a read gives, what was there at the last sync, and the place and length of each write since,
 -- the newest first
 pub record State : Type 0 where
-  pub seen : List ℕ
-  pub base : List ℕ
+  pub seen : Text
+  pub base : Text
   pub writes : List (ℕ × ℕ)
 
 -- all of it is on the disk
-abbrev pub settled : List ℕ → State
+abbrev pub settled : Text → State
 settled bytes = record { seen = bytes; base = bytes; writes = [] }
 
 -- A write that is refused is not seen, but a crash may leave of it what it may leave of any write.
@@ -40,25 +41,25 @@ run s [] = s
 run s (made ∷ calls) = run (step s made) calls
 
 -- now
-abbrev pub state_now : List ℕ → List Made → State
+abbrev pub state_now : Text → List Made → State
 state_now first calls = run (settled first) calls
 
 -- after so many of the calls
-abbrev pub state_at : List ℕ → List Made → ℕ → State
+abbrev pub state_at : Text → List Made → ℕ → State
 state_at first calls count = run (settled first) (take count calls)
 
 -- what a crash may leave: what was there at the last sync, with each write since torn in some way
 -- that leaves bytes
-abbrev pub IsImageOf : List ℕ → List (ℕ × ℕ) → List ℕ → Type 0
+abbrev pub IsImageOf : Text → List (ℕ × ℕ) → Text → Type 0
 IsImageOf base [] c = c ≡ base
 IsImageOf base (write ∷ writes) c =
-    IsBytes c × (d : List ℕ) × IsImageOf base writes d × Torn write.0 write.1 d c
+    IsBytes c × (d : Text) × IsImageOf base writes d × Torn write.0 write.1 d c
 
-abbrev pub IsImage : State → List ℕ → Type 0
+abbrev pub IsImage : State → Text → Type 0
 IsImage s c = IsImageOf s.base s.writes c
 
 -- what a crash may have left after so many of the calls or more
-abbrev pub LeftSince : List ℕ → List Made → ℕ → List ℕ → Type 0
+abbrev pub LeftSince : Text → List Made → ℕ → Text → Type 0
 LeftSince first calls t c =
     (count : ℕ) × (t ≤ count) × (count ≤ length calls) × IsImage (state_at first calls count) c
 
@@ -79,7 +80,7 @@ AllWriteBytes [] = Unit {0}
 AllWriteBytes (made ∷ calls) = WritesBytes made.call × AllWriteBytes calls
 
 -- what was held at first are bytes, and so is what the calls write
-pub record HoldsBytes (first : List ℕ) (calls : List Made) : Type 0 where
+pub record HoldsBytes (first : Text) (calls : List Made) : Type 0 where
   pub first_are : IsBytes first
   pub written_are : AllWriteBytes calls
 
@@ -95,5 +96,5 @@ AllWriteBytes-prop [] = hlevel props
 AllWriteBytes-prop (made ∷ calls) =
     hlevel (props, WritesBytes-prop made.call, AllWriteBytes-prop calls)
 
-pub HoldsBytes-prop : (first : List ℕ) (calls : List Made) → IsProp (HoldsBytes first calls)
+pub HoldsBytes-prop : (first : Text) (calls : List Made) → IsProp (HoldsBytes first calls)
 HoldsBytes-prop first calls = hlevel (props, AllWriteBytes-prop calls)

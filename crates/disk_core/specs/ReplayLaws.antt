@@ -4,6 +4,7 @@ use Rattle.std.specs.Prelude.{◌≡◌, ℕ, zero, suc, ◌≤◌, Bool, true, 
 use Rattle.std.specs.Prelude.{take, Some, refl}
 use Rattle.std.proofs.Common.{arith, sym, subst}
 use Rattle.std.proofs.lemmas.List.{take_all}
+use Rattle.byte_forms.specs.Types.{Text}
 use Rattle.byte_forms.specs.Places.{IsBytes}
 use Rattle.disk_core.specs.Writes.{torn_none, torn_all, IsBytes-overwritten}
 use Rattle.disk_core.specs.Replay.{State, settled, after_call, step, run, state_now, IsImageOf}
@@ -33,7 +34,7 @@ run_bytes s [] write are = are
 run_bytes s (made ∷ calls) write are =
     run_bytes (step s made) calls write.1 (call_bytes s made.call made.ok write.0 are)
 
-first_bytes : (first : List ℕ) → IsBytes first → AreBytes (settled first)
+first_bytes : (first : Text) → IsBytes first → AreBytes (settled first)
 first_bytes first are = record { seen = are; base = are }
 
 call_seen : (s : State) (call : Call) (ok : Bool) → AreBytes (after_call s call ok)
@@ -54,13 +55,13 @@ run_seen s (made ∷ calls) write are is =
     run_seen (step s made) calls write.1 next (call_seen s made.call made.ok next is)
 
 -- what a read gives is one of the images
-pub now_seen : (first : List ℕ) (calls : List Made) → HoldsBytes first calls
+pub now_seen : (first : Text) (calls : List Made) → HoldsBytes first calls
     → IsImage (state_now first calls) (state_now first calls).seen
 now_seen first calls holds =
     run_seen (settled first) calls holds.written_are (first_bytes first holds.first_are) refl
 
 -- an image is bytes
-image_bytes : (base : List ℕ) (writes : List (ℕ × ℕ)) (c : List ℕ) → IsBytes base
+image_bytes : (base : Text) (writes : List (ℕ × ℕ)) (c : Text) → IsBytes base
     → IsImageOf base writes c → IsBytes c
 image_bytes base [] c are is = subst IsBytes (sym is) are
 image_bytes base (write ∷ writes) c are is = is.0
@@ -71,7 +72,7 @@ first_write zero calls write = tt
 first_write (suc count) [] write = tt
 first_write (suc count) (made ∷ calls) write = (write.0, first_write count calls write.1)
 
-pub since_bytes : (first : List ℕ) (calls : List Made) (t : ℕ) (c : List ℕ) → HoldsBytes first calls
+pub since_bytes : (first : Text) (calls : List Made) (t : ℕ) (c : Text) → HoldsBytes first calls
     → LeftSince first calls t c → IsBytes c
 since_bytes first calls t c holds (count, late, there, is) =
     let s = run (settled first) (take count calls) in
@@ -80,7 +81,7 @@ since_bytes first calls t c holds (count, late, there, is) =
     image_bytes s.base s.writes c are.base is
 
 -- an image of now is one since any moment
-pub now_since : (first : List ℕ) (calls : List Made) (t : ℕ) (c : List ℕ) → t ≤ length calls
+pub now_since : (first : Text) (calls : List Made) (t : ℕ) (c : Text) → t ≤ length calls
     → IsImage (state_now first calls) c → LeftSince first calls t c
 now_since first calls t c le is =
     let whole : take (length calls) calls ≡ calls = take_all (length calls) calls (omega arith) in (
@@ -91,19 +92,19 @@ now_since first calls t c le is =
     )
 
 -- since the last moment there is no other
-pub since_now : (first : List ℕ) (calls : List Made) (c : List ℕ)
+pub since_now : (first : Text) (calls : List Made) (c : Text)
     → LeftSince first calls (length calls) c → IsImage (state_now first calls) c
 since_now first calls c (count, late, there, is) =
     let whole : take count calls ≡ calls = take_all count calls late in
     subst (λ (kept : List Made). IsImage (run (settled first) kept) c) whole is
 
-pub told_seen : (first : List ℕ) (calls : List Made) (bytes : List ℕ) → HoldsBytes first calls
+pub told_seen : (first : Text) (calls : List Made) (bytes : Text) → HoldsBytes first calls
     → Some (state_now first calls).seen ≡ Some bytes → IsImage (state_now first calls) bytes
 told_seen first calls bytes holds is =
     let same : (state_now first calls).seen ≡ bytes = cc in
-    subst (λ (c : List ℕ). IsImage (state_now first calls) c) same (now_seen first calls holds)
+    subst (λ (c : Text). IsImage (state_now first calls) c) same (now_seen first calls holds)
 
-pub told_are : (first : List ℕ) (calls : List Made) (bytes : List ℕ) → HoldsBytes first calls
+pub told_are : (first : Text) (calls : List Made) (bytes : Text) → HoldsBytes first calls
     → Some (state_now first calls).seen ≡ Some bytes → IsBytes bytes
 told_are first calls bytes holds is =
     let same : (state_now first calls).seen ≡ bytes = cc in
@@ -111,8 +112,8 @@ told_are first calls bytes holds is =
     (first_bytes first holds.first_are) in
     subst IsBytes same now.seen
 
-pub told_length : (known : ℕ) (seen bytes : List ℕ) → known ≤ length seen → Some seen ≡ Some bytes
+pub told_length : (known : ℕ) (seen bytes : Text) → known ≤ length seen → Some seen ≡ Some bytes
     → known ≤ length bytes
 told_length known seen bytes there is =
     let same : seen ≡ bytes = cc in
-    subst (λ (c : List ℕ). known ≤ length c) same there
+    subst (λ (c : Text). known ≤ length c) same there

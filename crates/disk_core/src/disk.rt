@@ -1,5 +1,7 @@
 //! A disk as its user sees it: what a read gives, and what a crash leaves.
-ghost use Rattle.std.specs.Prelude.{◌≡◌, ℕ, ◌+◌, ◌^◌, ◌<◌, ◌≤◌, max, Bool, List, length, Option, is_some, is_ok, option_map, Some, IfSome, IfOk, OnOk, OnErr, MatchResult};
+
+ghost use Rattle.std.specs.Prelude.{◌≡◌, ℕ, ◌+◌, ◌^◌, ◌<◌, ◌≤◌, max, Bool, length, Option, is_some, is_ok, option_map, Some, IfSome, IfOk, OnOk, OnErr, MatchResult};
+ghost use Rattle.byte_forms.specs.Types.{Text};
 ghost use Rattle.byte_forms.specs.Places.{IsBytes};
 ghost use Rattle.mtc_io.specs.Counts.{Rose, HasCause};
 ghost use Rattle.disk_core.specs.Disk.{overwritten, part, Torn, Follows, NoNew, Only, Elapses};
@@ -14,7 +16,7 @@ use mtc_io::Failed;
 /// written range and past the old end. After a `sync` that answers Ok it leaves what a read gives.
 pub trait Disk {
     /// The bytes that a read gives, where the disk tells them.
-    ghost told: { Self → Option (List ℕ) };
+    ghost told: { Self → Option Text };
 
     /// The known length: nothing past it is read, and no write begins past it. It is 0 at first.
     ghost known: { Self → ℕ };
@@ -23,11 +25,11 @@ pub trait Disk {
     ghost moment: { Self → ℕ };
 
     /// The images that a crash now may leave.
-    ghost may_leave: { Self → List ℕ → Type 0 };
+    ghost may_leave: { Self → Text → Type 0 };
 
     /// The images that a crash at some moment from that one on might have left, during a call or
     /// between two.
-    ghost left_since: { Self → ℕ → List ℕ → Type 0 };
+    ghost left_since: { Self → ℕ → Text → Type 0 };
 
     /// How often the disk has failed.
     ghost faults: { Self → ℕ };
@@ -94,21 +96,21 @@ pub trait Disk {
         ensures turn { turn self.old Sync (is_ok result) self.new };
 
     /// What a read gives is one of the images.
-    ghost reads_image: { (d : Self) (b : List ℕ) → told d ≡ Some b → may_leave d b };
+    ghost reads_image: { (d : Self) (b : Text) → told d ≡ Some b → may_leave d b };
 
     /// What is told are bytes.
-    ghost told_bytes: { (d : Self) (b : List ℕ) → told d ≡ Some b → IsBytes b };
+    ghost told_bytes: { (d : Self) (b : Text) → told d ≡ Some b → IsBytes b };
 
     /// Where the bytes are told, the known length is at most their number.
-    ghost known_there: { (d : Self) (b : List ℕ) → told d ≡ Some b → known d ≤ length b };
+    ghost known_there: { (d : Self) (b : Text) → told d ≡ Some b → known d ≤ length b };
 
     /// This moment is one of those since an earlier one.
-    ghost counts_now: { (d : Self) (t : ℕ) (c : List ℕ) → t ≤ moment d → may_leave d c
+    ghost counts_now: { (d : Self) (t : ℕ) (c : Text) → t ≤ moment d → may_leave d c
         → left_since d t c };
 
     /// Since this moment there is no other.
-    ghost only_now: { (d : Self) (c : List ℕ) → left_since d (moment d) c → may_leave d c };
+    ghost only_now: { (d : Self) (c : Text) → left_since d (moment d) c → may_leave d c };
 
     /// What a crash leaves are bytes, at any moment.
-    ghost left_bytes: { (d : Self) (t : ℕ) (c : List ℕ) → left_since d t c → IsBytes c };
+    ghost left_bytes: { (d : Self) (t : ℕ) (c : Text) → left_since d t c → IsBytes c };
 }

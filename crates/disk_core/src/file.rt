@@ -1,4 +1,5 @@
 //! An open file as a disk.
+
 ghost use Rattle.std.specs.Prelude.{◌≡◌, ◌≤◌, None, IfOk, OnOk};
 ghost use Rattle.byte_forms.specs.Places.{IsBytes};
 ghost use Rattle.mtc_io.specs.Counts.{Rose, HasCause};

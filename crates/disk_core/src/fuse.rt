@@ -1,4 +1,5 @@
 //! A disk that stops at some call, as the machine does.
+
 ghost use Rattle.std.specs.Prelude.{◌≡◌, ◌↔◌, ◌+◌, ◌-◌, ◌==◌, ◌||◌, true, false, OnOk, OnErr, IsErr, IsTrue};
 ghost use Rattle.mtc_io.specs.Counts.{HasCause};
 

@@ -1,4 +1,5 @@
 //! A disk in memory.
+
 mod call;
 mod copies;
 mod crash;

@@ -1,6 +1,8 @@
 //! The steps that a user of a disk takes: it looks, it makes certain what is there, or it writes
 //! and syncs.
-ghost use Rattle.std.specs.Prelude.{◌≡◌, ℕ, ◌+◌, ◌^◌, ◌<◌, ◌≤◌, max, List, length, is_some, option_map, IfSome, IfOk, OnOk, MatchResult};
+
+ghost use Rattle.std.specs.Prelude.{◌≡◌, ◌+◌, ◌^◌, ◌<◌, ◌≤◌, max, length, is_some, option_map, IfSome, IfOk, OnOk, MatchResult};
+ghost use Rattle.byte_forms.specs.Types.{Text};
 ghost use Rattle.mtc_io.specs.Counts.{Rose, HasCause};
 ghost use Rattle.disk_core.specs.Disk.{overwritten, part, Torn, Only};
 ghost use Rattle.disk_core.specs.Moments.{LeavesOnly, Looks};
@@ -21,7 +23,7 @@ pub fn write_synced<D: Disk>(disk: &mut D, place: u64, bytes: &[u8]) -> Result<(
     ensures known_kept { D.known disk.old ≤ D.known disk.new }
     ensures told { is_some (D.told disk.new) ≡ is_some (D.told disk.old) }
     ensures any_moment { LeavesOnly D.Disk disk.old disk.new
-        (λ c. (d : List ℕ) × D.may_leave disk.old d × Torn place (length bytes.now) d c) }
+        (λ c. (d : Text) × D.may_leave disk.old d × Torn place (length bytes.now) d c) }
     ensures clock { OnOk result (Rose (D.moment disk.old) (D.moment disk.new)) }
     ensures cause { HasCause (D.faults disk.old) (D.faults disk.new) result }
 {

@@ -10,7 +10,7 @@ use Rattle.journal_core.specs.Opens.{HasReason, IsOfHeader, IsOfRecord, IsWalkTo
 use Rattle.journal_core.specs.Openings.{opening_disk, read_list, next_place, refusal, last_body}
 use Rattle.journal_core.specs.Openings.{HasRead, HasEnded, HasStepped}
 use Rattle.journal_core.specs.Readings.{HasFolded, HasFound}
-use Rattle.journal_core.specs.Walk.{Ending, walk_of, at_gate, at_bad_length, at_cut}
+use Rattle.journal_core.specs.Walk.{FileEnd, walk_of, at_gate, at_bad_length, at_cut}
 use Rattle.journal_core.specs.declared.opening.Opening.{Opening}
 use Rattle.journal_core.specs.declared.error.OpenError.{OpenError}
 use Rattle.journal_core.specs.declared.error.OpenError.TheVariants.{NotJournal, BadLength, CutShort}
@@ -182,7 +182,7 @@ module _ {D : Type 0} {g : Ghosts D} {S E : Type 0} (fold : Fold S E) (old new :
 
   -- ---- the journal's own refusals
 
-  abbrev EndsSo : List ℕ → ℕ → Ending → E → Type 0
+  abbrev EndsSo : List ℕ → ℕ → FileEnd → E → Type 0
   EndsSo b at end why = g.told (opening_disk old) ≡ Some b → walk_of b ≡ record {
     records =
         records_before b (next_place old);
@@ -233,7 +233,7 @@ module _ {D : Type 0} {g : Ghosts D} {S E : Type 0} (fold : Fold S E) (old new :
       → records_before b (next_place old) ≡ []
       = λ b told. of_list old b told (λ (l : List (List ℕ)). l
       ≡ []) (all_empty _ (read_list old) none) in
-      let walked : (b : List ℕ) (end : Ending) → g.told (opening_disk old) ≡ Some b
+      let walked : (b : List ℕ) (end : FileEnd) → g.told (opening_disk old) ≡ Some b
       → walk_of b ≡ record { records = records_before b (next_place old); end = end }
       → walk_of b ≡ record { records = []; end = end }
       = λ b end told walk. subst (λ (l : List (List ℕ)). walk_of b ≡ record {

@@ -6,7 +6,7 @@ use Rattle.std.proofs.lemmas.Slice.Eq.{bytes_eq-Decides}
 use Rattle.byte_forms.specs.Readings.{◌>>=◌, lifted}
 use Rattle.journal_core.specs.Folds.{Fold, Found, state_behind, closing, tested, walked, read_by}
 use Rattle.journal_core.specs.Format.{header, behind, StandsFor}
-use Rattle.journal_core.specs.Walk.{Ending, walk_of, at_gate}
+use Rattle.journal_core.specs.Walk.{FileEnd, walk_of, at_gate}
 use Rattle.journal_core.specs.declared.error.OpenError.TheVariants.{NotJournal}
 use Rattle.journal_core.proofs.ReadOn.{header_length}
 use Rattle.journal_core.proofs.Walk.{walk_closed}
@@ -22,7 +22,7 @@ module _ {S E : Type 0} (fold : Fold S E) where
       rw test refl
 
   -- records that make a state, and how they end
-  tested_good : (list : List (List ℕ)) (end : Ending) (s : S) → state_behind fold list ≡ Ok s
+  tested_good : (list : List (List ℕ)) (end : FileEnd) (s : S) → state_behind fold list ≡ Ok s
       → tested fold list end ≡ closing fold end (Ok s)
   unfolding state_behind
   tested_good [] end s is = cc
@@ -30,9 +30,9 @@ module _ {S E : Type 0} (fold : Fold S E) where
       ap (λ (r : Result S ℕ). lifted fold.bad_record r >>= λ (t : S). closing fold end (Ok t)) is
 
   -- a record that breaks the rules, whatever follows
-  tested_bad : (front : List (List ℕ)) (body : List ℕ) (rest : List (List ℕ)) (end : Ending) (k : ℕ)
-      → state_behind fold (front ++ body ∷ rest) ≡ Err k → tested fold (front ++ body ∷ rest) end
-      ≡ Err (fold.bad_record k)
+  tested_bad : (front : List (List ℕ)) (body : List ℕ) (rest : List (List ℕ)) (end : FileEnd)
+      (k : ℕ) → state_behind fold (front ++ body ∷ rest) ≡ Err k
+      → tested fold (front ++ body ∷ rest) end ≡ Err (fold.bad_record k)
   tested_bad [] body rest end k is = ap (λ (r : Result S ℕ). lifted fold.bad_record r >>= λ (t : S).
       closing fold end (Ok t)) is
   tested_bad (first ∷ front) body rest end k is =
@@ -41,14 +41,14 @@ module _ {S E : Type 0} (fold : Fold S E) where
   abbrev pub kept : List (List ℕ) → Result S E → Result (Found S) E
   kept list r = r >>= λ (s : S). Ok (record { records = list; state = s })
 
-  pub read_ends : (bytes : List ℕ) (list : List (List ℕ)) (end : Ending) (s : S)
+  pub read_ends : (bytes : List ℕ) (list : List (List ℕ)) (end : FileEnd) (s : S)
       → take 16 bytes ≡ header
       → walk_of bytes ≡ record { records = list; end = end } → state_behind fold list ≡ Ok s
       → read_by fold bytes ≡ kept list (closing fold end (Ok s))
   read_ends bytes list end s begins walk is =
       read_walked bytes begins ∙ ap (walked fold) walk ∙ ap (kept list) (tested_good list end s is)
 
-  pub read_none : (bytes : List ℕ) (end : Ending) → take 16 bytes ≡ header
+  pub read_none : (bytes : List ℕ) (end : FileEnd) → take 16 bytes ≡ header
       → walk_of bytes ≡ record { records = []; end = end }
       → read_by fold bytes ≡ kept [] (closing fold end (Err (fold.bad_record 0)))
   read_none bytes end begins walk = read_walked bytes begins ∙ ap (walked fold) walk

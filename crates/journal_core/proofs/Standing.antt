@@ -15,7 +15,7 @@ use Rattle.disk_core.specs.Disk.{part}
 use Rattle.journal_core.specs.Folds.{Fold, Found, state_behind, closing, tested, walked, read_by}
 use Rattle.journal_core.specs.Format.{header, IsRecordAt, AreRecordsAt, behind, IsClosedAt}
 use Rattle.journal_core.specs.Format.{StandsFor, size_at, body_at}
-use Rattle.journal_core.specs.Walk.{Ending, at_gate, at_bad_length, at_cut, Walk, walk_from}
+use Rattle.journal_core.specs.Walk.{FileEnd, at_gate, at_bad_length, at_cut, Walk, walk_from}
 use Rattle.journal_core.specs.Walk.{walk_of}
 use Rattle.journal_core.specs.declared.error.OpenError.TheVariants.{NotJournal}
 
@@ -121,13 +121,13 @@ walk_stands (suc most) bytes place list are is = elim (went (nat_lt place (lengt
 
 module _ {S E : Type 0} (fold : Fold S E) where
   -- where a state was found behind the header, its records were tested and end at the closed gate
-  closing_ok : {X : Type 0} (end : Ending) (r : Result X E) (x : X) → closing fold end r ≡ Ok x
+  closing_ok : {X : Type 0} (end : FileEnd) (r : Result X E) (x : X) → closing fold end r ≡ Ok x
       → (end ≡ at_gate) × (r ≡ Ok x)
   closing_ok {X} at_gate r x is = (refl, is)
   closing_ok {X} (at_bad_length place) r x is = cc
   closing_ok {X} (at_cut place) r x is = cc
 
-  lifted_ok : (r : Result S ℕ) (end : Ending) (s : S)
+  lifted_ok : (r : Result S ℕ) (end : FileEnd) (s : S)
       → (lifted fold.bad_record r >>= λ (t : S). closing fold end (Ok t)) ≡ Ok s
       → (end ≡ at_gate) × (r ≡ Ok s)
   lifted_ok (Ok t) end s is =
@@ -136,7 +136,7 @@ module _ {S E : Type 0} (fold : Fold S E) where
       (closed.0, ap Ok same)
   lifted_ok (Err k) end s is = cc
 
-  tested_ok : (list : List (List ℕ)) (end : Ending) (s : S) → tested fold list end ≡ Ok s
+  tested_ok : (list : List (List ℕ)) (end : FileEnd) (s : S) → tested fold list end ≡ Ok s
       → (end ≡ at_gate) × (state_behind fold list ≡ Ok s)
   tested_ok [] end s is =
       let closed = closing_ok end (Err (fold.bad_record 0)) s is in

@@ -6,7 +6,7 @@ use Rattle.std.proofs.lemmas.Bool.{ne_eqb, lt-ltb, le-ltb, cases_lt}
 use Rattle.journal_core.specs.Format.{IsRecordAt, AreRecordsAt, behind, IsClosedAt, size_at}
 use Rattle.journal_core.specs.Format.{records_before, IsBadLengthAt, IsCutShortAt}
 use Rattle.journal_core.specs.Settled.{IsReading}
-use Rattle.journal_core.specs.Walk.{Ending, Walk, at_gate, at_bad_length, at_cut, ends_here}
+use Rattle.journal_core.specs.Walk.{FileEnd, Walk, at_gate, at_bad_length, at_cut, ends_here}
 use Rattle.journal_core.specs.Walk.{with_record, walk_from, walk_of}
 use Rattle.journal_core.proofs.Records.{size_is, body_found, behind_far}
 use Rattle.journal_core.proofs.ReadOn.{header_length, record_within, are_within}
@@ -34,7 +34,7 @@ walk_record most bytes place body is =
     rw (inside, opened, head, body_found bytes place body is, size, above, below, whole) refl
 
 -- behind the records that were read
-walk_read : (most : ℕ) (bytes : List ℕ) (place : ℕ) (read : List (List ℕ)) (end : Ending)
+walk_read : (most : ℕ) (bytes : List ℕ) (place : ℕ) (read : List (List ℕ)) (end : FileEnd)
     → AreRecordsAt bytes place read → length read < most
     → ((left : ℕ) → walk_from (suc left) bytes (behind place read) ≡ ends_here end)
     → walk_from most bytes place ≡ record { records = read; end = end }
@@ -51,7 +51,7 @@ module _ (bytes : List ℕ) (read : List (List ℕ)) (place : ℕ) (are : AreRec
   few = let far = behind_far 16 read in let within =
       are_within bytes 16 read are some in omega arith
 
-  ends_with : (end : Ending) → ((left : ℕ) → walk_from (suc left) bytes place ≡ ends_here end)
+  ends_with : (end : FileEnd) → ((left : ℕ) → walk_from (suc left) bytes place ≡ ends_here end)
       → walk_of bytes ≡ record { records = read; end = end }
   unfolding walk_of
   ends_with end ends = walk_read (length bytes) bytes 16 read end are few

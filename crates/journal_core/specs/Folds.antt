@@ -3,11 +3,12 @@
 use Rattle.std.specs.Prelude.{◌≡◌, ℕ, ◌+◌, List, [], ◌∷◌, take, Option, IfSome, Result, Ok, Err}
 use Rattle.std.specs.Prelude.{if◌then◌else◌}
 use Rattle.std.specs.Str.{bytes_eq}
+use Rattle.byte_forms.specs.Types.{Text}
 use Rattle.byte_forms.specs.Readings.{◌>>=◌, lifted, some_or}
 use Rattle.mtc_io.specs.Counts.{Rose}
 use Rattle.disk_core.specs.declared.disk.Disk.{Ghosts}
 use Rattle.journal_core.specs.Format.{header}
-use Rattle.journal_core.specs.Walk.{Ending, at_gate, at_bad_length, at_cut, Walk, walk_of}
+use Rattle.journal_core.specs.Walk.{FileEnd, at_gate, at_bad_length, at_cut, Walk, walk_of}
 use Rattle.journal_core.specs.declared.error.OpenError.{OpenError}
 use Rattle.journal_core.specs.declared.error.OpenError.TheVariants.{NotJournal, BadLength, CutShort}
 use Rattle.journal_core.specs.declared.error.OpenError.TheVariants.{Failed, Memory}
@@ -16,39 +17,39 @@ use Rattle.journal_core.specs.declared.error.OpenError.TheVariants.{Failed, Memo
 -- each none where the record breaks the rules. Its faults: a record by its number that breaks the
 -- rules, and a file that is no journal.
 pub record Fold (S E : Type 0) : Type 0 where
-  pub begins : List ℕ → Option S
-  pub takes : S → List ℕ → Option S
+  pub begins : Text → Option S
+  pub takes : S → Text → Option S
   pub bad_record : ℕ → E
   pub not_read : OpenError → E
 
 -- what was read of a file: the records of its journal, and the state behind them
 pub record Found (S : Type 0) : Type 0 where
-  pub records : List (List ℕ)
+  pub records : List Text
   pub state : S
 
 -- the state behind records, the first of which has number k; or the number of the first one that
 -- breaks the rules
-unfoldable pub taken_from : {S E : Type 0} → Fold S E → ℕ → S → List (List ℕ) → Result S ℕ
+unfoldable pub taken_from : {S E : Type 0} → Fold S E → ℕ → S → List Text → Result S ℕ
 taken_from fold k s [] = Ok s
 taken_from fold k s (body ∷ bodies) =
     some_or k (fold.takes s body) >>= λ t. taken_from fold (k + 1) t bodies
 
 -- The state behind all records of a journal, or the number of the first one that breaks the rules.
 -- Without a record the first one is missing.
-unfoldable pub state_behind : {S E : Type 0} → Fold S E → List (List ℕ) → Result S ℕ
+unfoldable pub state_behind : {S E : Type 0} → Fold S E → List Text → Result S ℕ
 state_behind fold [] = Err 0
 state_behind fold (first ∷ bodies) =
     some_or 0 (fold.begins first) >>= λ s. taken_from fold 1 s bodies
 
 -- where the records end at the closed gate, this; else the file is no journal
-abbrev pub closing : {S E X : Type 0} → Fold S E → Ending → Result X E → Result X E
+abbrev pub closing : {S E X : Type 0} → Fold S E → FileEnd → Result X E → Result X E
 closing fold at_gate found = found
 closing fold (at_bad_length place) found = Err (fold.not_read (BadLength place))
 closing fold (at_cut place) found = Err (fold.not_read (CutShort place))
 
 -- The whole records are tested, and then what stands behind them. No record at all is missed only
 -- at a closed gate.
-abbrev pub tested : {S E : Type 0} → Fold S E → List (List ℕ) → Ending → Result S E
+abbrev pub tested : {S E : Type 0} → Fold S E → List Text → FileEnd → Result S E
 tested fold [] end = closing fold end (Err (fold.bad_record 0))
 tested fold (first ∷ bodies) end =
     lifted fold.bad_record (state_behind fold (first ∷ bodies)) >>= λ s. closing fold end (Ok s)
@@ -60,13 +61,13 @@ walked fold walk =
     >>= λ s. Ok (record { records = walk.records; state = s })
 
 -- The journal in a file with these bytes, or the first fault.
-unfoldable pub read_by : {S E : Type 0} → Fold S E → List ℕ → Result (Found S) E
+unfoldable pub read_by : {S E : Type 0} → Fold S E → Text → Result (Found S) E
 read_by fold bytes =
     if bytes_eq (take 16 bytes) header then walked fold (walk_of bytes)
     else Err (fold.not_read NotJournal)
 
 -- the bytes that were told are refused so
-abbrev pub AreRefused : {S E : Type 0} → Fold S E → Option (List ℕ) → E → Type 0
+abbrev pub AreRefused : {S E : Type 0} → Fold S E → Option Text → E → Type 0
 AreRefused fold told why = IfSome told (λ bytes. read_by fold bytes ≡ Err why)
 
 -- the cause of a file that is no journal, over the disk before the call and after it: the bytes, a

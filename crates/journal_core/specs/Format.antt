@@ -4,10 +4,11 @@
 use Rattle.std.specs.Prelude.{◌≡◌, ◌≢◌, ◌⊎◌, ℕ, zero, suc, ◌+◌, ◌^◌, ◌<◌, ◌≤◌, ◌==◌, nat_lt}
 use Rattle.std.specs.Prelude.{if◌then◌else◌, List, [], ◌∷◌, ◌++◌, length, take, slice_index}
 use Rattle.std.specs.Int.{w32, to_be_bytes, from_be_bytes}
+use Rattle.byte_forms.specs.Types.{Text}
 use Rattle.disk_core.specs.Disk.{part}
 
 -- `mtc-journal/v1`, 10, 0
-abbrev pub header : List ℕ
+abbrev pub header : Text
 header = 109 ∷ 116 ∷ 99 ∷ 45 ∷ 106 ∷ 111 ∷ 117 ∷ 114 ∷ 110 ∷ 97 ∷ 108 ∷ 47 ∷ 118 ∷ 49 ∷ 10 ∷ 0 ∷ []
 
 -- a journal file has at most so many bytes
@@ -15,7 +16,7 @@ abbrev pub most_bytes : ℕ
 most_bytes = 2 ^ 31
 
 -- at this place stand an open gate, the length of the body and the body
-pub record IsRecordAt (bytes : List ℕ) (place : ℕ) (body : List ℕ) : Type 0 where
+pub record IsRecordAt (bytes : Text) (place : ℕ) (body : Text) : Type 0 where
   pub some : 1 ≤ length body
   pub few : length body ≤ 131072
   pub open_gate : slice_index bytes place ≢ 0
@@ -23,59 +24,59 @@ pub record IsRecordAt (bytes : List ℕ) (place : ℕ) (body : List ℕ) : Type 
   pub body_is : part (place + 5) (length body) bytes ≡ body
 
 -- from this place on stand these records, one behind the other
-abbrev pub AreRecordsAt : List ℕ → ℕ → List (List ℕ) → Type 0
+abbrev pub AreRecordsAt : Text → ℕ → List Text → Type 0
 AreRecordsAt bytes place [] = Unit {0}
 AreRecordsAt bytes place (body ∷ bodies) = IsRecordAt bytes place body
     × AreRecordsAt bytes (place + 5 + length body) bodies
 
 -- the place behind records that begin at a place
-abbrev pub behind : ℕ → List (List ℕ) → ℕ
+abbrev pub behind : ℕ → List Text → ℕ
 behind place [] = place
 behind place (body ∷ bodies) = behind (place + 5 + length body) bodies
 
 -- The end of a journal with these records: the place behind the closed gate that ends them. The
 -- next body would begin four bytes further on.
-abbrev pub end_behind : List (List ℕ) → ℕ
+abbrev pub end_behind : List Text → ℕ
 end_behind records = behind 16 records + 1
 
 -- at this place stands a closed gate
-pub record IsClosedAt (bytes : List ℕ) (place : ℕ) : Type 0 where
+pub record IsClosedAt (bytes : Text) (place : ℕ) : Type 0 where
   pub there : place < length bytes
   pub shut : slice_index bytes place ≡ 0
 
 -- The bytes are a journal with these records: the header, the records and a closed gate. Anything
 -- may follow.
-pub record StandsFor (bytes : List ℕ) (records : List (List ℕ)) : Type 0 where
+pub record StandsFor (bytes : Text) (records : List Text) : Type 0 where
   pub begins : take 16 bytes ≡ header
   pub holds : AreRecordsAt bytes 16 records
   pub ends : IsClosedAt bytes (behind 16 records)
 
 -- the bytes are a journal with these records, or with these and one more
-abbrev pub StandsForEither : List (List ℕ) → List ℕ → List ℕ → Type 0
+abbrev pub StandsForEither : List Text → Text → Text → Type 0
 StandsForEither records body bytes = StandsFor bytes records
     ⊎ StandsFor bytes (records ++ body ∷ [])
 
 -- the length of the body of the record at a place
-abbrev pub size_at : List ℕ → ℕ → ℕ
+abbrev pub size_at : Text → ℕ → ℕ
 size_at bytes place = from_be_bytes w32 (part (place + 1) 4 bytes)
 
 -- the body of the record at a place
-abbrev pub body_at : List ℕ → ℕ → List ℕ
+abbrev pub body_at : Text → ℕ → Text
 body_at bytes place = part (place + 5) (size_at bytes place) bytes
 
 -- the bodies of the records from a place on, at most so many of them
-abbrev pub records_from : ℕ → List ℕ → ℕ → List (List ℕ)
+abbrev pub records_from : ℕ → Text → ℕ → List Text
 records_from zero bytes place = []
 records_from (suc most) bytes place =
     if slice_index bytes place == 0 then []
     else body_at bytes place ∷ records_from most bytes (place + 5 + size_at bytes place)
 
 -- the records for which the bytes stand, where they stand for any
-abbrev pub records_of : List ℕ → List (List ℕ)
+abbrev pub records_of : Text → List Text
 records_of bytes = records_from (length bytes) bytes 16
 
 -- the bodies of the records from a place on that begin before an end, at most so many of them
-abbrev pub records_to : ℕ → List ℕ → ℕ → ℕ → List (List ℕ)
+abbrev pub records_to : ℕ → Text → ℕ → ℕ → List Text
 records_to zero bytes place end = []
 records_to (suc most) bytes place end =
     if nat_lt place end
@@ -83,34 +84,34 @@ records_to (suc most) bytes place end =
     else []
 
 -- the records that begin before a place
-abbrev pub records_before : List ℕ → ℕ → List (List ℕ)
+abbrev pub records_before : Text → ℕ → List Text
 records_before bytes place = records_to (length bytes) bytes 16 place
 
 -- What stands at a place where no record and no closed gate does. First: a length of 0 or above
 -- 131,072.
-pub record IsBadLengthAt (bytes : List ℕ) (place : ℕ) : Type 0 where
+pub record IsBadLengthAt (bytes : Text) (place : ℕ) : Type 0 where
   pub open_gate : slice_index bytes place ≢ 0
   pub there : place + 5 ≤ length bytes
   pub bad : (size_at bytes place ≡ 0) ⊎ (131072 < size_at bytes place)
 
 -- an open gate, and the file ends within the length or within the body
-abbrev pub IsCutRecordAt : List ℕ → ℕ → Type 0
+abbrev pub IsCutRecordAt : Text → ℕ → Type 0
 IsCutRecordAt bytes place = (slice_index bytes place ≢ 0) × ((length bytes < place + 5)
     ⊎ ((1 ≤ size_at bytes place) × (size_at bytes place ≤ 131072)
     × (length bytes < place + 5 + size_at bytes place)))
 
 -- the file ends before the gate, or within the record
-abbrev pub IsCutShortAt : List ℕ → ℕ → Type 0
+abbrev pub IsCutShortAt : Text → ℕ → Type 0
 IsCutShortAt bytes place = (length bytes ≤ place) ⊎ IsCutRecordAt bytes place
 
 -- what an append writes behind the closed gate: the length, the body and the next gate, closed
-abbrev pub tail_of : List ℕ → List ℕ
+abbrev pub tail_of : Text → Text
 tail_of body = to_be_bytes w32 (length body) ++ body ++ 0 ∷ []
 
 -- what an append leaves from the gate on: the gate, open, and what it writes behind it
-abbrev pub record_bytes : List ℕ → List ℕ
+abbrev pub record_bytes : Text → Text
 record_bytes body = 1 ∷ tail_of body
 
 -- what the first write of a new file holds
-abbrev pub new_file_of : List ℕ → List ℕ
+abbrev pub new_file_of : Text → Text
 new_file_of body = header ++ 0 ∷ tail_of body

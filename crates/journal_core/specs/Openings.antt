@@ -3,6 +3,7 @@ use Rattle.std.specs.Prelude.{◌≡◌, ◌≢◌, ℕ, ◌+◌, ◌-◌, ◌<�
 use Rattle.std.specs.Prelude.{◌++◌, length, take, Option, Some, None, option_map, IfSome, Result}
 use Rattle.std.specs.Prelude.{Ok, Err}
 use Rattle.std.specs.Borrow.{Bor}
+use Rattle.byte_forms.specs.Types.{Text}
 use Rattle.disk_core.specs.Disk.{part}
 use Rattle.disk_core.specs.Moments.{Looks}
 use Rattle.disk_core.specs.declared.disk.Disk.{Ghosts}
@@ -19,7 +20,7 @@ module _ {D : Type 0} {g : Ghosts D} where
   opening_disk opening = opening.disk
 
   -- the records that were read, where the disk tells its bytes
-  abbrev pub read_list : Opening D g → Option (List (List ℕ))
+  abbrev pub read_list : Opening D g → Option (List Text)
   read_list opening = option_map (λ bytes. records_before bytes opening.place) (g.told opening.disk)
 
   -- the place of the next gate
@@ -35,7 +36,7 @@ module _ {D : Type 0} {g : Ghosts D} where
   refusal opening = opening.refused
 
   -- the body that was read last
-  abbrev pub last_body : Opening D g → List ℕ
+  abbrev pub last_body : Opening D g → Text
   last_body opening = part opening.body.start opening.body.size opening.window.buffer.items
 
   -- the bytes that are left, which a loop over the records uses up
@@ -88,7 +89,7 @@ module _ {D : Type 0} {g : Ghosts D} where
         → IfSome why (HasReason g (opening_disk old) (opening_disk new) (next_place old))
     pub kind : refusal old ≡ None → IfSome why IsOfRecord
     pub whole : refusal old ≡ None
-        → IfSome why (λ e. IfSome (g.told (opening_disk old)) (λ bytes. (list : List (List ℕ))
+        → IfSome why (λ e. IfSome (g.told (opening_disk old)) (λ bytes. (list : List Text)
         → StandsFor bytes list → e ≡ Failed))
     pub walk : refusal old ≡ None
         → IfSome why (λ e. IfSome (g.told (opening_disk old))
@@ -104,7 +105,7 @@ module _ {D : Type 0} {g : Ghosts D} where
   Steps old new (Err why) = HasRefused old new why × HasStepped old new false (Some why)
 
   -- the same of `next`, which lends the body
-  abbrev pub Nexts : Opening D g → Opening D g → Result (Option (Bor (List ℕ))) OpenError → Type 0
+  abbrev pub Nexts : Opening D g → Opening D g → Result (Option (Bor Text)) OpenError → Type 0
   Nexts old new (Ok (Some body)) = (last_body new ≡ body.now) × HasRead old new
       × HasStepped old new false None
   Nexts old new (Ok None) = HasEnded old new × HasStepped old new true None

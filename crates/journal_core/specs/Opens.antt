@@ -1,5 +1,6 @@
 -- Why a file is not read on.
 use Rattle.std.specs.Prelude.{◌≡◌, ◌≢◌, ℕ, List, take, IfSome}
+use Rattle.byte_forms.specs.Types.{Text}
 use Rattle.mtc_io.specs.Counts.{Rose}
 use Rattle.disk_core.specs.declared.disk.Disk.{Ghosts}
 use Rattle.journal_core.specs.Format.{header, IsBadLengthAt, IsCutShortAt}
@@ -35,7 +36,7 @@ IsOfHeader Failed = Unit {0}
 IsOfHeader Memory = Unit {0}
 
 -- the walk of the bytes finds these records and ends as the refusal says
-abbrev pub IsWalkTo : OpenError → List ℕ → List (List ℕ) → Type 0
+abbrev pub IsWalkTo : OpenError → Text → List Text → Type 0
 IsWalkTo NotJournal bytes list = Unit {0}
 IsWalkTo (BadLength at) bytes list =
     walk_of bytes ≡ record { records = list; end = at_bad_length at }

@@ -1,8 +1,8 @@
 -- What a first record that is packed shows.
-use Rattle.std.specs.Prelude.{ℕ, List}
+use Rattle.byte_forms.specs.Types.{Text}
 use Rattle.disk_core.specs.Disk.{part}
 use Rattle.journal_core.specs.declared.first_record.FirstRecord.{FirstRecord}
 
 -- its body
-abbrev pub first_body : FirstRecord → List ℕ
+abbrev pub first_body : FirstRecord → Text
 first_body packed = part 21 packed.size packed.buffer.items

@@ -1,30 +1,31 @@
 -- What a journal and its opening keep of their disk.
 use Rattle.std.specs.Prelude.{◌≡◌, ℕ, ◌+◌, List, [], ◌∷◌, length, take}
 use Rattle.std.proofs.Props.{props}
+use Rattle.byte_forms.specs.Types.{Text}
 use Rattle.disk_core.specs.Disk.{Only}
 use Rattle.journal_core.specs.Format.{header, IsRecordAt, AreRecordsAt, behind, end_behind}
 use Rattle.journal_core.specs.Format.{IsClosedAt, StandsFor, records_of, records_before}
 
 -- the bytes stand for their records, all of it is on the disk, and `end` is the place behind the
 -- closed gate
-pub record IsSettled (bytes : List ℕ) (images : List ℕ → Type 0) (end : ℕ) : Type 0 where
+pub record IsSettled (bytes : Text) (images : Text → Type 0) (end : ℕ) : Type 0 where
   pub stands : StandsFor bytes (records_of bytes)
   pub end_is : end ≡ end_behind (records_of bytes)
   pub only : Only bytes images
 
 -- the records before a place were read, in a file of which everything is on the disk
-pub record IsReading (bytes : List ℕ) (images : List ℕ → Type 0) (place : ℕ) : Type 0 where
+pub record IsReading (bytes : Text) (images : Text → Type 0) (place : ℕ) : Type 0 where
   pub begins : take 16 bytes ≡ header
   pub holds : AreRecordsAt bytes 16 (records_before bytes place)
   pub place_is : place ≡ behind 16 (records_before bytes place)
   pub only : Only bytes images
 
 -- each has one proof at most
-pub IsRecordAt-prop : (bytes : List ℕ) (place : ℕ) (body : List ℕ)
+pub IsRecordAt-prop : (bytes : Text) (place : ℕ) (body : Text)
     → IsProp (IsRecordAt bytes place body)
 IsRecordAt-prop bytes place body = hlevel props
 
-pub AreRecordsAt-prop : (bytes : List ℕ) (place : ℕ) (records : List (List ℕ))
+pub AreRecordsAt-prop : (bytes : Text) (place : ℕ) (records : List Text)
     → IsProp (AreRecordsAt bytes place records)
 AreRecordsAt-prop bytes place [] = hlevel props
 AreRecordsAt-prop bytes place (body ∷ records) =
@@ -34,21 +35,21 @@ AreRecordsAt-prop bytes place (body ∷ records) =
       AreRecordsAt-prop bytes (place + 5 + length body) records,
     )
 
-pub IsClosedAt-prop : (bytes : List ℕ) (place : ℕ) → IsProp (IsClosedAt bytes place)
+pub IsClosedAt-prop : (bytes : Text) (place : ℕ) → IsProp (IsClosedAt bytes place)
 IsClosedAt-prop bytes place = hlevel props
 
-pub StandsFor-prop : (bytes : List ℕ) (records : List (List ℕ)) → IsProp (StandsFor bytes records)
+pub StandsFor-prop : (bytes : Text) (records : List Text) → IsProp (StandsFor bytes records)
 StandsFor-prop bytes records =
     hlevel (props, AreRecordsAt-prop bytes 16 records, IsClosedAt-prop bytes (behind 16 records))
 
-pub StandsFor-records-prop : (bytes : List ℕ) → IsProp (StandsFor bytes (records_of bytes))
+pub StandsFor-records-prop : (bytes : Text) → IsProp (StandsFor bytes (records_of bytes))
 StandsFor-records-prop bytes = StandsFor-prop bytes (records_of bytes)
 
-pub IsSettled-prop : (bytes : List ℕ) (images : List ℕ → Type 0) (end : ℕ)
+pub IsSettled-prop : (bytes : Text) (images : Text → Type 0) (end : ℕ)
     → IsProp (IsSettled bytes images end)
 IsSettled-prop bytes images end = hlevel (props, StandsFor-prop bytes (records_of bytes))
 
-pub IsReading-prop : (bytes : List ℕ) (images : List ℕ → Type 0) (place : ℕ)
+pub IsReading-prop : (bytes : Text) (images : Text → Type 0) (place : ℕ)
     → IsProp (IsReading bytes images place)
 IsReading-prop bytes images place =
     hlevel (props, AreRecordsAt-prop bytes 16 (records_before bytes place))

@@ -1,6 +1,7 @@
 -- What `start` makes of a disk, and what it leaves of one where it refuses.
-use Rattle.std.specs.Prelude.{◌≡◌, ◌≢◌, ℕ, ◌+◌, ◌≤◌, false, List, [], ◌∷◌, ◌++◌, length, is_some}
+use Rattle.std.specs.Prelude.{◌≡◌, ◌≢◌, ◌+◌, ◌≤◌, false, [], ◌∷◌, ◌++◌, length, is_some}
 use Rattle.std.specs.Prelude.{option_map, IfSome}
+use Rattle.byte_forms.specs.Types.{Text}
 use Rattle.mtc_io.specs.Counts.{Rose}
 use Rattle.disk_core.specs.Moments.{Looks}
 use Rattle.disk_core.specs.declared.disk.Disk.{Ghosts}
@@ -11,7 +12,7 @@ use Rattle.journal_core.specs.declared.error.StartError.TheVariants.{Failed, Not
 use Rattle.journal_core.specs.declared.journal.Journal.{Journal}
 
 -- An empty disk became a journal of one record, and every image of it stands for that record.
-pub record HasStarted {D : Type 0} {g : Ghosts D} (first : List ℕ) (old : D)
+pub record HasStarted {D : Type 0} {g : Ghosts D} (first : Text) (old : D)
     (new : Journal D g) : Type 0 where
   pub empty : IfSome (g.told old) (λ bytes. bytes ≡ [])
   pub told : is_some (g.told (disk_of new)) ≡ is_some (g.told old)

@@ -2,28 +2,29 @@
 -- how it ends.
 use Rattle.std.specs.Prelude.{ℕ, zero, suc, ◌+◌, ◌==◌, ◌||◌, nat_lt, if◌then◌else◌, List, [], ◌∷◌}
 use Rattle.std.specs.Prelude.{length, slice_index}
+use Rattle.byte_forms.specs.Types.{Text}
 use Rattle.journal_core.specs.Format.{size_at, body_at}
 
 -- at a closed gate; at a place where an open record has a bad length; where the file ends too early
-pub data Ending : Type 0 where
-  at_gate : Ending
-  at_bad_length : ℕ → Ending
-  at_cut : ℕ → Ending
+pub data FileEnd : Type 0 where
+  at_gate : FileEnd
+  at_bad_length : ℕ → FileEnd
+  at_cut : ℕ → FileEnd
 
 pub record Walk : Type 0 where
-  pub records : List (List ℕ)
-  pub end : Ending
+  pub records : List Text
+  pub end : FileEnd
 
 -- no record, and this end
-abbrev pub ends_here : Ending → Walk
+abbrev pub ends_here : FileEnd → Walk
 ends_here end = record { records = []; end = end }
 
 -- a record before those of a walk
-abbrev pub with_record : List ℕ → Walk → Walk
+abbrev pub with_record : Text → Walk → Walk
 with_record body walk = record { records = body ∷ walk.records; end = walk.end }
 
 -- from a place on, at most so many steps
-abbrev pub walk_from : ℕ → List ℕ → ℕ → Walk
+abbrev pub walk_from : ℕ → Text → ℕ → Walk
 walk_from zero bytes place = ends_here (at_cut place)
 walk_from (suc most) bytes place =
     if nat_lt place (length bytes)
@@ -37,5 +38,5 @@ walk_from (suc most) bytes place =
     else ends_here (at_cut place)
 
 -- behind the header
-unfoldable pub walk_of : List ℕ → Walk
+unfoldable pub walk_of : Text → Walk
 walk_of bytes = walk_from (length bytes) bytes 16

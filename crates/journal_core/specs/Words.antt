@@ -2,6 +2,7 @@
 use Rattle.std.specs.Prelude.{◌≡◌, ℕ, ◌+◌, ◌-◌, ◌≤◌, Bool, true, false, List, [], ◌∷◌, ◌++◌, length}
 use Rattle.std.specs.Prelude.{Option, option_map, IfSome, Result, Ok, Err}
 use Rattle.std.specs.Int.{w32, to_be_bytes}
+use Rattle.byte_forms.specs.Types.{Text}
 use Rattle.mtc_io.specs.Counts.{Rose}
 use Rattle.disk_core.specs.Disk.{overwritten, part}
 use Rattle.disk_core.specs.declared.disk.Disk.{Ghosts}
@@ -11,22 +12,22 @@ use Rattle.journal_core.specs.declared.error.AppendError.TheVariants.{Failed, Br
 use Rattle.journal_core.specs.declared.journal.Journal.{Journal}
 
 -- each image that a crash now may leave stands for these records
-abbrev pub AllStandFor : {D : Type 0} → Ghosts D → D → List (List ℕ) → Type 0
-AllStandFor g disk list = (c : List ℕ) → g.may_leave disk c → StandsFor c list
+abbrev pub AllStandFor : {D : Type 0} → Ghosts D → D → List Text → Type 0
+AllStandFor g disk list = (c : Text) → g.may_leave disk c → StandsFor c list
 
 -- Where the range that was read lies within a body of these records, from so many of its bytes on,
 -- this is that part of the body. The body behind some of the records begins four bytes behind their
 -- end.
-abbrev pub HoldsBody : ℕ → List ℕ → List (List ℕ) → Type 0
+abbrev pub HoldsBody : ℕ → Text → List Text → Type 0
 HoldsBody place read list =
-    (front : List (List ℕ)) (body : List ℕ) (back : List (List ℕ)) (from : ℕ)
+    (front : List Text) (body : Text) (back : List Text) (from : ℕ)
     → list ≡ front ++ body ∷ back
     → place ≡ end_behind front + 4 + from → from + length read ≤ length body
     → read ≡ part from (length read) body
 
 -- Where the four bytes before a body were read, these are its length.
-abbrev pub HoldsLength : ℕ → List ℕ → List (List ℕ) → Type 0
-HoldsLength place read list = (front : List (List ℕ)) (body : List ℕ) (back : List (List ℕ))
+abbrev pub HoldsLength : ℕ → Text → List Text → Type 0
+HoldsLength place read list = (front : List Text) (body : Text) (back : List Text)
     → list ≡ front ++ body ∷ back
     → place ≡ end_behind front → length read ≡ 4 → read ≡ to_be_bytes w32 (length body)
 
@@ -43,7 +44,7 @@ module _ {D : Type 0} {g : Ghosts D} where
   is_broken journal = journal.broken
 
   -- the records, where the disk tells its bytes
-  abbrev pub records : Journal D g → Option (List (List ℕ))
+  abbrev pub records : Journal D g → Option (List Text)
   records journal = option_map records_of (g.told journal.disk)
 
   -- no call of the disk
@@ -59,7 +60,7 @@ module _ {D : Type 0} {g : Ghosts D} where
     pub end : new.end ≡ old.end
 
   -- one record more, and every image of the disk stands for the records with it
-  pub record HasAppended (body : List ℕ) (old new : Journal D g) : Type 0 where
+  pub record HasAppended (body : Text) (old new : Journal D g) : Type 0 where
     pub records : records new ≡ option_map (λ list. list ++ body ∷ []) (records old)
     pub end : new.end ≡ old.end + 5 + length body
     pub was_sound : old.broken ≡ false
@@ -71,7 +72,7 @@ module _ {D : Type 0} {g : Ghosts D} where
         ≡ option_map (overwritten (old.end - 1) (record_bytes body)) (g.told old.disk)
 
   -- what an append leaves, by its answer
-  abbrev pub AppendLeaves : List ℕ → Journal D g → Journal D g → Result (Unit {0}) AppendError
+  abbrev pub AppendLeaves : Text → Journal D g → Journal D g → Result (Unit {0}) AppendError
       → Type 0
   AppendLeaves body old new (Ok done) = HasAppended body old new
   AppendLeaves body old new (Err Failed) = HasBroken old new

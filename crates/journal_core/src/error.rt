@@ -1,4 +1,5 @@
 //! What the calls of a journal refuse.
+
 ghost use Rattle.journal_core.specs.declared.error.StartError.TheVariants.{Failed as StartFailed};
 ghost use Rattle.journal_core.specs.declared.error.OpenError.TheVariants.{Failed as OpenFailed};
 ghost use Rattle.journal_core.specs.declared.error.AppendError.TheVariants.{Failed as AppendFailed};

@@ -1,4 +1,5 @@
 //! The first record of a journal.
+
 ghost use Rattle.std.specs.Prelude.{◌≡◌, ◌≢◌, ◌≤◌, ◌+◌, [], ◌∷◌, length, take, is_some, option_map, IfSome, IfOk, IfErr, OnOk};
 ghost use Rattle.mtc_io.specs.Counts.{HasCause};
 ghost use Rattle.disk_core.specs.Disk.{overwritten, part, Only};

@@ -1,6 +1,7 @@
 //! The bytes of a journal.
+
 ghost use Rattle.std.specs.Prelude.{◌≡◌, ◌+◌, ◌≤◌, ◌++◌, length, take, IfOk};
-ghost use Rattle.journal_core.specs.Format.{header, tail_of, new_file_of};
+ghost use Rattle.journal_core.specs.Format.{tail_of, new_file_of};
 
 use mtc_io::Memory;
 use std::alloc::Global;

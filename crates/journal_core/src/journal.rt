@@ -1,6 +1,8 @@
 //! A journal that is open for more records.
-ghost use Rattle.std.specs.Prelude.{◌≡◌, ◌↔◌, ◌≤◌, ◌<◌, ◌+◌, ℕ, List, length, true, false, is_some, Some, IsTrue, IsErrOf, IfSome, OnOk};
+
+ghost use Rattle.std.specs.Prelude.{◌≡◌, ◌↔◌, ◌≤◌, ◌<◌, ◌+◌, length, true, false, is_some, Some, IsTrue, IsErrOf, IfSome, OnOk};
 ghost use Rattle.std.proofs.Props.{props};
+ghost use Rattle.byte_forms.specs.Types.{Text};
 ghost use Rattle.mtc_io.specs.Counts.{HasCause};
 ghost use Rattle.disk_core.specs.Disk.{part};
 ghost use Rattle.disk_core.specs.Moments.{LeavesOnly, Looks};
@@ -25,9 +27,9 @@ pub struct Journal<D: Disk> {
     ghost room: { length buffer.items ≡ 131094 },
     ghost there: { end ≤ D.Disk.known disk },
     ghost begun: { 17 ≤ end },
-    ghost stands: { (b : List ℕ) → D.Disk.told disk ≡ Some b
+    ghost stands: { (b : Text) → D.Disk.told disk ≡ Some b
         → StandsFor b (records_of b) } by { Prim.hlevel (props, StandsFor-records-prop) },
-    ghost settled: { broken ≡ false → (b : List ℕ) → D.Disk.told disk ≡ Some b
+    ghost settled: { broken ≡ false → (b : Text) → D.Disk.told disk ≡ Some b
         → IsSettled b (D.Disk.may_leave disk) end } by { Prim.hlevel (props, IsSettled-prop) },
 }
 
@@ -53,7 +55,7 @@ impl<D: Disk> Journal<D> {
             → IfSome (records self.old) (λ list. IfSome (D.told (disk_of self.new))
             (StandsForEither list body.now)) }
         ensures afterwards { is_broken self.old ≡ false
-            → IfSome (records self.old) (λ list. (c : List ℕ) → D.may_leave (disk_of self.new) c
+            → IfSome (records self.old) (λ list. (c : Text) → D.may_leave (disk_of self.new) c
             → StandsForEither list body.now c) }
         ensures any_moment { is_broken self.old ≡ false
             → IfSome (records self.old) (λ list. LeavesOnly D.Disk (disk_of self.old)

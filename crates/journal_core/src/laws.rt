@@ -1,5 +1,7 @@
 //! Laws of a journal's bytes: the clauses are the laws, and the functions do nothing.
+
 ghost use Rattle.std.specs.Prelude.{◌≡◌, ℕ, List, Ok};
+ghost use Rattle.byte_forms.specs.Types.{Text};
 ghost use Rattle.byte_forms.specs.Places.{IsBytes};
 ghost use Rattle.journal_core.specs.Folds.{Fold, Found, state_behind, read_by};
 ghost use Rattle.journal_core.specs.Format.{StandsFor};
@@ -9,17 +11,17 @@ use disk_core::Disk;
 
 /// A file stands for one list of records at most.
 pub fn a_file_stands_for_one_list_at_most()
-    ensures { (bytes : List ℕ) (one other : List (List ℕ)) → StandsFor bytes one
+    ensures { (bytes : Text) (one other : List Text) → StandsFor bytes one
         → StandsFor bytes other → one ≡ other }
 {}
 
 /// Of each kind of journal: a file is read as one exactly where it stands for records that make the
 /// state.
 pub fn files_are_read_by_their_records<S, E>()
-    ensures read { (fold : Fold S E) (bytes : List ℕ) (list : List (List ℕ)) (state : S)
+    ensures read { (fold : Fold S E) (bytes : Text) (list : List Text) (state : S)
         → StandsFor bytes list → state_behind fold list ≡ Ok state
         → read_by fold bytes ≡ Ok (record { records = list; state = state }) }
-    ensures only { (fold : Fold S E) (bytes : List ℕ) (found : Found S) → IsBytes bytes
+    ensures only { (fold : Fold S E) (bytes : Text) (found : Found S) → IsBytes bytes
         → read_by fold bytes ≡ Ok found
         → StandsFor bytes found.records × (state_behind fold found.records ≡ Ok found.state) }
 {}
@@ -28,11 +30,11 @@ pub fn files_are_read_by_their_records<S, E>()
 /// crash leaves a file that is read as these; and what a crash at any moment leaves is read as a
 /// journal only where it stands for records that make its state.
 pub fn images_are_read_by_their_records<D: Disk, S, E>()
-    ensures read { (fold : Fold S E) (disk : D) (list : List (List ℕ)) (state : S)
+    ensures read { (fold : Fold S E) (disk : D) (list : List Text) (state : S)
         → AllStandFor D.Disk disk list → state_behind fold list ≡ Ok state
-        → (image : List ℕ) → D.may_leave disk image
+        → (image : Text) → D.may_leave disk image
         → read_by fold image ≡ Ok (record { records = list; state = state }) }
-    ensures only { (fold : Fold S E) (disk : D) (since : ℕ) (image : List ℕ) (found : Found S)
+    ensures only { (fold : Fold S E) (disk : D) (since : ℕ) (image : Text) (found : Found S)
         → D.left_since disk since image → read_by fold image ≡ Ok found
         → StandsFor image found.records × (state_behind fold found.records ≡ Ok found.state) }
 {}

@@ -1,6 +1,8 @@
 //! A file that is read as a journal.
-ghost use Rattle.std.specs.Prelude.{◌≡◌, ◌≢◌, ◌+◌, ◌<◌, ◌≤◌, ℕ, List, length, take, true, false, MatchBool, MatchOption, Some, None, IfSome, IfOk, IfErr, OnOk};
+
+ghost use Rattle.std.specs.Prelude.{◌≡◌, ◌≢◌, ◌+◌, ◌<◌, ◌≤◌, List, length, take, true, false, MatchBool, MatchOption, Some, None, IfSome, IfOk, IfErr, OnOk};
 ghost use Rattle.std.proofs.Props.{props};
+ghost use Rattle.byte_forms.specs.Types.{Text};
 ghost use Rattle.mtc_io.specs.Counts.{HasCause};
 ghost use Rattle.disk_core.specs.Disk.{Only};
 ghost use Rattle.disk_core.specs.Moments.{Looks};
@@ -30,18 +32,18 @@ pub struct Opening<D: Disk> {
     refused: Option<OpenError>,
     window: Window,
     ghost inside: { body.start + body.size ≤ 131094 },
-    ghost held: { (b : List ℕ) → D.Disk.told disk ≡ Some b
+    ghost held: { (b : Text) → D.Disk.told disk ≡ Some b
         → Holds window b } by { Prim.hlevel (props, Holds-prop) },
     ghost known: { size ≤ D.Disk.known disk },
     ghost begun: { 16 ≤ place },
     ghost few: { count < place },
     ghost within: { ended ≡ true → place < size },
-    ghost exact: { (b : List ℕ) → D.Disk.told disk ≡ Some b → size ≡ length b },
-    ghost reading: { (b : List ℕ) → D.Disk.told disk ≡ Some b
+    ghost exact: { (b : Text) → D.Disk.told disk ≡ Some b → size ≡ length b },
+    ghost reading: { (b : Text) → D.Disk.told disk ≡ Some b
         → IsReading b (D.Disk.may_leave disk) place } by { Prim.hlevel (props, IsReading-prop) },
-    ghost counted: { (b : List ℕ) → D.Disk.told disk ≡ Some b
+    ghost counted: { (b : Text) → D.Disk.told disk ≡ Some b
         → count ≡ length (records_before b place) },
-    ghost closed: { ended ≡ true → (b : List ℕ) → D.Disk.told disk ≡ Some b
+    ghost closed: { ended ≡ true → (b : Text) → D.Disk.told disk ≡ Some b
         → IsClosedAt b place } by { Prim.hlevel (props, IsClosedAt-prop) },
 }
 
@@ -93,7 +95,7 @@ impl<D: Disk> Opening<D> {
         ensures reason { IfErr result (λ e. HasReason D.Disk disk e.disk 0 e.why) }
         ensures kind { IfErr result (λ e. IsOfHeader e.why) }
         ensures whole { IfErr result (λ e. IfSome (D.told disk)
-            (λ bytes. (list : List (List ℕ)) → StandsFor bytes list
+            (λ bytes. (list : List Text) → StandsFor bytes list
             → e.why ≢ OpenError.NotJournal)) }
         ensures looks { IfErr result (λ e. Looks D.Disk disk e.disk) }
         ensures fine { IfErr result (λ e. e.why ≢ OpenError.Failed

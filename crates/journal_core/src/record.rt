@@ -1,4 +1,5 @@
 //! One record of a file.
+
 ghost use Rattle.std.specs.Prelude.{◌≡◌, ◌≢◌, ◌≤◌, ◌<◌, ◌+◌, length, slice_index, IfSome, IfOk, IfErr, MatchOption, MatchResult};
 ghost use Rattle.std.specs.Int.{w32, to_be_bytes};
 ghost use Rattle.mtc_io.specs.Counts.{HasCause};

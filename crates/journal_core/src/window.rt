@@ -1,5 +1,7 @@
 //! The part of a file that is in memory while it is read.
-ghost use Rattle.std.specs.Prelude.{◌≡◌, ◌≤◌, ◌+◌, ℕ, List, length};
+
+ghost use Rattle.std.specs.Prelude.{◌≡◌, ◌≤◌, ◌+◌, length};
+ghost use Rattle.byte_forms.specs.Types.{Text};
 
 /// The bytes of a file from one place to another, in the front of a buffer.
 #[derive(Drop)]
@@ -18,7 +20,7 @@ impl Window {
     /// No bytes of a file yet.
     pub(crate) fn new(buffer: Vec<u8>) -> Window
         requires { length buffer.items ≡ 131094 }
-        ensures { (bytes : List ℕ) → Holds result bytes }
+        ensures { (bytes : Text) → Holds result bytes }
     {
         Window {
             buffer,

@@ -1,4 +1,5 @@
 //! The record that a disk in memory keeps of its calls.
+
 use mtc_io::Bytes;
 
 /// A call of a disk, with what it was asked.

@@ -1,4 +1,5 @@
 //! A second record of the same calls.
+
 ghost use Rattle.std.specs.Prelude.{◌≡◌, IfOk};
 
 use crate::memory::call::{Call, Made};

@@ -1,4 +1,5 @@
 //! What is left of a disk in memory after a crash.
+
 ghost use Rattle.std.specs.Prelude.{◌≡◌, ◌≤◌, ◌/◌, length, OnOk, IfOk};
 ghost use Rattle.disk_core.specs.Disk.{Torn};
 ghost use Rattle.disk_core.specs.Replay.{State, step, state_now, IsImage};

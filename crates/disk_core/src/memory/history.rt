@@ -1,6 +1,8 @@
 //! What a disk in memory held at first, and its calls since: all that it tells is read off these.
-ghost use Rattle.std.specs.Prelude.{◌≡◌, ◌+◌, ◌<◌, [], ℕ, List, length, true, false, if◌then◌else◌, is_ok, IfOk, OnOk, OnErr};
+
+ghost use Rattle.std.specs.Prelude.{◌≡◌, ◌+◌, ◌<◌, [], length, true, false, if◌then◌else◌, is_ok, IfOk, OnOk, OnErr};
 ghost use Rattle.std.proofs.Props.{props};
+ghost use Rattle.byte_forms.specs.Types.{Text};
 ghost use Rattle.byte_forms.specs.Places.{IsBytes};
 ghost use Rattle.disk_core.specs.Disk.{overwritten, Torn, Follows, NoNew, Only, Elapses};
 ghost use Rattle.disk_core.specs.Replay.{State, after_call, state_now, IsImage, LeftSince, noted, HoldsBytes, HoldsBytes-prop};
@@ -56,11 +58,11 @@ fn write_noted(
 ) -> Result<(), Memory>
     ensures ok { OnOk result (live.new.items ≡ overwritten place piece.now live.old.items) }
     ensures err { OnErr result (live.new.items ≡ live.old.items) }
-    ensures seen { (first : List ℕ) → live.old.items ≡ (state_now first calls.old.items).seen
+    ensures seen { (first : Text) → live.old.items ≡ (state_now first calls.old.items).seen
         → live.new.items ≡ (state_now first calls.new.items).seen }
-    ensures crash { (first : List ℕ) → Follows (Torn place (length piece.now))
+    ensures crash { (first : Text) → Follows (Torn place (length piece.now))
         (IsImage (state_now first calls.old.items)) (IsImage (state_now first calls.new.items)) }
-    ensures time { (first : List ℕ) → Elapses (length calls.old.items) (length calls.new.items)
+    ensures time { (first : Text) → Elapses (length calls.old.items) (length calls.new.items)
         (LeftSince first calls.old.items) (LeftSince first calls.new.items)
         (IsImage (state_now first calls.new.items)) }
     ensures clock { OnOk result (length calls.old.items < length calls.new.items) }

@@ -1,4 +1,5 @@
 //! A disk in memory, which tells all, fails where it is told to, and can crash.
+
 ghost use Rattle.std.specs.Prelude.{◌≡◌, ◌+◌, ◌≤◌, ◌<◌, [], length, true, Some, is_ok, if◌then◌else◌, OnOk, OnErr, IfOk};
 ghost use Rattle.mtc_io.specs.Counts.{HasCause};
 ghost use Rattle.disk_core.specs.Disk.{overwritten, Torn, Follows, NoNew, Only, Elapses};

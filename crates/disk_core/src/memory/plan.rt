@@ -1,4 +1,5 @@
 //! Which calls of a disk in memory fail, and how many have.
+
 ghost use Rattle.std.specs.Prelude.{◌≡◌, ◌≤◌, ◌↔◌, Contains, IsTrue};
 ghost use Rattle.mtc_io.specs.Counts.{Rose};
 

@@ -6,7 +6,7 @@ use Rattle.journal_core.proofs.Steps.{one_step, both_steps, still_stands}
 use Rattle.journal_core.proofs.Appends.{untouched_moment}
 use Rattle.journal_core.proofs.journal.Journal.put.Goals as goal
 
--- the piece that was written
+-- The piece that was written.
 piece_is : (buffer room : List ℕ) (body : List ℕ) → buffer ≡ room
     → take (5 + length body) room ≡ tail_of body → take (length body + 5) buffer ≡ tail_of body
 piece_is buffer room body same is =
