@@ -12,7 +12,7 @@ use der_core::tags::SEQUENCE;
 use der_core::{CertError, Reader};
 use std::marker::Model;
 
-/// The tag of a GeneralName.
+// The tag of a GeneralName.
 fn is_general_name_tag(tag: u8) -> bool
     ensures { result ≡ is_name_tag tag }
 {
@@ -22,14 +22,14 @@ fn is_general_name_tag(tag: u8) -> bool
     )
 }
 
-/// All bytes are below 80, hexadecimal.
+// All bytes are below 80, hexadecimal.
 fn are_ascii(bytes: &[u8]) -> bool
     ensures { result ≡ is_ascii bytes.now }
 {
     bytes.iter().all(|b| *b < 128)
 }
 
-/// A GeneralName. `BadExtension` where it has another tag, or is a dNSName that isn't ASCII.
+// A GeneralName. `BadExtension` where it has another tag, or is a dNSName that isn't ASCII.
 #[tactic(auto, unfolding(crate::specs::AltNames::general_name_at))]
 fn general_name<'a>(reader: &mut Reader<'a>) -> Result<&'a [u8], CertError>
     ensures exact { Moves (λ bytes. bytes.now) general_name_at reader.old result reader.new }
@@ -45,7 +45,7 @@ fn general_name<'a>(reader: &mut Reader<'a>) -> Result<&'a [u8], CertError>
     Ok(element.whole)
 }
 
-/// Names up to the end.
+// Names up to the end.
 fn general_name_list(reader: &mut Reader) -> Result<(), CertError>
     ensures ok { OnOk result (discarded (up_to_end general_name_at reader.old) ≡ Ok reader.new) }
     ensures err { IfErr result (λ e. discarded (up_to_end general_name_at reader.old) ≡ Err e) }
@@ -56,7 +56,7 @@ fn general_name_list(reader: &mut Reader) -> Result<(), CertError>
     Ok(())
 }
 
-/// GeneralNames: a SEQUENCE of names, at least one.
+// GeneralNames: a SEQUENCE of names, at least one.
 #[tactic(auto, unfolding(crate::specs::AltNames::general_names_at))]
 fn general_names<'a>(reader: &mut Reader<'a>) -> Result<&'a [u8], CertError>
     ensures { Moves (λ bytes. bytes.now) general_names_at reader.old result reader.new }
@@ -129,7 +129,7 @@ impl<'a> Iterator for DnsNames<'a> {
     }
 }
 
-/// The next dNSName.
+// The next dNSName.
 fn next_name<'a>(reader: &mut Reader<'a>) -> Option<&'a [u8]>
     ensures { MatchOption result ((names_left reader.old ≡ []) × (names_left reader.new ≡ []))
         (λ name. names_left reader.old ≡ name.now ∷ names_left reader.new) }

@@ -50,7 +50,7 @@ pub fn read_version(reader: &mut Reader) -> Result<(), CertError>
     Ok(())
 }
 
-/// The serial number, from 1 on.
+// The serial number, from 1 on.
 #[tactic(auto, unfolding(crate::specs::Certificate::serial_at))]
 fn serial(reader: &mut Reader) -> Result<u64, CertError>
     ensures { Moves (λ n. n) serial_at reader.old result reader.new }
@@ -62,7 +62,7 @@ fn serial(reader: &mut Reader) -> Result<u64, CertError>
     }
 }
 
-/// A unique identifier of the issuer or the subject stands here.
+// A unique identifier of the issuer or the subject stands here.
 fn has_unique_id(reader: &Reader) -> bool
     ensures { result ≡ is_unique_id reader.now.rest }
 {
@@ -72,7 +72,7 @@ fn has_unique_id(reader: &Reader) -> bool
         || reader.begins_with(0xA2)
 }
 
-/// The fields from the algorithm to the extensions.
+// The fields from the algorithm to the extensions.
 #[tactic(auto, unfolding(crate::specs::Certificate::behind_serial_at))]
 fn behind_serial<'a>(reader: &mut Reader<'a>) -> Result<Fields<'a>, CertError>
     ensures { Moves body behind_serial_at reader.old result reader.new }
@@ -97,7 +97,7 @@ fn behind_serial<'a>(reader: &mut Reader<'a>) -> Result<Fields<'a>, CertError>
     })
 }
 
-/// What is signed: the serial number, and the fields behind it.
+// What is signed: the serial number, and the fields behind it.
 #[tactic(auto, unfolding(crate::specs::Certificate::tbs_at))]
 fn tbs<'a>(reader: &mut Reader<'a>) -> Result<(u64, Fields<'a>), CertError>
     ensures { Moves (λ t. (tt, (t.0, body t.1))) tbs_at reader.old result reader.new }
@@ -111,7 +111,7 @@ fn tbs<'a>(reader: &mut Reader<'a>) -> Result<(u64, Fields<'a>), CertError>
     Ok((serial, fields))
 }
 
-/// What is signed, with the algorithm beside it, which has to be the same.
+// What is signed, with the algorithm beside it, which has to be the same.
 #[tactic(auto, unfolding(crate::specs::Certificate::signed_at))]
 fn signed<'a>(reader: &mut Reader<'a>) -> Result<(u64, Fields<'a>, &'a [u8]), CertError>
     ensures { Moves (λ s. ((tt, (s.0, body s.1)), s.2.now)) signed_at
@@ -126,7 +126,7 @@ fn signed<'a>(reader: &mut Reader<'a>) -> Result<(u64, Fields<'a>, &'a [u8]), Ce
     }
 }
 
-/// A certificate.
+// A certificate.
 #[tactic(auto, unfolding(crate::specs::Certificate::certificate_at))]
 fn certificate<'a>(reader: &mut Reader<'a>) -> Result<Cert<'a>, CertError>
     ensures { Moves parts certificate_at reader.old result reader.new }
@@ -149,7 +149,7 @@ fn certificate<'a>(reader: &mut Reader<'a>) -> Result<Cert<'a>, CertError>
     })
 }
 
-/// All of the bytes.
+// All of the bytes.
 #[tactic(auto, unfolding(crate::specs::Certificate::parts_of))]
 fn whole<'a>(bytes: &'a [u8]) -> Result<Cert<'a>, CertError>
     ensures { Gives parts result (parts_of bytes.now) }

@@ -15,7 +15,7 @@ use crate::tags::EXTENSIONS;
 use der_core::tags::{BOOLEAN, OBJECT_IDENTIFIER, OCTET_STRING, SEQUENCE};
 use der_core::{CertError, DerError, Reader, boolean, oid};
 
-/// Up to so many extensions each is compared with all before it.
+// Up to so many extensions each is compared with all before it.
 const FEW: usize = 64;
 
 /// One extension.
@@ -26,7 +26,7 @@ pub struct Extension<'a> {
     pub octets: &'a [u8],
 }
 
-/// One of the first `count` extensions in the list has this identifier.
+// One of the first `count` extensions in the list has this identifier.
 fn is_repeated(identifier: &[u8], list: &Reader, count: usize) -> bool
     ensures { result ≡ is_among identifier.now (identifiers count list.now) }
 {
@@ -46,7 +46,7 @@ fn is_repeated(identifier: &[u8], list: &Reader, count: usize) -> bool
     false
 }
 
-/// An identifier that none of the first `count` extensions in the list has.
+// An identifier that none of the first `count` extensions in the list has.
 #[tactic(auto, unfolding(crate::specs::Extensions::new_identifier_at))]
 fn new_identifier<'a>(
     reader: &mut Reader<'a>,
@@ -65,7 +65,7 @@ fn new_identifier<'a>(
     }
 }
 
-/// Whether the extension is marked as critical. `BadExtension` where it is marked as not critical.
+// Whether the extension is marked as critical. `BadExtension` where it is marked as not critical.
 #[tactic(auto, unfolding(crate::specs::Extensions::critical_at))]
 fn critical(reader: &mut Reader) -> Result<bool, CertError>
     ensures { Moves (λ b. b) critical_at reader.old result reader.new }
@@ -81,14 +81,14 @@ fn critical(reader: &mut Reader) -> Result<bool, CertError>
     }
 }
 
-/// The extension has another identifier, or its octets are names.
+// The extension has another identifier, or its octets are names.
 fn has_form(extension: &Extension) -> bool
     ensures { result ≡ has_its_form (extension_fields extension.now) }
 {
     !is_subject_alt_name(extension.identifier) || is_general_names(extension.octets)
 }
 
-/// An extension behind the first `count` ones of the list.
+// An extension behind the first `count` ones of the list.
 #[tactic(auto, unfolding(crate::specs::Extensions::extension_at))]
 fn one_extension<'a>(
     reader: &mut Reader<'a>,
@@ -116,7 +116,7 @@ fn one_extension<'a>(
     Ok(extension)
 }
 
-/// A few extensions with different identifiers, up to the end: each is compared with all before it.
+// A few extensions with different identifiers, up to the end: each is compared with all before it.
 fn few_extensions(reader: &mut Reader) -> Result<(), CertError>
     requires { length reader.old.rest < 2 ^ 64 }
     ensures ok { OnOk result (discarded (extension_list_at reader.old) ≡ Ok reader.new) }
@@ -131,9 +131,9 @@ fn few_extensions(reader: &mut Reader) -> Result<(), CertError>
     Ok(())
 }
 
-/// The same of many extensions. First each is read, whatever its identifier, up to the first fault;
-/// then the identifiers are compared, that of the fault's extension too, since a repetition is told
-/// before what stands behind the identifier.
+// The same of many extensions. First each is read, whatever its identifier, up to the first fault;
+// then the identifiers are compared, that of the fault's extension too, since a repetition is told
+// before what stands behind the identifier.
 fn many_extensions(reader: &mut Reader) -> Result<(), CertError>
     requires { length reader.old.rest < 2 ^ 64 }
     ensures ok { OnOk result (discarded (extension_list_at reader.old) ≡ Ok reader.new) }
@@ -154,7 +154,7 @@ fn many_extensions(reader: &mut Reader) -> Result<(), CertError>
     }
 }
 
-/// The fault of the last of `count` extensions, unless one of them has the identifier of another.
+// The fault of the last of `count` extensions, unless one of them has the identifier of another.
 fn first_fault(list: &Reader, count: usize, fault: CertError) -> CertError
     ensures { result ≡
         (if are_repeated (identifiers count list.now) then RepeatedExtension else fault) }
@@ -166,7 +166,7 @@ fn first_fault(list: &Reader, count: usize, fault: CertError) -> CertError
     }
 }
 
-/// Extensions with different identifiers, up to the end.
+// Extensions with different identifiers, up to the end.
 fn extension_list(reader: &mut Reader) -> Result<(), CertError>
     requires { length reader.old.rest < 2 ^ 64 }
     ensures ok { OnOk result (discarded (extension_list_at reader.old) ≡ Ok reader.new) }
@@ -179,7 +179,7 @@ fn extension_list(reader: &mut Reader) -> Result<(), CertError>
     }
 }
 
-/// Whether fewer elements stand here than pay for a block. It is a matter of speed alone.
+// Whether fewer elements stand here than pay for a block. It is a matter of speed alone.
 fn are_few(list: &Reader) -> bool {
     let mut reader = list.fork();
     for _ in 0..FEW {
@@ -190,7 +190,7 @@ fn are_few(list: &Reader) -> bool {
     reader.is_at_end()
 }
 
-/// The list in its SEQUENCE. `BadExtension` where it is empty.
+// The list in its SEQUENCE. `BadExtension` where it is empty.
 #[tactic(auto, unfolding(crate::specs::Extensions::extension_sequence_at))]
 fn extension_sequence<'a>(reader: &mut Reader<'a>) -> Result<&'a [u8], CertError>
     ensures { Moves (λ bytes. bytes.now) extension_sequence_at reader.old result reader.new }
@@ -223,7 +223,7 @@ pub fn read_extensions<'a>(reader: &mut Reader<'a>) -> Result<&'a [u8], CertErro
     Ok(outer.whole)
 }
 
-/// The next extension, whatever came before it.
+// The next extension, whatever came before it.
 #[tactic(auto, unfolding(crate::specs::Extensions::identifiers))]
 fn next_extension<'a>(reader: &mut Reader<'a>) -> Result<Extension<'a>, CertError>
     ensures exact { Moves extension_fields (extension_at []) reader.old result reader.new }
@@ -233,7 +233,7 @@ fn next_extension<'a>(reader: &mut Reader<'a>) -> Result<Extension<'a>, CertErro
     one_extension(reader, &before, 0)
 }
 
-/// The first extension in the bytes of the field.
+// The first extension in the bytes of the field.
 #[tactic(auto, unfolding(crate::specs::Extensions::list_in))]
 fn list_of(extensions: &[u8]) -> Result<Reader<'_>, DerError>
     ensures { Gives (λ r. r) result (list_in extensions.now) }
@@ -255,7 +255,7 @@ pub fn unknown_critical(extensions: &[u8]) -> bool
     }
 }
 
-/// The extension is critical and isn't one of the known ones.
+// The extension is critical and isn't one of the known ones.
 fn is_unknown_critical(extension: &Extension) -> bool
     ensures { result ≡ is_unknown_critical (extension_fields extension.now) }
 {
@@ -285,7 +285,7 @@ pub fn dns_names<'a>(cert: &Cert<'a>) -> DnsNames<'a>
     }
 }
 
-/// The octets of the first subjectAltName, or no octets.
+// The octets of the first subjectAltName, or no octets.
 fn alt_name(list: Reader<'_>) -> &[u8]
     ensures { result.now ≡ alt_name_octets (extensions_left list.entry) }
 {

@@ -49,7 +49,7 @@ pub fn reads_as_key(bytes: &[u8]) -> bool
     }
 }
 
-/// The bytes of a BIT STRING without unused bits; `BadBits` where there are some.
+// The bytes of a BIT STRING without unused bits; `BadBits` where there are some.
 #[tactic(auto, unfolding(crate::specs::Keys::whole_bits_of))]
 fn whole_bits<'a>(e: &Element<'a>) -> Result<&'a [u8], DerError>
     ensures { Gives (λ bytes. bytes.now) result (whole_bits_of e.now.place e.now.contents.now) }

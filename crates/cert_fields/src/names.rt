@@ -8,7 +8,7 @@ ghost use Rattle.cert_fields.specs.Names.{attribute_at, set_at, name_at};
 use der_core::tags::{OBJECT_IDENTIFIER, SEQUENCE, SET};
 use der_core::{CertError, Reader, oid, set_in_order};
 
-/// An AttributeTypeAndValue: an object identifier and one element.
+// An AttributeTypeAndValue: an object identifier and one element.
 #[tactic(auto, unfolding(crate::specs::Names::attribute_at))]
 fn attribute<'a>(reader: &mut Reader<'a>) -> Result<&'a [u8], CertError>
     ensures exact { Moves (λ bytes. bytes.now) attribute_at reader.old result reader.new }
@@ -23,7 +23,7 @@ fn attribute<'a>(reader: &mut Reader<'a>) -> Result<&'a [u8], CertError>
     Ok(outer.whole)
 }
 
-/// Attributes up to the end.
+// Attributes up to the end.
 fn attributes(reader: &mut Reader) -> Result<(), CertError>
     ensures ok { OnOk result (discarded (up_to_end attribute_at reader.old) ≡ Ok reader.new) }
     ensures err { IfErr result (λ e. discarded (up_to_end attribute_at reader.old) ≡ Err e) }
@@ -34,7 +34,7 @@ fn attributes(reader: &mut Reader) -> Result<(), CertError>
     Ok(())
 }
 
-/// A RelativeDistinguishedName: a SET OF attributes in rising order. `BadName` where it is empty.
+// A RelativeDistinguishedName: a SET OF attributes in rising order. `BadName` where it is empty.
 #[tactic(auto, unfolding(crate::specs::Names::set_at))]
 fn set<'a>(reader: &mut Reader<'a>) -> Result<&'a [u8], CertError>
     ensures exact { Moves (λ bytes. bytes.now) set_at reader.old result reader.new }
@@ -51,7 +51,7 @@ fn set<'a>(reader: &mut Reader<'a>) -> Result<&'a [u8], CertError>
     Ok(outer.whole)
 }
 
-/// Sets up to the end.
+// Sets up to the end.
 fn sets(reader: &mut Reader) -> Result<(), CertError>
     ensures ok { OnOk result (discarded (up_to_end set_at reader.old) ≡ Ok reader.new) }
     ensures err { IfErr result (λ e. discarded (up_to_end set_at reader.old) ≡ Err e) }

@@ -11,7 +11,7 @@ ghost use Rattle.cert_fields.specs.Views.{texts, AreSorted};
 use der_core::tags::{OBJECT_IDENTIFIER, SEQUENCE};
 use der_core::{DerError, Reader};
 
-/// The identifiers of a block: slices of 512 KiB together, on the stack.
+// The identifiers of a block: slices of 512 KiB together, on the stack.
 const BLOCK: usize = 32768;
 
 /// The identifier of the next extension, whose other parts aren't looked into.
@@ -26,8 +26,8 @@ pub fn head<'a>(reader: &mut Reader<'a>) -> Result<&'a [u8], DerError>
     Ok(identifier.contents)
 }
 
-/// Takes the identifiers of extensions one behind the other into a block, as many as it holds, at
-/// most so many, and up to one that doesn't read. Answers their number.
+// Takes the identifiers of extensions one behind the other into a block, as many as it holds, at
+// most so many, and up to one that doesn't read. Answers their number.
 fn take_block<'a>(reader: &mut Reader<'a>, block: &mut [&'a [u8]], most: usize) -> usize
     ensures len { length block.new ≡ length block.old }
     ensures within { (result ≤ most) × (result ≤ length block.new) }
@@ -50,7 +50,7 @@ fn take_block<'a>(reader: &mut Reader<'a>, block: &mut [&'a [u8]], most: usize) 
     taken
 }
 
-/// Whether one of these identifiers, which are in order, is that of its neighbour.
+// Whether one of these identifiers, which are in order, is that of its neighbour.
 fn has_equal_neighbours(block: &[&[u8]]) -> bool
     requires { AreSorted block.now }
     ensures { result ≡ are_repeated (texts block.now) }
@@ -65,7 +65,7 @@ fn has_equal_neighbours(block: &[&[u8]]) -> bool
     false
 }
 
-/// Whether one of these identifiers stands twice. They are put in order.
+// Whether one of these identifiers stands twice. They are put in order.
 fn sort_block(block: &mut [&[u8]]) -> bool
     ensures repeats { result ≡ are_repeated (texts block.old) }
     ensures permutation { IsPermutation block.old block.new }
@@ -75,7 +75,7 @@ fn sort_block(block: &mut [&[u8]]) -> bool
     has_equal_neighbours(block)
 }
 
-/// Whether this identifier is among those of a block, which are in order.
+// Whether this identifier is among those of a block, which are in order.
 fn is_in(block: &[&[u8]], identifier: &[u8]) -> bool
     requires { AreSorted block.now }
     ensures { result ≡ is_among identifier.now (texts block.now) }
@@ -83,8 +83,8 @@ fn is_in(block: &[&[u8]], identifier: &[u8]) -> bool
     block.binary_search(&identifier).is_ok()
 }
 
-/// Whether one of the first `count` extensions of the list has an identifier of the block, whose
-/// identifiers are in order.
+// Whether one of the first `count` extensions of the list has an identifier of the block, whose
+// identifiers are in order.
 fn is_met(block: &[&[u8]], list: &Reader, count: usize) -> bool
     requires { AreSorted block.now }
     ensures { result ≡ any_among (texts block.now) (identifiers count list.now) }

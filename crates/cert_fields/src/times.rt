@@ -10,7 +10,7 @@ use cert_time::{GENERALIZED_TIME, UTC_TIME, Validity, read_time};
 use der_core::tags::SEQUENCE;
 use der_core::{CertError, Reader};
 
-/// The moment of a UTCTime or a GeneralizedTime; `BadTime` where its contents aren't in their form.
+// The moment of a UTCTime or a GeneralizedTime; `BadTime` where its contents aren't in their form.
 #[tactic(auto, unfolding(crate::specs::Times::time_at))]
 fn time(reader: &mut Reader) -> Result<i64, CertError>
     ensures exact { Moves (λ z. z) time_at reader.old result reader.new }

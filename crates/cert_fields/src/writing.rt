@@ -31,7 +31,7 @@ pub fn write(alloc: Global, parts: &CertParts) -> Result<Bytes, Memory>
     certificate_element(alloc, parts)
 }
 
-/// The whole certificate.
+// The whole certificate.
 #[tactic(auto, unfolding(crate::specs::Spelling::certificate))]
 fn certificate_element(alloc: Global, parts: &CertParts) -> Result<Bytes, Memory>
     requires short { size_of parts.now ≤ 16000000 }
@@ -43,7 +43,7 @@ fn certificate_element(alloc: Global, parts: &CertParts) -> Result<Bytes, Memory
     Ok(out)
 }
 
-/// The contents of the whole certificate.
+// The contents of the whole certificate.
 fn certificate_contents(alloc: Global, parts: &CertParts) -> Result<Bytes, Memory>
     requires short { size_of parts.now ≤ 16000000 }
     ensures exact { IfOk result (λ bytes. bytes ≡ certificate_fields (given parts.now)) }
@@ -58,7 +58,7 @@ fn certificate_contents(alloc: Global, parts: &CertParts) -> Result<Bytes, Memor
     Ok(out)
 }
 
-/// The contents of what is signed.
+// The contents of what is signed.
 fn signed_contents(alloc: Global, parts: &CertParts) -> Result<Bytes, Memory>
     ensures exact { IfOk result (λ bytes. bytes ≡ tbs_fields (given parts.now)) }
     ensures serial { IfOk result (λ _. parts.now.serial < 2 ^ 64) }
@@ -75,7 +75,7 @@ fn signed_contents(alloc: Global, parts: &CertParts) -> Result<Bytes, Memory>
     Ok(out)
 }
 
-/// The contents of the signature: no unused bits, and the proof.
+// The contents of the signature: no unused bits, and the proof.
 fn signature_contents(alloc: Global, proof: &Bytes) -> Result<Bytes, Memory>
     ensures { IfOk result (λ bytes. bytes ≡ 0 ∷ proof.now) }
 {

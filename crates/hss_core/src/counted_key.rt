@@ -1,4 +1,5 @@
 //! A key of one level that counts its one-time keys.
+
 ghost use Rattle.std.specs.Prelude.{◌≡◌, ◌+◌, ◌-◌, ◌<◌, ◌≤◌, ◌^◌, length, IfOk};
 ghost use Rattle.lms_core.specs.Heights.{height, lms_signature_length};
 ghost use Rattle.lms_core.specs.Trees.{private_key};

@@ -1,4 +1,5 @@
 //! The chains of hashes of a one-time key.
+
 ghost use Rattle.std.specs.Prelude.{◌≡◌, ◌+◌, ◌≤◌};
 ghost use Rattle.lmots_core.specs.Ots.{chain, chain_prefix, chain_step, secret_start};
 

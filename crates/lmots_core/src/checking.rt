@@ -1,4 +1,5 @@
 //! The key that a signature leads to.
+
 ghost use Rattle.std.specs.Prelude.{◌≡◌, ◌<◌, length};
 ghost use Rattle.lmots_core.specs.Parameters.{chains, signature_length};
 ghost use Rattle.lmots_core.specs.Strings.{concatenated};

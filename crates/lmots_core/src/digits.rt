@@ -1,4 +1,5 @@
 //! The digits of a message's hash and their checksum.
+
 ghost use Rattle.std.specs.Prelude.{◌≡◌, ◌<◌, ◌≤◌, ◌*◌, ◌/◌, length};
 ghost use Rattle.lmots_core.specs.Parameters.{steps, width};
 ghost use Rattle.lmots_core.specs.Ots.{checksum, coded_hash, coef, message_hash};

@@ -1,4 +1,5 @@
 //! Numbers and values at their places in byte strings.
+
 ghost use Rattle.std.specs.Prelude.{◌≡◌, ◌+◌, ◌≤◌, ◌++◌, length, take, drop};
 ghost use Rattle.lmots_core.specs.Strings.{value_at, u32_at};
 

@@ -1,4 +1,5 @@
 //! What follows of every one-time key.
+
 ghost use Rattle.std.specs.Prelude.{ℕ};
 ghost use Rattle.byte_forms.specs.Types.{Text};
 ghost use Rattle.lmots_core.specs.Ots.{SignatureYieldsKey};

@@ -1,4 +1,5 @@
 //! The four parameter sets.
+
 ghost use Rattle.std.specs.Prelude.{◌≡◌, ◌/◌};
 ghost use Rattle.lmots_core.specs.Parameters.{chains, shift, signature_length, steps, type_of_code, typecode, width};
 

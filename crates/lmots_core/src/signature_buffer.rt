@@ -1,4 +1,5 @@
 //! The buffer that a signature is made in.
+
 ghost use Rattle.std.specs.Prelude.{◌≡◌, ◌+◌, ◌≤◌, [], ◌++◌, length};
 
 use std::marker::Model;

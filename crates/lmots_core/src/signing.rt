@@ -1,4 +1,5 @@
 //! Public keys and signatures.
+
 ghost use Rattle.std.specs.Prelude.{◌≡◌, ◌+◌, ◌<◌, ◌≤◌, ◌*◌, ◌++◌, length};
 ghost use Rattle.lmots_core.specs.Parameters.{chains, signature_length};
 ghost use Rattle.lmots_core.specs.Strings.{concatenated};

@@ -1,4 +1,5 @@
 //! The path of a leaf, and the way up along it.
+
 ghost use Rattle.std.specs.Prelude.{◌≡◌, ◌+◌, ◌*◌, ◌<◌, ◌≤◌, ◌^◌, ◌++◌, length};
 ghost use Rattle.lmots_core.specs.Strings.{concatenated};
 ghost use Rattle.lms_core.specs.Heights.{height};

@@ -1,4 +1,5 @@
 //! The nodes of a tree, filled from the leaves to the root.
+
 ghost use Rattle.std.specs.Prelude.{◌≡◌, ◌*◌, ◌≤◌, ◌^◌, length};
 ghost use Rattle.lms_core.specs.Heights.{height};
 ghost use Rattle.lms_core.specs.Held.{HoldsFrom};

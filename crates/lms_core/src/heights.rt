@@ -1,4 +1,5 @@
 //! The five heights of trees.
+
 ghost use Rattle.std.specs.Prelude.{◌≡◌, ◌^◌};
 ghost use Rattle.lms_core.specs.Heights.{height, lms_code, lms_signature_length, lms_type_of_code};
 

@@ -1,4 +1,5 @@
 //! A tree with its nodes, which signs.
+
 ghost use Rattle.std.specs.Prelude.{◌≡◌, ◌+◌, ◌*◌, ◌<◌, ◌≤◌, ◌^◌, ◌++◌, length, IfOk};
 ghost use Rattle.lms_core.specs.Heights.{height, lms_signature_length};
 ghost use Rattle.lms_core.specs.Trees.{lms_public, lms_signature, private_key};

@@ -1,4 +1,5 @@
 //! What follows of every tree.
+
 ghost use Rattle.std.specs.Prelude.{◌≡◌, ℕ, ◌<◌, ◌^◌, length};
 ghost use Rattle.byte_forms.specs.Types.{Text};
 ghost use Rattle.lms_core.specs.Heights.{height};

@@ -1,4 +1,5 @@
 //! The values of single nodes.
+
 ghost use Rattle.std.specs.Prelude.{◌≡◌, ◌+◌, ◌<◌, ◌^◌};
 ghost use Rattle.lms_core.specs.Heights.{height};
 ghost use Rattle.lms_core.specs.Trees.{inner_node, leaf_node, parent, private_key, sibling, tree_value};

@@ -1,4 +1,5 @@
 //! The private key of a tree.
+
 use crate::heights::LmsType;
 use lmots_core::OtsType;
 

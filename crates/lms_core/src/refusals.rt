@@ -1,4 +1,5 @@
 //! Why a signature is refused.
+
 /// Why a signature is refused, in the order of the tests. With several levels of trees the first
 /// two are tested once, and then each level from the top for the other three.
 #[derive(Clone, Copy, Debug, PartialEq, Eq)]

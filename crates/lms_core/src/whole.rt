@@ -1,4 +1,5 @@
 //! The signature that bytes begin with.
+
 ghost use Rattle.std.specs.Prelude.{◌≡◌, ◌≤◌, length, IfSome, Some};
 ghost use Rattle.lms_core.specs.Heights.{lms_signature_length};
 ghost use Rattle.lms_core.specs.Refusals.{front_types, front_with};

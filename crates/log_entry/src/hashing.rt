@@ -17,7 +17,7 @@ pub const HEAD: [u8; 7] = [0x00, 0x01, 0xA0, 0x03, 0x02, 0x01, 0x02];
 /// The bytes before the hash of the public key: an OCTET STRING of 32 bytes.
 pub const HASH_HEAD: [u8; 2] = [0x04, 0x20];
 
-/// The byte before an entry, where it is hashed as a leaf of a tree (RFC 9162, section 2.1.1).
+// The byte before an entry, where it is hashed as a leaf of a tree (RFC 9162, section 2.1.1).
 const LEAF: u8 = 0;
 
 /// The hash of a key, as entries hold it: of the whole subjectPublicKeyInfo element.
@@ -29,7 +29,7 @@ pub fn key_hash<H: TreeHash>(spki: &[u8]) -> [u8; 32]
     running.end()
 }
 
-/// The leaf hash of the entry with these fields, one field after another.
+// The leaf hash of the entry with these fields, one field after another.
 #[tactic(auto, unfolding(crate::specs::Entries::tbs_text))]
 fn tbs_hash<H: TreeHash>(tbs: &TbsEntry) -> [u8; 32]
     ensures { result ≡ leaf_hash H.hash (tbs_text (tbs_parts tbs.now)) }

@@ -9,7 +9,7 @@ use crate::reading::read_entry;
 use cert_fields::is_public_key;
 use tree_core::TreeHash;
 
-/// The same answer as an equation with the definition.
+// The same answer as an equation with the definition.
 #[tactic(auto, unfolding(crate::specs::Matching::matches))]
 fn compared<H: TreeHash>(entry: &[u8], spki: &[u8]) -> bool
     ensures { result ≡ matches H.hash entry.now spki.now }

@@ -13,7 +13,7 @@ use cert_fields::{read_extensions, read_name, read_validity, read_version};
 use der_core::Reader;
 use der_core::tags::OCTET_STRING;
 
-/// The hash of the public key. `BadHashLength` where it hasn't 32 bytes.
+// The hash of the public key. `BadHashLength` where it hasn't 32 bytes.
 #[tactic(auto, unfolding(crate::specs::Reading::key_hash_at))]
 fn key_hash<'a>(reader: &mut Reader<'a>) -> Result<&'a [u8], EntryError>
     ensures { Moves (λ bytes. bytes.now) key_hash_at reader.old result reader.new }
@@ -26,7 +26,7 @@ fn key_hash<'a>(reader: &mut Reader<'a>) -> Result<&'a [u8], EntryError>
     }
 }
 
-/// The fields behind the type, up to the end.
+// The fields behind the type, up to the end.
 #[tactic(auto, unfolding(crate::specs::Reading::body_of))]
 fn body(entry: &[u8]) -> Result<TbsEntry<'_>, EntryError>
     requires { 2 ≤ length entry.now }
@@ -50,7 +50,7 @@ fn body(entry: &[u8]) -> Result<TbsEntry<'_>, EntryError>
     })
 }
 
-/// The type, and the fields behind it.
+// The type, and the fields behind it.
 #[tactic(auto, unfolding(crate::specs::Reading::entry_in))]
 fn whole(bytes: &[u8]) -> Result<Entry<'_>, EntryError>
     ensures { Gives entry_parts result (entry_in bytes.now) }

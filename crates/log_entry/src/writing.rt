@@ -15,7 +15,7 @@ use mtc_io::{Bytes, Memory};
 use std::alloc::Global;
 use tree_core::TreeHash;
 
-/// The entry with these fields.
+// The entry with these fields.
 #[tactic(auto, unfolding(crate::specs::Entries::tbs_text))]
 fn written(alloc: Global, tbs: &TbsEntry) -> Result<Bytes, Memory>
     ensures { IfOk result (λ bytes. bytes ≡ tbs_text (tbs_parts tbs.now)) }
@@ -63,7 +63,7 @@ pub fn write_entry(alloc: Global, parts: &EntryParts) -> Result<Bytes, Memory>
     with_validity(alloc, parts)
 }
 
-/// The entry, with its validity written out.
+// The entry, with its validity written out.
 fn with_validity(alloc: Global, parts: &EntryParts) -> Result<Bytes, Memory>
     ensures { IfOk result (λ bytes. bytes ≡ tbs_text (given_entry parts.now)) }
 {

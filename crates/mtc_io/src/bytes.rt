@@ -1,4 +1,5 @@
 //! A byte string that owns its memory.
+
 ghost use Rattle.std.specs.Prelude.{◌≡◌, ℕ, List, [], ◌++◌, ◌==◌, length, take, IfOk, OnOk, OnErr};
 
 use crate::fault::Memory;

@@ -1,4 +1,5 @@
 //! Streams in memory, which fail where they are told to.
+
 mod sink;
 mod source;
 

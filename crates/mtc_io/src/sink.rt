@@ -1,4 +1,5 @@
 //! Where bytes go.
+
 ghost use Rattle.std.specs.Prelude.{ℕ, List, Option, ◌≤◌, ◌<◌, length, IfOk, OnOk};
 ghost use Rattle.std.specs.Io.KnownBytes.{WriteAppends, Appends};
 ghost use Rattle.mtc_io.specs.Counts.{HasCause};

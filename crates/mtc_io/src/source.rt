@@ -1,4 +1,5 @@
 //! Where bytes come from.
+
 ghost use Rattle.std.specs.Prelude.{◌≡◌, ◌≢◌, ℕ, List, Option, ◌≤◌, ◌<◌, length, IfOk, OnOk, IfSome, IsErrOf, MatchResult};
 ghost use Rattle.std.specs.Io.KnownBytes.{ReadConsumes, Consumes, IsAtEnd};
 ghost use Rattle.mtc_io.specs.Counts.{Rose, HasCause};

@@ -1,4 +1,5 @@
 //! Adapters of std's readers and writers.
+
 ghost use Rattle.std.specs.Prelude.{◌≡◌, ◌<◌};
 
 use crate::fault::Failed;

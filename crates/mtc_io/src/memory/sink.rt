@@ -1,4 +1,5 @@
 //! A sink in memory.
+
 ghost use Rattle.std.specs.Prelude.{◌≡◌, Some, [], ◌==◌, ◌≤◌, ◌<◌, ◌&&◌, not, if◌then◌else◌, length, min, IfOk, IsTrue, is_err};
 ghost use Rattle.std.specs.List.{list_any};
 ghost use Rattle.std.specs.Io.KnownBytes.{WriteAppends};

@@ -1,4 +1,5 @@
 //! A source in memory.
+
 ghost use Rattle.std.specs.Prelude.{◌≡◌, Some, ◌+◌, ◌==◌, ◌≤◌, ◌<◌, length, take, min, drop, IfOk, is_err};
 ghost use Rattle.std.specs.List.{list_any};
 ghost use Rattle.std.specs.Io.KnownBytes.{ReadConsumes};
