@@ -1,8 +1,8 @@
 -- The Sign records of a journal count up.
-use Rattle.std.proofs.Common.{◌≡◌, ℕ, zero, suc, ◌+◌, ◌^◌, ◌<◌, ◌≤◌, ◌==◌, ◌&&◌, nat_lt, Bool, true}
-use Rattle.std.proofs.Common.{false, List, [], ◌∷◌, length, slice_get, Option, Some, None, Ok, refl}
+use Rattle.std.proofs.Common.{◌≡◌, ℕ, zero, suc, ◌+◌, ◌^◌, ◌<◌, ◌≤◌, ◌==◌, ◌&&◌, nat_lt}
+use Rattle.std.proofs.Common.{List, [], ◌∷◌, length, slice_get, Option, Some, None, Ok}
 use Rattle.std.proofs.Common.{option_map, option_and_then, sym, ap, ◌∙◌, subst, arith}
-use Rattle.std.proofs.lemmas.Bool.{eqb-true, ltb-true}
+use Rattle.std.proofs.lemmas.Bool.{and_parts, eqb-true, ltb-true}
 use Rattle.byte_forms.specs.Types.{HashFunction, Text}
 use Rattle.byte_forms.specs.Readings.{some_or}
 use Rattle.byte_forms.proofs.Steps.{bind_ok, ok_is, some_or_ok}
@@ -24,10 +24,6 @@ record CountsFrom (s : CosignerState) (indices : List ℕ) (t : CosignerState) :
   pub each : (i index : ℕ) → slice_get indices i ≡ Some index → index ≡ s.key.next + i
   pub count : t.key.next ≡ s.key.next + length indices
   pub few : s.key.next ≤ key_count s → t.key.next ≤ key_count t
-
-both_true : (a b : Bool) → (a && b) ≡ true → (a ≡ true) × (b ≡ true)
-both_true true b is = (refl, is)
-both_true false b is = let wrong : false ≡ true = is in cc
 
 -- no number
 held_on : (s u t : CosignerState) (indices : List ℕ) → u.key ≡ s.key → CountsFrom u indices t
@@ -64,8 +60,8 @@ counts_step h s u t (Some (Advance size root proof)) indices is counts =
 counts_step h s u t (Some (Sign index start end hash proof)) indices is counts =
     let shown = nat_lt index (key_count s) && has_subtree h s.held start end hash proof in
     let made = when_some ((index == s.key.next) && shown) (Some (having_signed s)) u is in
-    let tests = both_true (index == s.key.next) shown made.0 in
-    let there = both_true (nat_lt index (key_count s)) (has_subtree h s.held start end hash proof)
+    let tests = and_parts (index == s.key.next) shown made.0 in
+    let there = and_parts (nat_lt index (key_count s)) (has_subtree h s.held start end hash proof)
     tests.1 in
     signed_on s t index indices (eqb-true index s.key.next tests.0)
     (ltb-true index (key_count s) there.0)

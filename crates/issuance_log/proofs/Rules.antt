@@ -4,7 +4,7 @@ use Rattle.std.proofs.Common.{if◌then◌else◌, Bool, true, false, List, ◌+
 use Rattle.std.proofs.Common.{None, option_map, option_and_then, Result, Ok, Err, refl, subst, ap}
 use Rattle.std.proofs.Common.{sym, ◌∙◌, arith}
 use Rattle.std.specs.Int.{w8, w32}
-use Rattle.std.proofs.lemmas.Bool.{eqb-true, leb-true, ltb-true}
+use Rattle.std.proofs.lemmas.Bool.{and_parts, eqb-true, leb-true, ltb-true}
 use Rattle.byte_forms.specs.Places.{at, IsBytes}
 use Rattle.byte_forms.proofs.Steps.{IsBytes-front, IsBytes-back}
 use Rattle.tls_wire.specs.Anchors.{anchor_of}
@@ -36,10 +36,6 @@ test_from : {X : Type 0} (b : Bool) (o : Option X) (x : X) → (if b then o else
 test_from {X} true o x is = (refl, is)
 test_from {X} false o x is = let wrong : None ≡ Some x = is in cc
 
-both_true : (a b : Bool) → (a && b) ≡ true → (a ≡ true) × (b ≡ true)
-both_true true b is = (refl, is)
-both_true false b is = let wrong : false ≡ true = is in cc
-
 pub is_next : (h : List ℕ → List ℕ) (s : LogState) (body : List ℕ) (t : LogState)
     → IsNext h s body t → next_log h s body ≡ Some t
 is_next h s body t (inl is) =
@@ -61,7 +57,7 @@ next_is h s body t bytes is = go (item_in body) refl is
         let spelled = item_takes body entry key bytes was in
         let made = test_from (nat_lt (length s.entries) s.settings.limit && matches h entry key)
         (Some (with_item entry key s)) t is in
-        let tests = both_true (nat_lt (length s.entries) s.settings.limit)
+        let tests = and_parts (nat_lt (length s.entries) s.settings.limit)
         (matches h entry key) made.0 in
         inl (record {
           entry = entry;
@@ -79,7 +75,7 @@ next_is h s body t bytes is = go (item_in body) refl is
         let spelled = mark_takes body size bytes mark.1 in
         let made = test_from (size == length s.entries && nat_lt (last_mark s.marks) size)
         (Some (with_mark s)) t mark.2 in
-        let tests = both_true (size == length s.entries) (nat_lt (last_mark s.marks) size)
+        let tests = and_parts (size == length s.entries) (nat_lt (last_mark s.marks) size)
         made.0 in
         let same : size ≡ length s.entries = eqb-true size (length s.entries) tests.0 in
         inr (record {
@@ -155,10 +151,10 @@ first_is body s bytes is =
 
     allowed_tests : (active limit : ℕ) → are_allowed active limit ≡ true → AreAllowed active limit
     allowed_tests active limit is =
-        let sides = both_true (nat_le 1 active && nat_le active most_active)
+        let sides = and_parts (nat_le 1 active && nat_le active most_active)
         (nat_le 2 limit && nat_le limit most_entries) is in
-        let left = both_true (nat_le 1 active) (nat_le active most_active) sides.0 in
-        let right = both_true (nat_le 2 limit) (nat_le limit most_entries) sides.1 in
+        let left = and_parts (nat_le 1 active) (nat_le active most_active) sides.0 in
+        let right = and_parts (nat_le 2 limit) (nat_le limit most_entries) sides.1 in
         record {
           some_active = leb-true 1 active left.0;
           few_active =

@@ -1,9 +1,10 @@
 -- The steps of one node keep what holds of it.
-use Rattle.std.proofs.Common.{◌≡◌, ℕ, zero, suc, ◌+◌, ◌<◌, ◌≤◌, ◌&&◌, not, Bool, true, false, List}
+use Rattle.std.proofs.Common.{◌≡◌, ℕ, zero, suc, ◌+◌, ◌<◌, ◌≤◌, not, Bool, true, false, List}
 use Rattle.std.proofs.Common.{[], ◌∷◌, ◌++◌, length, length-append, Option, Some, None, IfSome}
 use Rattle.std.proofs.Common.{refl, ap, sym, ◌∙◌, subst, arith, append_assoc}
 use Rattle.std.proofs.lemmas.List.{append-nil}
 use Rattle.std.specs.Prelude.{if◌then◌else◌, is_some}
+use Rattle.std.proofs.lemmas.Bool.{and_parts}
 use Rattle.byte_forms.specs.Types.{Text}
 use Rattle.node_history.specs.Histories.{Valid, may_begin, moved}
 use Rattle.node_history.specs.Laws.{AreAtMost, Begins, HasGrown, IsSoundNode, RisesFrom}
@@ -21,10 +22,6 @@ pub when : {X : Type 0} (b : Bool) (x y : X) → (if b then Some x else None) �
     → (b ≡ true) × (x ≡ y)
 when {X} true x y is = (refl, some_is x y is)
 when {X} false x y is = let wrong : None ≡ Some y = is in absurd cc
-
-both_true : (a b : Bool) → (a && b) ≡ true → (a ≡ true) × (b ≡ true)
-both_true true b is = (refl, is)
-both_true false b is = let wrong : false ≡ true = is in absurd cc
 
 no_true : {X : Type 0} → false ≡ true → X
 no_true {X} is = absurd cc
@@ -83,7 +80,7 @@ module _ (valid : Valid) where
       → may_begin valid s body ≡ true → IsSoundNode valid (begin body s)
   begin_sound s body was is = record {
     settled = was.settled;
-    pending = (both_true (not (is_some s.pending)) (valid s.start (s.settled ++ body ∷ [])) is).1;
+    pending = (and_parts (not (is_some s.pending)) (valid s.start (s.settled ++ body ∷ [])) is).1;
     rise = was.rise;
     there = was.there;
     some = was.some;
