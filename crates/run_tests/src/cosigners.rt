@@ -6,7 +6,8 @@ use std::alloc::Global;
 use std::test::Fail;
 use tree_core::{Sha, TreeHash};
 
-const NAMES: &str = r#"
+/// Names of bytes for the scripts of a cosigner.
+pub(crate) const NAMES: &str = r#"
 # A secret: an identifier of 16 bytes and a seed of 32.
 name SECRET
   000102030405060708090a0b0c0d0e0f
@@ -248,6 +249,7 @@ fn a_device_fails_a_cosigner(rt: HostRuntime) -> Result<(), Fail> {
     for (words, journal, lengths) in [
         ("advance s a", "FOUNDED 00", [14, 89, 137]),
         ("cosign s t", "ADVANCED 00", [2359, 137, 197]),
+        ("export s", "ADVANCED 00", [119, 137, 137]),
     ] {
         let mut failed = 0u64;
         for call in 0..16 {

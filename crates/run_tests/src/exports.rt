@@ -1,0 +1,132 @@
+//! The command `export`, and `init-cosigner` over devices that fail.
+use crate::cosigners::NAMES;
+use crate::scripts::{Outcome, outcome_of};
+use std::test::Fail;
+
+const EXPORTS: &str = r#"
+# What stands before the records: the two ids and the public key.
+name FRONT 0481fd59020481fd5901003c
+  0000000100000005 00000003000102030405060708090a0b0c0d0e0f
+  661aeb1d85e6a993e0e55bbbad2564f1b45e3e1ba8b9b4c917e993ebbdaf19e2
+# The records of the Advance and of a Sign of all entries.
+name ADVANCE 0000002b120000000000000400 ROOT 0000
+name SIGN 00000037130000000000000000000000000000000000000400 ROOT 0000
+
+case what others may know of a new cosigner
+file s FOUNDED 00
+$ export s
+  FRONT
+left s FOUNDED 00
+
+case what others may know of one that has signed
+file s ADVANCED 01 SIGN 00
+takes 7
+$ export s
+  FRONT ADVANCE SIGN
+left s ADVANCED 01 SIGN 00
+
+case what stands behind the closed gate is no record
+file s ADVANCED 00 SIGN 00
+$ export s
+  FRONT ADVANCE
+left s ADVANCED 00 SIGN 00
+
+case an export doesn't go out
+file s ADVANCED 00
+takes 100
+out-fails 1
+$ export s
+status 6
+  FRONT 0000002b12000000000000040077566825cd25f263271e3fa5341db2
+! mtc: export: OutputFailed
+left s ADVANCED 00
+
+case what is no cosigner's journal isn't exported
+$ export s
+status 7
+! mtc: export: s: Absent
+file s 6d74632d6a6f75726e616c2f76310a00010000000e010481fd5901000000020000004000
+$ export s
+status 2
+! mtc: export: s: BadRecord 0
+file s ADVANCED 01 SIGN
+$ export s
+status 2
+! mtc: export: s: CutShort 196
+file s ADVANCED 01 00000000 00
+$ export s
+status 2
+! mtc: export: s: BadLength 136
+"#;
+
+#[test]
+fn exports(rt: HostRuntime) -> Result<(), Fail> {
+    let script = format!(in rt.alloc(); "{NAMES}{EXPORTS}")?;
+    let outcome = outcome_of(rt.alloc(), script.as_str())?;
+    assert!(rt; outcome == Outcome::Passed(8), "{outcome:?}");
+    Ok(())
+}
+
+const FRESH: &str = r#"
+# The calls of a device that is made: the length is asked for; the record is written and synced;
+# the gate is written and synced.
+name CLOSED 6d74632d6a6f75726e616c2f76310a00
+  0000000043110481fd59020481fd59010000000500000003 SECRET 00
+
+case the length can't be told
+file f SECRET
+fresh 0
+$ init-cosigner s 32473.2 32473.1 5 4 f
+status 5
+! mtc: init-cosigner: s: Failed
+left s
+
+case the record can't be written
+file f SECRET
+fresh 1
+$ init-cosigner s 32473.2 32473.1 5 4 f
+status 5
+! mtc: init-cosigner: s: Failed
+left s
+$ export s
+status 2
+! mtc: export: s: NotJournal
+
+case the record can't be synced
+file f SECRET
+fresh 2
+$ init-cosigner s 32473.2 32473.1 5 4 f
+status 5
+! mtc: init-cosigner: s: Failed
+left s CLOSED
+
+case the gate can't be written
+file f SECRET
+fresh 3
+$ init-cosigner s 32473.2 32473.1 5 4 f
+status 5
+! mtc: init-cosigner: s: Failed
+left s CLOSED
+$ export s
+status 2
+! mtc: export: s: BadRecord 0
+
+case the gate can't be synced
+file f SECRET
+fresh 4
+$ init-cosigner s 32473.2 32473.1 5 4 f
+status 5
+! mtc: init-cosigner: s: Failed
+left s FOUNDED 00
+$ init-cosigner s 32473.2 32473.1 5 4 f
+status 7
+! mtc: init-cosigner: s: Exists
+"#;
+
+#[test]
+fn a_new_device_fails_a_cosigner(rt: HostRuntime) -> Result<(), Fail> {
+    let script = format!(in rt.alloc(); "{NAMES}{FRESH}")?;
+    let outcome = outcome_of(rt.alloc(), script.as_str())?;
+    assert!(rt; outcome == Outcome::Passed(8), "{outcome:?}");
+    Ok(())
+}
