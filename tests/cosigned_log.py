@@ -105,6 +105,10 @@ def proof_of(end, path, signatures):
     return span + vector(b"".join(path)) + vector(signatures)
 
 
+def secret_of(cosigner):
+    return hashlib.sha384(cosigner.encode()).digest()
+
+
 class CosignedLog(Folder):
     """A log with its cosigners, and what they have signed of the whole of it."""
 
@@ -129,7 +133,7 @@ class CosignedLog(Folder):
 
     def cosigned(self, cosigner):
         """The public key of a new cosigner, and its signature as `cosign` writes it."""
-        self.write("secret", hashlib.sha384(cosigner.encode()).digest())
+        self.write("secret", secret_of(cosigner))
         words = ("init-cosigner", cosigner, cosigner, LOG, "10", "4", "secret")
         key = self.run(*words).decode().strip()
         self.run("advance", cosigner, "advance")
