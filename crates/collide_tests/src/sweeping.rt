@@ -93,7 +93,7 @@ fn found_at(
 
 // Some of these changes check for the list, and each of them shows two strings. Nothing is wanted
 // where the proof has no hash.
-fn collide(
+fn changes_collide(
     alloc: Global,
     items: &[&[u8]],
     interval: (u64, u64),
@@ -135,7 +135,7 @@ fn is_told(
     let hashes = proof.as_slice();
     Ok(
         is(&traced(alloc, items, start, end, &node, hashes), None)
-            && collide(alloc, items, (start, end), &node, hashes)?,
+            && changes_collide(alloc, items, (start, end), &node, hashes)?,
     )
 }
 

@@ -281,6 +281,50 @@ c0 none node:156:0 node:0:156
 20c34567 all foreign 157 3
 ";
 
+// The same of a certificate of entry 3, where the hash 159 of the entries 2 and 3 is trusted.
+const LATER: &str = "\
+002c none stands 3
+782c9 nosign stands 3
+002d none leaf:d leaf:c
+002k none key:k key:c
+00c2 none node:156:2 node:2:156
+- none foreign 159 0
+0 none foreign 159 0
+002 none foreign 159 2
+0023 none foreign 159 6
+0c2c none stands 3
+c234 none foreign 159 8
+";
+
+// The certificate with the serial number 3, and with a path in the interval 2 to 4.
+fn third() -> [u8; 232] {
+    let mut bytes = CERTIFICATE;
+    bytes[13] = 3;
+    bytes[187] = 2;
+    bytes[195] = 4;
+    bytes[198] = 2;
+    bytes
+}
+
+#[test]
+fn a_later_subtree_is_audited(rt: HostRuntime) -> Result<(), Fail> {
+    let alloc = rt.alloc();
+    let trusted = Trusted {
+        start: 2,
+        end: 4,
+        hash: toy(159),
+    };
+    let store = store_of(alloc, &[trusted])?;
+    let certificate = third();
+    let mut count = 0u64;
+    for line in LATER.lines() {
+        assert!(rt; is_audited(alloc, &certificate, &store, line)?, "{line}");
+        count = count.saturating_add(1);
+    }
+    assert!(rt; count == 11);
+    Ok(())
+}
+
 #[test]
 fn what_a_trusted_subtree_supports_is_audited(rt: HostRuntime) -> Result<(), Fail> {
     let alloc = rt.alloc();

@@ -27,7 +27,7 @@ pub const KEY: [u8; 44] = [
 
 /// An entry and its key.
 #[derive(Drop)]
-pub struct Pair {
+pub struct ListedItem {
     pub entry: Vec<u8>,
     pub key: Vec<u8>,
 }
@@ -35,7 +35,7 @@ pub struct Pair {
 /// The item of a letter: `0` is the null entry; `c` the certificate's entry with its key, `k` the
 /// same with another key of one hash with it; `d` the entry for `ba.example`; a digit is an entry
 /// of this one byte.
-pub fn item_of(alloc: Global, letter: u8) -> Result<Pair, Fail> {
+pub fn item_of(alloc: Global, letter: u8) -> Result<ListedItem, Fail> {
     let mut entry = ENTRY;
     let mut key = KEY;
     match letter {
@@ -51,15 +51,15 @@ pub fn item_of(alloc: Global, letter: u8) -> Result<Pair, Fail> {
         b'0' => return plain(alloc, &[0, 0]),
         digit => return plain(alloc, &[digit.saturating_sub(b'0')]),
     }
-    Ok(Pair {
+    Ok(ListedItem {
         entry: Vec::from_slice(alloc, &entry)?,
         key: Vec::from_slice(alloc, &key)?,
     })
 }
 
 // An item without a key.
-fn plain(alloc: Global, entry: &[u8]) -> Result<Pair, Fail> {
-    Ok(Pair {
+fn plain(alloc: Global, entry: &[u8]) -> Result<ListedItem, Fail> {
+    Ok(ListedItem {
         entry: Vec::from_slice(alloc, entry)?,
         key: Vec::new(alloc),
     })
