@@ -1,6 +1,5 @@
 """Checks of the pages by themselves: sentences, links, quotations, places of a machine, an example."""
 
-import base64
 import re
 import subprocess
 from functools import cache
@@ -166,13 +165,10 @@ def spelled_in(page, what):
 def check_examples():
     """what FORMATS spells byte by byte are files that the program takes"""
     page = (DOCS / "FORMATS.md").read_text()
-    script = (ROOT / "tests" / "allocations.sh").read_text()
-    coded = {"A certificate": re.search(r"<<'CERTIFICATE'\n(.*?)\nCERTIFICATE\n", script, re.S)[1],
-             "A journal": re.search(r">j <<<'(.*?)'", script)[1]}
-    for what, text in coded.items():
+    for what, name in (("A certificate", "first.cert"), ("A journal", "first.journal")):
         spelled, section = spelled_in(page, what)
-        if spelled != base64.b64decode("".join(text.split())):
-            yield f"docs/FORMATS.md: {what.lower()} of other bytes is taken"
+        if spelled != (ROOT / "examples" / name).read_bytes():
+            yield f"docs/FORMATS.md: {what.lower()} of other bytes stands in examples/{name}"
         if f"It has {len(spelled)} bytes." not in section:
             yield f"docs/FORMATS.md: {what.lower()} of {len(spelled)} bytes is spelled"
     cert, section = spelled_in(page, "A certificate")

@@ -1,0 +1,138 @@
+#!/usr/bin/env python3
+"""Refuses each allocation of each command in turn, over real files.
+
+The command then ends with status 8, one line that says so, nothing on standard output and every file as it was; or with
+its outcome, as if nothing had been refused. The allocations are those of the C library, of which a preloaded library
+refuses one. Needs a C compiler; where there is none it says so, and ends with status 0.
+Usage: tests/allocations.py [PROGRAM]
+"""
+
+import os
+import shutil
+import subprocess
+import sys
+from pathlib import Path
+
+from cosignatures import KEY, ROOT, Folder
+from cosigned_log import DATES, FIRST
+
+LOG, COSIGNER = "32473.1", "32473.2"
+MOMENT = str(FIRST)
+REQUEST = f'{DATES}dns = ["{{}}.example", "*.b.example"]\ncommon_name = "b"\nkey = "{KEY}"\n'
+
+# The words of each command, over the files that `make_files` makes.
+COMMANDS = [
+    "frob", "member first.member", "member absent", "show cert", "verify cert store " + MOMENT,
+    "verify light trusting " + MOMENT, "verify cert trusting " + MOMENT, "init-log new 32473.1 2 32",
+    "init-log log 32473.1 2 32", "issue log request", "issue log wrong", "checkpoint log", "entries log 5",
+    "consist log 3 5", "subtree log 0 4 5", "keygen 5 4 secret", "init-cosigner new 32473.2 32473.1 5 4 secret",
+    "advance early advance", "cosign cosigner subtree", "cosign early subtree", "export cosigner", "landmark log",
+    "landmarks log", "light-cert log 2", "light-cert log 4", "trust-landmarks list 2 entries",
+    "cert log 2 0 4 signatures", "audit cert store " + MOMENT + " entries export",
+    "audit light trusting " + MOMENT + " entries empty", "audit light trusting " + MOMENT + " few empty",
+]
+
+
+def make_log(folder):
+    """A log of five entries with two landmarks, and what it writes."""
+    folder.run("init-log", "log", LOG, "2", "32")
+    for number in range(1, 5):
+        (folder.path / "request").write_text(REQUEST.format(f"n{number}"))
+        folder.run("issue", "log", "request")
+        if number in (1, 3):
+            folder.run("landmark", "log")
+    for name, words in (("entries", "entries log 5"), ("few", "entries log 3"), ("list", "landmarks log"),
+                        ("advance", "consist log 0 5"), ("subtree", "subtree log 0 4 5"), ("light", "light-cert log 2")):
+        folder.run(*words.split(), into=name)
+
+
+def make_files(folder):
+    """The files of all commands."""
+    make_log(folder)
+    for name, text in (("empty", b""), ("secret", bytes(range(48))), ("wrong", REQUEST.format("-a").encode())):
+        (folder.path / name).write_bytes(text)
+    for name in ("member", "cert", "journal"):
+        shutil.copy(ROOT / f"examples/first.{name}", folder.path / f"first.{name}")
+    folder.run("show", "first.cert")
+    folder.run("checkpoint", "first.journal")
+    for journal in ("early", "cosigner"):
+        key = folder.run(*f"init-cosigner {journal} {COSIGNER} {LOG} 5 4 secret".split()).decode().strip()
+    folder.run("advance", "cosigner", "advance")
+    folder.run("cosign", "cosigner", "subtree", into="signatures")
+    folder.run("export", "cosigner", into="export")
+    folder.run(*"cert log 2 0 4 signatures".split(), into="cert")
+    tables = folder.run("trust-landmarks", "list", "2", "entries").decode()
+    (folder.path / "trusting").write_text(f'[log]\nid = "{LOG}"\n{tables}')
+    rule = f'[[cosigner]]\nid = "{COSIGNER}"\nkey = "{key}"\n[[rule]]\ncosigners = ["{COSIGNER}"]\ncount = 1\n'
+    (folder.path / "store").write_text(f'[log]\nid = "{LOG}"\n{rule}')
+
+
+def files_of(path):
+    return {file.name: file.read_bytes() for file in path.iterdir()}
+
+
+def write_files(path, files):
+    """Makes the folder hold these files and no others."""
+    for name in files_of(path).keys() - files.keys():
+        (path / name).unlink()
+    for name, text in files.items():
+        if not (path / name).exists() or (path / name).read_bytes() != text:
+            (path / name).write_bytes(text)
+
+
+class Refusals:
+    """Runs a program whose allocation of some number is refused."""
+
+    def __init__(self, folder, library):
+        self.folder, self.library = folder, library
+        self.files = files_of(folder.path)
+
+    def ended(self, words, number):
+        """Whether that allocation came, and how the command ended over the same files as ever."""
+        write_files(self.folder.path, self.files)
+        told, tells = os.pipe()
+        extra = {"LD_PRELOAD": str(self.library), "REFUSED": str(number), "TOLD": str(tells)}
+        ended = subprocess.run([self.folder.program, *words.split()], cwd=self.folder.path, pass_fds=[tells],
+                               env={**os.environ, **extra}, capture_output=True)
+        os.close(tells)
+        came = os.read(told, 1) != b""
+        os.close(told)
+        return came, (ended.returncode, ended.stdout, ended.stderr.decode(), files_of(self.folder.path))
+
+    def faults(self, words):
+        """How many allocations the command makes, and what is wrong where one of them is refused."""
+        wanted, number, wrong = self.ended(words, 0)[1], 0, []
+        # The command isn't known before its words are kept.
+        lines = ["mtc: Memory\n", f"mtc: {words.split()[0]}: Memory\n"]
+        allowed = [wanted, *((8, b"", line, self.files) for line in lines)]
+        while True:
+            came, found = self.ended(words, number + 1)
+            if not came:
+                return number, wrong if found == wanted else [*wrong, f"{words}: {found[:3]}"]
+            number += 1
+            if found not in allowed:
+                wrong.append(f"{words}: allocation {number}: {found[:3]}")
+
+
+def main():
+    if not shutil.which("cc"):
+        print("left out: there is no C compiler")
+        return 0
+    program = Path(sys.argv[1] if len(sys.argv) > 1 else ROOT / "crates/mtc_main/out/mtc_main").resolve()
+    folder = Folder(program)
+    make_files(folder)
+    library = folder.path.parent / (folder.path.name + ".so")
+    source = ROOT / "tests/allocations/refuse.c"
+    subprocess.run(["cc", "-O1", "-shared", "-fPIC", "-fno-builtin", "-o", library, source], check=True)
+    refusals, wrong, count = Refusals(folder, library), [], 0
+    for words in COMMANDS:
+        number, faults = refusals.faults(words)
+        count, wrong = count + number, wrong + faults
+    shutil.rmtree(folder.path)
+    library.unlink()
+    print(*wrong, f"{count} allocations of {len(COMMANDS)} commands were refused in turn", sep="\n")
+    return bool(wrong)
+
+
+if __name__ == "__main__":
+    sys.exit(main())
