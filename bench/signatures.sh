@@ -36,7 +36,7 @@ awk '
     FILENAME ~ /printed$/ { kit[$1, $2] = $3; next }
     FILENAME ~ /c$/ { c[$1, $2] = $3; next }
     { java[$1, $2] = $3 }
-    function keep(work, against, ratio) { if (ratio != "-") kept[work "|" against] = kept[work "|" against] " " ratio }
+    function keep(work, against, found) { if (found != "-") kept[work "|" against] = kept[work "|" against] " " found }
     END {
         printf "%-16s %5s %12s %12s %8s %8s\n", "work", "width", "time", "bare hashes", "C", "Java"
         for (w = 1; w <= 8; w *= 2) {
