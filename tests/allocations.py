@@ -108,7 +108,9 @@ class Refusals:
         while True:
             came, found = self.ended(words, number + 1)
             if not came:
-                return number, wrong if found == wanted else [*wrong, f"{words}: {found[:3]}"]
+                # A command keeps its words, so one that asks for nothing isn't watched.
+                same = number > 0 and found == wanted
+                return number, wrong if same else [*wrong, f"{words}: {number} allocations, {found[:3]}"]
             number += 1
             if found not in allowed:
                 wrong.append(f"{words}: allocation {number}: {found[:3]}")

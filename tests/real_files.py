@@ -139,6 +139,7 @@ def check_refusals(folder, _kills):
         file = rest[1] if command == "issue" else rest[0]
         wanted = (status, "", f"mtc: {command}: {file}: {name}\n")
         yield from unlike(words, folder.run([command, *rest]), wanted)
+    yield from unlike("a word that isn't UTF-8", folder.run([b"member", b"\xff"]), (1, "", "mtc: NotUtf8\n"))
     yield from unlike("the copy", folder.bytes("copy"), before)
     yield from unlike("the folder", folder.names(), names)
 
