@@ -17,10 +17,14 @@ PAGE = ROOT / "docs" / "BELIEFS.md"
 BEGIN, END = "<!-- counted by tests/beliefs.py -->", "<!-- end -->"
 TOP = ROOT / "crates" / "mtc_top" / "src"
 # Each statement: what its table is headed by, the functions whose contracts it is, and its page of definitions. First the
-# record that `run` ensures with the laws of each run, then the laws of courses, and those of what `export` and `audit` print behind them.
+# record that `run` ensures with the laws of each run, then the promise as a whole, then the laws of courses, and those of what is printed.
 RUNS = ("The statement names", r"run|runs_\w+", ("mtc_top.specs.Run", "mtc_top.specs.RunLaws"))
-AUDITS = ("The laws of exports and audits name", r"(?:exports|audits)_\w+", ("mtc_top.specs.ExportLaws", "mtc_top.specs.AuditLaws"))
-COURSES = ("The laws of courses name", r"(?:courses|entries|made|no|recovered|what)_\w+", ("mtc_top.specs.Courses", "mtc_top.specs.CourseLaws"))
+LAWS = "mtc_top.specs.{}Laws"
+WHOLE = ("The promise as a whole names", r"the_whole_\w+", ("mtc_top.specs.Courses", LAWS.format("Course"), LAWS.format("Audit")))
+PRINTED = tuple(map(LAWS.format, ("Export", "Audit", "Print", "Status")))
+PRINTS = ("The laws of what is printed name", r"(?:exports|audits|printed|misread)_\w+", PRINTED)
+COURSES = ("The laws of courses name", r"(?:courses|entries|made|no|recovered|what)_\w+", ("mtc_top.specs.Courses", LAWS.format("Course")))
+STATEMENTS = (RUNS, WHOLE, COURSES, PRINTS)
 
 USE = re.compile(r"^\s*(?:pub |ghost )*(?:use|open) Rattle\.([\w.]+)\.\{([^}]*)\};?", re.M)
 HEAD = re.compile(r"^( *)(?:abbrev|unfoldable|opaque|pub record|pub data|record|data)(?: pub)? +([^\s:({]+)")
@@ -152,7 +156,7 @@ def row(name, own, types):
 
 
 def all_named():
-    return named_first(RUNS) + named_first(COURSES) + named_first(AUDITS)
+    return [named for statement in STATEMENTS for named in named_first(statement)]
 
 
 def first_rows(statement):
@@ -174,7 +178,8 @@ def table():
     own, types, kit = reached(all_named())
     order = [crate.name for crate in crates()]
     used = {dotted.split(".")[0] for dotted, _ in own} | {crate for crate, _ in types}
-    rows = first_rows(RUNS) + first_rows(COURSES) + first_rows(AUDITS) + ["| Crate | Definitions | Lines | Files | Types of the code |", "|---|---|---|---|---|"]
+    rows = [line for statement in STATEMENTS for line in first_rows(statement)]
+    rows += ["| Crate | Definitions | Lines | Files | Types of the code |", "|---|---|---|---|---|"]
     for name in sorted(used, key=order.index):
         mine = {key: body for key, body in own.items() if key[0].split(".")[0] == name}
         rows.append(row(f"`{name}`", mine, {one for crate, one in types if crate == name}))

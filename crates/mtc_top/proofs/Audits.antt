@@ -6,36 +6,49 @@ use Rattle.std.proofs.lemmas.Bool.{le-ltb, lt-ltb}
 use Rattle.std.proofs.lemmas.Bool.Decides.{eqb_tells}
 use Rattle.std.proofs.lemmas.Slice.Eq.{bytes_eq-Decides}
 use Rattle.std.specs.List.{position, position_or_len}
+use Rattle.std.proofs.Common.{◌++◌, ◌||◌, Ok, slice_get}
+use Rattle.std.proofs.lemmas.List.{append_cancel_left}
+use Rattle.std.specs.Io.KnownBytes.{Appends}
 use Rattle.std.specs.Prelude.{Contains, if◌then◌else◌}
 use Rattle.std.specs.Str.{bytes_eq}
+use Rattle.byte_forms.specs.Places.{IsBytes}
 use Rattle.byte_forms.specs.Types.{HashFunction}
+use Rattle.byte_forms.proofs.Steps.{ok_is}
 use Rattle.disk_core.specs.declared.disk.Disk.{Ghosts as Disks}
 use Rattle.mtc_io.specs.declared.sink.Sink.{Ghosts as Sinks}
+use Rattle.mtc_room.specs.Room.{TellsFile}
 use Rattle.mtc_room.specs.declared.room.Room.{Ghosts as Rooms}
 use Rattle.mtc_words.specs.Commands.{CommandValue}
 use Rattle.mtc_words.specs.declared.error.WordError.{WordError}
+use Rattle.cosigner_core.specs.ExportReading.{export_in}
+use Rattle.cosigner_core.specs.declared.error.ReadExportError.{ReadExportError}
 use Rattle.cosigner_core.specs.declared.lists.Export.{Export}
 use Rattle.cosigner_core.specs.declared.step.Step.TheVariants.{Sign}
+use Rattle.policy_core.specs.Counting.{is_in_set}
 use Rattle.policy_core.specs.declared.answer.Accepted.{Accepted}
 use Rattle.policy_core.specs.declared.answer.By.{By}
 use Rattle.policy_core.specs.declared.answer.By.TheVariants.{Cosigners, Landmark}
 use Rattle.policy_core.specs.declared.store.Store.{Store}
-use Rattle.world_core.specs.Audit.{AuditCase, has_own, is_counted}
-use Rattle.world_core.specs.Audit.{is_recorded, is_recorded_by, is_sign_of, is_supported}
+use Rattle.node_history.specs.declared.start.NodeStart.TheVariants.{Cosigner}
+use Rattle.node_history.proofs.Steps.{some_is}
+use Rattle.world_core.specs.Audit.{AuditCase, has_own, is_counted, is_counted_as, is_recorded}
+use Rattle.world_core.specs.Audit.{is_recorded_by, is_sign_of, is_supported, some_place}
 use Rattle.mtc_answers.specs.Answers.{Reply, said, refused, out_of, status_of}
 use Rattle.mtc_answers.specs.Steps.{Files, Outcome, stops_at, with_bytes, with_form}
 use Rattle.mtc_answers.specs.declared.answer.Stopped.TheVariants.{Beyond}
 use Rattle.mtc_answers.specs.Wanted.{Meets}
+use Rattle.mtc_answers.proofs.Made.{OnlyNow, ReadsImage}
 use Rattle.mtc_monitor.specs.AuditOutcome.{InputFile, audit_by, audit_outcome, audit_says}
 use Rattle.mtc_monitor.specs.AuditOutcome.{audit_cert_says, audit_export_says, audit_items_say}
 use Rattle.mtc_monitor.specs.AuditOutcome.{audit_accepted_says, audit_store_says, with_input}
 use Rattle.mtc_monitor.specs.Reasons.{export_fault_text, items_fault_text}
 use Rattle.mtc_reads.specs.Reasons.{store_fault_text}
-use Rattle.mtc_top.specs.AuditLaws.{AuditsStand, HoldsText, IsAuditOf, IsSignedInCourse}
-use Rattle.mtc_top.specs.AuditLaws.{StandsOrPair}
+use Rattle.mtc_top.specs.AuditLaws.{AuditsStand, HasCounted, HoldsText, IsAuditOf}
+use Rattle.mtc_top.specs.AuditLaws.{IsSignedInCourse, StandsOrPair}
 use Rattle.mtc_top.specs.Concluded.{Prints}
 use Rattle.mtc_top.specs.Courses.{Turn}
 use Rattle.mtc_top.specs.Outcome.{spoken_outcome}
+use Rattle.mtc_top.proofs.Exports.{exports_hold}
 
 -- ---- what is asked for
 
@@ -127,20 +140,77 @@ recorded_so store a set e index proof log counts there =
     (found_place (is_sign_of a) e.steps (Sign index a.start a.end a.hash proof) there
     (signed_hash a index proof))
 
+-- ---- the store counts the cosigner of an export
+
+true_last : (b : Bool) → (b || true) ≡ true
+true_last true = refl
+true_last false = refl
+
+some_there : {A : Type 0} (passes : ℕ → A → Bool) (place i : ℕ) (xs : List A) (x : A)
+    → slice_get xs i ≡ Some x → passes (place + i) x ≡ true → some_place passes place xs ≡ true
+some_there {A} passes place i [] x is passed = let wrong : None ≡ Some x = is in absurd cc
+some_there {A} passes place zero (y ∷ ys) x is passed =
+    let same : y ≡ x = some_is y x is in
+    let here : place + 0 ≡ place = omega arith in
+    ap (λ (b : Bool). b || some_place passes (place + 1) ys)
+    (ap (passes place) same ∙ subst (λ (n : ℕ). passes n x ≡ true) here passed)
+some_there {A} passes place (suc i) (y ∷ ys) x is passed =
+    let later : place + suc i ≡ place + 1 + i = omega arith in
+    ap (λ (b : Bool). passes place y || b) (some_there passes (place + 1) i ys x is
+    (subst (λ (n : ℕ). passes n x ≡ true) later passed))
+    ∙ true_last (passes place y)
+
+counted_so : (store : Store) (set : ℕ) (e : Export) (id key : List ℕ) → e.cosigner ≡ id
+    → e.public ≡ key → HasCounted store set id key → is_counted store set e ≡ true
+counted_so store set e id key cosigner public has =
+    let at_place : has.place ≡ 0 + has.place = omega arith in
+    some_there (is_counted_as set e.cosigner e.public) 0 has.place store.cosigners has.known
+    has.there (subst (λ (n : ℕ). is_counted_as set e.cosigner e.public n has.known ≡ true) at_place
+    (all_three (is_in_set set has.place) (bytes_eq has.known.id e.cosigner)
+    (bytes_eq has.known.key e.public) has.in_set
+    ((bytes_eq-Decides has.known.id e.cosigner).1 (has.id_is ∙ sym cosigner))
+    ((bytes_eq-Decides has.known.key e.public).1 (has.key_is ∙ sym public))))
+
+-- what was told to have gone out is what was printed
+printed_text : (old new : Option (List ℕ)) (before kept text : List ℕ) → old ≡ Some before
+    → new ≡ Some (before ++ kept) → Appends old new text → kept ≡ text
+printed_text None new before kept text was is prints =
+    let wrong : None ≡ Some before = was in absurd cc
+printed_text (Some xs) None before kept text was is prints = absurd prints
+printed_text (Some xs) (Some ys) before kept text was is prints =
+    append_cancel_left before kept text (sym (some_is ys (before ++ kept) is) ∙ prints
+    ∙ ap (λ (l : List ℕ). l ++ text) (some_is xs before was))
+
 module _ {R S D O E : Type 0} (h : HashFunction) (rooms : Rooms R S D) (disks : Disks D)
-    (outs : Sinks O) (errs : Sinks E) where
-  supported : (x : AuditCase) → (x.accepted.by ≡ Landmark)
-      ⊎ IsSignedInCourse h rooms disks outs errs x → is_supported x ≡ true
-  supported x backed = elim backed [
+    (outs : Sinks O) (errs : Sinks E) (image : ReadsImage disks) (only : OnlyNow disks)
+    (told : (room : R) (name : List ℕ) → rooms.tells room
+    → TellsFile disks.told (rooms.file room name) (rooms.device room name))
+    (bytes : (d : D) (b : List ℕ) → disks.told d ≡ Some b → IsBytes b) where
+  signed : (x : AuditCase) (kept_text : List ℕ) → export_in h kept_text ≡ Ok x.kept
+      → IsSignedInCourse h rooms disks outs errs x kept_text → is_supported x ≡ true
+  signed x kept_text read by =
+      let e = exports_hold h rooms disks outs errs image only told bytes by.name
+      (Cosigner by.settings by.public) by.first by.made by.old by.links by.was by.course
+      by.settings by.public refl by.turn by.turned by.spoken by.done in
+      let same = printed_text (outs.taken by.turn.out) (outs.taken by.turn.out_after) by.before
+      kept_text e.text by.told by.printed e.printed in
+      let kept : x.kept ≡ Some e.export = ok_is ReadExportError x.kept (Some e.export)
+      (sym read ∙ ap (export_in h) same ∙ e.read) in
+      let there = e.signed by.first by.front by.body
+      (Sign by.index x.accepted.start x.accepted.end x.accepted.hash by.proof) by.handed by.signs
+      in
+      ap (λ (b : By). is_recorded_by x.store x.accepted b x.kept) by.by
+      ∙ ap (is_recorded_by x.store x.accepted (Cosigners by.set)) kept
+      ∙ recorded_so x.store x.accepted by.set e.export by.index by.proof (e.log_is ∙ by.log_is)
+      (counted_so x.store by.set e.export by.settings.id by.public e.cosigner_is e.key_is
+      by.counts) there
+
+  supported : (x : AuditCase) (kept_text : List ℕ) → export_in h kept_text ≡ Ok x.kept
+      → (x.accepted.by ≡ Landmark) ⊎ IsSignedInCourse h rooms disks outs errs x kept_text
+      → is_supported x ≡ true
+  supported x kept_text read backed = elim backed [
     | inl landmark ↦ ap (λ (b : By). is_recorded_by x.store x.accepted b x.kept) landmark
-    | inr by ↦
-        (let there = by.exported.signed by.first by.front by.body
-        (Sign by.index x.accepted.start x.accepted.end x.accepted.hash by.proof) by.handed by.signs
-        in
-        ap (λ (b : By). is_recorded_by x.store x.accepted b x.kept) by.by
-        ∙ ap (is_recorded_by x.store x.accepted (Cosigners by.set)) by.kept
-        ∙ recorded_so x.store x.accepted by.set by.exported.export by.index by.proof by.of_log
-        by.counts there)
+    | inr by ↦ signed x kept_text read by
   ]
 
   -- the reply is that the entry stands, or a pair
@@ -166,6 +236,6 @@ module _ {R S D O E : Type 0} (h : HashFunction) (rooms : Rooms R S D) (disks : 
       spoken ∙ audit_asked h (rooms.file old) cert store moment entries kept x is
       ∙ ap (λ f. audit_by h x f (is_supported x) (has_own h x.items x.accepted x.cert)) own_list
       ∙ ap (λ (b : Bool). audit_by h x None b (has_own h x.items x.accepted x.cert))
-      (supported x backed) in
+      (supported x is.kept_text is.kept_read backed) in
       by_reply x turn (has_own h x.items x.accepted x.cert) refl a.reply
       (subst (λ (w : Outcome). Meets w.answer a.reply) asked (a.is (inl tells))) a.code a.text

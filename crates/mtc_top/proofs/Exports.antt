@@ -17,7 +17,7 @@ use Rattle.mtc_words.specs.declared.error.WordError.{WordError}
 use Rattle.cosigner_core.specs.ExportReading.{export_of}
 use Rattle.cosigner_core.specs.Folds.{progress_of}
 use Rattle.cosigner_core.specs.Exports.{export_text}
-use Rattle.cosigner_core.specs.Folds.{CosignerState, cosigner_fold}
+use Rattle.cosigner_core.specs.Folds.{CosignerState, cosigner_fold, cosigner_of}
 use Rattle.cosigner_core.specs.Openings.{FoundCosigner, cosigner_read}
 use Rattle.cosigner_core.specs.Progress.{steps_in}
 use Rattle.cosigner_core.specs.Records.{step_in}
@@ -33,10 +33,11 @@ use Rattle.mtc_answers.specs.declared.answer.Stopped.TheVariants.{Missing}
 use Rattle.mtc_answers.proofs.Made.{OnlyNow, ReadsImage}
 use Rattle.mtc_cosigner.specs.CosignerOutcomes.{export_says}
 use Rattle.mtc_cosigner.specs.Works.{bytes_say, export_outcome, open_fault_text}
-use Rattle.node_history.specs.Rules.{IsReadAs}
+use Rattle.node_history.specs.Rules.{IsReadAs, StartsWith}
 use Rattle.node_history.specs.declared.start.NodeStart.{NodeStart}
 use Rattle.node_history.specs.declared.start.NodeStart.TheVariants.{Cosigner}
 use Rattle.node_history.proofs.Chains.{map_some}
+use Rattle.node_history.proofs.Cosigners.{of_first}
 use Rattle.node_history.proofs.Steps.{some_is}
 use Rattle.mtc_top.specs.Concluded.{Prints}
 use Rattle.mtc_top.specs.Courses.{Link, Turn, HasTurned, IsCourse, IsRecovered}
@@ -111,7 +112,7 @@ file_image : {D : Type 0} (g : Disks D) (file : Option (List ℕ)) (x : Option D
 file_image g file None c image tells is = absurd cc
 file_image g file (Some d) c image tells is = image d c (tells.0 ∙ is)
 
-file_bytes : {D : Type 0} (g : Disks D) (file : Option (List ℕ)) (x : Option D) (c : List ℕ)
+pub file_bytes : {D : Type 0} (g : Disks D) (file : Option (List ℕ)) (x : Option D) (c : List ℕ)
     → ((d : D) (b : List ℕ) → g.told d ≡ Some b → IsBytes b) → TellsFile g.told file x
     → file ≡ Some c → IsBytes c
 file_bytes g file None c bytes tells is = absurd cc
@@ -150,7 +151,7 @@ module _ {R S D O E : Type 0} (h : HashFunction) (rooms : Rooms R S D) (disks : 
         }
 
     exported : (file : Option (List ℕ)) → rooms.file new name ≡ file
-        → HasExported h rooms disks outs errs name made links new turn
+        → HasExported h rooms disks outs errs settings public name made links new turn
     exported None none =
         let r = replied (stops_at Missing name (codes "Absent"))
         (asked_absent h name (rooms.file new) none) in
@@ -158,17 +159,20 @@ module _ {R S D O E : Type 0} (h : HashFunction) (rooms : Rooms R S D) (disks : 
     exported (Some c) there =
         let node = read_again h rooms disks outs errs image only told name start first made new
         links was course c (inr there) in
-        let opened = read_cosigner h start settings public c node.list is node.read in
+        let opened = read_cosigner h start settings public c node.records is node.read in
         let tells_file = told new name tells in
         let are = file_bytes disks (rooms.file new name) (rooms.device new name) c bytes tells_file
         there in
-        let found : FoundCosigner = record { records = node.list; state = opened.0 } in
+        let found : FoundCosigner = record { records = node.records; state = opened.0 } in
         let stands = found_stands (cosigner_fold h) c found are opened.1 in
-        let again = export_again h c node.list opened.0 are stands.0 stands.1 in
+        let again = export_again h c node.records opened.0 are stands.0 stands.1 in
+        let own = of_first h settings public first node.of_node.others opened.0
+        (subst (λ (n : NodeStart). StartsWith n first) is was.starts)
+        (subst (λ (l : List (List ℕ)). cosigner_of h l ≡ Ok opened.0) node.of_node.is stands.1) in
         let r = replied (export_says found)
         (asked_there h name (rooms.file new) c found there opened.1) in
-        let text = export_text opened.0 node.list in
-        let recovered : IsRecovered h rooms disks outs errs name new node.list
+        let text = export_text opened.0 node.records in
+        let recovered : IsRecovered h rooms disks outs errs name new node.records
         = (
           c,
           (
@@ -178,22 +182,25 @@ module _ {R S D O E : Type 0} (h : HashFunction) (rooms : Rooms R S D) (disks : 
           ),
         ) in
         record {
-          list = node.list;
+          list = node.records;
           recovered = recovered;
           text = text;
           printed = subst (λ (reply : Reply). Prints outs turn.out turn.out_after (out_of reply))
               r.meets r.text;
           export = export_of opened.0 again.0;
           read = again.2;
+          cosigner_is = own.0;
+          log_is = own.1;
+          key_is = own.2;
           progress = progress_of opened.0;
           allowed = again.3;
           steps = again.1;
           signed = λ record0 front body step hands says.
               let begins = handed_stand h rooms disks outs errs image only told name start first
-              made new links was course (record0 ∷ front) node.list body hands recovered in
+              made new links was course (record0 ∷ front) node.records body hands recovered in
               step_there front body begins.0 again.0 step
               (subst (λ (l : List (List ℕ)). steps_in l ≡ Some again.0)
-              (behind_first record0 front body begins.0 node.list begins.1) again.1) says;
+              (behind_first record0 front body begins.0 node.records begins.1) again.1) says;
         }
 
   pub exports_hold : ExportsHoldTheSteps h rooms disks outs errs

@@ -48,12 +48,12 @@ module _ (h : HashFunction) (s : HistoryState) (first : List ℕ)
       → AreOfNode h s.start first list
   of_node c list of stands = elim of [
     | inl settled ↦ record {
-      bodies = s.settled;
+      others = s.settled;
       is = one_list c list (first ∷ s.settled) stands settled;
       valid = is_sound.settled;
     }
     | inr pending ↦ record {
-      bodies = with_pending s.settled s.pending;
+      others = with_pending s.settled s.pending;
       is = one_list c list (first ∷ with_pending s.settled s.pending) stands pending;
       valid = valid_pending h s.start s.settled s.pending is_sound.settled is_sound.pending;
     }
@@ -63,16 +63,16 @@ module _ (h : HashFunction) (s : HistoryState) (first : List ℕ)
       → IsReadAsNode h s.start first c
   read_node c begins of = elim of [
     | inl settled ↦ record {
-      list = first ∷ s.settled;
-      of_node = record { bodies = s.settled; is = refl; valid = is_sound.settled };
+      records = first ∷ s.settled;
+      of_node = record { others = s.settled; is = refl; valid = is_sound.settled };
       read = read h s.start first s.settled c begins is_sound.settled settled;
     }
     | inr pending ↦
         (let valid = valid_pending h s.start s.settled s.pending is_sound.settled is_sound.pending
         in record {
-          list = first ∷ with_pending s.settled s.pending;
+          records = first ∷ with_pending s.settled s.pending;
           of_node =
-              record { bodies = with_pending s.settled s.pending; is = refl; valid = valid };
+              record { others = with_pending s.settled s.pending; is = refl; valid = valid };
           read = read h s.start first (with_pending s.settled s.pending) c begins valid pending;
         })
   ]
@@ -113,7 +113,7 @@ log_found : (h : HashFunction) (start : NodeStart) (settings : Settings) (first 
     → AreOfNode h start first list → (t : LogState) × (log_of h list ≡ Ok t)
 log_found h (Log settings') settings first list is begins of =
     made_log (log_of h list) (subst (λ (l : List (List ℕ)). IsOk (log_of h l)) (sym of.is)
-    (ap (λ (r : Result LogState ℕ). is_ok r) (begins_so h first settings' of.bodies begins)
+    (ap (λ (r : Result LogState ℕ). is_ok r) (begins_so h first settings' of.others begins)
     ∙ of.valid))
 log_found h (Cosigner settings' public) settings first list is begins of = absurd cc
 
@@ -222,7 +222,7 @@ module _ {R S D O E : Type 0} (h : HashFunction) (rooms : Rooms R S D) (disks : 
       let of = node_list name start first made new links was course (record0 ∷ bodies) found in
       keys_of h start settings public bodies is
       (subst (λ (l : List (List ℕ)). may_follow h start l ≡ true)
-      (sym (cons_both record0 first bodies of.bodies of.is)) of.valid)
+      (sym (cons_both record0 first bodies of.others of.is)) of.valid)
 
   pub one_message : KeysSignOneMessage h rooms disks outs errs
   one_message name start first made new links was course settings public is list other body

@@ -164,7 +164,10 @@ module _ {R S D O E : Type 0} (h : List ℕ → List ℕ) (rooms : Rooms R S D) 
       as_read = λ n first stands. file_stands disks n first _ _ image (file name) stands;
       later = kept.later;
       recorded = λ list body of some. absurd (none some);
-      begins = λ zero_. absurd (omega (arith, is, zero_));
+      begins = λ done. elim done [
+        | inl zero_ ↦ absurd (omega (arith, is, zero_))
+        | inr six ↦ absurd (omega (arith, is, six))
+      ];
     }
 
     failed_steps : status ≡ 5 → (went → ⊥) → (name : List ℕ) (did : Journaled)
@@ -175,7 +178,10 @@ module _ {R S D O E : Type 0} (h : List ℕ → List ℕ) (rooms : Rooms R S D) 
       as_read = λ n first stands. file_stands disks n first _ _ image (file name) stands;
       later = made.later;
       recorded = λ list body of some. absurd (none some);
-      begins = λ zero_. absurd (omega (arith, is, zero_));
+      begins = λ done. elim done [
+        | inl zero_ ↦ absurd (omega (arith, is, zero_))
+        | inr six ↦ absurd (omega (arith, is, six))
+      ];
     }
 
     abbrev MadeEarly : List ℕ → Journaled → Type 0
@@ -190,7 +196,7 @@ module _ {R S D O E : Type 0} (h : List ℕ → List ℕ) (rooms : Rooms R S D) 
       as_read = λ n first stands. file_stands disks n first _ _ image (file name) stands;
       later = made.0.later;
       recorded = λ list body of some. has_recorded did _ _ _ made.0.images list body of;
-      begins = λ zero_. has_begun did _ _ _ made.0.images;
+      begins = λ done. has_begun did _ _ _ made.0.images;
     }
 
     answered_steps : rooms.tells old → OfEach (LeftBoth HasMade) js → OfEach Steps js

@@ -1,20 +1,18 @@
 -- A command that was done, and whose ending went out, is a run.
-use Rattle.std.proofs.Common.{◌≡◌, ◌≤◌, ◌⊎◌, inl, inr, ℕ, List, [], Option, None, Some, codes}
+use Rattle.std.proofs.Common.{◌≡◌, ◌≤◌, ◌⊎◌, inl, inr, ℕ, List, None, Some, codes}
 use Rattle.std.proofs.Common.{refl, sym, subst, ◌∙◌, arith, IsErr, IfSome}
 use Rattle.disk_core.specs.declared.disk.Disk.{Ghosts as Disks}
-use Rattle.mtc_io.specs.Counts.{Rose}
 use Rattle.mtc_io.specs.declared.sink.Sink.{Ghosts as Sinks}
 use Rattle.mtc_room.specs.declared.room.Room.{Ghosts as Rooms}
 use Rattle.mtc_words.specs.Words.{command_of, known_word}
 use Rattle.mtc_answers.specs.Answers.{Ending, Reply, replied, room_failed, no_memory, said, refused}
-use Rattle.mtc_answers.specs.Answers.{status_of, out_of, IsEarly}
+use Rattle.mtc_answers.specs.Answers.{status_of, IsEarly}
 use Rattle.mtc_answers.specs.Made.{untouched, IsOnOld}
 use Rattle.mtc_answers.specs.Served.{HasDone, OfEach, IsUnmade, done_with}
 use Rattle.mtc_answers.specs.Steps.{Outcome}
 use Rattle.mtc_answers.specs.Valid.{KeepsValid}
 use Rattle.mtc_answers.specs.declared.answer.Said.{Said}
 use Rattle.mtc_answers.specs.declared.answer.Said.TheVariants.{Done, Against, Collided}
-use Rattle.mtc_answers.specs.declared.answer.Stopped.{Stopped}
 use Rattle.mtc_answers.specs.declared.answer.Stopped.TheVariants.{BadWords, BadForm}
 use Rattle.mtc_answers.specs.declared.answer.Stopped.TheVariants.{NotAllowed}
 use Rattle.mtc_answers.specs.declared.answer.Stopped.TheVariants.{Missing, Beyond}

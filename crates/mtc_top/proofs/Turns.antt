@@ -13,7 +13,7 @@ use Rattle.mtc_room.specs.declared.room.Room.{Ghosts as Rooms}
 use Rattle.mtc_words.specs.Words.{command_of}
 use Rattle.mtc_answers.specs.Made.{Journaled, appended, started, images_at, images_since, moment_at}
 use Rattle.mtc_answers.specs.Served.{Journals, IsOther, OfEach, done_with, first_journaled}
-use Rattle.mtc_answers.specs.Served.{rest_journaled}
+use Rattle.mtc_answers.specs.Served.{LeavesEach, rest_journaled}
 use Rattle.mtc_answers.specs.Made.{HasMade, Leaves}
 use Rattle.mtc_answers.specs.Valid.{LeavesValid}
 use Rattle.mtc_answers.proofs.Made.{OnlyNow, ReadsImage}
@@ -98,15 +98,13 @@ module _ {R S D O E : Type 0} (h : HashFunction) (rooms : Rooms R S D) (disks : 
 
   -- a journal that was made has the records of a log or a cosigner
   pub made_records : (name first : List ℕ) (old : R) (turn : Turn R O E) → rooms.tells old
-      → Turned old turn → turn.status ≡ 0 → Did old turn name (started first)
+      → Turned old turn → (turn.status ≡ 0) ⊎ (turn.status ≡ 6) → Did old turn name (started first)
       → AreRecords h (first ∷ [])
   made_records name first old turn tells run done did =
       let js = journals h rooms disks outs errs turn.words old turn.room turn.out turn.out_after
       turn.err turn.err_after in
-      let answered = run.answered (λ is. omega (arith, done, is)) (λ is. omega (arith, done, is))
-      (λ is. omega (arith, done, is)) in
       let left = of_each (λ n d. Leaves disks (HasMade d) (rooms.device old n)
-      (rooms.device turn.room n)) js name (started first) (answered.made tells) did in
+      (rooms.device turn.room n)) js name (started first) (made done) did in
       let is_new = of_each (IsNewAt (rooms.file old)) js name (started first)
       (spoken_new h (command_of turn.words) (rooms.file old)) did in
       let valid = of_each (LeavesValid rooms disks (spoken_rules h (command_of turn.words)) old
@@ -122,6 +120,13 @@ module _ {R S D O E : Type 0} (h : HashFunction) (rooms : Rooms R S D) (disks : 
         ]
         | inr adds ↦ spoken_records h (command_of turn.words) (first ∷ []) adds
       ]
+    where
+      made : (turn.status ≡ 0) ⊎ (turn.status ≡ 6) → LeavesEach rooms disks old turn.room
+          (journals h rooms disks outs errs turn.words old turn.room turn.out turn.out_after
+          turn.err turn.err_after) HasMade
+      made (inl zero_) = (run.answered (λ is. omega (arith, zero_, is))
+          (λ is. omega (arith, zero_, is)) (λ is. omega (arith, zero_, is))).made tells
+      made (inr six) = (run.out_failed six).made tells
 
   -- behind a byte that went out the run neither failed nor wanted memory
   handed_held : (name : List ℕ) (old : R) (turn : Turn R O E) (list : List (List ℕ))

@@ -1,27 +1,30 @@
 -- What `audit` prints of a certificate that was accepted by a landmark, or by what a cosigner's
 -- course handed out.
-use Rattle.std.specs.Prelude.{◌≡◌, ◌≢◌, ◌⊎◌, ℕ, ◌≤◌, true, pos, List, ◌∷◌, length, None}
-use Rattle.std.specs.Prelude.{Some, Ok}
+use Rattle.std.specs.Prelude.{◌≡◌, ◌≢◌, ◌⊎◌, ℕ, ◌≤◌, true, pos, List, ◌∷◌, ◌++◌, length, None}
+use Rattle.std.specs.Prelude.{Some, Ok, slice_get}
 use Rattle.byte_forms.specs.Types.{HashFunction}
 use Rattle.disk_core.specs.declared.disk.Disk.{Ghosts as Disks}
 use Rattle.mtc_io.specs.declared.sink.Sink.{Ghosts as Sinks}
 use Rattle.mtc_room.specs.declared.room.Room.{Ghosts as Rooms}
-use Rattle.mtc_words.specs.Commands.{audit}
+use Rattle.mtc_words.specs.Commands.{audit, export}
 use Rattle.mtc_words.specs.Words.{command_of}
 use Rattle.cosigner_core.specs.ExportReading.{export_in}
 use Rattle.cosigner_core.specs.Records.{step_in}
+use Rattle.cosigner_core.specs.declared.settings.CosignerSettings.{CosignerSettings}
 use Rattle.cosigner_core.specs.declared.step.Step.TheVariants.{Sign}
 use Rattle.entry_list.specs.Reading.{items_in}
+use Rattle.policy_core.specs.Counting.{is_in_set}
 use Rattle.policy_core.specs.Files.{store_of}
 use Rattle.policy_core.specs.declared.answer.By.TheVariants.{Cosigners, Landmark}
-use Rattle.world_core.specs.Audit.{AuditCase, firsts_of, foreign_of, has_own, is_counted}
-use Rattle.world_core.specs.Audit.{seconds_of}
+use Rattle.policy_core.specs.declared.cosigners.Known.{Known}
+use Rattle.policy_core.specs.declared.store.Store.{Store}
+use Rattle.node_history.specs.declared.start.NodeStart.TheVariants.{Cosigner}
+use Rattle.world_core.specs.Audit.{AuditCase, firsts_of, foreign_of, has_own, seconds_of}
 use Rattle.mtc_answers.specs.Steps.{Files}
 use Rattle.mtc_answers.specs.Wanted.{IsPair}
 use Rattle.mtc_monitor.specs.AuditOutcome.{collision_text, accepted_in, stands_text}
 use Rattle.mtc_top.specs.Concluded.{Prints}
-use Rattle.mtc_top.specs.Courses.{Link, Turn, HasTurned, WasHandedOut}
-use Rattle.mtc_top.specs.ExportLaws.{HasExported}
+use Rattle.mtc_top.specs.Courses.{Link, Turn, HasTurned, IsCourse, WasHandedOut, WasMade}
 
 -- The file of this name has this text, which is no longer than the limit.
 pub record HoldsText (files : Files) (name : List ℕ) (limit : ℕ) (text : List ℕ) : Type 0 where
@@ -46,23 +49,32 @@ pub record IsAuditOf (h : HashFunction) (files : Files) (cert store : List ℕ) 
   pub judged : accepted_in h cert_text x.store (pos moment)
       ≡ Ok (record { accepted = x.accepted; cert = x.cert; proof = x.proof })
 
+-- The store has a cosigner with this id and this public key, at a place of the set.
+pub record HasCounted (store : Store) (set : ℕ) (id key : List ℕ) : Type 0 where
+  pub place : ℕ
+  pub known : Known
+  pub there : slice_get store.cosigners place ≡ Some known
+  pub in_set : is_in_set set place ≡ true
+  pub id_is : known.id ≡ id
+  pub key_is : known.key ≡ key
+
 module _ {R S D O E : Type 0} (h : HashFunction) (rooms : Rooms R S D) (disks : Disks D)
     (outs : Sinks O) (errs : Sinks E) where
-  -- A cosigner that counts handed out a signature of the accepted hash, in a course of its journal,
-  -- and what was kept is an export that a run printed behind it.
-  pub record IsSignedInCourse (x : AuditCase) : Type 0 where
-    pub set : ℕ
-    pub by : x.accepted.by ≡ Cosigners set
+  -- In a course of a cosigner's journal a signature of the accepted interval and hash was handed
+  -- out, a run of `export` behind it printed what was kept, and the store counts the cosigner.
+  pub record IsSignedInCourse (x : AuditCase) (kept_text : List ℕ) : Type 0 where
+    -- a run made the journal
     pub name : List ℕ
+    pub settings : CosignerSettings
+    pub public : List ℕ
+    pub first : List ℕ
     pub made : R
+    pub was : WasMade h rooms disks outs errs name (Cosigner settings public) first made
+    -- the course
     pub links : List (Link R O E)
     pub old : R
-    pub turn : Turn R O E
-    pub exported : HasExported h rooms disks outs errs name made links old turn
-    pub kept : x.kept ≡ Some exported.export
-    pub of_log : exported.export.log ≡ x.store.log
-    pub counts : is_counted x.store set exported.export ≡ true
-    pub first : List ℕ
+    pub course : IsCourse h rooms disks outs errs made links old
+    -- a record that it handed out
     pub front : List (List ℕ)
     pub body : List ℕ
     pub handed : WasHandedOut h rooms disks outs errs name made links (first ∷ front) body
@@ -70,6 +82,19 @@ module _ {R S D O E : Type 0} (h : HashFunction) (rooms : Rooms R S D) (disks : 
     pub proof : List (List ℕ)
     pub signs : step_in body
         ≡ Some (Sign index x.accepted.start x.accepted.end x.accepted.hash proof)
+    -- the run of `export`, over an output that tells what it took
+    pub turn : Turn R O E
+    pub turned : HasTurned h rooms disks outs errs old turn
+    pub spoken : command_of turn.words ≡ Ok (export name)
+    pub done : turn.status ≡ 0
+    pub before : List ℕ
+    pub told : outs.taken turn.out ≡ Some before
+    pub printed : outs.taken turn.out_after ≡ Some (before ++ kept_text)
+    -- The cosigner is one of those that the store counted, and of its log.
+    pub set : ℕ
+    pub by : x.accepted.by ≡ Cosigners set
+    pub counts : HasCounted x.store set settings.id public
+    pub log_is : settings.log ≡ x.store.log
 
   -- It prints that the entry stands, with status 0, and the list has the certificate's entry and
   -- key at the index; or, with status 10, two different strings with one hash.
@@ -87,7 +112,7 @@ module _ {R S D O E : Type 0} (h : HashFunction) (rooms : Rooms R S D) (disks : 
       (entries kept : List ℕ) (x : AuditCase) → rooms.tells old
       → HasTurned h rooms disks outs errs old turn
       → command_of turn.words ≡ Ok (audit cert store moment entries kept)
-      → IsAuditOf h (rooms.file old) cert store moment entries kept x
+      → (is : IsAuditOf h (rooms.file old) cert store moment entries kept x)
       → foreign_of h x ≡ None
-      → (x.accepted.by ≡ Landmark) ⊎ IsSignedInCourse x
+      → (x.accepted.by ≡ Landmark) ⊎ IsSignedInCourse x is.kept_text
       → turn.status ≢ 5 → turn.status ≢ 6 → turn.status ≢ 8 → StandsOrPair x turn

@@ -20,15 +20,15 @@ use Rattle.mtc_top.specs.Courses.{DidWith, HasTurned, Turn, WasHandedOut, images
 -- These records begin with the first one of the node's journal, and the others may stand behind it.
 pub record AreOfNode (h : HashFunction) (start : NodeStart) (first : List ℕ)
     (list : List (List ℕ)) : Type 0 where
-  pub bodies : List (List ℕ)
-  pub is : list ≡ first ∷ bodies
-  pub valid : may_follow h start bodies ≡ true
+  pub others : List (List ℕ)
+  pub is : list ≡ first ∷ others
+  pub valid : may_follow h start others ≡ true
 
 -- A file is read as the log or the cosigner that has these records, which are the node's.
 pub record IsReadAsNode (h : HashFunction) (start : NodeStart) (first c : List ℕ) : Type 0 where
-  pub list : List (List ℕ)
-  pub of_node : AreOfNode h start first list
-  pub read : IsReadAs h start c list
+  pub records : List (List ℕ)
+  pub of_node : AreOfNode h start first records
+  pub read : IsReadAs h start c records
 
 -- The record adds this number to those of the one-time keys that these records have used.
 abbrev pub UsesKey : List (List ℕ) → List ℕ → ℕ → Type 0
@@ -106,9 +106,10 @@ module _ {R S D O E : Type 0} (h : HashFunction) (rooms : Rooms R S D) (disks : 
       → (log : LogState) × ((log_of h found ≡ Ok log)
       × HasItemAt (length s.entries) entry key log))
 
-  -- Each journal that a run made with status 0 is that of a node, as the laws of courses suppose.
+  -- Each journal that a run made with status 0 or 6 is that of a node, as the laws of courses
+  -- suppose.
   abbrev pub MadeOfNodes : Type 0
   MadeOfNodes = (name first : List ℕ) (old : R) (turn : Turn R O E) → rooms.tells old
-      → HasTurned h rooms disks outs errs old turn → turn.status ≡ 0
+      → HasTurned h rooms disks outs errs old turn → (turn.status ≡ 0) ⊎ (turn.status ≡ 6)
       → DidWith h rooms disks outs errs old turn name (started first)
       → (start : NodeStart) × WasMade h rooms disks outs errs name start first turn.room

@@ -89,14 +89,14 @@ module _ {R S D O E : Type 0} (h : HashFunction) (rooms : Rooms R S D) (disks : 
   IsCourse old [] new = new ≡ old
   IsCourse old (link ∷ links) new = IsLink old link × IsCourse (room_after link) links new
 
-  -- A run made this journal, with status 0, and its first record is one with which such a node
-  -- begins.
+  -- A run made this journal, and its first record is one with which such a node begins. It ended
+  -- with status 0, or with 6: then standard output failed, and the journal is whole.
   pub record WasMade (name : List ℕ) (start : NodeStart) (first : List ℕ) (made : R) : Type 0 where
     pub old : R
     pub tells : rooms.tells old
     pub turn : Turn R O E
     pub turned : HasTurned old turn
-    pub done : turn.status ≡ 0
+    pub done : (turn.status ≡ 0) ⊎ (turn.status ≡ 6)
     pub leaves : turn.room ≡ made
     pub did : DidWith old turn name (started first)
     pub starts : StartsWith start first

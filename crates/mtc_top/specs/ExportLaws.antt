@@ -21,16 +21,19 @@ use Rattle.mtc_top.specs.Courses.{Link, Turn, HasTurned, IsRecovered, WasHandedO
 module _ {R S D O E : Type 0} (h : HashFunction) (rooms : Rooms R S D) (disks : Disks D)
     (outs : Sinks O) (errs : Sinks E) where
   -- The run printed the export of a list with which the journal might have been recovered then. It
-  -- is read as the steps of these records, each of which is allowed, and each step that was handed
-  -- out before is among them.
-  pub record HasExported (name : List ℕ) (made : R) (links : List (Link R O E)) (old : R)
-      (turn : Turn R O E) : Type 0 where
+  -- has the ids of the settings and this public key. It is read as the steps of these records, each
+  -- of which is allowed, and each step that was handed out before is among them.
+  pub record HasExported (settings : CosignerSettings) (public name : List ℕ) (made : R)
+      (links : List (Link R O E)) (old : R) (turn : Turn R O E) : Type 0 where
     pub list : List (List ℕ)
     pub recovered : IsRecovered h rooms disks outs errs name old list
     pub text : List ℕ
     pub printed : Prints outs turn.out turn.out_after text
     pub export : Export
     pub read : export_in h text ≡ Ok (Some export)
+    pub cosigner_is : export.cosigner ≡ settings.id
+    pub log_is : export.log ≡ settings.log
+    pub key_is : export.public ≡ public
     pub progress : Progress
     pub allowed : export_progress h export ≡ Some progress
     pub steps : steps_in (drop 1 list) ≡ Some export.steps
@@ -44,4 +47,4 @@ module _ {R S D O E : Type 0} (h : HashFunction) (rooms : Rooms R S D) (disks : 
       (settings : CosignerSettings) (public : List ℕ) → start ≡ Cosigner settings public
       → (turn : Turn R O E) → HasTurned h rooms disks outs errs new turn
       → command_of turn.words ≡ Ok (export name) → turn.status ≡ 0
-      → HasExported name made links new turn)
+      → HasExported settings public name made links new turn)

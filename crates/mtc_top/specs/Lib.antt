@@ -7,4 +7,6 @@ pub mod Courses
 pub mod CourseLaws
 pub mod ExportLaws
 pub mod AuditLaws
+pub mod PrintLaws
+pub mod StatusLaws
 pub mod WordsOutcome

@@ -1,5 +1,5 @@
 -- What follows of each run, and how it ends as steps of the nodes whose journals it works on.
-use Rattle.std.specs.Prelude.{◌≡◌, ◌≢◌, ◌≤◌, ℕ, List, [], ◌∷◌, ◌++◌, IfSome}
+use Rattle.std.specs.Prelude.{◌≡◌, ◌≢◌, ◌≤◌, ◌⊎◌, ℕ, List, [], ◌∷◌, ◌++◌, IfSome}
 use Rattle.disk_core.specs.declared.disk.Disk.{Ghosts as Disks}
 use Rattle.journal_core.specs.Format.{StandsFor}
 use Rattle.mtc_io.specs.Counts.{Rose}
@@ -59,8 +59,8 @@ module _ {R S D O E : Type 0} (h : List ℕ → List ℕ) (rooms : Rooms R S D) 
     pub recorded : (list : List (List ℕ)) (body : List ℕ) → did ≡ appended list body → took
         → (c : List ℕ) → images_after name c → StandsFor c (list ++ body ∷ [])
     -- A new journal that was made is that of a node that has begun with this record, and no more.
-    pub begins : status ≡ 0 → (body : List ℕ) → did ≡ started body → (start : NodeStart)
-        → AllStandForNode (fresh_node start) body (images_after name)
+    pub begins : (status ≡ 0) ⊎ (status ≡ 6) → (body : List ℕ) → did ≡ started body
+        → (start : NodeStart) → AllStandForNode (fresh_node start) body (images_after name)
 
 -- So it is of each run.
 abbrev pub RunsShow : {R S D O E : Type 0} → (List ℕ → List ℕ) → Rooms R S D → Disks D

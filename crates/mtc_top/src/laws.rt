@@ -3,7 +3,9 @@
 ghost use Rattle.mtc_top.specs.AuditLaws.{AuditsStand};
 ghost use Rattle.mtc_top.specs.CourseLaws.{AddedEntriesStand, CoursesAreHistories, EntriesStand, HandedOutStand, JournalsAreRead, KeysSignOnce, KeysSignOneMessage, MadeOfNodes, RecoveredListsGrow};
 ghost use Rattle.mtc_top.specs.ExportLaws.{ExportsHoldTheSteps};
+ghost use Rattle.mtc_top.specs.PrintLaws.{IndicesArePrinted, SignaturesArePrinted};
 ghost use Rattle.mtc_top.specs.RunLaws.{RunsShow, RunsAreSteps};
+ghost use Rattle.mtc_top.specs.StatusLaws.{MisreadFilesAreInputs};
 
 use mtc_io::Sink;
 use mtc_room::Room;
@@ -23,9 +25,10 @@ pub fn courses_are_histories<H: TreeHash, R: Room, O: Sink, E: Sink>()
     ensures { CoursesAreHistories H.hash R.Room R.Dsk.Disk O.Sink E.Sink }
 {}
 
-/// In no course two records of a cosigner have the number of one one-time key: the i-th Sign record
-/// of a journal that may be recovered, counted from 0, has the number i. Where bytes of two
-/// cosignatures by one key went out, both are of one record, and so of one message.
+/// In no course two records of a cosigner's journal have the number of the same one-time key: the
+/// i-th Sign record of a journal that may be recovered, counted from 0, has the number i. Where
+/// bytes of two cosignatures by one key of the journal went out, both are of one record, and so of
+/// one message.
 pub fn no_one_time_key_signs_twice<H: TreeHash, R: Room, O: Sink, E: Sink>()
     ensures records { KeysSignOnce H.hash R.Room R.Dsk.Disk O.Sink E.Sink }
     ensures messages { KeysSignOneMessage H.hash R.Room R.Dsk.Disk O.Sink E.Sink }
@@ -44,14 +47,15 @@ pub fn recovered_lists_only_grow<H: TreeHash, R: Room, O: Sink, E: Sink>()
 {}
 
 /// Each entry of a log that a run found or added keeps its index, with its key, in each log that
-/// may be recovered afterwards. The entry that a run added has the index that it printed.
+/// may be recovered afterwards. The entry that a run added has as its index the number of entries
+/// before it.
 pub fn entries_keep_their_places<H: TreeHash, R: Room, O: Sink, E: Sink>()
     ensures found { EntriesStand H.hash R.Room R.Dsk.Disk O.Sink E.Sink }
     ensures added { AddedEntriesStand H.hash R.Room R.Dsk.Disk O.Sink E.Sink }
 {}
 
-/// Each journal that a run made with status 0 is that of a log or a cosigner, so the laws of
-/// courses are of every journal that was made.
+/// Each journal that a run made with status 0 or 6 is that of a log or a cosigner, so the laws of
+/// courses are of each of them.
 pub fn made_journals_are_of_nodes<H: TreeHash, R: Room, O: Sink, E: Sink>()
     ensures { MadeOfNodes H.hash R.Room R.Dsk.Disk O.Sink E.Sink }
 {}
@@ -62,17 +66,45 @@ pub fn no_journal_is_refused<H: TreeHash, R: Room, O: Sink, E: Sink>()
     ensures { JournalsAreRead H.hash R.Room R.Dsk.Disk O.Sink E.Sink }
 {}
 
+/// A run that opens the journal that a course has reached, as that of its log or its cosigner, ends
+/// with status 2 only for an input of its command. So it never does where the command has none.
+pub fn misread_files_are_inputs<H: TreeHash, R: Room, O: Sink, E: Sink>()
+    ensures { MisreadFilesAreInputs H.hash R.Room R.Dsk.Disk O.Sink E.Sink }
+{}
+
 /// A run of `export` with status 0 behind a course of a cosigner's journal prints the export of a
-/// list with which the journal might have been recovered then. What it prints is read as the steps
-/// of these records, each of which is allowed, and each step that was handed out before is one.
+/// list with which the journal might have been recovered then. It has the ids and the public key
+/// with which the journal began. It is read as the steps of these records: each of them is allowed,
+/// and each step that was handed out before is one.
 pub fn exports_hold_what_went_out<H: TreeHash, R: Room, O: Sink, E: Sink>()
     ensures { ExportsHoldTheSteps H.hash R.Room R.Dsk.Disk O.Sink E.Sink }
 {}
 
-/// A run of `audit` that ends without a failure prints that the entry stands, or two different
-/// strings with one hash: over a certificate that was accepted by a landmark, or by a signature
-/// that a course of a cosigner's journal handed out, with what `export` printed behind it, and over
-/// the list that is the wanted one.
+/// A run of `audit` that ends with another status than 5, 6 and 8 prints that the entry stands, or
+/// two different strings with one hash. Its four files are read, and the store accepts the
+/// certificate: by a landmark, or by cosigners. Then one of those that count handed out a signature
+/// of the accepted hash, in a course of its journal, and what was kept is what a run of `export`
+/// with status 0 printed behind it. The list is the wanted one: it has the landmark's hash, or the
+/// root of the last checkpoint that was kept.
 pub fn audits_stand<H: TreeHash, R: Room, O: Sink, E: Sink>()
     ensures { AuditsStand H.hash R.Room R.Dsk.Disk O.Sink E.Sink }
+{}
+
+/// A run of `issue` with status 0 added an entry, and printed its index, which counts the entries
+/// before it. A run of `cosign` with status 0 added a Sign record, and printed the signature by the
+/// same one-time key, over the same interval and hash.
+pub fn printed_texts_are_of_their_records<H: TreeHash, R: Room, O: Sink, E: Sink>()
+    ensures indices { IndicesArePrinted H.hash R.Room R.Dsk.Disk O.Sink E.Sink }
+    ensures signatures { SignaturesArePrinted H.hash R.Room R.Dsk.Disk O.Sink E.Sink }
+{}
+
+/// The promise as a whole. In no course a one-time key of a journal signs two messages, and each
+/// record behind which a byte went out is in each list with which its journal may be recovered.
+/// Where a store accepts a certificate by a signature that was handed out so, or by a landmark,
+/// `audit` prints that the entry stands, or two different strings with one hash.
+pub fn the_whole_promise<H: TreeHash, R: Room, O: Sink, E: Sink>()
+    ensures once { KeysSignOnce H.hash R.Room R.Dsk.Disk O.Sink E.Sink }
+    ensures messages { KeysSignOneMessage H.hash R.Room R.Dsk.Disk O.Sink E.Sink }
+    ensures stand { HandedOutStand H.hash R.Room R.Dsk.Disk O.Sink E.Sink }
+    ensures audits { AuditsStand H.hash R.Room R.Dsk.Disk O.Sink E.Sink }
 {}

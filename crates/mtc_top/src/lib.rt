@@ -13,8 +13,9 @@ mod top;
 
 pub use laws::{
     audits_stand, courses_are_histories, entries_keep_their_places, exports_hold_what_went_out,
-    made_journals_are_of_nodes, no_journal_is_refused, no_one_time_key_signs_twice,
-    recovered_lists_only_grow, runs_are_steps, what_was_handed_out_stands,
+    made_journals_are_of_nodes, misread_files_are_inputs, no_journal_is_refused,
+    no_one_time_key_signs_twice, printed_texts_are_of_their_records, recovered_lists_only_grow,
+    runs_are_steps, the_whole_promise, what_was_handed_out_stands,
 };
 pub use mtc_room::{MemRoom, Room, RoomError};
 pub use top::run;

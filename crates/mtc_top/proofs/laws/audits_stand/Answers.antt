@@ -3,3 +3,5 @@ use Rattle.mtc_top.proofs.laws.audits_stand.Goals as goal
 
 pub returns : goal.returns
 returns g c = audits_stand g.H.TreeHash.hash g.R.Room g.R.Dsk.Disk g.O.Sink g.E.Sink
+    g.met.R.Dsk.Disk.reads_image g.met.R.Dsk.Disk.only_now g.met.R.Room.told_file
+    g.met.R.Dsk.Disk.told_bytes

@@ -1,0 +1,397 @@
+-- Status 2 behind a course is about an input.
+use Rattle.std.proofs.Common.{◌≡◌, inl, inr, ℕ, true, false, Bool, List, [], ◌∷◌, drop, length}
+use Rattle.std.proofs.Common.{Option, None, Some, Result, Ok, Err, codes, refl, sym, subst, ap}
+use Rattle.std.proofs.Common.{◌∙◌, arith, not}
+use Rattle.std.specs.Prelude.{if◌then◌else◌, nat_le, nat_lt}
+use Rattle.byte_forms.specs.Types.{HashFunction}
+use Rattle.disk_core.specs.declared.disk.Disk.{Ghosts as Disks}
+use Rattle.journal_core.specs.Format.{end_behind}
+use Rattle.mtc_io.specs.declared.sink.Sink.{Ghosts as Sinks}
+use Rattle.mtc_room.specs.Room.{TellsFile}
+use Rattle.mtc_room.specs.declared.room.Room.{Ghosts as Rooms}
+use Rattle.mtc_words.specs.Commands.{CommandValue, advance, audit, cert, checkpoint, consist}
+use Rattle.mtc_words.specs.Commands.{cosign, entries, export, init_cosigner, init_log, issue}
+use Rattle.mtc_words.specs.Commands.{keygen, landmark, landmarks, light_cert, member, show}
+use Rattle.mtc_words.specs.Commands.{subtree, trust_landmarks, verify}
+use Rattle.mtc_words.specs.Words.{command_of, known_word}
+use Rattle.mtc_words.specs.declared.error.WordError.{WordError}
+use Rattle.authority_core.specs.Files.{request_of}
+use Rattle.authority_core.specs.Requests.{RequestParts}
+use Rattle.issuance_log.specs.Settings.{Settings}
+use Rattle.authority_core.specs.Certificates.{cert_refusal, covering_in, light_refusal}
+use Rattle.authority_core.specs.Issues.{issued_entry}
+use Rattle.authority_core.specs.declared.writing.error.WriteError.{WriteError}
+use Rattle.authority_core.specs.declared.writing.error.WriteError.TheVariants as write_error
+use Rattle.cosigner_core.specs.Exports.{export_text}
+use Rattle.cosigner_core.specs.Openings.{FoundCosigner, cosigner_read}
+use Rattle.cosigner_core.specs.Reading.{advance_in, subtree_in}
+use Rattle.cosigner_core.specs.Requests.{advance_text, subtree_text}
+use Rattle.cosigner_core.specs.declared.error.CosignError.{CosignError}
+use Rattle.cosigner_core.specs.declared.error.CosignError.TheVariants as cosign_error
+use Rattle.cosigner_core.specs.declared.settings.CosignerSettings.{CosignerSettings}
+use Rattle.entry_list.specs.Items.{file_text}
+use Rattle.issuance_log.specs.Folds.{LogState, view_in}
+use Rattle.issuance_log.specs.Openings.{FoundLog, log_read}
+use Rattle.issuance_log.specs.Refusals.{add_refusal, mark_refusal}
+use Rattle.issuance_log.specs.declared.error.LogError.{LogError}
+use Rattle.issuance_log.specs.declared.error.LogError.TheVariants as log_error
+use Rattle.mtc_answers.specs.Answers.{Reply, err_of, refused, said, status_of}
+use Rattle.mtc_answers.specs.Endings.{IsNamed}
+use Rattle.mtc_answers.specs.Lines.{line_of}
+use Rattle.mtc_answers.specs.Steps.{Files, Outcome, stops_at, with_bytes}
+use Rattle.mtc_answers.specs.Steps.{with_form}
+use Rattle.mtc_answers.specs.Wanted.{Meets}
+use Rattle.mtc_answers.specs.declared.answer.Said.TheVariants.{Done}
+use Rattle.mtc_answers.specs.declared.answer.Stopped.TheVariants.{BadForm, Beyond, Missing}
+use Rattle.tree_core.specs.Subtree.{is_subtree}
+use Rattle.mtc_answers.proofs.Made.{OnlyNow, ReadsImage}
+use Rattle.mtc_cosigner.specs.CosignerOutcomes.{advance_says, cosign_says, export_says}
+use Rattle.mtc_cosigner.specs.CosignerOutcomes.{form_fault_text, stepped}
+use Rattle.mtc_cosigner.specs.Works.{advance_outcome, cosign_outcome, export_outcome}
+use Rattle.mtc_cosigner.specs.Works.{journal_outcome, open_fault_text}
+use Rattle.mtc_logs.specs.CertOutcome.{cert_refused, cert_replies, cert_reply, certificate_in}
+use Rattle.mtc_logs.specs.CertOutcome.{light_reply, light_text, signatures_fault_text}
+use Rattle.mtc_logs.specs.CertOutcome.{signatures_in}
+use Rattle.mtc_logs.specs.IssueOutcome.{issued, request_fault_text}
+use Rattle.mtc_logs.specs.LandmarkOutcomes.{landmarks_reply, mark_refused, marked}
+use Rattle.mtc_logs.specs.LogOutcomes.{beyond, checkpoint_reply, entries_reply, items_of}
+use Rattle.mtc_logs.specs.LogOutcomes.{not_allowed}
+use Rattle.mtc_logs.specs.RequestOutcomes.{advance_of, consist_reply, subtree_of, subtree_reply}
+use Rattle.mtc_logs.specs.Works.{journal_outcome as log_outcome, open_fault_text as log_open_fault}
+use Rattle.mtc_logs.specs.Works.{work_says}
+use Rattle.mtc_logs.specs.declared.work.Work.{Work}
+use Rattle.mtc_logs.specs.declared.work.Work.TheVariants.{Cert, Checkpoint, Consist, Entries, Issue}
+use Rattle.mtc_logs.specs.declared.work.Work.TheVariants.{Landmark, Landmarks, LightCert, Subtree}
+use Rattle.node_history.specs.declared.start.NodeStart.TheVariants.{Cosigner, Log}
+use Rattle.mtc_top.specs.Concluded.{Reports}
+use Rattle.mtc_top.specs.Courses.{Turn, HasTurned}
+use Rattle.mtc_top.specs.Outcome.{command_outcome, files_of, spoken_outcome}
+use Rattle.mtc_top.specs.StatusLaws.{IsAboutInput, MisreadFilesAreInputs, Opens}
+use Rattle.mtc_top.proofs.Recovered.{last, read_again}
+
+-- ---- what is replied behind an opening has another status than 2
+
+abbrev IsTwo : ℕ → Type 0
+IsTwo n = n ≡ 2
+
+zero_two : IsTwo 0 → ⊥
+zero_two is = omega (arith, is)
+
+four_two : IsTwo 4 → ⊥
+four_two is = omega (arith, is)
+
+seven_two : IsTwo 7 → ⊥
+seven_two is = omega (arith, is)
+
+nine_two : IsTwo 9 → ⊥
+nine_two is = omega (arith, is)
+
+abbrev NotTwo : Reply → Type 0
+NotTwo r = IsTwo (status_of r) → ⊥
+
+abbrev NeverTwo : Outcome → Type 0
+NeverTwo o = (reply : Reply) → Meets o.answer reply → status_of reply ≡ 2 → ⊥
+
+exact_two : (r reply : Reply) → NotTwo r → reply ≡ r → status_of reply ≡ 2 → ⊥
+exact_two r reply other is two = other (ap status_of (sym is) ∙ two)
+
+if_two : (b : Bool) (x y : Reply) → NotTwo x → NotTwo y → NotTwo (if b then x else y)
+if_two true x y one two = one
+if_two false x y one two = two
+
+mark_two : (why : LogError) → NotTwo (mark_refused why)
+mark_two log_error.NothingNew = four_two
+mark_two log_error.Full = nine_two
+mark_two log_error.TooLarge = nine_two
+mark_two log_error.NoSuchEntry = nine_two
+mark_two (log_error.Append cause) = nine_two
+mark_two log_error.Memory = nine_two
+
+write_two : (why : WriteError) → NotTwo (cert_refused why)
+write_two write_error.NoSuchEntry = four_two
+write_two write_error.NullEntry = four_two
+write_two write_error.BadSubtree = four_two
+write_two write_error.Outside = four_two
+write_two (write_error.Beyond size) = four_two
+write_two write_error.NotCovered = four_two
+write_two write_error.TooManySignatures = nine_two
+write_two write_error.Memory = nine_two
+
+cert_two : (why : Option WriteError) (text : List ℕ) → NotTwo (cert_replies why text)
+cert_two None text = zero_two
+cert_two (Some why) text = write_two why
+
+step_two : (found : FoundCosigner) (body text : List ℕ) (why : Option CosignError)
+    → NeverTwo (stepped found body text why)
+step_two found body text None = λ reply. exact_two _ reply zero_two
+step_two found body text (Some cosign_error.WrongLog) = λ reply. exact_two _ reply four_two
+step_two found body text (Some (cosign_error.NotNewer held)) = λ reply. exact_two _ reply four_two
+step_two found body text (Some cosign_error.BadSubtree) = λ reply. exact_two _ reply four_two
+step_two found body text (Some (cosign_error.Beyond held)) = λ reply. exact_two _ reply four_two
+step_two found body text (Some cosign_error.BadProof) = λ reply. exact_two _ reply four_two
+step_two found body text (Some cosign_error.Exhausted) = λ reply. exact_two _ reply four_two
+step_two found body text (Some (cosign_error.Append why)) = λ reply. exact_two _ reply nine_two
+
+export_two : (found : FoundCosigner) → NeverTwo (export_says found)
+export_two found =
+    λ reply. exact_two (said Done (export_text found.state found.records)) reply zero_two
+
+module _ (h : HashFunction) where
+  issue_two : (r : RequestParts) (found : FoundLog) (why : Option LogError)
+      → NeverTwo (issued h r found why)
+  issue_two r found None = λ reply. exact_two _ reply zero_two
+  issue_two r found (Some why) = λ reply. exact_two _ reply nine_two
+
+  landmark_two : (found : FoundLog) (why : Option LogError) → NeverTwo (marked found why)
+  landmark_two found None = λ reply. exact_two _ reply zero_two
+  landmark_two found (Some why) = λ reply. exact_two (mark_refused why) reply (mark_two why)
+
+  entries_two : (size : ℕ) (s : LogState) → NotTwo (entries_reply size s)
+  entries_two size s =
+      if_two (nat_lt (length s.entries) size) (beyond (length s.entries))
+      (said Done (file_text (items_of s) size)) four_two zero_two
+
+  consist_two : (old new : ℕ) (s : LogState) → NotTwo (consist_reply h old new s)
+  consist_two old new s =
+      let short : Bool = nat_lt (length s.entries) new in
+      let done : Reply = said Done (advance_text (advance_of h s old new)) in
+      if_two (nat_le new old) (not_allowed (codes "NothingNew"))
+      (if short then beyond (length s.entries) else done) four_two
+      (if_two short (beyond (length s.entries)) done four_two zero_two)
+
+  subtree_two : (start end size : ℕ) (s : LogState) → NotTwo (subtree_reply h start end size s)
+  subtree_two start end size s =
+      let short : Bool = nat_lt (length s.entries) size in
+      let outside : Bool = nat_lt size end in
+      let done : Reply = said Done (subtree_text (subtree_of h s start end size)) in
+      if_two (not (is_subtree start end)) (not_allowed (codes "BadSubtree"))
+      (if short then beyond (length s.entries) else (if outside then beyond size else done))
+      four_two
+      (if_two short (beyond (length s.entries)) (if outside then beyond size else done) four_two
+      (if_two outside (beyond size) done four_two zero_two))
+
+  work_two : (work : Work) (found : FoundLog) → NeverTwo (work_says h work found)
+  unfolding work_says
+  work_two Checkpoint found =
+      λ reply. exact_two (checkpoint_reply h found.state.entries) reply zero_two
+  work_two (Entries size) found =
+      λ reply. exact_two (entries_reply size found.state) reply (entries_two size found.state)
+  work_two (Issue request) found = issue_two request found (add_refusal (view_in found.state) false
+      (end_behind found.records) (issued_entry h found.state request) request.key)
+  work_two (Consist old new) found = λ reply. exact_two (consist_reply h old new found.state) reply
+      (consist_two old new found.state)
+  work_two (Subtree start end size) found =
+      λ reply. exact_two (subtree_reply h start end size found.state) reply
+      (subtree_two start end size found.state)
+  work_two Landmark found =
+      landmark_two found (mark_refusal (view_in found.state) false (end_behind found.records))
+  work_two Landmarks found =
+      λ reply. exact_two (landmarks_reply found.state) reply zero_two
+  work_two (LightCert index) found = λ reply. exact_two (light_reply h index found.state) reply
+      (cert_two (light_refusal (view_in found.state) index)
+      (light_text h index found.state (covering_in (view_in found.state) index)))
+  work_two (Cert index start end signatures) found =
+      λ reply. exact_two (cert_reply h index start end signatures found.state) reply
+      (cert_two (cert_refusal (view_in found.state) index start end signatures)
+      (certificate_in h index start end signatures found.state))
+
+  -- ---- status 2 comes with an input
+
+  -- with one of these
+  abbrev OnlyInputs : List (List ℕ) → Outcome → Type 0
+  OnlyInputs inputs o = (reply : Reply) → Meets o.answer reply → status_of reply ≡ 2
+      → (file : List ℕ) × ((reason : List ℕ)
+      × (IsNamed inputs file × (reply ≡ refused BadForm (Some file) reason)))
+
+  none_only : (inputs : List (List ℕ)) (o : Outcome) → NeverTwo o → OnlyInputs inputs o
+  none_only inputs o never = λ reply meets two. absurd (never reply meets two)
+
+  only_bytes : (inputs : List (List ℕ)) (limit : ℕ) (file : List ℕ) (o : Option (List ℕ))
+      (next : List ℕ → Outcome) → ((b : List ℕ) → OnlyInputs inputs (next b))
+      → OnlyInputs inputs (with_bytes limit file o next)
+  only_bytes inputs limit file None next rest =
+      none_only inputs (stops_at Missing file (codes "Absent"))
+      (λ reply. exact_two _ reply seven_two)
+  only_bytes inputs limit file (Some b) next rest = go (nat_lt limit (length b))
+    where
+      go : (t : Bool)
+          → OnlyInputs inputs (if t then stops_at Beyond file (codes "TooLong") else next b)
+      go true = none_only inputs (stops_at Beyond file (codes "TooLong"))
+          (λ reply. exact_two _ reply nine_two)
+      go false = rest b
+
+  only_form : {F W : Type 0} (fault_text : W → List ℕ) (file : List ℕ) (r : Result F W)
+      (next : F → Outcome) → ((x : F) → NeverTwo (next x))
+      → OnlyInputs (file ∷ []) (with_form fault_text file r next)
+  only_form {F} {W} fault_text file (Ok x) next rest = none_only (file ∷ []) (next x) (rest x)
+  only_form {F} {W} fault_text file (Err why) next rest =
+      λ reply meets two. (file, (fault_text why, (inl refl, meets)))
+
+  -- ---- the journal is read
+
+  abbrev LogsRead : Option (List ℕ) → Type 0
+  LogsRead o = (c : List ℕ) → o ≡ Some c → (found : FoundLog) × (log_read h c ≡ Ok found)
+
+  abbrev CosignersRead : Option (List ℕ) → Type 0
+  CosignersRead o =
+      (c : List ℕ) → o ≡ Some c → (found : FoundCosigner) × (cosigner_read h c ≡ Ok found)
+
+  log_two : (name : List ℕ) (o : Option (List ℕ)) (work : Work) → LogsRead o
+      → NeverTwo (log_outcome h name o work)
+  unfolding log_outcome
+  log_two name None work reads = λ reply. exact_two _ reply seven_two
+  log_two name (Some c) work reads =
+      let found = reads c refl in
+      subst (λ r. NeverTwo (with_form log_open_fault name r (work_says h work))) (sym found.1)
+      (work_two work found.0)
+
+  cosigner_two : (name : List ℕ) (o : Option (List ℕ)) (says : FoundCosigner → Outcome)
+      → CosignersRead o → ((found : FoundCosigner) → NeverTwo (says found))
+      → NeverTwo (journal_outcome h name o says)
+  cosigner_two name None says reads never = λ reply. exact_two _ reply seven_two
+  cosigner_two name (Some c) says reads never =
+      let found = reads c refl in
+      subst (λ r. NeverTwo (with_form open_fault_text name r says)) (sym found.1) (never found.0)
+
+  module _ (name : List ℕ) (files : Files) where
+    abbrev Only : CommandValue → Type 0
+    Only command = OnlyInputs (drop 1 (files_of command)) (command_outcome h command files)
+
+    of_log : (journal : List ℕ) (work : Work) → journal ≡ name → LogsRead (files name)
+        → NeverTwo (log_outcome h journal (files journal) work)
+    of_log journal work same reads = log_two journal (files journal) work
+        (subst (λ (n : List ℕ). LogsRead (files n)) (sym same) reads)
+
+    no_input : (journal : List ℕ) (work : Work) → journal ≡ name → LogsRead (files name)
+        → OnlyInputs [] (log_outcome h journal (files journal) work)
+    no_input journal work same reads =
+        none_only [] (log_outcome h journal (files journal) work) (of_log journal work same reads)
+
+    of_cosigner : (journal : List ℕ) (says : FoundCosigner → Outcome) → journal ≡ name
+        → CosignersRead (files name) → ((found : FoundCosigner) → NeverTwo (says found))
+        → NeverTwo (journal_outcome h journal (files journal) says)
+    of_cosigner journal says same reads = cosigner_two journal (files journal) says
+        (subst (λ (n : List ℕ). CosignersRead (files n)) (sym same) reads)
+
+    log_only : (settings : Settings) (command : CommandValue) → Opens (Log settings) name command
+        → LogsRead (files name) → Only command
+    log_only settings (issue journal request) same reads =
+        only_bytes (request ∷ []) 16777216 request (files request) _
+        (λ b. only_form request_fault_text request (request_of b) _
+        (λ r. of_log journal (Issue r) same reads))
+    log_only settings (checkpoint journal) same reads =
+        no_input journal Checkpoint same reads
+    log_only settings (entries journal size) same reads =
+        no_input journal (Entries size) same reads
+    log_only settings (consist journal old new) same reads =
+        no_input journal (Consist old new) same reads
+    log_only settings (subtree journal start end size) same reads =
+        no_input journal (Subtree start end size) same reads
+    log_only settings (landmark journal) same reads =
+        no_input journal Landmark same reads
+    log_only settings (landmarks journal) same reads =
+        no_input journal Landmarks same reads
+    log_only settings (light_cert journal index) same reads =
+        no_input journal (LightCert index) same reads
+    log_only settings (cert journal index start end file) same reads =
+        only_bytes (file ∷ []) 16777216 file (files file) _
+        (λ b. only_form signatures_fault_text file (signatures_in b) _
+        (λ signatures. of_log journal (Cert index start end signatures) same reads))
+    log_only settings (member file) opens reads = absurd opens
+    log_only settings (show file) opens reads = absurd opens
+    log_only settings (verify certificate store moment) opens reads = absurd opens
+    log_only settings (init_log journal id active limit) opens reads = absurd opens
+    log_only settings (keygen height width file) opens reads = absurd opens
+    log_only settings (init_cosigner journal id log height width file) opens reads = absurd opens
+    log_only settings (advance journal request) opens reads = absurd opens
+    log_only settings (cosign journal request) opens reads = absurd opens
+    log_only settings (export journal) opens reads = absurd opens
+    log_only settings (trust_landmarks list active items) opens reads = absurd opens
+    log_only settings (audit certificate store moment items kept) opens reads = absurd opens
+
+    cosigner_only : (settings : CosignerSettings) (public : List ℕ) (command : CommandValue)
+        → Opens (Cosigner settings public) name command → CosignersRead (files name)
+        → Only command
+    unfolding advance_outcome cosign_outcome export_outcome
+    cosigner_only settings public (advance journal request) same reads =
+        only_bytes (request ∷ []) 16777216 request (files request) _
+        (λ b. only_form form_fault_text request (advance_in b) _
+        (λ r. of_cosigner journal (advance_says h r) same reads
+        (λ found. step_two found _ _ _)))
+    cosigner_only settings public (cosign journal request) same reads =
+        only_bytes (request ∷ []) 16777216 request (files request) _
+        (λ b. only_form form_fault_text request (subtree_in b) _
+        (λ r. of_cosigner journal (cosign_says h r) same reads
+        (λ found. step_two found _ _ _)))
+    cosigner_only settings public (export journal) same reads =
+        none_only [] (journal_outcome h journal (files journal) export_says)
+        (of_cosigner journal export_says same reads export_two)
+    cosigner_only settings public (member file) opens reads = absurd opens
+    cosigner_only settings public (show file) opens reads = absurd opens
+    cosigner_only settings public (verify certificate store moment) opens reads = absurd opens
+    cosigner_only settings public (init_log journal id active limit) opens reads = absurd opens
+    cosigner_only settings public (issue journal request) opens reads = absurd opens
+    cosigner_only settings public (checkpoint journal) opens reads = absurd opens
+    cosigner_only settings public (entries journal size) opens reads = absurd opens
+    cosigner_only settings public (consist journal old new) opens reads = absurd opens
+    cosigner_only settings public (subtree journal start end size) opens reads = absurd opens
+    cosigner_only settings public (keygen height width file) opens reads = absurd opens
+    cosigner_only settings public (init_cosigner journal id log height width file) opens reads =
+        absurd opens
+    cosigner_only settings public (landmark journal) opens reads = absurd opens
+    cosigner_only settings public (landmarks journal) opens reads = absurd opens
+    cosigner_only settings public (light_cert journal index) opens reads = absurd opens
+    cosigner_only settings public (trust_landmarks list active items) opens reads = absurd opens
+    cosigner_only settings public (cert journal index start end file) opens reads = absurd opens
+    cosigner_only settings public (audit certificate store moment items kept) opens reads =
+        absurd opens
+
+module _ {R S D O E : Type 0} (h : HashFunction) (rooms : Rooms R S D) (disks : Disks D)
+    (outs : Sinks O) (errs : Sinks E) (image : ReadsImage disks) (only : OnlyNow disks)
+    (told : (room : R) (name : List ℕ) → rooms.tells room
+    → TellsFile disks.told (rooms.file room name) (rooms.device room name)) where
+  -- the line of a refusal
+  refused_line : (turn : Turn R O E) (reply : Reply) (file reason : List ℕ)
+      → reply ≡ refused BadForm (Some file) reason
+      → Reports errs turn.err turn.err_after (err_of (known_word turn.words) reply)
+      → Reports errs turn.err turn.err_after (line_of (known_word turn.words) (Some file) reason)
+  refused_line turn reply file reason is line =
+      subst (λ (r : Reply). Reports errs turn.err turn.err_after
+      (err_of (known_word turn.words) r)) is line
+
+  about_input : (room : R) (command : CommandValue) (turn : Turn R O E) → rooms.tells room
+      → HasTurned h rooms disks outs errs room turn → command_of turn.words ≡ Ok command
+      → turn.status ≡ 2 → Only h [] (rooms.file room) command
+      → IsAboutInput h rooms disks outs errs command turn
+  about_input room command turn tells run spoken two fits =
+      let a = run.answered (λ five. omega (arith, two, five)) (λ six. omega (arith, two, six))
+      (λ eight. omega (arith, two, eight)) in
+      let meets = subst (λ (r : Result CommandValue WordError).
+      Meets (spoken_outcome h r (rooms.file room)).answer a.reply) spoken (a.is (inl tells)) in
+      let found = fits a.reply meets (sym a.code ∙ two) in
+      record {
+        file = found.0;
+        reason = found.1.0;
+        input = found.1.1.0;
+        line = refused_line turn a.reply found.0 found.1.0 found.1.1.1 a.line;
+      }
+
+  pub misread_inputs : MisreadFilesAreInputs h rooms disks outs errs
+  misread_inputs name (Log settings) first made new links was course command turn opens run
+      spoken two =
+      let end = last h rooms disks outs errs image only told name (Log settings) first made new
+      links was course in
+      about_input new command turn end.at.tells run spoken two
+      (log_only h name (rooms.file new) settings command opens (λ c is.
+      let node = read_again h rooms disks outs errs image only told name (Log settings) first made
+      new links was course c (inr is) in
+      (record { records = node.records; state = node.read.0 }, node.read.1)))
+  misread_inputs name (Cosigner settings public) first made new links was course command turn
+      opens run spoken two =
+      let end = last h rooms disks outs errs image only told name (Cosigner settings public) first
+      made new links was course in
+      about_input new command turn end.at.tells run spoken two
+      (cosigner_only h name (rooms.file new) settings public command opens (λ c is.
+      let node = read_again h rooms disks outs errs image only told name
+      (Cosigner settings public) first made new links was course c (inr is) in
+      (record { records = node.records; state = node.read.0 }, node.read.1)))

@@ -1,0 +1,217 @@
+-- What a run by a command prints, step by step of its outcome.
+use Rattle.std.proofs.Common.{◌≡◌, inl, ℕ, true, false, Bool, List, [], ◌∷◌, length, Option, None}
+use Rattle.std.proofs.Common.{Some, Result, Ok, Err, codes, refl, sym, subst, ap, ◌∙◌, arith}
+use Rattle.std.specs.Prelude.{if◌then◌else◌, nat_lt}
+use Rattle.byte_forms.specs.Places.{IsBytes}
+use Rattle.byte_forms.specs.Types.{HashFunction}
+use Rattle.disk_core.specs.declared.disk.Disk.{Ghosts as Disks}
+use Rattle.journal_core.specs.Format.{end_behind}
+use Rattle.journal_core.proofs.Standing.{found_stands}
+use Rattle.mtc_io.specs.declared.sink.Sink.{Ghosts as Sinks}
+use Rattle.mtc_room.specs.Room.{TellsFile}
+use Rattle.mtc_room.specs.declared.room.Room.{Ghosts as Rooms}
+use Rattle.mtc_words.specs.Commands.{CommandValue, cosign, issue}
+use Rattle.mtc_words.specs.Words.{command_of}
+use Rattle.mtc_words.specs.declared.error.WordError.{WordError}
+use Rattle.authority_core.specs.Files.{request_of}
+use Rattle.authority_core.specs.Issues.{issued_entry, issued_record}
+use Rattle.authority_core.specs.Requests.{RequestParts}
+use Rattle.cosigner_core.specs.Folds.{cosigner_fold}
+use Rattle.cosigner_core.specs.Openings.{FoundCosigner, cosigner_read}
+use Rattle.cosigner_core.specs.Reading.{subtree_in}
+use Rattle.cosigner_core.specs.Records.{sign_record}
+use Rattle.cosigner_core.specs.Refusals.{cosign_refused}
+use Rattle.cosigner_core.specs.Requests.{SubtreeParts}
+use Rattle.cosigner_core.specs.declared.error.CosignError.{CosignError}
+use Rattle.issuance_log.specs.Folds.{log_fold, view_in}
+use Rattle.issuance_log.specs.Openings.{FoundLog, log_read}
+use Rattle.issuance_log.specs.Refusals.{add_refusal}
+use Rattle.issuance_log.specs.declared.error.LogError.{LogError}
+use Rattle.mtc_answers.specs.Answers.{Reply, out_of, refused, status_of, stopped_code}
+use Rattle.mtc_answers.specs.Made.{Journaled, appended}
+use Rattle.mtc_answers.specs.Served.{Journals, done_with}
+use Rattle.mtc_answers.specs.Steps.{Outcome, appends, stops_at, with_bytes, with_file}
+use Rattle.mtc_answers.specs.Steps.{with_form}
+use Rattle.mtc_answers.specs.Wanted.{Meets, exactly}
+use Rattle.mtc_answers.specs.declared.answer.Stopped.{Stopped}
+use Rattle.mtc_answers.specs.declared.answer.Stopped.TheVariants.{BadForm, BadWords, Beyond}
+use Rattle.mtc_answers.specs.declared.answer.Stopped.TheVariants.{Missing, NotAllowed}
+use Rattle.mtc_cosigner.specs.CosignerOutcomes.{cosigned_text, form_fault_text}
+use Rattle.mtc_cosigner.specs.CosignerOutcomes.{stepped}
+use Rattle.mtc_cosigner.specs.Works.{cosign_outcome, open_fault_text}
+use Rattle.mtc_logs.specs.IssueCommand.{issue_outcome}
+use Rattle.mtc_logs.specs.IssueOutcome.{issued, issued_text, request_fault_text}
+use Rattle.mtc_logs.specs.Works.{journal_outcome as log_outcome}
+use Rattle.mtc_logs.specs.Works.{open_fault_text as log_open_fault, work_says}
+use Rattle.mtc_top.specs.Concluded.{Prints}
+use Rattle.mtc_top.specs.Courses.{Turn, HasTurned, DidWith, IsAmong}
+use Rattle.mtc_top.specs.Outcome.{command_outcome, journals_of, spoken, spoken_outcome}
+use Rattle.mtc_top.specs.PrintLaws.{HasCosigned, HasIssued, IndicesArePrinted}
+use Rattle.mtc_top.specs.PrintLaws.{SignaturesArePrinted}
+use Rattle.mtc_top.specs.Run.{journals}
+use Rattle.mtc_top.proofs.Exports.{file_bytes}
+
+-- a refusal has another status than 0
+no_stop : (why : Stopped) → stopped_code why ≡ 0 → ⊥
+no_stop BadWords is = omega (arith, is)
+no_stop BadForm is = omega (arith, is)
+no_stop NotAllowed is = omega (arith, is)
+no_stop Missing is = omega (arith, is)
+no_stop Beyond is = omega (arith, is)
+
+module _ {R S D O E : Type 0} (h : HashFunction) (rooms : Rooms R S D) (disks : Disks D)
+    (outs : Sinks O) (errs : Sinks E)
+    (told : (room : R) (name : List ℕ) → rooms.tells room
+    → TellsFile disks.told (rooms.file room name) (rooms.device room name))
+    (bytes : (d : D) (b : List ℕ) → disks.told d ≡ Some b → IsBytes b) where
+  module _ (name : List ℕ) (old : R) (turn : Turn R O E) where
+    -- with status 0 the run answered what this outcome wants, and did so with the one journal
+    record HasDone (wanted : Outcome) : Type 0 where
+      pub reply : Reply
+      pub meets : Meets wanted.answer reply
+      pub code : status_of reply ≡ 0
+      pub text : Prints outs turn.out turn.out_after (out_of reply)
+      pub journals_are : journals h rooms disks outs errs turn.words old turn.room turn.out
+          turn.out_after turn.err turn.err_after ≡ done_with (name ∷ []) wanted.journals
+
+    done_so : (command : CommandValue) → rooms.tells old
+        → HasTurned h rooms disks outs errs old turn → command_of turn.words ≡ Ok command
+        → turn.status ≡ 0 → journals_of command ≡ name ∷ []
+        → HasDone (command_outcome h command (rooms.file old))
+    done_so command tells run spoken_so done named =
+        let a = run.answered (λ five. omega (arith, done, five)) (λ six. omega (arith, done, six))
+        (λ eight. omega (arith, done, eight)) in
+        record {
+          reply = a.reply;
+          meets = subst (λ (r : Result CommandValue WordError).
+              Meets (spoken_outcome h r (rooms.file old)).answer a.reply) spoken_so
+              (a.is (inl tells));
+          code = sym a.code ∙ done;
+          text = a.text;
+          journals_are = ap (λ (r : Result CommandValue WordError).
+              done_with (spoken journals_of r) (spoken_outcome h r (rooms.file old)).journals)
+              spoken_so
+              ∙ ap (λ (names : List (List ℕ)). done_with names
+              (command_outcome h command (rooms.file old)).journals) named;
+        }
+
+    none_stopped : (why : Stopped) (file : Option (List ℕ)) (reason : List ℕ)
+        (dids : List Journaled)
+        → HasDone (record { answer = exactly (refused why file reason); journals = dids }) → ⊥
+    none_stopped why file reason dids done =
+        no_stop why (ap status_of (sym done.meets) ∙ done.code)
+
+    past_bytes : (limit : ℕ) (file : List ℕ) (o : Option (List ℕ)) (next : List ℕ → Outcome)
+        → HasDone (with_bytes limit file o next)
+        → (b : List ℕ) × (o ≡ Some b) × HasDone (next b)
+    past_bytes limit file None next done =
+        absurd (none_stopped Missing (Some file) (codes "Absent") [] done)
+    past_bytes limit file (Some b) next done = go (nat_lt limit (length b)) done
+      where
+        go : (t : Bool) → HasDone (if t then stops_at Beyond file (codes "TooLong") else next b)
+            → (c : List ℕ) × (Some b ≡ Some c) × HasDone (next c)
+        go true done = absurd (none_stopped Beyond (Some file) (codes "TooLong") [] done)
+        go false done = (b, refl, done)
+
+    past_file : (file : List ℕ) (o : Option (List ℕ)) (next : List ℕ → Outcome)
+        → HasDone (with_file file o next) → (b : List ℕ) × (o ≡ Some b) × HasDone (next b)
+    past_file file None next done =
+        absurd (none_stopped Missing (Some file) (codes "Absent") [] done)
+    past_file file (Some b) next done = (b, refl, done)
+
+    past_form : {F W : Type 0} (fault_text : W → List ℕ) (file : List ℕ) (r : Result F W)
+        (next : F → Outcome) → HasDone (with_form fault_text file r next)
+        → (x : F) × (r ≡ Ok x) × HasDone (next x)
+    past_form {F} {W} fault_text file (Ok x) next done = (x, refl, done)
+    past_form {F} {W} fault_text file (Err why) next done =
+        absurd (none_stopped BadForm (Some file) (fault_text why) [] done)
+
+    -- it added this record, and printed this
+    record HasAdded (list : List (List ℕ)) (body text : List ℕ) : Type 0 where
+      pub did : DidWith h rooms disks outs errs old turn name (appended list body)
+      pub printed : Prints outs turn.out turn.out_after text
+
+    added_so : (list : List (List ℕ)) (body text : List ℕ) → HasDone (appends list body text)
+        → HasAdded list body text
+    added_so list body text done = record {
+      did = subst (λ (js : Journals). IsAmong js name (appended list body))
+          (sym done.journals_are) (inl (refl, refl));
+      printed = subst (λ (r : Reply). Prints outs turn.out turn.out_after (out_of r))
+          done.meets done.text;
+    }
+
+    -- ---- `cosign`
+
+    stepped_so : (found : FoundCosigner) (body text : List ℕ) (why : Option CosignError)
+        → HasDone (stepped found body text why) → HasAdded found.records body text
+    stepped_so found body text None done = added_so found.records body text done
+    stepped_so found body text (Some why) done = absurd (none_stopped _ _ _ _ done)
+
+    cosigned_so : (request : List ℕ) → rooms.tells old
+        → HasDone (cosign_outcome h name request (rooms.file old))
+        → HasCosigned h rooms disks outs errs name old turn
+    unfolding cosign_outcome
+    cosigned_so request tells done =
+        let file = past_bytes 16777216 request (rooms.file old request) _ done in
+        let form = past_form form_fault_text request (subtree_in file.0) _ file.2 in
+        let journal = past_file name (rooms.file old name) _ form.2 in
+        let found = past_form open_fault_text name (cosigner_read h journal.0) _ journal.2 in
+        let are = file_bytes disks (rooms.file old name) (rooms.device old name) journal.0 bytes
+        (told old name tells) journal.1 in
+        let stands = found_stands (cosigner_fold h) journal.0 found.0 are found.1 in
+        let r : SubtreeParts = form.0 in
+        let state = found.0.state in
+        let added = stepped_so found.0 (sign_record state.key.next r.start r.end r.hash r.proof)
+        (cosigned_text state r) (cosign_refused h state false (end_behind found.0.records) r)
+        found.2 in
+        record {
+          list = found.0.records;
+          state = state;
+          cosigner_is = stands.1;
+          request = r;
+          did = added.did;
+          printed = added.printed;
+        }
+
+    -- ---- `issue`
+
+    issued_so : (r : RequestParts) (found : FoundLog) (why : Option LogError)
+        → HasDone (issued h r found why)
+        → HasAdded found.records (issued_record h found.state r)
+        (issued_text (length found.state.entries))
+    issued_so r found None done = added_so found.records _ _ done
+    issued_so r found (Some why) done = absurd (none_stopped _ _ _ _ done)
+
+    of_request : (request : List ℕ) → rooms.tells old
+        → HasDone (issue_outcome h name request (rooms.file old))
+        → HasIssued h rooms disks outs errs name old turn
+    unfolding log_outcome work_says
+    of_request request tells done =
+        let file = past_bytes 16777216 request (rooms.file old request) _ done in
+        let form = past_form request_fault_text request (request_of file.0) _ file.2 in
+        let journal = past_file name (rooms.file old name) _ form.2 in
+        let found = past_form log_open_fault name (log_read h journal.0) _ journal.2 in
+        let are = file_bytes disks (rooms.file old name) (rooms.device old name) journal.0 bytes
+        (told old name tells) journal.1 in
+        let stands = found_stands (log_fold h) journal.0 found.0 are found.1 in
+        let state = found.0.state in
+        let added = issued_so form.0 found.0 (add_refusal (view_in state) false
+        (end_behind found.0.records) (issued_entry h state form.0) form.0.key) found.2 in
+        record {
+          list = found.0.records;
+          state = found.0.state;
+          log_is = stands.1;
+          request = form.0;
+          did = added.did;
+          printed = added.printed;
+        }
+
+  pub signatures_printed : SignaturesArePrinted h rooms disks outs errs
+  signatures_printed name request old turn tells run spoken_so done =
+      cosigned_so name old turn request tells
+      (done_so name old turn (cosign name request) tells run spoken_so done refl)
+
+  pub indices_printed : IndicesArePrinted h rooms disks outs errs
+  indices_printed name request old turn tells run spoken_so done =
+      of_request name old turn request tells
+      (done_so name old turn (issue name request) tells run spoken_so done refl)

@@ -1,0 +1,10 @@
+use Rattle.mtc_top.proofs.Printed.{indices_printed, signatures_printed}
+use Rattle.mtc_top.proofs.laws.printed_texts_are_of_their_records.Goals as goal
+
+pub returns-clause-indices : goal.returns-clause-indices
+returns-clause-indices g c = indices_printed g.H.TreeHash.hash g.R.Room g.R.Dsk.Disk g.O.Sink
+    g.E.Sink g.met.R.Room.told_file g.met.R.Dsk.Disk.told_bytes
+
+pub returns-clause-signatures : goal.returns-clause-signatures
+returns-clause-signatures g c = signatures_printed g.H.TreeHash.hash g.R.Room g.R.Dsk.Disk
+    g.O.Sink g.E.Sink g.met.R.Room.told_file g.met.R.Dsk.Disk.told_bytes
