@@ -23,6 +23,7 @@ use Rattle.cosigner_core.specs.Records.{sign_record}
 use Rattle.cosigner_core.specs.Refusals.{cosign_refused}
 use Rattle.cosigner_core.specs.Requests.{SubtreeParts}
 use Rattle.cosigner_core.specs.declared.error.CosignError.{CosignError}
+use Rattle.cosigner_core.proofs.Forms.{subtree_only}
 use Rattle.issuance_log.specs.Folds.{log_fold, view_in}
 use Rattle.issuance_log.specs.Openings.{FoundLog, log_read}
 use Rattle.issuance_log.specs.Refusals.{add_refusal}
@@ -43,6 +44,7 @@ use Rattle.mtc_logs.specs.IssueCommand.{issue_outcome}
 use Rattle.mtc_logs.specs.IssueOutcome.{issued, issued_text, request_fault_text}
 use Rattle.mtc_logs.specs.Works.{journal_outcome as log_outcome}
 use Rattle.mtc_logs.specs.Works.{open_fault_text as log_open_fault, work_says}
+use Rattle.node_history.proofs.Cosigners.{number_added, sign_read}
 use Rattle.mtc_top.specs.Concluded.{Prints}
 use Rattle.mtc_top.specs.Courses.{Turn, HasTurned, DidWith, IsAmong}
 use Rattle.mtc_top.specs.Outcome.{command_outcome, journals_of, spoken, spoken_outcome}
@@ -143,8 +145,9 @@ module _ {R S D O E : Type 0} (h : HashFunction) (rooms : Rooms R S D) (disks : 
     -- ---- `cosign`
 
     stepped_so : (found : FoundCosigner) (body text : List ℕ) (why : Option CosignError)
-        → HasDone (stepped found body text why) → HasAdded found.records body text
-    stepped_so found body text None done = added_so found.records body text done
+        → HasDone (stepped found body text why)
+        → HasAdded found.records body text × (why ≡ None)
+    stepped_so found body text None done = (added_so found.records body text done, refl)
     stepped_so found body text (Some why) done = absurd (none_stopped _ _ _ _ done)
 
     cosigned_so : (request : List ℕ) → rooms.tells old
@@ -159,18 +162,26 @@ module _ {R S D O E : Type 0} (h : HashFunction) (rooms : Rooms R S D) (disks : 
         let are = file_bytes disks (rooms.file old name) (rooms.device old name) journal.0 bytes
         (told old name tells) journal.1 in
         let stands = found_stands (cosigner_fold h) journal.0 found.0 are found.1 in
+        let asked = file_bytes disks (rooms.file old request) (rooms.device old request) file.0
+        bytes (told old request tells) file.1 in
         let r : SubtreeParts = form.0 in
         let state = found.0.state in
-        let added = stepped_so found.0 (sign_record state.key.next r.start r.end r.hash r.proof)
-        (cosigned_text state r) (cosign_refused h state false (end_behind found.0.records) r)
-        found.2 in
+        let body = sign_record state.key.next r.start r.end r.hash r.proof in
+        let added = stepped_so found.0 body (cosigned_text state r)
+        (cosign_refused h state false (end_behind found.0.records) r) found.2 in
+        let signs = sign_read h state r false (end_behind found.0.records)
+        (subtree_only file.0 r asked form.1).1 added.1 in
         record {
           list = found.0.records;
           state = state;
           cosigner_is = stands.1;
+          body = body;
+          did = added.0.did;
+          uses = number_added h found.0.records state body state.key.next r.start r.end r.hash
+              r.proof stands.1 signs;
           request = r;
-          did = added.did;
-          printed = added.printed;
+          signs = signs;
+          printed = added.0.printed;
         }
 
     -- ---- `issue`

@@ -1,5 +1,5 @@
 -- What `issue` and `cosign` print, beside the record that they add.
-use Rattle.std.specs.Prelude.{◌≡◌, ℕ, List, length, Ok}
+use Rattle.std.specs.Prelude.{◌≡◌, ℕ, List, length, Some, Ok}
 use Rattle.byte_forms.specs.Types.{HashFunction}
 use Rattle.disk_core.specs.declared.disk.Disk.{Ghosts as Disks}
 use Rattle.mtc_io.specs.declared.sink.Sink.{Ghosts as Sinks}
@@ -9,13 +9,15 @@ use Rattle.mtc_words.specs.Words.{command_of}
 use Rattle.authority_core.specs.Issues.{issued_record}
 use Rattle.authority_core.specs.Requests.{RequestParts}
 use Rattle.cosigner_core.specs.Folds.{CosignerState, cosigner_of}
-use Rattle.cosigner_core.specs.Records.{sign_record}
+use Rattle.cosigner_core.specs.Records.{step_in}
 use Rattle.cosigner_core.specs.Requests.{SubtreeParts}
+use Rattle.cosigner_core.specs.declared.step.Step.TheVariants.{Sign}
 use Rattle.issuance_log.specs.Folds.{LogState, log_of}
 use Rattle.mtc_answers.specs.Made.{appended}
 use Rattle.mtc_cosigner.specs.CosignerOutcomes.{cosigned_text}
 use Rattle.mtc_logs.specs.IssueOutcome.{issued_text}
 use Rattle.mtc_top.specs.Concluded.{Prints}
+use Rattle.mtc_top.specs.CourseLaws.{UsesKey}
 use Rattle.mtc_top.specs.Courses.{Turn, DidWith, HasTurned}
 
 module _ {R S D O E : Type 0} (h : HashFunction) (rooms : Rooms R S D) (disks : Disks D)
@@ -31,15 +33,19 @@ module _ {R S D O E : Type 0} (h : HashFunction) (rooms : Rooms R S D) (disks : 
         (appended list (issued_record h state request))
     pub printed : Prints outs turn.out turn.out_after (issued_text (length state.entries))
 
-  -- The run added a Sign record to a cosigner with these records, and printed the signature by the
-  -- same one-time key, over the same interval and hash.
+  -- The run added a Sign record to a cosigner with these records, which adds the number of the next
+  -- one-time key to those that were used. It printed the signature by that key, over the same
+  -- interval and hash.
   pub record HasCosigned (name : List ℕ) (old : R) (turn : Turn R O E) : Type 0 where
     pub list : List (List ℕ)
     pub state : CosignerState
     pub cosigner_is : cosigner_of h list ≡ Ok state
+    pub body : List ℕ
+    pub did : DidWith h rooms disks outs errs old turn name (appended list body)
+    pub uses : UsesKey list body state.key.next
     pub request : SubtreeParts
-    pub did : DidWith h rooms disks outs errs old turn name (appended list
-        (sign_record state.key.next request.start request.end request.hash request.proof))
+    pub signs : step_in body
+        ≡ Some (Sign state.key.next request.start request.end request.hash request.proof)
     pub printed : Prints outs turn.out turn.out_after (cosigned_text state request)
 
   -- So it is of each run by this command with status 0.

@@ -91,8 +91,8 @@ pub fn audits_stand<H: TreeHash, R: Room, O: Sink, E: Sink>()
 {}
 
 /// A run of `issue` with status 0 added an entry, and printed its index, which counts the entries
-/// before it. A run of `cosign` with status 0 added a Sign record, and printed the signature by the
-/// same one-time key, over the same interval and hash.
+/// before it. A run of `cosign` with status 0 added a Sign record that uses the next one-time key,
+/// and printed the signature by that key, over the same interval and hash.
 pub fn printed_texts_are_of_their_records<H: TreeHash, R: Room, O: Sink, E: Sink>()
     ensures indices { IndicesArePrinted H.hash R.Room R.Dsk.Disk O.Sink E.Sink }
     ensures signatures { SignaturesArePrinted H.hash R.Room R.Dsk.Disk O.Sink E.Sink }

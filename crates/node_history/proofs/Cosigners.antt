@@ -1,18 +1,37 @@
--- A cosigner keeps the ids and the key with which it began.
-use Rattle.std.proofs.Common.{◌≡◌, ℕ, ◌+◌, List, [], ◌∷◌, Option, Some, Ok, sym, ap, ◌∙◌}
-use Rattle.std.proofs.Common.{option_map}
+-- A cosigner keeps the ids and the key with which it began, and a Sign adds its number.
+use Rattle.std.proofs.Common.{◌≡◌, ℕ, ◌+◌, ◌^◌, ◌<◌, Bool, true, false, not, nat_lt, List, []}
+use Rattle.std.proofs.Common.{◌∷◌, ◌++◌, Option, None, Some, Ok, Err, option_map, refl, sym, ap}
+use Rattle.std.proofs.Common.{◌∙◌, arith}
+use Rattle.std.proofs.lemmas.Bool.{ltb-true}
+use Rattle.std.specs.Prelude.{if◌then◌else◌}
+use Rattle.std.specs.Str.{bytes_eq}
 use Rattle.byte_forms.specs.Readings.{◌>>=◌, some_or}
 use Rattle.byte_forms.specs.Types.{HashFunction, Text}
 use Rattle.byte_forms.proofs.Steps.{bind_ok, ok_is, some_or_ok}
 use Rattle.hss_core.specs.Hss.{one_level_public}
 use Rattle.journal_core.specs.Folds.{state_behind, taken_from}
+use Rattle.lms_core.specs.Heights.{height}
+use Rattle.lms_core.specs.declared.heights.LmsType.{LmsType}
+use Rattle.lms_core.specs.declared.heights.LmsType.TheVariants.{H5, H10, H15, H20, H25}
+use Rattle.tree_core.specs.Subtree.{is_subtree}
+use Rattle.cosigner_core.specs.Checkpoints.{has_subtree}
+use Rattle.cosigner_core.specs.Counts.{index_before, indices_in, indices_of}
 use Rattle.cosigner_core.specs.Folds.{CosignerState, after_step, begun, cosigner_fold, cosigner_of}
 use Rattle.cosigner_core.specs.Folds.{key_count, new_cosigner, next_state, progress_of}
 use Rattle.cosigner_core.specs.Folds.{with_progress}
 use Rattle.cosigner_core.specs.Progress.{is_allowed, with_step}
-use Rattle.cosigner_core.specs.Records.{step_in}
+use Rattle.cosigner_core.specs.Records.{sign_record, step_in}
+use Rattle.cosigner_core.specs.Refusals.{cosign_refused, earlier, journal_refusal}
+use Rattle.cosigner_core.specs.Refusals.{subtree_refusal}
+use Rattle.cosigner_core.specs.Requests.{IsSubtreeRequest, SubtreeParts}
+use Rattle.cosigner_core.specs.declared.error.CosignError.{CosignError}
+use Rattle.cosigner_core.specs.declared.error.CosignError.TheVariants.{BadProof, BadSubtree, Beyond}
+use Rattle.cosigner_core.specs.declared.error.CosignError.TheVariants.{Exhausted, WrongLog}
+use Rattle.cosigner_core.specs.declared.step.Step.{Step}
+use Rattle.cosigner_core.specs.declared.step.Step.TheVariants.{Advance, Sign}
 use Rattle.cosigner_core.specs.declared.settings.CosignerSettings.{CosignerSettings}
 use Rattle.cosigner_core.proofs.FirstRecords.{then_some}
+use Rattle.cosigner_core.proofs.Spelled.{step_again}
 use Rattle.cosigner_core.proofs.Tagged.{some_value, when_some}
 use Rattle.node_history.specs.Rules.{StartsWith}
 use Rattle.node_history.specs.declared.start.NodeStart.TheVariants.{Cosigner}
@@ -60,3 +79,84 @@ of_first h settings public first bodies s begins is =
       same.1,
       ap one_level_public same.2 ∙ begins.1.1,
     )
+
+-- ---- a Sign that is added
+
+-- the last of five tests
+last_test : (a b c d e : Bool) (v w x y z : CosignError) → (if a then Some v
+    else (if b then Some w else (if c then Some x else (if d then Some y
+    else (if not e then Some z else None))))) ≡ None → e ≡ true
+last_test true b c d e v w x y z is = let wrong : Some v ≡ None = is in absurd cc
+last_test false true c d e v w x y z is = let wrong : Some w ≡ None = is in absurd cc
+last_test false false true d e v w x y z is = let wrong : Some x ≡ None = is in absurd cc
+last_test false false false true e v w x y z is = let wrong : Some y ≡ None = is in absurd cc
+last_test false false false false true v w x y z is = refl
+last_test false false false false false v w x y z is =
+    let wrong : Some z ≡ None = is in absurd cc
+
+none_first : (one two : Option CosignError) → earlier one two ≡ None → one ≡ None
+none_first None two is = refl
+none_first (Some why) two is = is
+
+-- a one-time key is left
+key_left : (h : HashFunction) (s : CosignerState) (r : SubtreeParts)
+    → subtree_refusal h s r ≡ None → s.key.next < key_count s
+unfolding subtree_refusal
+key_left h s r is =
+    ltb-true s.key.next (key_count s) (last_test (not (bytes_eq r.log s.log))
+    (not (is_subtree r.start r.end)) (nat_lt s.held.size r.end)
+    (not (has_subtree h s.held r.start r.end r.hash r.proof)) (nat_lt s.key.next (key_count s))
+    WrongLog BadSubtree (Beyond s.held.size) BadProof Exhausted is)
+
+-- its number takes four bytes
+few_keys : (lms : LmsType) (n : ℕ) → n < 2 ^ height lms → n < 2 ^ 32
+few_keys H5 n less = omega (arith, less)
+few_keys H10 n less = omega (arith, less)
+few_keys H15 n less = omega (arith, less)
+few_keys H20 n less = omega (arith, less)
+few_keys H25 n less = omega (arith, less)
+
+-- the record of a request that isn't refused is read as the Sign by the next one-time key
+pub sign_read : (h : HashFunction) (s : CosignerState) (r : SubtreeParts) (broken : Bool) (end : ℕ)
+    → IsSubtreeRequest r → cosign_refused h s broken end r ≡ None
+    → step_in (sign_record s.key.next r.start r.end r.hash r.proof)
+    ≡ Some (Sign s.key.next r.start r.end r.hash r.proof)
+sign_read h s r broken end fits is =
+    step_again (Sign s.key.next r.start r.end r.hash r.proof) (record {
+      short_word = few_keys s.key.key.lms s.key.next (key_left h s r
+          (none_first (subtree_refusal h s r) (journal_refusal broken end
+          (sign_record s.key.next r.start r.end r.hash r.proof)) is));
+      start_word = fits.start;
+      end_word = fits.end;
+      sized = fits.hash;
+      all_hashes = fits.proof;
+    })
+
+-- a Sign adds its number to those before it
+indices_on : (bodies : List Text) (body : Text) (index start end : ℕ) (hash : Text)
+    (proof : List Text) → step_in body ≡ Some (Sign index start end hash proof)
+    → indices_in (bodies ++ body ∷ []) ≡ indices_in bodies ++ index ∷ []
+unfolding indices_in
+indices_on [] body index start end hash proof is = ap (λ (o : Option Step). index_before o []) is
+indices_on (x ∷ bodies) body index start end hash proof is =
+    ap (index_before (step_in x)) (indices_on bodies body index start end hash proof is)
+    ∙ before_more (step_in x) (indices_in bodies) index
+  where
+    before_more : (o : Option Step) (xs : List ℕ) (n : ℕ)
+        → index_before o (xs ++ n ∷ []) ≡ index_before o xs ++ n ∷ []
+    before_more None xs n = refl
+    before_more (Some (Advance size root proof)) xs n = refl
+    before_more (Some (Sign index start end hash proof)) xs n = refl
+
+none_made : (k : ℕ) (s : CosignerState) → Err k ≡ Ok s → ⊥
+none_made k s is = cc
+
+pub number_added : (h : HashFunction) (list : List Text) (s : CosignerState) (body : Text)
+    (index start end : ℕ) (hash : Text) (proof : List Text) → cosigner_of h list ≡ Ok s
+    → step_in body ≡ Some (Sign index start end hash proof)
+    → indices_of (list ++ body ∷ []) ≡ indices_of list ++ index ∷ []
+unfolding indices_of state_behind
+number_added h [] s body index start end hash proof made is =
+    absurd (none_made 0 s made)
+number_added h (first ∷ bodies) s body index start end hash proof made is =
+    indices_on bodies body index start end hash proof is

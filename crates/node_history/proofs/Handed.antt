@@ -1,11 +1,11 @@
 -- The bodies that were handed out, behind each step of an end.
-use Rattle.std.proofs.Common.{◌≡◌, ℕ, ◌+◌, ◌<◌, ◌≤◌, Bool, List, [], ◌∷◌, ◌++◌, length, map, get_or}
+use Rattle.std.proofs.Common.{◌≡◌, ℕ, ◌+◌, ◌≤◌, List, [], ◌∷◌, ◌++◌, length, map}
 use Rattle.std.proofs.Common.{refl, ap, sym, ◌∙◌, append_assoc, arith, suc}
-use Rattle.std.proofs.lemmas.List.{append-nil, get_or_append_left, length-append, map-append}
+use Rattle.std.proofs.lemmas.List.{get_or_append_left, length-append, map-append}
 use Rattle.std.proofs.Math.Seq.{get_or-append_seam}
 use Rattle.byte_forms.specs.Types.{Text}
 use Rattle.node_history.specs.Laws.{AreAtMost, Begins, body_in, handed_bodies}
-use Rattle.node_history.specs.Nodes.{HistoryState, begin, hand, settle, stop}
+use Rattle.node_history.specs.Nodes.{HistoryState}
 
 -- the body of a number stays where more bodies are settled
 one_there : (xs ys : List Text) (n : ℕ) → n ≤ length xs → body_in (xs ++ ys) n ≡ body_in xs n

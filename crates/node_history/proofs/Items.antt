@@ -1,7 +1,7 @@
 -- A log keeps its items whatever records come behind its own.
 use Rattle.std.proofs.Common.{◌≡◌, ℕ, ◌+◌, List, [], ◌∷◌, ◌++◌, length}
 use Rattle.std.proofs.Common.{Option, Some, None, Ok, refl, ap, sym, ◌∙◌, subst, append_assoc}
-use Rattle.std.proofs.Common.{slice_get, zero, suc}
+use Rattle.std.proofs.Common.{slice_get}
 use Rattle.std.proofs.lemmas.List.{append-nil, length-append}
 use Rattle.byte_forms.specs.Types.{HashFunction, Text}
 use Rattle.byte_forms.proofs.Steps.{bind_ok, ok_is, some_or_ok}

@@ -1,5 +1,5 @@
 -- Two Sign records of one journal with one number are one record.
-use Rattle.std.proofs.Common.{◌≡◌, ℕ, zero, suc, ◌+◌, ◌≤◌, List, [], ◌∷◌, ◌++◌, Option, None, Some}
+use Rattle.std.proofs.Common.{◌≡◌, ℕ, suc, ◌+◌, ◌≤◌, List, [], ◌∷◌, ◌++◌, Option, None, Some}
 use Rattle.std.proofs.Common.{refl, ap, sym, subst, ◌∙◌, arith, append_assoc, slice_get}
 use Rattle.byte_forms.specs.Types.{Text}
 use Rattle.cosigner_core.specs.Counts.{index_before, indices_in, indices_of}
