@@ -171,7 +171,11 @@ def first_rows(statement):
     for (dotted, name), count in sorted(found.items()):
         crate, _, place = dotted.partition(".")
         rows.append(f"| `{name}` | `{crate}/{place.replace('.', '/')}` | {count} |")
-    return rows + [f"| {len(found)} definitions | | {sum(found.values())} |", ""]
+    named = named_first(statement)
+    own, types, _ = reached(named)
+    first_types = {declared(dotted) for dotted, _ in named if ".specs.declared." in dotted}
+    rows.append(f"| {len(found)} definitions, and {len(first_types)} types of the code | | {sum(found.values())} |")
+    return rows + [f"| {len(own)} definitions with all that these rest on, and {len(types)} types | | {sum(map(len, own.values()))} |", ""]
 
 
 def table():

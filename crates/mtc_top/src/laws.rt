@@ -100,8 +100,10 @@ pub fn printed_texts_are_of_their_records<H: TreeHash, R: Room, O: Sink, E: Sink
 
 /// The promise as a whole. In no course a one-time key of a journal signs two messages, and each
 /// record behind which a byte went out is in each list with which its journal may be recovered.
-/// Where a store accepts a certificate by a signature that was handed out so, or by a landmark,
-/// `audit` prints that the entry stands, or two different strings with one hash.
+/// Where a store accepts a certificate by a signature that was handed out so, or by a landmark, a
+/// run of `audit` over the wanted list, and over an export that was printed behind the signature,
+/// prints that the entry stands, or two different strings with one hash. Or it ends with status 5,
+/// 6 or 8.
 pub fn the_whole_promise<H: TreeHash, R: Room, O: Sink, E: Sink>()
     ensures once { KeysSignOnce H.hash R.Room R.Dsk.Disk O.Sink E.Sink }
     ensures messages { KeysSignOneMessage H.hash R.Room R.Dsk.Disk O.Sink E.Sink }
