@@ -1,0 +1,56 @@
+//! Courses of a hundred turns.
+use crate::course::{Course, Tally};
+use crate::difference::Difference;
+use std::alloc::Global;
+use std::test::Fail;
+
+// What came about in a course and before it; or the number of the turn in which the course and its
+// history differ, and in what.
+fn played(alloc: Global, seed: u64, tally: Tally) -> Result<Tally, (u64, Difference)> {
+    let mut course = match Course::begin(alloc, seed, tally) {
+        Ok(course) => course,
+        Err(why) => return Err((0, why)),
+    };
+    for turn in 1..101 {
+        if let Err(why) = course.turn() {
+            return Err((turn, why));
+        }
+    }
+    Ok(course.tally)
+}
+
+const NOTHING: Tally = Tally {
+    refused: 0,
+    failed: 0,
+    kept: 0,
+    gone: 0,
+    silent: 0,
+    cut: 0,
+    stops: 0,
+};
+
+// Whether each kind of end came.
+fn has_all(tally: Tally) -> bool {
+    let counts = [
+        tally.refused,
+        tally.failed,
+        tally.kept,
+        tally.gone,
+        tally.silent,
+        tally.cut,
+        tally.stops,
+    ];
+    counts.iter().all(|count| *count > 0)
+}
+
+#[test]
+fn courses_are_histories(rt: HostRuntime) -> Result<(), Fail> {
+    let mut tally = NOTHING;
+    for seed in [1, 2] {
+        let ended = played(rt.alloc(), seed, tally);
+        assert!(rt; ended.is_ok(), "seed {seed}: {ended:?}");
+        tally = ended.unwrap_or(NOTHING);
+    }
+    assert!(rt; has_all(tally), "{tally:?}");
+    Ok(())
+}

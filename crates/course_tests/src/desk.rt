@@ -1,0 +1,121 @@
+//! A room in memory, runs of the program over it, and what a stop of the machine leaves of it.
+ghost use Rattle.std.specs.Prelude.{◌≡◌};
+
+use crate::difference::Difference;
+use disk_core::MemDisk;
+use mtc_io::{Bytes, MemSink};
+use mtc_top::{MemRoom, Room, run};
+use std::alloc::Global;
+use tree_core::Sha;
+
+/// How standard output behaves in a run: so many bytes a call, and the calls that fail.
+#[derive(Drop)]
+pub struct Outlet {
+    pub per_call: usize,
+    pub failing: Vec<u64>,
+}
+
+impl Outlet {
+    /// One that doesn't fail.
+    pub fn whole(alloc: Global) -> Outlet {
+        Outlet {
+            per_call: 100,
+            failing: Vec::new(alloc),
+        }
+    }
+}
+
+/// How a run ended.
+#[derive(Drop)]
+pub struct Ran {
+    pub status: u8,
+    pub out: Vec<u8>,
+}
+
+/// A room of which nothing is out.
+#[derive(Drop)]
+pub struct Desk {
+    alloc: Global,
+    room: MemRoom,
+    ghost idle: { ⟦<MemRoom as Room>⟧.lent room ≡ 0 },
+}
+
+impl Desk {
+    /// A room without a file.
+    pub fn new(alloc: Global) -> Desk {
+        Desk {
+            alloc,
+            room: MemRoom::new(alloc),
+        }
+    }
+
+    /// Puts a file with these bytes in its place.
+    pub fn place(&mut self, name: &str, bytes: Bytes) -> Result<(), Difference> {
+        self.room.place(name, bytes, Vec::new(self.alloc))?;
+        Ok(())
+    }
+
+    /// What a read of a file gives.
+    pub fn bytes(&self, name: &str) -> Result<&[u8], Difference> {
+        match self.room.bytes(name) {
+            Some(bytes) => Ok(bytes),
+            None => Err(Difference::Journal),
+        }
+    }
+
+    /// The same file on a new device, which fails these calls.
+    pub fn renew(&mut self, name: &str, failing: Vec<u64>) -> Result<(), Difference> {
+        let bytes = Bytes::copy_of(self.alloc, self.bytes(name)?)?;
+        self.room.place(name, bytes, failing)?;
+        Ok(())
+    }
+
+    // A copy of a file's device.
+    fn device(&mut self, name: &str) -> Result<MemDisk, Difference> {
+        let Ok(lent) = self.room.disk(name) else {
+            return Err(Difference::Journal);
+        };
+        let copy = lent.lend();
+        self.room.keep(name, lent);
+        Ok(copy?)
+    }
+
+    /// One of the images that a stop of the machine may leave of a file.
+    pub fn image(&mut self, name: &str, pick: u64) -> Result<Bytes, Difference> {
+        let image = self.device(name)?.crash(pick)?;
+        Ok(Bytes::copy_of(self.alloc, image.bytes())?)
+    }
+
+    /// The machine stops, and leaves that image.
+    pub fn crash(&mut self, name: &str, pick: u64) -> Result<(), Difference> {
+        let image = self.image(name, pick)?;
+        self.place(name, image)
+    }
+
+    // The words of a text, as the program gets them.
+    fn words(&self, text: &str) -> Result<Vec<String>, Difference> {
+        let mut words = Vec::new(self.alloc);
+        for word in text.split_whitespace() {
+            words.push(String::from_str(self.alloc, word)?)?;
+        }
+        Ok(words)
+    }
+
+    /// Runs the program.
+    pub fn run(&mut self, text: &str, outlet: Outlet) -> Result<Ran, Difference> {
+        let words = self.words(text)?;
+        let mut out = MemSink::new(self.alloc, outlet.per_call.max(1), outlet.failing);
+        let mut err = MemSink::new(self.alloc, 100, Vec::new(self.alloc));
+        let status = run::<Sha, _, _, _>(
+            self.alloc,
+            words.as_slice(),
+            &mut self.room,
+            &mut out,
+            &mut err,
+        );
+        Ok(Ran {
+            status,
+            out: Vec::from_slice(self.alloc, out.taken())?,
+        })
+    }
+}
