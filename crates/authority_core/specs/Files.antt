@@ -74,8 +74,8 @@ unfoldable pub common_name_data : Data → Option Text
 common_name_data d = option_and_then (λ text. if_passes is_common_name text) (as_str d)
 
 -- A public key, in base64.
-unfoldable pub key_data : Data → Option Text
-key_data d = option_and_then (λ bytes. if_passes is_public_key bytes) (bytes_data d)
+unfoldable pub public_key_data : Data → Option Text
+public_key_data d = option_and_then (λ bytes. if_passes is_public_key bytes) (bytes_data d)
 
 -- The request as a whole.
 unfoldable pub checked_request : RequestParts → Result RequestParts RequestError
@@ -90,7 +90,7 @@ request_in ms = do
   not_after ← field NotAfter time_data (get_member (codes "not_after") ms)
   names ← field Dns names_data (get_member (codes "dns") ms)
   common_name ← field_or_none CommonName common_name_data (get_member (codes "common_name") ms)
-  key ← field PublicKey key_data (get_member (codes "key") ms)
+  key ← field PublicKey public_key_data (get_member (codes "key") ms)
   checked_request (record {
     validity = record { not_before = not_before; not_after = not_after };
     names = names;

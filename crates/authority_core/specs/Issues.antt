@@ -3,7 +3,7 @@ use Rattle.std.specs.Prelude.{ℕ, Option, Result, Ok, Err}
 use Rattle.byte_forms.specs.Types.{Text, HashFunction}
 use Rattle.issuance_log.specs.Folds.{LogState, with_item}
 use Rattle.issuance_log.specs.Records.{entry_record}
-use Rattle.issuance_log.specs.Refusals.{KeepsTo}
+use Rattle.issuance_log.specs.Refusals.{ItemKeepsTo}
 use Rattle.issuance_log.specs.declared.error.LogError.{LogError}
 use Rattle.issuance_log.specs.declared.error.LogError.TheVariants as log_error
 use Rattle.authority_core.specs.Issuing.{entry_for}
@@ -31,10 +31,11 @@ of_log (Err (Log why)) = Err why
 -- The answer keeps to the refusal that the log's state and journal settle, where memory may be
 -- refused before any test.
 abbrev pub KeepsToOrMemory : Option LogError → Result ℕ LogError → Type 0
-KeepsToOrMemory wanted (Ok index) = KeepsTo wanted (Ok index)
-KeepsToOrMemory wanted (Err log_error.Full) = KeepsTo wanted (Err log_error.Full)
-KeepsToOrMemory wanted (Err log_error.TooLarge) = KeepsTo wanted (Err log_error.TooLarge)
-KeepsToOrMemory wanted (Err log_error.NoSuchEntry) = KeepsTo wanted (Err log_error.NoSuchEntry)
-KeepsToOrMemory wanted (Err log_error.NothingNew) = KeepsTo wanted (Err log_error.NothingNew)
-KeepsToOrMemory wanted (Err (log_error.Append why)) = KeepsTo wanted (Err (log_error.Append why))
+KeepsToOrMemory wanted (Ok index) = ItemKeepsTo wanted (Ok index)
+KeepsToOrMemory wanted (Err log_error.Full) = ItemKeepsTo wanted (Err log_error.Full)
+KeepsToOrMemory wanted (Err log_error.TooLarge) = ItemKeepsTo wanted (Err log_error.TooLarge)
+KeepsToOrMemory wanted (Err log_error.NoSuchEntry) = ItemKeepsTo wanted (Err log_error.NoSuchEntry)
+KeepsToOrMemory wanted (Err log_error.NothingNew) = ItemKeepsTo wanted (Err log_error.NothingNew)
+KeepsToOrMemory wanted (Err (log_error.Append why)) = ItemKeepsTo wanted
+    (Err (log_error.Append why))
 KeepsToOrMemory wanted (Err log_error.Memory) = Unit {0}

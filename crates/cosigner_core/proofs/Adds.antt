@@ -18,11 +18,11 @@ use Rattle.journal_core.proofs.Appends.{all_kept, untouched_after, untouched_mom
 use Rattle.journal_core.specs.declared.error.AppendError.{AppendError}
 use Rattle.journal_core.specs.declared.error.AppendError.TheVariants.{Broken, Failed, Full}
 use Rattle.cosigner_core.specs.Folds.{CosignerState}
-use Rattle.cosigner_core.specs.Kept.{IsKept, kept_of, kept_records}
-use Rattle.cosigner_core.specs.Refusals.{IsOfRequest, KeepsTo, earlier}
+use Rattle.cosigner_core.specs.SettledRecords.{IsSettledAs, settled_of, settled_records}
+use Rattle.cosigner_core.specs.Refusals.{IsOfRequest, CosignKeepsTo, earlier}
 use Rattle.cosigner_core.specs.Refusals.{journal_refusal}
 use Rattle.cosigner_core.specs.Words.{CosignerAppends, CosignerLeaves, cosigner_broken}
-use Rattle.cosigner_core.specs.Words.{cosigner_disk, cosigner_end, state_of}
+use Rattle.cosigner_core.specs.Words.{cosigner_disk, cosigner_end, cosigner_state}
 use Rattle.cosigner_core.specs.declared.cosigner.Cosigner.{Cosigner}
 use Rattle.cosigner_core.specs.declared.error.CosignError.{CosignError}
 use Rattle.cosigner_core.specs.declared.error.CosignError.TheVariants.{WrongLog, NotNewer}
@@ -56,13 +56,13 @@ err_is (Err x) e is = ap Err (sym is)
 -- a journal whose disk had no call
 unmoved : {D : Type 0} {g : Ghosts D} (h : HashFunction) (s : CosignerState)
     (old new : Journal D g) → IsUntouched old new → Keeps h s old
-    → Keeps h s new × (kept_records new ≡ kept_records old)
+    → Keeps h s new × (settled_records new ≡ settled_records old)
 unmoved {D} {g} h s old new same keeps = (
-  subst (λ (d : D). (bytes : Text) → g.told d ≡ Some bytes → IsKept h s (end_of new) bytes)
+  subst (λ (d : D). (bytes : Text) → g.told d ≡ Some bytes → IsSettledAs h s (end_of new) bytes)
       (sym same.disk) (subst (λ (n : ℕ). (bytes : Text) → g.told (disk_of old) ≡ Some bytes
-      → IsKept h s n bytes) (sym same.end) keeps),
-  ap (λ (d : D). option_map (kept_of (end_of new)) (g.told d)) same.disk
-      ∙ ap (λ (n : ℕ). option_map (kept_of n) (g.told (disk_of old))) same.end,
+      → IsSettledAs h s n bytes) (sym same.end) keeps),
+  ap (λ (d : D). option_map (settled_of (end_of new)) (g.told d)) same.disk
+      ∙ ap (λ (n : ℕ). option_map (settled_of n) (g.told (disk_of old))) same.end,
 )
 
 module _ {D : Type 0} {g : Ghosts D} where
@@ -81,25 +81,25 @@ module _ {D : Type 0} {g : Ghosts D} where
     pub afterwards : is_broken old ≡ false → IfSome (records old) (λ list.
         (c : Text) → g.may_leave (disk_of new) c → StandsForEither list body c)
 
-  -- at any moment of it, and behind it, of the records that are kept
+  -- at any moment of it, and behind it, of the settled records
   moments : (old new : Journal D g) (body : Text) (result : Result (Unit {0}) AppendError)
-      → Appended old new body result → is_broken old ≡ false → IfSome (kept_records old) (λ list.
+      → Appended old new body result → is_broken old ≡ false → IfSome (settled_records old) (λ list.
       LeavesOnly g (disk_of old) (disk_of new) (StandsForEither list body))
   moments old new body result did sound =
       of_sound old (λ list. LeavesOnly g (disk_of old) (disk_of new) (StandsForEither list body))
       sound (did.any_moment sound)
 
   behind_it : (old new : Journal D g) (body : Text) (result : Result (Unit {0}) AppendError)
-      → Appended old new body result → is_broken old ≡ false → IfSome (kept_records old) (λ list.
+      → Appended old new body result → is_broken old ≡ false → IfSome (settled_records old) (λ list.
       (c : Text) → g.may_leave (disk_of new) c → StandsForEither list body c)
   behind_it old new body result did sound =
       of_sound old (λ list. (c : Text) → g.may_leave (disk_of new) c
       → StandsForEither list body c) sound (did.afterwards sound)
 
-  -- the records that are kept, where nothing was appended
+  -- the settled records, where nothing was appended
   pub stay_kept : (h : HashFunction) (s : CosignerState) (old new : Journal D g) (body : Text)
       (why : AppendError) → Appended old new body (Err why) → Keeps h s old
-      → Keeps h s new × (kept_records new ≡ kept_records old)
+      → Keeps h s new × (settled_records new ≡ settled_records old)
   stay_kept h s old new body Failed did keeps =
       let sound = was_sound (is_broken old) did.broken.1 in
       failed_keeps h s old new body sound did.leaves.end (did.as_read sound) did.told keeps
@@ -147,7 +147,7 @@ module _ {H D : Type 0} {hashes : Hashes H} {g : Ghosts D} where
       })
 
   grown_by : (old new : Cosigner H D hashes g) (body : Text) (next : CosignerState)
-      → Appended old.journal new.journal body (Ok tt) → state_of new ≡ next
+      → Appended old.journal new.journal body (Ok tt) → cosigner_state new ≡ next
       → CosignerAppends body next old new (Ok tt)
   grown_by old new body next did made =
       let was = sound_records old.journal did.leaves.was_sound in
@@ -171,7 +171,7 @@ module _ {H D : Type 0} {hashes : Hashes H} {g : Ghosts D} where
 
   pub grown : (old new : Cosigner H D hashes g) (written body : Text) (next : CosignerState)
       → written ≡ body
-      → Appended old.journal new.journal written (Ok tt) → state_of new ≡ next
+      → Appended old.journal new.journal written (Ok tt) → cosigner_state new ≡ next
       → CosignerAppends body next old new (Ok tt)
   grown old new written body next is did made =
       subst (λ (b : Text). CosignerAppends b next old new (Ok tt)) is
@@ -179,14 +179,15 @@ module _ {H D : Type 0} {hashes : Hashes H} {g : Ghosts D} where
 
   unappended : (h : HashFunction) (old new : Cosigner H D hashes g) (body : Text)
       (next : CosignerState) (why : AppendError)
-      → Appended old.journal new.journal body (Err why) → state_of new ≡ state_of old
-      → Keeps h (state_of old) old.journal → CosignerAppends body next old new (Err (Append why))
+      → Appended old.journal new.journal body (Err why) → cosigner_state new ≡ cosigner_state old
+      → Keeps h (cosigner_state old) old.journal → CosignerAppends body next old new
+      (Err (Append why))
   unappended h old new body next Failed did same keeps = record {
     leaves = record {
       cause = did.leaves.cause;
       state = same;
       end = did.leaves.end;
-      records = (stay_kept h (state_of old) old.journal new.journal body Failed did keeps).1;
+      records = (stay_kept h (cosigner_state old) old.journal new.journal body Failed did keeps).1;
       was_sound = was_sound (cosigner_broken old) did.broken.1;
       broken = did.leaves.broken;
     };
@@ -224,8 +225,8 @@ module _ {H D : Type 0} {hashes : Hashes H} {g : Ghosts D} where
       (next : CosignerState)
       (result : Result (Unit {0}) CosignError) (why : AppendError)
       → IsErrAnd result (λ e. e ≡ Append why) → written ≡ body
-      → Appended old.journal new.journal written (Err why) → state_of new ≡ state_of old
-      → Keeps h (state_of old) old.journal → CosignerAppends body next old new result
+      → Appended old.journal new.journal written (Err why) → cosigner_state new ≡ cosigner_state old
+      → Keeps h (cosigner_state old) old.journal → CosignerAppends body next old new result
   not_appended h old new written body next result why is same did made keeps =
       subst (CosignerAppends body next old new) (err_is result (Append why) is)
       (subst (λ (b : Text). CosignerAppends b next old new (Err (Append why))) same
@@ -233,7 +234,7 @@ module _ {H D : Type 0} {hashes : Hashes H} {g : Ghosts D} where
 
 -- ---- which refusal it is
 
-keeps_itself : (why : CosignError) → IsOfRequest why → KeepsTo (Some why) (Err why)
+keeps_itself : (why : CosignError) → IsOfRequest why → CosignKeepsTo (Some why) (Err why)
 keeps_itself WrongLog kind = refl
 keeps_itself (NotNewer held) kind = refl
 keeps_itself BadSubtree kind = refl
@@ -243,20 +244,22 @@ keeps_itself Exhausted kind = refl
 keeps_itself (Append why) kind = absurd kind
 
 pub keeps_first : (first second : Option CosignError) (why : CosignError) → IsOfRequest why
-    → Err why ≡ answer_of first → KeepsTo (earlier first second) (Err why)
+    → Err why ≡ answer_of first → CosignKeepsTo (earlier first second) (Err why)
 keeps_first None second why kind is = let wrong : Err why ≡ Ok tt = is in cc
 keeps_first (Some other) second why kind is =
     let same : why ≡ other = cc in
-    subst (λ (e : CosignError). KeepsTo (Some e) (Err why)) same (keeps_itself why kind)
+    subst (λ (e : CosignError). CosignKeepsTo (Some e) (Err why)) same (keeps_itself why kind)
 
 pub none_of : (first : Option CosignError) → Ok tt ≡ answer_of first → first ≡ None
 none_of None is = refl
 none_of (Some other) is = let wrong : Ok tt ≡ Err other = is in cc
 
 pub keeps_second : (first second : Option CosignError) (result : Result (Unit {0}) CosignError)
-    → Ok tt ≡ answer_of first → KeepsTo second result → KeepsTo (earlier first second) result
+    → Ok tt ≡ answer_of first → CosignKeepsTo second result
+    → CosignKeepsTo (earlier first second) result
 keeps_second first second result is keeps =
-    subst (λ (o : Option CosignError). KeepsTo (earlier o second) result) (sym (none_of first is))
+    subst (λ (o : Option CosignError). CosignKeepsTo (earlier o second) result)
+    (sym (none_of first is))
     keeps
 
 -- what the journal refuses
@@ -264,7 +267,7 @@ keeps_why : (broken : Bool) (end : ℕ) (body : Text) (why : AppendError)
     → (IsErrOf (told why) Broken ↔ IsTrue broken)
     → (IsErrOf (told why) Full
     ↔ (broken ≡ false) × (most_bytes < end + 5 + length body))
-    → KeepsTo (journal_refusal broken end body) (Err (Append why))
+    → CosignKeepsTo (journal_refusal broken end body) (Err (Append why))
 keeps_why true end body Broken by_broken by_full = refl
 keeps_why false end body Broken by_broken by_full =
     let wrong : false ≡ true = by_broken.0 refl in cc
@@ -289,16 +292,16 @@ pub keeps_append : (broken : Bool) (end : ℕ) (written body : Text)
     → (IsErrOf (told why) Broken ↔ IsTrue broken)
     → (IsErrOf (told why) Full
     ↔ (broken ≡ false) × (most_bytes < end + 5 + length written))
-    → KeepsTo (journal_refusal broken end body) result
+    → CosignKeepsTo (journal_refusal broken end body) result
 keeps_append broken end written body result why is same by_broken by_full =
-    subst (KeepsTo (journal_refusal broken end body)) (err_is result (Append why) is)
-    (subst (λ (b : Text). KeepsTo (journal_refusal broken end b) (Err (Append why))) same
+    subst (CosignKeepsTo (journal_refusal broken end body)) (err_is result (Append why) is)
+    (subst (λ (b : Text). CosignKeepsTo (journal_refusal broken end b) (Err (Append why))) same
     (keeps_why broken end written why by_broken by_full))
 
 pub keeps_ok : (broken : Bool) (end : ℕ) (body : Text)
     → (IsErrOf done Broken ↔ IsTrue broken)
     → (IsErrOf done Full ↔ (broken ≡ false) × (most_bytes < end + 5 + length body))
-    → KeepsTo (journal_refusal broken end body) (Ok tt)
+    → CosignKeepsTo (journal_refusal broken end body) (Ok tt)
 keeps_ok true end body by_broken by_full =
     let wrong : done ≡ told Broken = by_broken.1 refl in cc
 keeps_ok false end body by_broken by_full =

@@ -11,7 +11,8 @@ use Rattle.journal_core.proofs.Bodies.{none_left, rest_at}
 use Rattle.lms_core.specs.Heights.{height}
 use Rattle.lms_core.specs.declared.private_key.PrivateKey.{PrivateKey}
 use Rattle.cosigner_core.specs.Counts.{indices_in}
-use Rattle.cosigner_core.specs.Folds.{CosignerState, after_step, begun, cosigner_fold, cosigner_of}
+use Rattle.cosigner_core.specs.Folds.{CosignerState, after_step, begun_cosigner, cosigner_fold}
+use Rattle.cosigner_core.specs.Folds.{cosigner_of}
 use Rattle.cosigner_core.specs.Folds.{key_count, new_cosigner, next_state, progress_of}
 use Rattle.cosigner_core.specs.Folds.{with_progress}
 use Rattle.cosigner_core.specs.Progress.{first_progress, is_allowed, may_follow_cosigner}
@@ -182,7 +183,7 @@ new_agrees h s secret bodies =
 pub begins_so : (h : HashFunction) (first : Text) (s : CosignerSettings) (secret : Text)
     (bodies : List Text) → cosigner_in first ≡ Some (s, secret)
     → is_ok (cosigner_of h (first ∷ bodies)) ≡ may_follow_cosigner h (2 ^ height s.lms) bodies
-unfolding state_behind begun
+unfolding state_behind begun_cosigner
 begins_so h first s secret bodies is =
     ap (λ (o : Option (CosignerSettings × Text)). is_ok (some_or 0 (option_map
     (λ (x : CosignerSettings × Text). new_cosigner h x.0 x.1) o)
@@ -204,7 +205,7 @@ pub only_begins : (h : HashFunction) (list : List Text) (t : CosignerState)
     × ((s : CosignerSettings) × ((secret : Text) × ((list ≡ first ∷ bodies)
     × (cosigner_in first ≡ Some (s, secret))
     × (may_follow_cosigner h (2 ^ height s.lms) bodies ≡ true)))))
-unfolding state_behind begun
+unfolding state_behind begun_cosigner
 only_begins h [] t is = absurd (no_cosigner 0 t is)
 only_begins h (first ∷ bodies) t is = go (cosigner_in first) refl
   where

@@ -11,7 +11,8 @@ use Rattle.journal_core.specs.Folds.{state_behind, taken_from}
 use Rattle.lms_core.specs.Heights.{height}
 use Rattle.cosigner_core.specs.Checkpoints.{has_subtree, is_front_of}
 use Rattle.cosigner_core.specs.Counts.{CountsUp, index_before, indices_in, indices_of}
-use Rattle.cosigner_core.specs.Folds.{CosignerState, after_step, begun, cosigner_fold, cosigner_of}
+use Rattle.cosigner_core.specs.Folds.{CosignerState, after_step, begun_cosigner, cosigner_fold}
+use Rattle.cosigner_core.specs.Folds.{cosigner_of}
 use Rattle.cosigner_core.specs.Folds.{having_signed, holding, key_count, new_cosigner, next_state}
 use Rattle.cosigner_core.specs.Records.{cosigner_in, step_in}
 use Rattle.cosigner_core.specs.declared.step.Step.{Step}
@@ -87,8 +88,8 @@ counts_from h k s (body ∷ bodies) t is =
     (counts_from h (k + 1) step.0 bodies t step.2)
 
 counts_begun : (h : HashFunction) (first : Text) (s t : CosignerState) (indices : List ℕ)
-    → begun h first ≡ Some s → CountsFrom s indices t → (s.key.next ≡ 0)
-unfolding begun
+    → begun_cosigner h first ≡ Some s → CountsFrom s indices t → (s.key.next ≡ 0)
+unfolding begun_cosigner
 counts_begun h first s t indices is counts = go (cosigner_in first) is
   where
     go : (o : Option (CosignerSettings × Text))
@@ -102,11 +103,11 @@ pub counts_up : (h : HashFunction) (list : List Text) (s : CosignerState)
 unfolding state_behind indices_of
 counts_up h [] s is = cc
 counts_up h (first ∷ bodies) s is =
-    let step = bind_ok (some_or 0 (begun h first))
+    let step = bind_ok (some_or 0 (begun_cosigner h first))
     (λ (u : CosignerState). taken_from (cosigner_fold h) 1 u bodies) s is in
     let counts = counts_from h 1 step.0 bodies s step.2 in
     let start = counts_begun h first step.0 s (indices_in bodies)
-    (some_or_ok 0 (begun h first) step.0 step.1) counts in
+    (some_or_ok 0 (begun_cosigner h first) step.0 step.1) counts in
     record {
       each = λ i index found. let e = counts.each i index found in omega arith;
       count = let e = counts.count in omega (arith, e);

@@ -28,7 +28,8 @@ use Rattle.cosigner_core.specs.ExportReading.{all_exported_at, export_front_at, 
 use Rattle.cosigner_core.specs.ExportReading.{export_in, export_key_at, export_of, exported_at}
 use Rattle.cosigner_core.specs.ExportReading.{export_progress, signing_keys, steps_left}
 use Rattle.cosigner_core.specs.Exports.{export_text, front_text, records_text}
-use Rattle.cosigner_core.specs.Folds.{CosignerState, after_step, begun, cosigner_fold, cosigner_of}
+use Rattle.cosigner_core.specs.Folds.{CosignerState, after_step, begun_cosigner, cosigner_fold}
+use Rattle.cosigner_core.specs.Folds.{cosigner_of}
 use Rattle.cosigner_core.specs.Folds.{key_count, new_cosigner, next_state, progress_of}
 use Rattle.cosigner_core.specs.Folds.{with_progress}
 use Rattle.cosigner_core.specs.Progress.{first_progress, is_allowed, progress_by, steps_in}
@@ -261,13 +262,13 @@ pub export_again : (h : HashFunction) (bytes : Text) (list : List Text) (s : Cos
     → (steps : List Step) × (steps_in (drop 1 list) ≡ Some steps)
     × (export_in h (export_text s list) ≡ Ok (Some (export_of s steps)))
     × (export_progress h (export_of s steps) ≡ Some (progress_of s))
-unfolding state_behind begun
+unfolding state_behind begun_cosigner
 export_again h bytes [] s are stands is =
     let wrong : Err 0 ≡ Ok s = is in absurd cc
 export_again h bytes (first ∷ bodies) s are stands is =
-    let step = bind_ok (some_or 0 (begun h first))
+    let step = bind_ok (some_or 0 (begun_cosigner h first))
     (λ (u : CosignerState). taken_from (cosigner_fold h) 1 u bodies) s is in
-    go (cosigner_in first) refl step.0 (some_or_ok 0 (begun h first) step.0 step.1) step.2
+    go (cosigner_in first) refl step.0 (some_or_ok 0 (begun_cosigner h first) step.0 step.1) step.2
   where
     go : (o : Option (CosignerSettings × Text)) → cosigner_in first ≡ o → (u : CosignerState)
         → option_map (λ x. new_cosigner h x.0 x.1) o ≡ Some u

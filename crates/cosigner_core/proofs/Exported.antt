@@ -14,7 +14,7 @@ use Rattle.mtc_io.specs.Streams.{AppendsPrefix}
 use Rattle.hss_core.specs.Hss.{one_level_public}
 use Rattle.cosigner_core.specs.Exports.{export_text, front_text, records_text}
 use Rattle.cosigner_core.specs.Folds.{CosignerState, cosigner_of}
-use Rattle.cosigner_core.specs.Kept.{IsKept, kept_of}
+use Rattle.cosigner_core.specs.SettledRecords.{IsSettledAs, settled_of}
 use Rattle.cosigner_core.proofs.Copies.{OfRecords, prefix_behind, prefix_front}
 use Rattle.cosigner_core.proofs.Names.{first-long}
 
@@ -54,36 +54,36 @@ module _ (h : HashFunction) (s : CosignerState) (end : ℕ) where
 
 module _ (h : HashFunction) (s : CosignerState) (end : ℕ) (told : Option Text)
     (a b c : Option (List ℕ))
-    (kept : (bytes : Text) → told ≡ Some bytes → IsKept h s end bytes)
+    (kept : (bytes : Text) → told ≡ Some bytes → IsSettledAs h s end bytes)
     (are_bytes : (bytes : Text) → told ≡ Some bytes → IsBytes bytes)
     (front : Appends a b (front_of s)) where
   -- of the records that are copied to what is exported
   exported : (P : Text → Type 0) (Q : List Text → Type 0)
       → ((list : List Text) → P (records_text (drop 1 list)) → Q list)
       → OfRecords told (second_place s end) end (λ bytes bodies. P (records_text bodies))
-      → IfSome (option_map (kept_of end) told) Q
+      → IfSome (option_map (settled_of end) told) Q
   exported P Q then rest = go told kept are_bytes rest
     where
-      go : (o : Option Text) → ((bytes : Text) → o ≡ Some bytes → IsKept h s end bytes)
+      go : (o : Option Text) → ((bytes : Text) → o ≡ Some bytes → IsSettledAs h s end bytes)
           → ((bytes : Text) → o ≡ Some bytes → IsBytes bytes)
           → OfRecords o (second_place s end) end (λ bytes bodies. P (records_text bodies))
-          → IfSome (option_map (kept_of end) o) Q
+          → IfSome (option_map (settled_of end) o) Q
       go None keeps are is = tt
       go (Some bytes) keeps are is =
           let k = keeps bytes refl in
-          let list = kept_of end bytes in
+          let list = settled_of end bytes in
           let there = second h s end bytes list (are bytes refl) k.there k.last k.made in
           then list (is (drop 1 list) there.0 there.1)
 
   pub export_whole : OfRecords told (second_place s end) end
       (λ bytes bodies. Appends b c (records_text bodies))
-      → IfSome (option_map (kept_of end) told) (λ list. Appends a c (export_text s list))
+      → IfSome (option_map (settled_of end) told) (λ list. Appends a c (export_text s list))
   export_whole rest = exported (Appends b c) (λ list. Appends a c (export_text s list))
       (λ list is. Appends-trans a b c (front_of s) (records_text (drop 1 list)) front is) rest
 
   pub export_prefix : OfRecords told (second_place s end) end
       (λ bytes bodies. AppendsPrefix b c (records_text bodies))
-      → IfSome (option_map (kept_of end) told) (λ list. AppendsPrefix a c (export_text s list))
+      → IfSome (option_map (settled_of end) told) (λ list. AppendsPrefix a c (export_text s list))
   export_prefix rest = exported (AppendsPrefix b c)
       (λ list. AppendsPrefix a c (export_text s list))
       (λ list is. prefix_behind a b c (front_of s) (records_text (drop 1 list)) front is) rest

@@ -22,7 +22,7 @@ use Rattle.tls_wire.specs.declared.cursor.Short.{Short}
 use Rattle.tls_wire.specs.declared.fault.AnchorBytesError.{AnchorBytesError}
 use Rattle.tls_wire.proofs.AnchorForm.{anchor_takes}
 use Rattle.cosigner_core.specs.Records.{FitsCosigner, cosigner_at, cosigner_in, cosigner_record}
-use Rattle.cosigner_core.specs.Records.{first_by_tag, founded, settings_with, signing_type}
+use Rattle.cosigner_core.specs.Records.{first_by_tag, founded, cosigner_settings_with, signing_type}
 use Rattle.cosigner_core.specs.Records.{whole_of, with_ids}
 use Rattle.cosigner_core.specs.declared.settings.CosignerSettings.{CosignerSettings}
 use Rattle.cosigner_core.proofs.Spelled.{CosignerFields, FitCosigner, cosigner_fields}
@@ -93,7 +93,7 @@ record AreSettings (x : CosignerFields) (s : CosignerSettings) (secret : Text) :
 settings_of : (x : CosignerFields) (s : CosignerSettings) (secret : Text) → IsBytes x.0
     → IsBytes x.1.0 → founded x ≡ Some (s, secret) → AreSettings x s secret
 settings_of x s secret id_bytes log_bytes is =
-    let made = pair_of (settings_with x.0 x.1.0 x.1.1.0 x.1.1.1.0) is in
+    let made = pair_of (cosigner_settings_with x.0 x.1.0 x.1.1.0 x.1.1.1.0) is in
     let lms = then_some (λ (l : LmsType). option_and_then (λ (t : OtsType). with_ids l t
     (anchor_of x.0) (anchor_of x.1.0)) (type_of_code x.1.1.1.0)) (signing_type x.1.1.0) s made.0 in
     let ots = then_some (λ (t : OtsType). with_ids lms.0 t (anchor_of x.0) (anchor_of x.1.0))

@@ -1,4 +1,4 @@
--- The records that are kept of a cosigner's journal, over an append and without one.
+-- The settled records of a cosigner's journal, over an append and without one.
 use Rattle.std.proofs.Common.{◌≡◌, ℕ, ◌+◌, ◌-◌, ◌<◌, ◌≤◌, true, false, List, [], ◌∷◌, ◌++◌, length}
 use Rattle.std.proofs.Common.{Option, Some, None, IfSome, option_map, ◌⊎◌, inl, inr, Ok, refl, sym}
 use Rattle.std.proofs.Common.{ap, ◌∙◌, subst, arith}
@@ -12,7 +12,7 @@ use Rattle.journal_core.specs.Words.{disk_of, end_of, is_broken, records}
 use Rattle.journal_core.specs.declared.journal.Journal.{Journal}
 use Rattle.journal_core.proofs.Records.{behind-append, records_before-are}
 use Rattle.cosigner_core.specs.Folds.{CosignerState, cosigner_of}
-use Rattle.cosigner_core.specs.Kept.{IsKept, kept_of, kept_records}
+use Rattle.cosigner_core.specs.SettledRecords.{IsSettledAs, settled_of, settled_records}
 use Rattle.cosigner_core.proofs.Tagged.{some_value}
 
 -- ---- in the bytes
@@ -23,16 +23,16 @@ record HoldsUpTo (bytes : Text) (list : List Text) (end : ℕ) : Type 0 where
   pub last : end ≡ end_behind list
   pub within : behind 16 list < length bytes
 
-kept-are : (bytes : Text) (list : List Text) (end : ℕ) → HoldsUpTo bytes list end
-    → kept_of end bytes ≡ list
-kept-are bytes list end is =
+settled-are : (bytes : Text) (list : List Text) (end : ℕ) → HoldsUpTo bytes list end
+    → settled_of end bytes ≡ list
+settled-are bytes list end is =
     records_before-are bytes list (end - 1) is.there (omega (arith, is.last))
     (omega (arith, is.last, is.within))
 
-kept_made : (h : HashFunction) (s : CosignerState) (bytes : Text) (list : List Text) (end : ℕ)
-    → HoldsUpTo bytes list end → cosigner_of h list ≡ Ok s → IsKept h s end bytes
-kept_made h s bytes list end is made =
-    let same = sym (kept-are bytes list end is) in record {
+settled_made : (h : HashFunction) (s : CosignerState) (bytes : Text) (list : List Text) (end : ℕ)
+    → HoldsUpTo bytes list end → cosigner_of h list ≡ Ok s → IsSettledAs h s end bytes
+settled_made h s bytes list end is made =
+    let same = sym (settled-are bytes list end is) in record {
       there = subst (AreRecordsAt bytes 16) same is.there;
       last = subst (λ (l : List Text). end ≡ end_behind l) same is.last;
       made = subst (λ (l : List Text). cosigner_of h l ≡ Ok s) same made;
@@ -76,29 +76,29 @@ none_told P other same = let wrong : None ≡ Some other = same in cc
 
 module _ (end : ℕ) (images : Text → Type 0) where
   same_records : (told : Option Text) → Each told (λ bytes. IsSettled bytes images end)
-      → option_map (kept_of end) told ≡ option_map records_of told
+      → option_map (settled_of end) told ≡ option_map records_of told
   same_records None settled = refl
   same_records (Some bytes) settled =
-      ap Some (kept-are bytes (records_of bytes) end
+      ap Some (settled-are bytes (records_of bytes) end
       (of_settled bytes images end (settled bytes refl)))
 
   each_made : (h : HashFunction) (s : CosignerState) (told : Option Text)
       → Each told (λ bytes. IsSettled bytes images end)
       → IfSome (option_map records_of told) (λ list. cosigner_of h list ≡ Ok s)
-      → Each told (IsKept h s end)
-  each_made h s None settled made = none_told (IsKept h s end)
-  each_made h s (Some bytes) settled made = only_some (IsKept h s end) bytes
-      (kept_made h s bytes (records_of bytes) end
+      → Each told (IsSettledAs h s end)
+  each_made h s None settled made = none_told (IsSettledAs h s end)
+  each_made h s (Some bytes) settled made = only_some (IsSettledAs h s end) bytes
+      (settled_made h s bytes (records_of bytes) end
       (of_settled bytes images end (settled bytes refl)) made)
 
   -- an append that failed
   failed_each : (h : HashFunction) (s : CosignerState) (body : Text) (old new : Option Text)
-      → Each old (λ bytes. IsSettled bytes images end) → Each old (IsKept h s end)
+      → Each old (λ bytes. IsSettled bytes images end) → Each old (IsSettledAs h s end)
       → IfSome (option_map records_of old) (λ list. IfSome new (StandsForEither list body))
       → is_some (option_map records_of new) ≡ is_some (option_map records_of old)
-      → Each new (IsKept h s end)
-      × (option_map (kept_of end) new ≡ option_map (kept_of end) old)
-  failed_each h s body None None settled kept either same = (none_told (IsKept h s end), refl)
+      → Each new (IsSettledAs h s end)
+      × (option_map (settled_of end) new ≡ option_map (settled_of end) old)
+  failed_each h s body None None settled kept either same = (none_told (IsSettledAs h s end), refl)
   failed_each h s body None (Some now) settled kept either same =
       let wrong : true ≡ false = same in absurd cc
   failed_each h s body (Some was) None settled kept either same =
@@ -108,10 +108,10 @@ module _ (end : ℕ) (images : Text → Type 0) where
       let held = of_settled was images end (settled was refl) in
       let holds = of_either now list body end held.last either in
       let made : cosigner_of h list ≡ Ok s =
-      subst (λ (l : List Text). cosigner_of h l ≡ Ok s) (kept-are was list end held)
+      subst (λ (l : List Text). cosigner_of h l ≡ Ok s) (settled-are was list end held)
       (kept was refl).made in (
-        only_some (IsKept h s end) now (kept_made h s now list end holds made),
-        ap Some (kept-are now list end holds ∙ sym (kept-are was list end held)),
+        only_some (IsSettledAs h s end) now (settled_made h s now list end holds made),
+        ap Some (settled-are now list end holds ∙ sym (settled-are was list end held)),
       )
 
 -- The same of other options that are equal to these.
@@ -126,14 +126,14 @@ both_told P t u o p first second is =
 module _ {D : Type 0} {g : Ghosts D} where
   -- unless an append has failed they are all its records
   pub sound_records : (journal : Journal D g) → is_broken journal ≡ false
-      → kept_records journal ≡ records journal
+      → settled_records journal ≡ records journal
   sound_records journal sound =
       same_records (end_of journal) (g.may_leave (disk_of journal)) (g.told (disk_of journal))
       (journal.settled sound)
 
   -- so what holds of all holds of them
   pub of_sound : (journal : Journal D g) (P : List Text → Type 0) → is_broken journal ≡ false
-      → IfSome (records journal) P → IfSome (kept_records journal) P
+      → IfSome (records journal) P → IfSome (settled_records journal) P
   of_sound journal P sound is =
       subst (λ (o : Option (List Text)). IfSome o P) (sym (sound_records journal sound)) is
 
@@ -141,7 +141,7 @@ module _ {D : Type 0} {g : Ghosts D} where
     -- the records of a journal make this cosigner
     abbrev pub Keeps : Journal D g → Type 0
     Keeps journal = (bytes : Text) → g.told (disk_of journal) ≡ Some bytes
-        → IsKept h s (end_of journal) bytes
+        → IsSettledAs h s (end_of journal) bytes
 
     pub keeps_sound : (journal : Journal D g) → is_broken journal ≡ false
         → IfSome (records journal) (λ list. cosigner_of h list ≡ Ok s) → Keeps journal
@@ -150,11 +150,11 @@ module _ {D : Type 0} {g : Ghosts D} where
         (journal.settled sound) made
 
     pub made_of : (journal : Journal D g) → Keeps journal
-        → IfSome (kept_records journal) (λ list. cosigner_of h list ≡ Ok s)
+        → IfSome (settled_records journal) (λ list. cosigner_of h list ≡ Ok s)
     made_of journal keeps = go (g.told (disk_of journal)) keeps
       where
-        go : (told : Option Text) → Each told (IsKept h s (end_of journal))
-            → IfSome (option_map (kept_of (end_of journal)) told)
+        go : (told : Option Text) → Each told (IsSettledAs h s (end_of journal))
+            → IfSome (option_map (settled_of (end_of journal)) told)
             (λ list. cosigner_of h list ≡ Ok s)
         go None kept = tt
         go (Some bytes) kept = (kept bytes refl).made
@@ -170,12 +170,12 @@ module _ {D : Type 0} {g : Ghosts D} where
         → end_of new ≡ end_of old
         → IfSome (records old) (λ list. IfSome (g.told (disk_of new)) (StandsForEither list body))
         → is_some (records new) ≡ is_some (records old) → Keeps old
-        → Keeps new × (kept_records new ≡ kept_records old)
+        → Keeps new × (settled_records new ≡ settled_records old)
     failed_keeps old new body sound end either same keeps =
         let is = failed_each (end_of old) (g.may_leave (disk_of old)) h s body
         (g.told (disk_of old)) (g.told (disk_of new)) (old.settled sound) keeps either same in
         let back = sym end in (
-          subst (λ (n : ℕ). Each (g.told (disk_of new)) (IsKept h s n)) back is.0,
-          subst (λ (n : ℕ). option_map (kept_of n) (g.told (disk_of new)) ≡ kept_records old)
+          subst (λ (n : ℕ). Each (g.told (disk_of new)) (IsSettledAs h s n)) back is.0,
+          subst (λ (n : ℕ). option_map (settled_of n) (g.told (disk_of new)) ≡ settled_records old)
               back is.1,
         )

@@ -6,7 +6,8 @@ use Rattle.byte_forms.specs.Places.{IsBytes}
 use Rattle.byte_forms.specs.Readings.{some_or}
 use Rattle.byte_forms.proofs.Steps.{bind_ok, ok_is, some_or_ok}
 use Rattle.journal_core.specs.Folds.{state_behind, taken_from}
-use Rattle.cosigner_core.specs.Folds.{CosignerState, after_step, begun, cosigner_fold, cosigner_of}
+use Rattle.cosigner_core.specs.Folds.{CosignerState, after_step, begun_cosigner, cosigner_fold}
+use Rattle.cosigner_core.specs.Folds.{cosigner_of}
 use Rattle.cosigner_core.specs.Folds.{key_count, new_cosigner, next_state, progress_of}
 use Rattle.cosigner_core.specs.Folds.{with_progress}
 use Rattle.cosigner_core.specs.Progress.{is_allowed, with_step}
@@ -50,8 +51,8 @@ names_stay h k s (body ∷ bodies) t is =
     record { id = rest.id ∙ first.id; log = rest.log ∙ first.log }
 
 begun_long : (h : HashFunction) (first : Text) (s : CosignerState) → IsBytes first
-    → begun h first ≡ Some s → length first ≡ 59 + length s.id + length s.log
-unfolding begun
+    → begun_cosigner h first ≡ Some s → length first ≡ 59 + length s.id + length s.log
+unfolding begun_cosigner
 begun_long h first s bytes is = go (cosigner_in first) refl is
   where
     go : (o : Option (CosignerSettings × Text)) → cosigner_in first ≡ o
@@ -73,10 +74,10 @@ pub first-long : (h : HashFunction) (first : Text) (bodies : List Text) (s : Cos
     → length first ≡ 59 + length s.id + length s.log
 unfolding state_behind
 first-long h first bodies s bytes is =
-    let step = bind_ok (some_or 0 (begun h first))
+    let step = bind_ok (some_or 0 (begun_cosigner h first))
     (λ (u : CosignerState). taken_from (cosigner_fold h) 1 u bodies) s is in
     let long = begun_long h first step.0 bytes
-    (some_or_ok 0 (begun h first) step.0 step.1) in
+    (some_or_ok 0 (begun_cosigner h first) step.0 step.1) in
     let named = names_stay h 1 step.0 bodies s step.2 in
     let id = ap length named.id in
     let log = ap length named.log in

@@ -7,10 +7,10 @@ use Rattle.journal_core.specs.Openings.{opening_disk, read_list, last_body, HasR
 use Rattle.journal_core.specs.Readings.{HasFolded}
 use Rattle.journal_core.specs.declared.opening.Opening.{Opening}
 use Rattle.journal_core.proofs.FoldSteps.{refused_first, refused_next}
-use Rattle.cosigner_core.specs.Faults.{refusal_at}
-use Rattle.cosigner_core.specs.Folds.{CosignerState, begun, next_state, cosigner_fold}
-use Rattle.cosigner_core.specs.Openings.{HasCauseOf}
-use Rattle.cosigner_core.specs.Results.{Finds, Takes}
+use Rattle.cosigner_core.specs.Faults.{cosigner_refusal_at}
+use Rattle.cosigner_core.specs.Folds.{CosignerState, begun_cosigner, next_state, cosigner_fold}
+use Rattle.cosigner_core.specs.Openings.{HasCosignerCause}
+use Rattle.cosigner_core.specs.Results.{CosignerFinds, CosignerTakes}
 use Rattle.cosigner_core.specs.declared.error.RecordError.{RecordError}
 use Rattle.cosigner_core.specs.declared.error.RecordError.TheVariants.{Unfit, Memory}
 
@@ -20,8 +20,8 @@ module _ {D : Type 0} {g : Ghosts D} (h : HashFunction) (old new : Opening D g) 
   -- the record with this number is not taken
   pub cause_taken : (s t : CosignerState) (k : ℕ) (why : RecordError)
       → IfSome (read_list old) (λ list. k ≡ length list) → HasFolded (cosigner_fold h) s old
-      → Takes (next_state h s body) s (Err why) t
-      → HasCauseOf g h (opening_disk old) (opening_disk new) (refusal_at k why)
+      → CosignerTakes (next_state h s body) s (Err why) t
+      → HasCosignerCause g h (opening_disk old) (opening_disk new) (cosigner_refusal_at k why)
   cause_taken s t k Unfit count was takes =
       refused_next (cosigner_fold h) old new body last read looks s k count was takes.0
   cause_taken s t k Memory count was takes = tt
@@ -29,8 +29,8 @@ module _ {D : Type 0} {g : Ghosts D} (h : HashFunction) (old new : Opening D g) 
   -- nor is the first one
   pub cause_begun : (why : RecordError)
       → read_list old ≡ option_map (λ _. []) (g.told (opening_disk old))
-      → Finds (λ (s : CosignerState). s) (begun h body) (Err why)
-      → HasCauseOf g h (opening_disk old) (opening_disk new) (refusal_at 0 why)
+      → CosignerFinds (λ (s : CosignerState). s) (begun_cosigner h body) (Err why)
+      → HasCosignerCause g h (opening_disk old) (opening_disk new) (cosigner_refusal_at 0 why)
   cause_begun Unfit none finds = refused_first (cosigner_fold h) old new body last read
       looks none finds
   cause_begun Memory none finds = tt

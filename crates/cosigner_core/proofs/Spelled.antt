@@ -23,7 +23,8 @@ use Rattle.tls_wire.specs.declared.cursor.Short.{Short}
 use Rattle.tls_wire.proofs.AnchorForm.{anchor_again}
 use Rattle.tls_wire.proofs.Numbers.{bytes_form, number_form, wide8, wide32}
 use Rattle.tls_wire.proofs.Vectors.{vector_form}
-use Rattle.cosigner_core.specs.Folds.{CosignerState, after_step, begun, cosigner_fold, cosigner_of}
+use Rattle.cosigner_core.specs.Folds.{CosignerState, after_step, begun_cosigner, cosigner_fold}
+use Rattle.cosigner_core.specs.Folds.{cosigner_of}
 use Rattle.cosigner_core.specs.Folds.{new_cosigner, next_state}
 use Rattle.cosigner_core.specs.Reading.{hash_at, proof_at, short_fault, u64_at}
 use Rattle.cosigner_core.specs.Records.{FitsCosigner, FitsStep}
@@ -31,7 +32,8 @@ use Rattle.cosigner_core.specs.declared.step.Step.TheVariants.{Advance, Sign}
 use Rattle.cosigner_core.specs.Records.{advance_record, advance_step_at, cosigner_at}
 use Rattle.cosigner_core.specs.declared.step.Step.{Step}
 use Rattle.cosigner_core.specs.Records.{cosigner_in, cosigner_record, first_by_tag, founded}
-use Rattle.cosigner_core.specs.Records.{settings_with, sign_record, sign_step_at, signing_type}
+use Rattle.cosigner_core.specs.Records.{cosigner_settings_with, sign_record, sign_step_at}
+use Rattle.cosigner_core.specs.Records.{signing_type}
 use Rattle.cosigner_core.specs.Records.{step_by_tag, step_in, step_record, advance_of, sign_of}
 use Rattle.cosigner_core.specs.Records.{index_at, whole_of}
 use Rattle.cosigner_core.specs.declared.settings.CosignerSettings.{CosignerSettings}
@@ -248,7 +250,7 @@ width_short W4 = omega arith
 width_short W8 = omega arith
 
 settings_again : (s : CosignerSettings) (secret : Text) → FitsCosigner s secret
-    → settings_with s.id s.log (lms_code s.lms) (typecode s.ots) ≡ Some s
+    → cosigner_settings_with s.id s.log (lms_code s.lms) (typecode s.ots) ≡ Some s
 settings_again s secret fits =
     rw (
       type_again s.lms fits.small,
@@ -276,7 +278,7 @@ cosigner_again s secret fits =
 pub cosigner_created : (h : HashFunction) (s : CosignerSettings) (secret : Text)
     → FitsCosigner s secret
     → cosigner_of h (cosigner_record s secret ∷ []) ≡ Ok (new_cosigner h s secret)
-unfolding begun
+unfolding begun_cosigner
 cosigner_created h s secret fits =
     state_begins (cosigner_fold h) (cosigner_record s secret) (new_cosigner h s secret)
     (ap (option_map (λ (x : CosignerSettings × Text). new_cosigner h x.0 x.1))

@@ -38,7 +38,7 @@ HasExportCause disk sink read written (Err Write) = (read ≡ disk) × Rose sink
 
 module _ {D : Type 0} {g : Ghosts D} where
   -- the disk of a journal was only looked at, and the journal is as it was
-  pub record IsRead (old new : Journal D g) : Type 0 where
+  pub record IsLookedOn (old new : Journal D g) : Type 0 where
     pub list : records new ≡ records old
     pub end : end_of new ≡ end_of old
     pub broken : is_broken new ≡ is_broken old

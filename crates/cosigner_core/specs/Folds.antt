@@ -71,8 +71,8 @@ after_step h s step =
     then Some (with_progress s (with_step (progress_of s) step)) else None
 
 -- the cosigner that a first record begins
-unfoldable pub begun : HashFunction → Text → Option CosignerState
-begun h body = option_map (λ x. new_cosigner h x.0 x.1) (cosigner_in body)
+unfoldable pub begun_cosigner : HashFunction → Text → Option CosignerState
+begun_cosigner h body = option_map (λ x. new_cosigner h x.0 x.1) (cosigner_in body)
 
 -- the cosigner behind one record more, or none where the record breaks the rules
 unfoldable pub next_state : HashFunction → CosignerState → Text → Option CosignerState
@@ -81,7 +81,12 @@ next_state h s body = option_and_then (after_step h s) (step_in body)
 -- A cosigner as a kind of journal.
 abbrev pub cosigner_fold : HashFunction → Fold CosignerState CosignerOpenError
 cosigner_fold h =
-    record { begins = begun h; takes = next_state h; bad_record = BadRecord; not_read = Open }
+    record {
+      begins = begun_cosigner h;
+      takes = next_state h;
+      bad_record = BadRecord;
+      not_read = Open;
+    }
 
 -- The cosigner of a journal with these records, or the number of the first record that breaks the
 -- rules. Without a record the first one is missing.

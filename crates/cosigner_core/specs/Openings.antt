@@ -18,12 +18,12 @@ cosigner_read h bytes = read_by (cosigner_fold h) bytes
 
 -- the cause of a refusal, over the disk before the call and after it: the bytes, a fault, or want
 -- of memory
-abbrev pub HasCauseOf : {D : Type 0} → Ghosts D → HashFunction → D → D → CosignerOpenError
+abbrev pub HasCosignerCause : {D : Type 0} → Ghosts D → HashFunction → D → D → CosignerOpenError
     → Type 0
-HasCauseOf g h old new (BadRecord k) =
+HasCosignerCause g h old new (BadRecord k) =
     AreRefused (cosigner_fold h) (g.told old) (BadRecord k)
-HasCauseOf g h old new (Open why) = IsCauseOf g (cosigner_fold h) old new why
+HasCosignerCause g h old new (Open why) = IsCauseOf g (cosigner_fold h) old new why
 
 -- no fault was counted, unless it is the refusal
-abbrev pub CountsNoOther : {D : Type 0} → Ghosts D → D → D → CosignerOpenError → Type 0
-CountsNoOther g old new why = why ≢ Open open_error.Failed → g.faults new ≡ g.faults old
+abbrev pub CosignerCountsNoOther : {D : Type 0} → Ghosts D → D → D → CosignerOpenError → Type 0
+CosignerCountsNoOther g old new why = why ≢ Open open_error.Failed → g.faults new ≡ g.faults old

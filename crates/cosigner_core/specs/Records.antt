@@ -84,15 +84,15 @@ with_ids lms ots (Ok id) (Err fault) = None
 with_ids lms ots (Err fault) log = None
 
 -- settings, where the codes are those of a key that signs
-abbrev pub settings_with : Text → Text → ℕ → ℕ → Option CosignerSettings
-settings_with id log lms ots =
+abbrev pub cosigner_settings_with : Text → Text → ℕ → ℕ → Option CosignerSettings
+cosigner_settings_with id log lms ots =
     option_and_then (λ l. option_and_then (λ t. with_ids l t (anchor_of id) (anchor_of log))
     (type_of_code ots)) (signing_type lms)
 
 -- settings, and the secret beside them
 abbrev pub founded : Text × (Text × (ℕ × (ℕ × Text))) → Option (CosignerSettings × Text)
 founded x =
-    option_map (λ s. (s, x.1.1.1.1)) (settings_with x.0 x.1.0 x.1.1.0 x.1.1.1.0)
+    option_map (λ s. (s, x.1.1.1.1)) (cosigner_settings_with x.0 x.1.0 x.1.1.0 x.1.1.1.0)
 
 -- by the tag of a first record; any other breaks the rules
 abbrev pub first_by_tag : Result (ℕ × At) Short → Option (CosignerSettings × Text)

@@ -70,14 +70,14 @@ IsOfRequest Exhausted = Unit {0}
 IsOfRequest (Append why) = ⊥
 
 -- The answer keeps to that refusal. A fault may be told where there is none.
-abbrev pub KeepsTo : Option CosignError → Result (Unit {0}) CosignError → Type 0
-KeepsTo wanted (Ok done) = wanted ≡ None
-KeepsTo wanted (Err WrongLog) = wanted ≡ Some WrongLog
-KeepsTo wanted (Err (NotNewer held)) = wanted ≡ Some (NotNewer held)
-KeepsTo wanted (Err BadSubtree) = wanted ≡ Some BadSubtree
-KeepsTo wanted (Err (Beyond held)) = wanted ≡ Some (Beyond held)
-KeepsTo wanted (Err BadProof) = wanted ≡ Some BadProof
-KeepsTo wanted (Err Exhausted) = wanted ≡ Some Exhausted
-KeepsTo wanted (Err (Append append_error.Broken)) = wanted ≡ Some (Append append_error.Broken)
-KeepsTo wanted (Err (Append append_error.Full)) = wanted ≡ Some (Append append_error.Full)
-KeepsTo wanted (Err (Append append_error.Failed)) = wanted ≡ None
+abbrev pub CosignKeepsTo : Option CosignError → Result (Unit {0}) CosignError → Type 0
+CosignKeepsTo wanted (Ok done) = wanted ≡ None
+CosignKeepsTo wanted (Err WrongLog) = wanted ≡ Some WrongLog
+CosignKeepsTo wanted (Err (NotNewer held)) = wanted ≡ Some (NotNewer held)
+CosignKeepsTo wanted (Err BadSubtree) = wanted ≡ Some BadSubtree
+CosignKeepsTo wanted (Err (Beyond held)) = wanted ≡ Some (Beyond held)
+CosignKeepsTo wanted (Err BadProof) = wanted ≡ Some BadProof
+CosignKeepsTo wanted (Err Exhausted) = wanted ≡ Some Exhausted
+CosignKeepsTo wanted (Err (Append append_error.Broken)) = wanted ≡ Some (Append append_error.Broken)
+CosignKeepsTo wanted (Err (Append append_error.Full)) = wanted ≡ Some (Append append_error.Full)
+CosignKeepsTo wanted (Err (Append append_error.Failed)) = wanted ≡ None

@@ -5,14 +5,14 @@ use Rattle.cosigner_core.specs.declared.error.RecordError.{RecordError}
 use Rattle.cosigner_core.specs.declared.error.RecordError.TheVariants.{Unfit, Memory}
 
 -- what was wanted is found, or there is none, or memory was refused
-abbrev pub Finds : {X Y : Type 0} → (X → Y) → Option Y → Result X RecordError → Type 0
-Finds view wanted (Ok x) = wanted ≡ Some (view x)
-Finds view wanted (Err Unfit) = wanted ≡ None
-Finds view wanted (Err Memory) = Unit {0}
+abbrev pub CosignerFinds : {X Y : Type 0} → (X → Y) → Option Y → Result X RecordError → Type 0
+CosignerFinds view wanted (Ok x) = wanted ≡ Some (view x)
+CosignerFinds view wanted (Err Unfit) = wanted ≡ None
+CosignerFinds view wanted (Err Memory) = Unit {0}
 
 -- the cosigner becomes what was wanted; where there is none it stays
-abbrev pub Takes : Option CosignerState → CosignerState → Result (Unit {0}) RecordError
+abbrev pub CosignerTakes : Option CosignerState → CosignerState → Result (Unit {0}) RecordError
     → CosignerState → Type 0
-Takes wanted old (Ok done) new = wanted ≡ Some new
-Takes wanted old (Err Unfit) new = (wanted ≡ None) × (new ≡ old)
-Takes wanted old (Err Memory) new = new ≡ old
+CosignerTakes wanted old (Ok done) new = wanted ≡ Some new
+CosignerTakes wanted old (Err Unfit) new = (wanted ≡ None) × (new ≡ old)
+CosignerTakes wanted old (Err Memory) new = new ≡ old

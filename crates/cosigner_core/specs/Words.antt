@@ -10,7 +10,7 @@ use Rattle.journal_core.specs.Format.{StandsForEither}
 use Rattle.journal_core.specs.Words.{AllStandFor, disk_of, end_of, is_broken}
 use Rattle.journal_core.specs.declared.error.AppendError.TheVariants as append_error
 use Rattle.cosigner_core.specs.Folds.{CosignerState}
-use Rattle.cosigner_core.specs.Kept.{kept_records}
+use Rattle.cosigner_core.specs.SettledRecords.{settled_records}
 use Rattle.cosigner_core.specs.declared.cosigner.Cosigner.{Cosigner}
 use Rattle.cosigner_core.specs.declared.error.CosignError.{CosignError}
 use Rattle.cosigner_core.specs.declared.error.CosignError.TheVariants.{WrongLog, NotNewer}
@@ -24,7 +24,7 @@ module _ {H D : Type 0} {hashes : Hashes H} {g : Ghosts D} where
   -- The records that make the cosigner, where the disk tells its bytes. Unless an append has
   -- failed they are all records of its journal.
   abbrev pub cosigner_records : Cosigner H D hashes g → Option (List Text)
-  cosigner_records it = kept_records it.journal
+  cosigner_records it = settled_records it.journal
 
   -- the place behind the closed gate of the journal
   abbrev pub cosigner_end : Cosigner H D hashes g → ℕ
@@ -35,27 +35,27 @@ module _ {H D : Type 0} {hashes : Hashes H} {g : Ghosts D} where
   cosigner_broken it = is_broken it.journal
 
   -- the ids, what is held, and the key with its count
-  abbrev pub state_of : Cosigner H D hashes g → CosignerState
-  state_of it = it.signer
+  abbrev pub cosigner_state : Cosigner H D hashes g → CosignerState
+  cosigner_state it = it.signer
 
   -- no call of the disk, and the cosigner is as it was
   pub record CosignerIsUntouched (old new : Cosigner H D hashes g) : Type 0 where
     pub disk : cosigner_disk new ≡ cosigner_disk old
-    pub state : state_of new ≡ state_of old
+    pub state : cosigner_state new ≡ cosigner_state old
     pub end : cosigner_end new ≡ cosigner_end old
     pub broken : cosigner_broken new ≡ cosigner_broken old
 
   -- the cosigner shows what it showed before
   pub record IsShown (old new : Cosigner H D hashes g) : Type 0 where
     pub list : cosigner_records new ≡ cosigner_records old
-    pub state : state_of new ≡ state_of old
+    pub state : cosigner_state new ≡ cosigner_state old
     pub end : cosigner_end new ≡ cosigner_end old
     pub broken : cosigner_broken new ≡ cosigner_broken old
 
   -- a call of the disk failed: the cosigner is to be opened again, and shows what it showed before
   pub record CosignerHasBroken (old new : Cosigner H D hashes g) : Type 0 where
     pub cause : Rose (g.faults (cosigner_disk old)) (g.faults (cosigner_disk new))
-    pub state : state_of new ≡ state_of old
+    pub state : cosigner_state new ≡ cosigner_state old
     pub end : cosigner_end new ≡ cosigner_end old
     pub records : cosigner_records new ≡ cosigner_records old
     pub was_sound : cosigner_broken old ≡ false
@@ -66,7 +66,7 @@ module _ {H D : Type 0} {hashes : Hashes H} {g : Ghosts D} where
       (old new : Cosigner H D hashes g) : Type 0 where
     pub records : cosigner_records new ≡ option_map (λ list. list ++ body ∷ [])
         (cosigner_records old)
-    pub state : state_of new ≡ next
+    pub state : cosigner_state new ≡ next
     pub end : cosigner_end new ≡ cosigner_end old + 5 + length body
     pub was_sound : cosigner_broken old ≡ false
     pub sound : cosigner_broken new ≡ false

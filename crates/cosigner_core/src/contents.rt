@@ -1,7 +1,7 @@
 //! What the records of a journal make of a cosigner, while they are read.
 ghost use Rattle.std.specs.Prelude.{◌≡◌, IfOk};
-ghost use Rattle.cosigner_core.specs.Folds.{begun, next_state};
-ghost use Rattle.cosigner_core.specs.Results.{Finds, Takes};
+ghost use Rattle.cosigner_core.specs.Folds.{begun_cosigner, next_state};
+ghost use Rattle.cosigner_core.specs.Results.{CosignerFinds, CosignerTakes};
 
 use crate::error::RecordError;
 use crate::progress::Progress;
@@ -45,9 +45,9 @@ impl Model for Contents {
 
 impl Contents {
     /// The cosigner that the first record begins.
-    #[tactic(auto, unfolding(crate::specs::Folds::begun))]
+    #[tactic(auto, unfolding(crate::specs::Folds::begun_cosigner))]
     pub(crate) fn begin<H: TreeHash>(alloc: Global, body: &[u8]) -> Result<Contents, RecordError>
-        ensures { Finds (λ c. c) (begun H.hash body.now) result }
+        ensures { CosignerFinds (λ c. c) (begun_cosigner H.hash body.now) result }
     {
         let (settings, secret) = read_settings(alloc, body)?;
         Ok(Contents {
@@ -61,7 +61,7 @@ impl Contents {
     /// cosigner as it was. It takes no memory.
     #[tactic(auto, unfolding(crate::specs::Folds::next_state))]
     pub(crate) fn take<H: TreeHash>(&mut self, body: &[u8]) -> Result<(), RecordError>
-        ensures { Takes (next_state H.hash self.old body.now) self.old result self.new }
+        ensures { CosignerTakes (next_state H.hash self.old body.now) self.old result self.new }
     {
         let step = read_step(body)?;
         match self.progress.after::<H>(self.settings.lms.leaves(), &step) {

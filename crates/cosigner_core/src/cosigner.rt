@@ -10,10 +10,10 @@ ghost use Rattle.hss_core.specs.Hss.{Verifies, one_level_public};
 ghost use Rattle.mtc_proof.specs.Inputs.{signed_text};
 ghost use Rattle.cosigner_core.specs.Exports.{HasExportCause, export_text};
 ghost use Rattle.cosigner_core.specs.Folds.{cosigner_of, having_signed, holding};
-ghost use Rattle.cosigner_core.specs.Kept.{IsKept, IsKept-prop};
-ghost use Rattle.cosigner_core.specs.Openings.{CountsNoOther, HasCauseOf, cosigner_read};
+ghost use Rattle.cosigner_core.specs.SettledRecords.{IsSettledAs, IsSettledAs-prop};
+ghost use Rattle.cosigner_core.specs.Openings.{CosignerCountsNoOther, HasCosignerCause, cosigner_read};
 ghost use Rattle.cosigner_core.specs.Records.{advance_record, sign_record};
-ghost use Rattle.cosigner_core.specs.Refusals.{KeepsTo, advance_refused, cosign_refused};
+ghost use Rattle.cosigner_core.specs.Refusals.{CosignKeepsTo, advance_refused, cosign_refused};
 ghost use Rattle.cosigner_core.specs.Signatures.{signature_by};
 ghost use Rattle.cosigner_core.specs.Views.{advance_parts, subtree_parts};
 
@@ -40,12 +40,12 @@ pub struct Cosigner<H: TreeHash, D: Disk> {
     journal: Journal<D>,
     signer: Signer,
     hash: PhantomData<H>,
-    ghost kept: { (b : List ℕ) → D.Disk.told (disk_of journal) ≡ Some b → IsKept
-        H.TreeHash.hash signer (end_of journal) b } by { Prim.hlevel (props, IsKept-prop) },
+    ghost settled: { (b : List ℕ) → D.Disk.told (disk_of journal) ≡ Some b → IsSettledAs
+        H.TreeHash.hash signer (end_of journal) b } by { Prim.hlevel (props, IsSettledAs-prop) },
 }
 
 impl<H: TreeHash, D: Disk> Cosigner<H, D> {
-    ghost use Rattle.cosigner_core.specs.Words.{cosigner_disk, cosigner_records, cosigner_end, cosigner_broken, state_of, CosignerAppends, IsShown};
+    ghost use Rattle.cosigner_core.specs.Words.{cosigner_disk, cosigner_records, cosigner_end, cosigner_broken, cosigner_state, CosignerAppends, IsShown};
 
     /// Opens the cosigner in a journal. Its records are read and tested one by one, and then its
     /// key is made anew: the one-time keys that have signed by these records are used.
@@ -61,9 +61,9 @@ impl<H: TreeHash, D: Disk> Cosigner<H, D> {
             ≡ option_map records_of (D.told (cosigner_disk it))) }
         ensures found { IfOk result (λ it. IfSome (D.told disk) (λ b. IfSome (cosigner_records it)
             (λ list. cosigner_read H.hash b
-            ≡ Ok (record { records = list; state = state_of it })))) }
+            ≡ Ok (record { records = list; state = cosigner_state it })))) }
         ensures valid { IfOk result (λ it. IfSome (cosigner_records it)
-            (λ list. cosigner_of H.hash list ≡ Ok (state_of it))) }
+            (λ list. cosigner_of H.hash list ≡ Ok (cosigner_state it))) }
         ensures stands { IfOk result (λ it. IfSome (D.told (cosigner_disk it))
             (λ b. IfSome (cosigner_records it) (StandsFor b))) }
         ensures all { IfOk result
@@ -71,8 +71,8 @@ impl<H: TreeHash, D: Disk> Cosigner<H, D> {
         ensures end { IfOk result (λ it. IfSome (cosigner_records it)
             (λ list. cosigner_end it ≡ end_behind list)) }
         ensures err { IfErr result (λ e. Looks D.Disk disk e.disk) }
-        ensures cause { IfErr result (λ e. HasCauseOf D.Disk H.hash disk e.disk e.why) }
-        ensures fine_err { IfErr result (λ e. CountsNoOther D.Disk disk e.disk e.why) }
+        ensures cause { IfErr result (λ e. HasCosignerCause D.Disk H.hash disk e.disk e.why) }
+        ensures fine_err { IfErr result (λ e. CosignerCountsNoOther D.Disk disk e.disk e.why) }
     {
         let mut opening = match Opening::begin(alloc, disk) {
             Ok(opening) => opening,
@@ -103,16 +103,16 @@ impl<H: TreeHash, D: Disk> Cosigner<H, D> {
     pub fn advance(&mut self, request: &AdvanceRequest<'_>) -> Result<(), CosignError>
         ensures appends { CosignerAppends
             (advance_record request.now.size request.now.root request.now.proof.now)
-            (holding request.now.size request.now.root (state_of self.old))
+            (holding request.now.size request.now.root (cosigner_state self.old))
             self.old self.new result }
-        ensures answer { KeepsTo (advance_refused H.hash (state_of self.old)
+        ensures answer { CosignKeepsTo (advance_refused H.hash (cosigner_state self.old)
             (cosigner_broken self.old) (cosigner_end self.old) (advance_parts request.now))
             result }
-        ensures valid { advance_refused H.hash (state_of self.old) (cosigner_broken self.old)
+        ensures valid { advance_refused H.hash (cosigner_state self.old) (cosigner_broken self.old)
             (cosigner_end self.old) (advance_parts request.now) ≡ None
             → IfSome (cosigner_records self.old) (λ list. cosigner_of H.hash (list
             ++ advance_record request.now.size request.now.root request.now.proof.now ∷ [])
-            ≡ Ok (holding request.now.size request.now.root (state_of self.old))) }
+            ≡ Ok (holding request.now.size request.now.root (cosigner_state self.old))) }
     {
         self.signer.test_advance::<H>(request)?;
         let body = StepRecord::advance(request.size, &request.root, request.proof);
@@ -138,22 +138,24 @@ impl<H: TreeHash, D: Disk> Cosigner<H, D> {
         out: &mut SigBuf,
     ) -> Result<(), CosignError>
         ensures appends { CosignerAppends
-            (sign_record (state_of self.old).key.next request.now.start request.now.end
+            (sign_record (cosigner_state self.old).key.next request.now.start request.now.end
             request.now.hash request.now.proof.now)
-            (having_signed (state_of self.old)) self.old self.new result }
-        ensures answer { KeepsTo (cosign_refused H.hash (state_of self.old)
+            (having_signed (cosigner_state self.old)) self.old self.new result }
+        ensures answer { CosignKeepsTo (cosign_refused H.hash (cosigner_state self.old)
             (cosigner_broken self.old) (cosigner_end self.old) (subtree_parts request.now))
             result }
-        ensures valid { cosign_refused H.hash (state_of self.old) (cosigner_broken self.old)
+        ensures valid { cosign_refused H.hash (cosigner_state self.old) (cosigner_broken self.old)
             (cosigner_end self.old) (subtree_parts request.now) ≡ None
             → IfSome (cosigner_records self.old) (λ list. cosigner_of H.hash (list
-            ++ sign_record (state_of self.old).key.next request.now.start request.now.end
+            ++ sign_record (cosigner_state self.old).key.next request.now.start request.now.end
             request.now.hash request.now.proof.now ∷ [])
-            ≡ Ok (having_signed (state_of self.old))) }
-        ensures signature { OnOk result (out.new ≡ signature_by (state_of self.old)
+            ≡ Ok (having_signed (cosigner_state self.old))) }
+        ensures signature { OnOk result (out.new ≡ signature_by (cosigner_state self.old)
             request.now.start request.now.end request.now.hash) }
-        ensures verifies { OnOk result (Verifies (one_level_public (state_of self.old).key.key)
-            (signed_text (state_of self.old).id (state_of self.old).log request.now.start
+        ensures verifies { OnOk result
+            (Verifies (one_level_public (cosigner_state self.old).key.key)
+            (signed_text (cosigner_state self.old).id
+            (cosigner_state self.old).log request.now.start
             request.now.end request.now.hash) out.new) }
         ensures short { OnOk result (length out.new < 2 ^ 14) }
         ensures nothing { OnErr result (out.new ≡ []) }
@@ -178,10 +180,10 @@ impl<H: TreeHash, D: Disk> Cosigner<H, D> {
     pub fn export<O: Sink>(&mut self, out: &mut O) -> Result<(), ExportError>
         ensures written { OnOk result (IfSome (cosigner_records self.old)
             (λ list. Appends (O.taken out.old) (O.taken out.new)
-            (export_text (state_of self.old) list))) }
+            (export_text (cosigner_state self.old) list))) }
         ensures prefix { IfSome (cosigner_records self.old)
             (λ list. AppendsPrefix (O.taken out.old) (O.taken out.new)
-            (export_text (state_of self.old) list)) }
+            (export_text (cosigner_state self.old) list)) }
         ensures looks { Looks D.Disk (cosigner_disk self.old) (cosigner_disk self.new) }
         ensures same { IsShown self.old self.new }
         ensures cause { HasExportCause (D.faults (cosigner_disk self.old)) (O.faults out.old)
@@ -197,20 +199,23 @@ impl<H: TreeHash, D: Disk> Cosigner<H, D> {
 
     /// The size of the log that is held, and its root.
     pub fn held(&self) -> (u64, [u8; 32])
-        ensures { result ≡ ((state_of self.now).held.size, (state_of self.now).held.root) }
+        ensures { result ≡ (
+          (cosigner_state self.now).held.size,
+          (cosigner_state self.now).held.root,
+        ) }
     {
         self.signer.held()
     }
 
     /// The public key of its signatures (RFC 8554, section 6.1).
     pub fn public(&self) -> [u8; PUBLIC_KEY_LEN]
-        ensures { result ≡ one_level_public (state_of self.now).key.key }
+        ensures { result ≡ one_level_public (cosigner_state self.now).key.key }
     {
         self.signer.public()
     }
 
     pub fn id(&self) -> &AnchorId
-        ensures { result.now ≡ (state_of self.now).id }
+        ensures { result.now ≡ (cosigner_state self.now).id }
     {
         self.signer.id()
     }

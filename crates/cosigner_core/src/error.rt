@@ -3,7 +3,7 @@ ghost use Rattle.std.specs.Prelude.{◌≡◌};
 ghost use Rattle.cosigner_core.specs.declared.error.CosignError.TheVariants.{Append as NotAppended};
 ghost use Rattle.cosigner_core.specs.declared.error.RecordError.TheVariants.{Unfit, Memory as RecordMemory};
 ghost use Rattle.cosigner_core.specs.declared.error.ReadExportError.TheVariants.{Memory as ExportMemory, Short as ExportShort};
-ghost use Rattle.cosigner_core.specs.Faults.{of_id};
+ghost use Rattle.cosigner_core.specs.Faults.{cosigner_id_fault};
 
 use crate::fault::FormError;
 use journal_core::{AppendError, OpenError, Refused};
@@ -113,7 +113,7 @@ impl From<FormError> for RecordError {
 }
 
 impl From<AnchorBytesError> for RecordError {
-    ghost from_gives = { λ fault e. e ≡ of_id fault };
+    ghost from_gives = { λ fault e. e ≡ cosigner_id_fault fault };
 
     fn from(fault: AnchorBytesError) -> Self {
         match fault {

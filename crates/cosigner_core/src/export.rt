@@ -11,7 +11,7 @@ ghost use Rattle.journal_core.specs.Words.{disk_of, end_of};
 ghost use Rattle.std.specs.Int.{w32};
 ghost use Rattle.tls_wire.specs.Spelling.{vector};
 ghost use Rattle.hss_core.specs.Hss.{one_level_public};
-ghost use Rattle.cosigner_core.specs.Exports.{HasExportCause, IsRead, front_text, records_text};
+ghost use Rattle.cosigner_core.specs.Exports.{HasExportCause, IsLookedOn, front_text, records_text};
 
 use crate::error::ExportError;
 use crate::signer::Signer;
@@ -42,7 +42,7 @@ fn copy_piece<D: Disk, O: Sink>(
         (λ bytes. Appends (O.taken out.old) (O.taken out.new) (part place length bytes))) }
     ensures prefix { IfSome (D.told (disk_of journal.old))
         (λ bytes. AppendsPrefix (O.taken out.old) (O.taken out.new) (part place length bytes)) }
-    ensures kept { IsRead journal.old journal.new }
+    ensures kept { IsLookedOn journal.old journal.new }
     ensures cause { HasExportCause (D.faults (disk_of journal.old)) (O.faults out.old)
         (D.faults (disk_of journal.new)) (O.faults out.new) result }
 {
@@ -71,7 +71,7 @@ fn copy<D: Disk, O: Sink>(
         (λ bytes. Appends (O.taken out.old) (O.taken out.new) (part place count bytes))) }
     ensures prefix { IfSome (D.told (disk_of journal.old))
         (λ bytes. AppendsPrefix (O.taken out.old) (O.taken out.new) (part place count bytes)) }
-    ensures kept { IsRead journal.old journal.new }
+    ensures kept { IsLookedOn journal.old journal.new }
     ensures cause { HasExportCause (D.faults (disk_of journal.old)) (O.faults out.old)
         (D.faults (disk_of journal.new)) (O.faults out.new) result }
 {
@@ -91,7 +91,7 @@ fn body_size<D: Disk>(journal: &mut Journal<D>, gate: u64) -> Result<u64, Failed
     ensures size { IfOk result (λ size. IfSome (D.told (disk_of journal.old)) (λ bytes.
         (body : Text) → IsRecordAt bytes gate body → gate + 6 + length body ≤ end_of journal.old
         → size ≡ length body)) }
-    ensures kept { IsRead journal.old journal.new }
+    ensures kept { IsLookedOn journal.old journal.new }
     ensures cause { HasCause (D.faults (disk_of journal.old)) (D.faults (disk_of journal.new))
         result }
 {
@@ -119,7 +119,7 @@ fn copy_record<D: Disk, O: Sink>(
     ensures prefix { IfSome (D.told (disk_of journal.old)) (λ bytes.
         (body : Text) → IsRecordAt bytes gate body → gate + 6 + length body ≤ end_of journal.old
         → AppendsPrefix (O.taken out.old) (O.taken out.new) (vector w32 body)) }
-    ensures kept { IsRead journal.old journal.new }
+    ensures kept { IsLookedOn journal.old journal.new }
     ensures cause { HasExportCause (D.faults (disk_of journal.old)) (O.faults out.old)
         (D.faults (disk_of journal.new)) (O.faults out.new) result }
 {
@@ -146,7 +146,7 @@ pub(crate) fn copy_records<D: Disk, O: Sink>(
         (bodies : List Text) → AreRecordsAt bytes first bodies
         → end_of journal.old ≡ behind first bodies + 1
         → AppendsPrefix (O.taken out.old) (O.taken out.new) (records_text bodies)) }
-    ensures kept { IsRead journal.old journal.new }
+    ensures kept { IsLookedOn journal.old journal.new }
     ensures cause { HasExportCause (D.faults (disk_of journal.old)) (O.faults out.old)
         (D.faults (disk_of journal.new)) (O.faults out.new) result }
 {

@@ -3,9 +3,9 @@ ghost use Rattle.std.specs.Prelude.{◌≡◌, ◌<◌, [], false, None, option_
 ghost use Rattle.disk_core.specs.Moments.{Looks};
 ghost use Rattle.journal_core.specs.Openings.{opening_disk, read_list, is_ended, refusal, bytes_left};
 ghost use Rattle.journal_core.specs.Readings.{HasFolded, HasFound};
-ghost use Rattle.cosigner_core.specs.Faults.{refusal_at};
+ghost use Rattle.cosigner_core.specs.Faults.{cosigner_refusal_at};
 ghost use Rattle.cosigner_core.specs.Folds.{cosigner_fold};
-ghost use Rattle.cosigner_core.specs.Openings.{CountsNoOther, HasCauseOf};
+ghost use Rattle.cosigner_core.specs.Openings.{CosignerCountsNoOther, HasCosignerCause};
 
 use crate::contents::Contents;
 use crate::error::{CosignerOpenError, RecordError};
@@ -18,7 +18,7 @@ use tree_core::TreeHash;
 
 // A record that is not taken is refused by its number.
 fn refusal_at(number: u64, why: RecordError) -> CosignerOpenError
-    ensures { result ≡ refusal_at number why }
+    ensures { result ≡ cosigner_refusal_at number why }
 {
     match why {
         RecordError::Unfit => CosignerOpenError::BadRecord(number),
@@ -35,12 +35,12 @@ fn read_first<H: TreeHash, D: Disk>(
         ≡ option_map (λ _. []) (D.told (opening_disk opening.old)) }
     requires goes_on { (is_ended opening.old ≡ false) × (refusal opening.old ≡ None) }
     ensures folded { IfOk result (λ c. HasFolded (cosigner_fold H.hash) c opening.new) }
-    ensures err { IfErr result (HasCauseOf D.Disk H.hash (opening_disk opening.old)
+    ensures err { IfErr result (HasCosignerCause D.Disk H.hash (opening_disk opening.old)
         (opening_disk opening.new)) }
     ensures looks { Looks D.Disk (opening_disk opening.old) (opening_disk opening.new) }
     ensures fine { OnOk result (D.faults (opening_disk opening.new)
         ≡ D.faults (opening_disk opening.old)) }
-    ensures fine_err { IfErr result (CountsNoOther D.Disk (opening_disk opening.old)
+    ensures fine_err { IfErr result (CosignerCountsNoOther D.Disk (opening_disk opening.old)
         (opening_disk opening.new)) }
 {
     match opening.next() {
@@ -64,12 +64,12 @@ fn read_next<H: TreeHash, D: Disk>(
         (HasFound (cosigner_fold H.hash) contents.new opening.new)) }
     ensures shorter { IfOk result
         (λ more. MatchBool more (bytes_left opening.new < bytes_left opening.old) (Unit {0})) }
-    ensures err { IfErr result (HasCauseOf D.Disk H.hash (opening_disk opening.old)
+    ensures err { IfErr result (HasCosignerCause D.Disk H.hash (opening_disk opening.old)
         (opening_disk opening.new)) }
     ensures looks { Looks D.Disk (opening_disk opening.old) (opening_disk opening.new) }
     ensures fine { OnOk result (D.faults (opening_disk opening.new)
         ≡ D.faults (opening_disk opening.old)) }
-    ensures fine_err { IfErr result (CountsNoOther D.Disk (opening_disk opening.old)
+    ensures fine_err { IfErr result (CosignerCountsNoOther D.Disk (opening_disk opening.old)
         (opening_disk opening.new)) }
 {
     let number = opening.read_count();
@@ -90,12 +90,12 @@ fn read_rest<H: TreeHash, D: Disk>(
 ) -> Result<(), CosignerOpenError>
     requires { HasFolded (cosigner_fold H.hash) contents.old opening.old }
     ensures found { OnOk result (HasFound (cosigner_fold H.hash) contents.new opening.new) }
-    ensures err { IfErr result (HasCauseOf D.Disk H.hash (opening_disk opening.old)
+    ensures err { IfErr result (HasCosignerCause D.Disk H.hash (opening_disk opening.old)
         (opening_disk opening.new)) }
     ensures looks { Looks D.Disk (opening_disk opening.old) (opening_disk opening.new) }
     ensures fine { OnOk result (D.faults (opening_disk opening.new)
         ≡ D.faults (opening_disk opening.old)) }
-    ensures fine_err { IfErr result (CountsNoOther D.Disk (opening_disk opening.old)
+    ensures fine_err { IfErr result (CosignerCountsNoOther D.Disk (opening_disk opening.old)
         (opening_disk opening.new)) }
 {
     'records: loop {
@@ -115,12 +115,12 @@ pub(crate) fn read_signer<H: TreeHash, D: Disk>(
         ≡ option_map (λ _. []) (D.told (opening_disk opening.old)) }
     requires goes_on { (is_ended opening.old ≡ false) × (refusal opening.old ≡ None) }
     ensures found { IfOk result (λ s. HasFound (cosigner_fold H.hash) s opening.new) }
-    ensures err { IfErr result (HasCauseOf D.Disk H.hash (opening_disk opening.old)
+    ensures err { IfErr result (HasCosignerCause D.Disk H.hash (opening_disk opening.old)
         (opening_disk opening.new)) }
     ensures looks { Looks D.Disk (opening_disk opening.old) (opening_disk opening.new) }
     ensures fine { OnOk result (D.faults (opening_disk opening.new)
         ≡ D.faults (opening_disk opening.old)) }
-    ensures fine_err { IfErr result (CountsNoOther D.Disk (opening_disk opening.old)
+    ensures fine_err { IfErr result (CosignerCountsNoOther D.Disk (opening_disk opening.old)
         (opening_disk opening.new)) }
 {
     let mut contents = read_first::<H, D>(alloc, opening)?;

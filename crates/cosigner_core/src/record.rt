@@ -3,8 +3,8 @@ ghost use Rattle.std.specs.Prelude.{◌≡◌, ◌≢◌, ◌≤◌, Err, option
 ghost use Rattle.byte_forms.specs.Readings.{Moves};
 ghost use Rattle.lms_core.specs.Heights.{height};
 ghost use Rattle.tls_wire.specs.Reading.{bytes_at};
-ghost use Rattle.cosigner_core.specs.Records.{advance_step_at, cosigner_at, cosigner_in, founded, settings_with, sign_step_at, signing_type, step_in, advance_of, sign_of, whole_of};
-ghost use Rattle.cosigner_core.specs.Results.{Finds};
+ghost use Rattle.cosigner_core.specs.Records.{advance_step_at, cosigner_at, cosigner_in, founded, cosigner_settings_with, sign_step_at, signing_type, step_in, advance_of, sign_of, whole_of};
+ghost use Rattle.cosigner_core.specs.Results.{CosignerFinds};
 ghost use Rattle.cosigner_core.specs.declared.error.RecordError.TheVariants.{Memory as RecordMemory};
 ghost use Rattle.cosigner_core.specs.Views.{step_said};
 
@@ -77,7 +77,7 @@ fn sign_fields<'a>(
 
 // An Advance that ends where the record does.
 fn advance_step(mut cursor: Cursor<'_>) -> Result<StepRef<'_>, RecordError>
-    ensures found { Finds step_said
+    ensures found { CosignerFinds step_said
         (option_map advance_of (whole_of (advance_step_at cursor.entry))) result }
     ensures never { result ≢ Err RecordMemory }
 {
@@ -90,7 +90,8 @@ fn advance_step(mut cursor: Cursor<'_>) -> Result<StepRef<'_>, RecordError>
 
 // A Sign that ends where the record does.
 fn sign_step(mut cursor: Cursor<'_>) -> Result<StepRef<'_>, RecordError>
-    ensures found { Finds step_said (option_map sign_of (whole_of (sign_step_at cursor.entry)))
+    ensures found { CosignerFinds step_said (option_map sign_of
+        (whole_of (sign_step_at cursor.entry)))
         result }
     ensures never { result ≢ Err RecordMemory }
 {
@@ -110,7 +111,7 @@ fn sign_step(mut cursor: Cursor<'_>) -> Result<StepRef<'_>, RecordError>
 /// What an Advance or a Sign says, in the body of a record behind the first one.
 #[tactic(auto, unfolding(crate::specs::Records::step_in))]
 pub(crate) fn read_step(body: &[u8]) -> Result<StepRef<'_>, RecordError>
-    ensures found { Finds step_said (step_in body.now) result }
+    ensures found { CosignerFinds step_said (step_in body.now) result }
     ensures never { result ≢ Err RecordMemory }
 {
     let mut cursor = Cursor::new(body);
@@ -140,7 +141,7 @@ fn settings_with(
     lms: u32,
     ots: u32,
 ) -> Result<CosignerSettings, RecordError>
-    ensures found { Finds (λ s. s) (settings_with id.now log.now lms ots) result }
+    ensures found { CosignerFinds (λ s. s) (cosigner_settings_with id.now log.now lms ots) result }
     ensures small { IfOk result (λ s. height s.lms ≤ 10) }
 {
     let Some(lms) = signing_type(lms) else {
@@ -159,7 +160,8 @@ fn founded(
     alloc: Global,
     mut cursor: Cursor<'_>,
 ) -> Result<(CosignerSettings, [u8; 48]), RecordError>
-    ensures found { Finds (λ x. x) (option_and_then founded (whole_of (cosigner_at cursor.entry)))
+    ensures found { CosignerFinds (λ x. x) (option_and_then founded
+        (whole_of (cosigner_at cursor.entry)))
         result }
     ensures small { IfOk result (λ x. height x.0.lms ≤ 10) }
 {
@@ -177,7 +179,7 @@ pub(crate) fn read_settings(
     alloc: Global,
     body: &[u8],
 ) -> Result<(CosignerSettings, [u8; 48]), RecordError>
-    ensures found { Finds (λ x. x) (cosigner_in body.now) result }
+    ensures found { CosignerFinds (λ x. x) (cosigner_in body.now) result }
     ensures small { IfOk result (λ x. height x.0.lms ≤ 10) }
 {
     let mut cursor = Cursor::new(body);

@@ -12,9 +12,10 @@ use Rattle.std.proofs.lemmas.List.Elements.{All-push}
 use Rattle.std.proofs.lemmas.List.Quantifiers.{position-Some}
 use Rattle.std.proofs.lemmas.List.Sums.{fails_before_first, length-filter}
 use Rattle.frame_pool.proofs.Orders.{all-moved, contains-moved, counted-push, length-moved}
-use Rattle.frame_pool.specs.Frames.{HasUnpinned, Holds, IsFirstClaimed, IsLeastEmpty, IsNew, IsNext}
+use Rattle.frame_pool.specs.Frames.{HasUnpinned, HoldsKey, IsFirstClaimed, IsLeastEmpty, IsNew}
+use Rattle.frame_pool.specs.Frames.{IsNextSlot}
 use Rattle.frame_pool.specs.Frames.{IsUnheld, PoolState, claimed, key_at, pinned_at}
-use Rattle.frame_pool.specs.Sound.{IsSound}
+use Rattle.frame_pool.specs.Sound.{IsSoundPool}
 use Rattle.frame_pool.specs.declared.key.TileKey.{TileKey}
 
 -- so many frames of a new pool
@@ -81,7 +82,7 @@ new-is count pool are = record {
 }
 
 pub sound-new : (count : ℕ) (pool : PoolState) → 1 ≤ count → count ≤ 65536
-    → AreNew count pool.keys pool.pins pool.order pool.frames → IsSound pool
+    → AreNew count pool.keys pool.pins pool.order pool.frames → IsSoundPool pool
 sound-new count pool some few are =
     let k_count = are.keys_count in
     let o_count = are.places in
@@ -145,7 +146,7 @@ first-claimed pool place full inside free first = record {
   first = first;
 }
 
-pub next-there : (pool : PoolState) (slot : ℕ) → IsSound pool → IsNext pool slot
+pub next-there : (pool : PoolState) (slot : ℕ) → IsSoundPool pool → IsNextSlot pool slot
     → slot < length pool.keys
 next-there pool slot sound next =
     ⊎_elim
@@ -154,7 +155,7 @@ next-there pool slot sound next =
     subst (λ s. s < length pool.keys) first.is (sound.slots first.place 0 first.there))
     next
 
-pub next-free : (pool : PoolState) (slot : ℕ) → IsSound pool → IsNext pool slot
+pub next-free : (pool : PoolState) (slot : ℕ) → IsSoundPool pool → IsNextSlot pool slot
     → pinned_at pool slot ≡ false
 next-free pool slot sound next =
     ⊎_elim
@@ -164,31 +165,31 @@ next-free pool slot sound next =
 
 -- the slot that was found in the lists of a pool
 pub record IsTaken (pool : PoolState) (slot : ℕ) : Type 0 where
-  pub next : IsNext pool slot
+  pub next : IsNextSlot pool slot
   pub there : slot < length pool.keys
   pub free : pinned_at pool slot ≡ false
 
 pub taken : (pool now : PoolState) (keys : List (Option TileKey)) (pins : List Bool)
-    (order : List ℕ) (slot : ℕ) → IsSound pool → pool ≡ now → keys ≡ pool.keys
+    (order : List ℕ) (slot : ℕ) → IsSoundPool pool → pool ≡ now → keys ≡ pool.keys
     → pins ≡ pool.pins → order ≡ pool.order
     → ((frames : List (List ℕ))
-    → IsNext (record { keys = keys; pins = pins; order = order; frames = frames }) slot)
+    → IsNextSlot (record { keys = keys; pins = pins; order = order; frames = frames }) slot)
     → IsTaken now slot
 taken pool now keys pins order slot sound is keys_are pins_are order_is next =
-    let found : IsNext pool slot =
-    subst (λ o. IsNext (record {
+    let found : IsNextSlot pool slot =
+    subst (λ o. IsNextSlot (record {
       keys = pool.keys;
       pins = pool.pins;
       order = o;
       frames = pool.frames;
     }) slot) order_is
-    (subst (λ p. IsNext (record {
+    (subst (λ p. IsNextSlot (record {
       keys = pool.keys;
       pins = p;
       order = order;
       frames = pool.frames;
     }) slot) pins_are
-    (subst (λ k. IsNext (record {
+    (subst (λ k. IsNextSlot (record {
       keys = k;
       pins = pins;
       order = order;
@@ -201,7 +202,7 @@ taken pool now keys pins order slot sound is keys_are pins_are order_is next =
     })
 
 -- where each slot of the order is pinned, none is without a pin
-pub all-pinned : (pool : PoolState) → IsSound pool → HasUnpinned pool
+pub all-pinned : (pool : PoolState) → IsSoundPool pool → HasUnpinned pool
     → All (λ slot. pinned_at pool slot ≡ true) pool.order → ⊥
 all-pinned pool sound has all =
     let contains = sound.order has.slot has.there in
@@ -214,8 +215,8 @@ all-pinned pool sound has all =
 
 -- What a call leaves is sound.
 
-pub sound-claimed : (pool : PoolState) (slot : ℕ) (key : TileKey) → IsSound pool
-    → IsUnheld pool key → slot < length pool.keys → IsSound (claimed pool slot key)
+pub sound-claimed : (pool : PoolState) (slot : ℕ) (key : TileKey) → IsSoundPool pool
+    → IsUnheld pool key → slot < length pool.keys → IsSoundPool (claimed pool slot key)
 sound-claimed pool slot key sound unheld inside =
     let some = sound.some in
     let few = sound.few in
@@ -275,7 +276,7 @@ sound-claimed pool slot key sound unheld inside =
     }
 
 pub holds-claimed : (pool : PoolState) (slot : ℕ) (key : TileKey) → slot < length pool.keys
-    → Holds (claimed pool slot key) slot key
+    → HoldsKey (claimed pool slot key) slot key
 holds-claimed pool slot key inside =
     let keys = length-set pool.keys slot (Some key) in
     record {
@@ -294,7 +295,8 @@ free-in (true ∷ pins) some =
     let inside = rest.1.0 in
     (suc rest.0, (omega arith, rest.1.1))
 
-pub unpinned-some : (pool now : PoolState) → IsSound pool → pool ≡ now → 0 < count_by not now.pins
+pub unpinned-some : (pool now : PoolState) → IsSoundPool pool → pool ≡ now
+    → 0 < count_by not now.pins
     → HasUnpinned now
 unpinned-some pool now sound is some =
     let count : length (filter not pool.pins) ≡ count_by not pool.pins =

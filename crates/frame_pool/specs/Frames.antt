@@ -22,11 +22,11 @@ abbrev pub pinned_at : PoolState → ℕ → Bool
 pinned_at pool slot = slice_index_or pool.pins slot false
 
 -- The bytes of a slot's frame.
-abbrev pub bytes_at : PoolState → ℕ → Text
-bytes_at pool slot = slice_index_or pool.frames slot []
+abbrev pub frame_at : PoolState → ℕ → Text
+frame_at pool slot = slice_index_or pool.frames slot []
 
 -- The slot's frame holds the key.
-pub record Holds (pool : PoolState) (slot : ℕ) (key : TileKey) : Type 0 where
+pub record HoldsKey (pool : PoolState) (slot : ℕ) (key : TileKey) : Type 0 where
   pub there : slot < length pool.keys
   pub held : key_at pool slot ≡ Some key
 
@@ -63,8 +63,8 @@ pub record IsFirstClaimed (pool : PoolState) (slot : ℕ) : Type 0 where
       → pinned_at pool (slice_index_or pool.order before 0) ≡ true
 
 -- The slot that a claim takes.
-abbrev pub IsNext : PoolState → ℕ → Type 0
-IsNext pool slot = IsLeastEmpty pool slot ⊎ IsFirstClaimed pool slot
+abbrev pub IsNextSlot : PoolState → ℕ → Type 0
+IsNextSlot pool slot = IsLeastEmpty pool slot ⊎ IsFirstClaimed pool slot
 
 -- The pool once a key is claimed into a slot: that frame holds it without a pin, and all else is as
 -- it was.

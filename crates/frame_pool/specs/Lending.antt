@@ -6,9 +6,9 @@ use Rattle.frame_pool.specs.Frames.{PoolState}
 use Rattle.frame_pool.specs.contracts.pool.Pool.{the_row}
 
 -- The pool with other bytes in the frame of a slot.
-abbrev pub with_bytes : PoolState → ℕ → Text → PoolState
-with_bytes pool slot bytes = record pool { frames = slice_set pool.frames slot bytes }
+abbrev pub with_frame : PoolState → ℕ → Text → PoolState
+with_frame pool slot bytes = record pool { frames = slice_set pool.frames slot bytes }
 
 -- The pool ends with what is left in the frame.
 abbrev pub LendsFrame : MutBor PoolState → ℕ → MutBor Text → Fml
-LendsFrame pool slot frame = Lends the_row (Array u8 0) pool frame (with_bytes pool.now slot)
+LendsFrame pool slot frame = Lends the_row (Array u8 0) pool frame (with_frame pool.now slot)

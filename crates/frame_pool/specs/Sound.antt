@@ -6,7 +6,7 @@ use Rattle.frame_pool.specs.declared.key.TileKey.{TileKey}
 
 -- There are some frames, and each has a key or none, a pin or none, and one place in the order. No
 -- key is held twice, and a frame without a key has no pin.
-pub record IsSound (pool : PoolState) : Type 0 where
+pub record IsSoundPool (pool : PoolState) : Type 0 where
   pub some : 1 ≤ length pool.keys
   pub few : length pool.keys ≤ 65536
   pub pins : length pool.pins ≡ length pool.keys

@@ -2,9 +2,9 @@
 
 ghost use Rattle.std.specs.Prelude.{◌≡◌, ◌<◌, ◌≤◌, true, false, length, not, count_by, IfNone, IfOk, IfSome};
 ghost use Rattle.std.specs.Borrow.{sem};
-ghost use Rattle.frame_pool.specs.Frames.{HasUnpinned, Holds, IsNew, IsNext, IsUnheld, PoolState, bytes_at, claimed, pinned_at, released, with_pin};
+ghost use Rattle.frame_pool.specs.Frames.{HasUnpinned, HoldsKey, IsNew, IsNextSlot, IsUnheld, PoolState, frame_at, claimed, pinned_at, released, with_pin};
 ghost use Rattle.frame_pool.specs.Lending.{LendsFrame};
-ghost use Rattle.frame_pool.specs.Sound.{IsSound};
+ghost use Rattle.frame_pool.specs.Sound.{IsSoundPool};
 ghost use Rattle.frame_pool.specs.declared.key.TileKey.{TileKey as Key};
 
 use crate::search::{move_last, next_slot, slot_with};
@@ -28,7 +28,7 @@ pub struct Pool {
 
 impl Model for Pool {
     ghost use Rattle.frame_pool.specs.Frames.{PoolState};
-    ghost use Rattle.frame_pool.specs.Sound.{IsSound};
+    ghost use Rattle.frame_pool.specs.Sound.{IsSoundPool};
 
     ghost Value = { PoolState };
 
@@ -39,7 +39,7 @@ impl Model for Pool {
       frames = p.frames.items;
     } };
 
-    ghost invariant = { λ p. IsSound (record {
+    ghost invariant = { λ p. IsSoundPool (record {
       keys = p.keys.items;
       pins = p.pins.items;
       order = p.order.items;
@@ -74,14 +74,14 @@ impl Pool {
 
     /// What holds of every pool: a caller's proof may use it.
     pub fn sound(&self)
-        ensures { IsSound self.now }
+        ensures { IsSoundPool self.now }
     {
         let _keys = self.keys.as_slice();
     }
 
     /// The slot whose frame holds the key; none exactly where no frame does.
     pub fn find(&self, key: TileKey) -> Option<Slot>
-        ensures some { IfSome result (λ slot. Holds self.now slot.0 key) }
+        ensures some { IfSome result (λ slot. HoldsKey self.now slot.0 key) }
         ensures none { IfNone result (IsUnheld self.now key) }
     {
         match slot_with(self.keys.as_slice(), key) {
@@ -104,11 +104,11 @@ impl Pool {
     pub fn claim(&mut self, key: TileKey) -> Slot
         requires unheld { IsUnheld self.old key }
         requires unpinned { HasUnpinned self.old }
-        ensures next { IsNext self.old result.0 }
+        ensures next { IsNextSlot self.old result.0 }
         ensures there { result.0 < length self.old.keys }
         ensures free { pinned_at self.old result.0 ≡ false }
         ensures claimed { self.new ≡ claimed self.old result.0 key }
-        ensures held { Holds self.new result.0 key }
+        ensures held { HoldsKey self.new result.0 key }
     {
         let slot = self.next();
         self.put(slot, key);
@@ -118,7 +118,7 @@ impl Pool {
     // The slot that a claim takes.
     fn next(&self) -> u32
         requires { HasUnpinned self.now }
-        ensures next { IsNext self.now result }
+        ensures next { IsNextSlot self.now result }
         ensures there { result < length self.now.keys }
         ensures free { pinned_at self.now result ≡ false }
     {
@@ -152,7 +152,7 @@ impl Pool {
     /// The bytes of a frame, 8,192.
     pub fn frame(&self, slot: Slot) -> &[u8]
         requires { slot.0 < length self.now.keys }
-        ensures value { result.now ≡ bytes_at self.now slot.0 }
+        ensures value { result.now ≡ frame_at self.now slot.0 }
         ensures size { length result.now ≡ 8192 }
     {
         &self.frames[slot.0 as usize]
@@ -162,7 +162,7 @@ impl Pool {
     pub fn frame_mut(&mut self, slot: Slot) -> &mut [u8]
         requires { slot.0 < length self.old.keys }
         ensures* writes_back { sem 𝓛 (LendsFrame self.entry slot.0 result) }
-        ensures value { result.now ≡ bytes_at self.old slot.0 }
+        ensures value { result.now ≡ frame_at self.old slot.0 }
         ensures size { length result.now ≡ 8192 }
     {
         let _whole = self.frame(slot);
@@ -171,7 +171,7 @@ impl Pool {
 
     /// Pins a frame that holds a key.
     pub fn pin(&mut self, slot: Slot)
-        requires { (key : Key) × Holds self.old slot.0 key }
+        requires { (key : Key) × HoldsKey self.old slot.0 key }
         ensures { self.new ≡ with_pin self.old slot.0 true }
     {
         self.pins[slot.0 as usize] = true;

@@ -3,7 +3,7 @@
 ghost use Rattle.std.specs.Prelude.{◌≡◌, ◌≢◌, ℕ, ◌<◌, ◌≤◌, ◌==◌, List, length, slice_index_or, Some, None, true, false, is_none, MatchOption};
 ghost use Rattle.std.specs.List.{All, Contains, position};
 ghost use Rattle.byte_forms.specs.Types.{Text};
-ghost use Rattle.frame_pool.specs.Frames.{IsNext};
+ghost use Rattle.frame_pool.specs.Frames.{IsNextSlot};
 ghost use Rattle.frame_pool.specs.Order.{moved_last};
 
 use crate::TileKey;
@@ -52,7 +52,7 @@ pub(crate) fn next_slot(keys: &[Option<TileKey>], pins: &[bool], order: &[u32]) 
     requires few { length keys.now ≤ 65536 }
     requires slots { All (λ slot. slot < length pins.now) order.now }
     requires some { All (λ slot. slice_index_or pins.now slot false ≡ true) order.now → ⊥ }
-    ensures { (frames : List Text) → IsNext (record {
+    ensures { (frames : List Text) → IsNextSlot (record {
       keys = keys.now;
       pins = pins.now;
       order = order.now;

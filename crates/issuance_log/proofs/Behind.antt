@@ -10,7 +10,7 @@ use Rattle.byte_forms.proofs.Steps.{bind_ok, ok_is, some_or_ok}
 use Rattle.journal_core.specs.Folds.{Fold, state_behind, taken_from}
 use Rattle.journal_core.proofs.Bodies.{none_left, rest_at}
 use Rattle.log_entry.specs.Matching.{matches}
-use Rattle.issuance_log.specs.Folds.{LogState, begun, changed, log_behind, log_fold, log_of}
+use Rattle.issuance_log.specs.Folds.{LogState, begun_log, changed, log_behind, log_fold, log_of}
 use Rattle.issuance_log.specs.Folds.{new_log, next_log, with_entry, with_item, with_landmark}
 use Rattle.issuance_log.specs.Folds.{with_mark}
 use Rattle.issuance_log.specs.Marks.{last_mark}
@@ -101,7 +101,7 @@ was_not wanted t E true tried is = let wrong : true ≡ false = is in absurd cc
 
 pub begins_so : (h : HashFunction) (first : Text) (s : Settings) (bodies : List Text)
     → settings_in first ≡ Some s → log_of h (first ∷ bodies) ≡ log_behind h s bodies
-unfolding state_behind begun
+unfolding state_behind begun_log
 begins_so h first s bodies is =
     ap (λ (o : Option Settings). some_or 0 (option_map new_log o)
     >>= λ (u : LogState). taken_from (log_fold h) 1 u bodies) is
@@ -161,11 +161,11 @@ no_log k t is = cc
 pub only_begins : (h : HashFunction) (list : List Text) (t : LogState) → log_of h list ≡ Ok t
     → (first : Text) × ((bodies : List Text) × ((list ≡ first ∷ bodies)
     × (settings_in first ≡ Some t.settings) × (log_behind h t.settings bodies ≡ Ok t)))
-unfolding state_behind begun
+unfolding state_behind begun_log
 only_begins h [] t is = absurd (no_log 0 t is)
 only_begins h (first ∷ bodies) t is =
-    let step = bind_ok (some_or 0 (begun first))
+    let step = bind_ok (some_or 0 (begun_log first))
     (λ (u : LogState). taken_from (log_fold h) 1 u bodies) t is in
     let facts = has_begun h first bodies step.0 t (settings_in first) refl
-    (some_or_ok 0 (begun first) step.0 step.1) step.2 in
+    (some_or_ok 0 (begun_log first) step.0 step.1) step.2 in
     (first, (bodies, (refl, facts.0, facts.1)))

@@ -7,10 +7,10 @@ use Rattle.journal_core.specs.Openings.{opening_disk, read_list, last_body, HasR
 use Rattle.journal_core.specs.Readings.{HasFolded}
 use Rattle.journal_core.specs.declared.opening.Opening.{Opening}
 use Rattle.journal_core.proofs.FoldSteps.{refused_first, refused_next}
-use Rattle.issuance_log.specs.Faults.{refusal_at}
-use Rattle.issuance_log.specs.Folds.{LogState, begun, next_log, log_fold}
-use Rattle.issuance_log.specs.Openings.{HasCauseOf}
-use Rattle.issuance_log.specs.Results.{Finds, Takes}
+use Rattle.issuance_log.specs.Faults.{log_refusal_at}
+use Rattle.issuance_log.specs.Folds.{LogState, begun_log, next_log, log_fold}
+use Rattle.issuance_log.specs.Openings.{HasLogCause}
+use Rattle.issuance_log.specs.Results.{LogFinds, LogTakes}
 use Rattle.issuance_log.specs.declared.error.RecordError.{RecordError}
 use Rattle.issuance_log.specs.declared.error.RecordError.TheVariants.{Unfit, Memory}
 
@@ -20,8 +20,8 @@ module _ {D : Type 0} {g : Ghosts D} (h : HashFunction) (old new : Opening D g) 
   -- the record with this number is not taken
   pub cause_taken : (s t : LogState) (k : ℕ) (why : RecordError)
       → IfSome (read_list old) (λ list. k ≡ length list) → HasFolded (log_fold h) s old
-      → Takes (next_log h s body) s (Err why) t
-      → HasCauseOf g h (opening_disk old) (opening_disk new) (refusal_at k why)
+      → LogTakes (next_log h s body) s (Err why) t
+      → HasLogCause g h (opening_disk old) (opening_disk new) (log_refusal_at k why)
   cause_taken s t k Unfit count was takes =
       refused_next (log_fold h) old new body last read looks s k count was takes.0
   cause_taken s t k Memory count was takes = tt
@@ -29,7 +29,7 @@ module _ {D : Type 0} {g : Ghosts D} (h : HashFunction) (old new : Opening D g) 
   -- nor is the first one
   pub cause_begun : (why : RecordError)
       → read_list old ≡ option_map (λ _. []) (g.told (opening_disk old))
-      → Finds (λ (s : LogState). s) (begun body) (Err why)
-      → HasCauseOf g h (opening_disk old) (opening_disk new) (refusal_at 0 why)
+      → LogFinds (λ (s : LogState). s) (begun_log body) (Err why)
+      → HasLogCause g h (opening_disk old) (opening_disk new) (log_refusal_at 0 why)
   cause_begun Unfit none finds = refused_first (log_fold h) old new body last read looks none finds
   cause_begun Memory none finds = tt

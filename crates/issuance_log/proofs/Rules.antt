@@ -14,9 +14,9 @@ use Rattle.tls_wire.specs.declared.fault.AnchorBytesError.{AnchorBytesError}
 use Rattle.tls_wire.proofs.AnchorForm.{anchor_takes}
 use Rattle.log_entry.specs.Matching.{matches}
 use Rattle.issuance_log.specs.Folds.{LogState, new_log, with_item, with_mark, with_landmark}
-use Rattle.issuance_log.specs.Folds.{changed, begun, next_log}
+use Rattle.issuance_log.specs.Folds.{changed, begun_log, next_log}
 use Rattle.issuance_log.specs.Marks.{last_mark}
-use Rattle.issuance_log.specs.Records.{log_tag, settings_at, with_id, settings_with, tagged}
+use Rattle.issuance_log.specs.Records.{log_tag, settings_at, with_id, log_settings_with, tagged}
 use Rattle.issuance_log.specs.Records.{settings_in, item_in, mark_in, settings_record}
 use Rattle.issuance_log.specs.Records.{landmark_record}
 use Rattle.issuance_log.specs.Rules.{IsFirst, IsNext}
@@ -85,15 +85,16 @@ next_is h s body t bytes is = go (item_in body) refl is
           made = sym (some_value _ _ made.1);
         })
 
-pub is_first : (body : List ℕ) (s : LogState) → IsFirst body s → begun body ≡ Some s
-unfolding begun
+pub is_first : (body : List ℕ) (s : LogState) → IsFirst body s → begun_log body ≡ Some s
+unfolding begun_log
 is_first body s is =
     ap (λ (b : List ℕ). option_map new_log (settings_in b)) is.spelled
     ∙ ap (option_map new_log) (settings_again is.settings is.id is.allowed)
     ∙ ap Some (sym is.made)
 
-pub first_is : (body : List ℕ) (s : LogState) → IsBytes body → begun body ≡ Some s → IsFirst body s
-unfolding begun settings_in settings_record
+pub first_is : (body : List ℕ) (s : LogState) → IsBytes body → begun_log body ≡ Some s
+    → IsFirst body s
+unfolding begun_log settings_in settings_record
 first_is body s bytes is =
     let found = map_from (settings_in body) is in
     let read = option_from_settings (tagged log_tag settings_at (number_at w8 (at body 0)))
@@ -131,8 +132,8 @@ first_is body s bytes is =
     map_from (Some x) is = (x, refl, some_value (new_log x) s is)
 
     option_from_settings : (o : Option (List ℕ × (ℕ × ℕ))) (x : Settings)
-        → option_and_then settings_with o ≡ Some x
-        → (v : List ℕ × (ℕ × ℕ)) × (o ≡ Some v) × (settings_with v ≡ Some x)
+        → option_and_then log_settings_with o ≡ Some x
+        → (v : List ℕ × (ℕ × ℕ)) × (o ≡ Some v) × (log_settings_with v ≡ Some x)
     option_from_settings None x is = let wrong : None ≡ Some x = is in cc
     option_from_settings (Some v) x is = (v, refl, is)
 

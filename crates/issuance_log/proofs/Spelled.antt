@@ -21,14 +21,14 @@ use Rattle.tls_wire.proofs.Numbers.{wide8, wide16, wide32, wide64, number_form}
 use Rattle.tls_wire.proofs.Vectors.{vector_form}
 use Rattle.tls_wire.proofs.AnchorForm.{anchor_again}
 use Rattle.issuance_log.specs.Folds.{LogState, new_log, with_item, with_mark, with_entry}
-use Rattle.issuance_log.specs.Folds.{with_landmark, changed, begun, next_log, log_fold, log_of}
+use Rattle.issuance_log.specs.Folds.{with_landmark, changed, begun_log, next_log, log_fold, log_of}
 use Rattle.issuance_log.specs.Marks.{last_mark}
 use Rattle.log_entry.specs.Matching.{matches}
 use Rattle.issuance_log.specs.Records.{log_tag, entry_tag, landmark_tag, settings_at, entry_at}
-use Rattle.issuance_log.specs.Records.{whole_of, with_id, settings_with, tagged, settings_in}
+use Rattle.issuance_log.specs.Records.{whole_of, with_id, log_settings_with, tagged, settings_in}
 use Rattle.issuance_log.specs.Records.{item_in, mark_in, settings_record, IsShort, entry_record}
 use Rattle.issuance_log.specs.Records.{landmark_record}
-use Rattle.issuance_log.specs.Results.{Finds}
+use Rattle.issuance_log.specs.Results.{LogFinds}
 use Rattle.issuance_log.specs.declared.error.RecordError.{RecordError}
 use Rattle.issuance_log.specs.declared.error.RecordError.TheVariants.{Unfit, Memory}
 use Rattle.issuance_log.specs.Settings.{Settings, most_active, most_entries, most_item}
@@ -141,7 +141,7 @@ item_takes body entry key bytes is =
 
 -- a record in which no item is found
 pub no_item : (body : List ℕ) (why : RecordError) → why ≡ Unfit
-    → Finds {X = Bor (List ℕ) × Bor (List ℕ)} (λ x. (x.0.now, x.1.now)) (item_in body) (Err why)
+    → LogFinds {X = Bor (List ℕ) × Bor (List ℕ)} (λ x. (x.0.now, x.1.now)) (item_in body) (Err why)
     → item_in body ≡ None
 no_item body Unfit is none = none
 no_item body Memory is none = let wrong : Memory ≡ Unfit = is in cc
@@ -223,7 +223,8 @@ settings_again s id allowed =
     let short = id.short in
     let fits : FitSettings (s.id, (s.max_active, s.limit)) =
     (omega arith, (omega arith, omega arith)) in
-    ap (option_and_then settings_with) (tagged_again log_tag (omega arith) settings_text FitSettings
+    ap (option_and_then log_settings_with) (tagged_again log_tag
+    (omega arith) settings_text FitSettings
     settings_at settings_form (s.id, (s.max_active, s.limit)) fits)
     ∙ ap (λ (b : Bool). if b then with_id s.max_active s.limit (anchor_of s.id) else None)
     (tests_allowed s.max_active s.limit allowed)
@@ -234,7 +235,7 @@ settings_again s id allowed =
 -- of a Log
 pub log_created : (h : List ℕ → List ℕ) (s : Settings) → IsAnchorId s.id
     → AreAllowed s.max_active s.limit → log_of h (settings_record s ∷ []) ≡ Ok (new_log s)
-unfolding begun
+unfolding begun_log
 log_created h s id allowed = state_begins (log_fold h) (settings_record s) (new_log s)
     (ap (option_map new_log) (settings_again s id allowed))
 

@@ -9,15 +9,15 @@ use Rattle.issuance_log.specs.declared.error.RecordError.{RecordError}
 use Rattle.issuance_log.specs.declared.error.RecordError.TheVariants.{Unfit, Memory}
 
 -- an id that is none, or want of memory for it
-abbrev pub of_id : AnchorBytesError → RecordError
-of_id id.Empty = Unfit
-of_id (id.Padding place) = Unfit
-of_id id.Unfinished = Unfit
-of_id id.TooLong = Unfit
-of_id (id.ArcTooLarge place) = Unfit
-of_id id.Memory = Memory
+abbrev pub log_id_fault : AnchorBytesError → RecordError
+log_id_fault id.Empty = Unfit
+log_id_fault (id.Padding place) = Unfit
+log_id_fault id.Unfinished = Unfit
+log_id_fault id.TooLong = Unfit
+log_id_fault (id.ArcTooLarge place) = Unfit
+log_id_fault id.Memory = Memory
 
 -- a record of this number that is not taken
-abbrev pub refusal_at : ℕ → RecordError → LogOpenError
-refusal_at number Unfit = BadRecord number
-refusal_at number Memory = Open open_error.Memory
+abbrev pub log_refusal_at : ℕ → RecordError → LogOpenError
+log_refusal_at number Unfit = BadRecord number
+log_refusal_at number Memory = Open open_error.Memory

@@ -51,8 +51,8 @@ abbrev pub with_mark : LogState → LogState
 with_mark s = record s { marks = s.marks ++ length s.entries ∷ [] }
 
 -- the log that a first record begins
-unfoldable pub begun : Text → Option LogState
-begun body = option_map new_log (settings_in body)
+unfoldable pub begun_log : Text → Option LogState
+begun_log body = option_map new_log (settings_in body)
 
 -- an Entry: its key matches, and the log isn't full
 abbrev pub with_entry : HashFunction → LogState → Text × Text → Option LogState
@@ -77,7 +77,7 @@ next_log h s body = changed h s (item_in body) (mark_in body)
 -- A log as a kind of journal.
 abbrev pub log_fold : HashFunction → Fold LogState LogOpenError
 log_fold h =
-    record { begins = begun; takes = next_log h; bad_record = BadRecord; not_read = Open }
+    record { begins = begun_log; takes = next_log h; bad_record = BadRecord; not_read = Open }
 
 -- The log of a journal with these records, or the number of the first record that breaks the rules.
 -- Without a record the first one is missing.

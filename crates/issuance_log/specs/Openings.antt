@@ -18,10 +18,10 @@ log_read h bytes = read_by (log_fold h) bytes
 
 -- the cause of a refusal, over the disk before the call and after it: the bytes, a fault, or want
 -- of memory
-abbrev pub HasCauseOf : {D : Type 0} → Ghosts D → HashFunction → D → D → LogOpenError → Type 0
-HasCauseOf g h old new (BadRecord k) = AreRefused (log_fold h) (g.told old) (BadRecord k)
-HasCauseOf g h old new (Open why) = IsCauseOf g (log_fold h) old new why
+abbrev pub HasLogCause : {D : Type 0} → Ghosts D → HashFunction → D → D → LogOpenError → Type 0
+HasLogCause g h old new (BadRecord k) = AreRefused (log_fold h) (g.told old) (BadRecord k)
+HasLogCause g h old new (Open why) = IsCauseOf g (log_fold h) old new why
 
 -- no fault was counted, unless it is the refusal
-abbrev pub CountsNoOther : {D : Type 0} → Ghosts D → D → D → LogOpenError → Type 0
-CountsNoOther g old new why = why ≢ Open open_error.Failed → g.faults new ≡ g.faults old
+abbrev pub LogCountsNoOther : {D : Type 0} → Ghosts D → D → D → LogOpenError → Type 0
+LogCountsNoOther g old new why = why ≢ Open open_error.Failed → g.faults new ≡ g.faults old

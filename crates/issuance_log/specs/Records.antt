@@ -71,13 +71,13 @@ with_id active limit (Ok id) = Some (record { id = id; max_active = active; limi
 with_id active limit (Err fault) = None
 
 -- settings, where the numbers may be those of a log
-abbrev pub settings_with : Text × (ℕ × ℕ) → Option Settings
-settings_with x = if are_allowed x.1.0 x.1.1 then with_id x.1.0 x.1.1 (anchor_of x.0) else None
+abbrev pub log_settings_with : Text × (ℕ × ℕ) → Option Settings
+log_settings_with x = if are_allowed x.1.0 x.1.1 then with_id x.1.0 x.1.1 (anchor_of x.0) else None
 
 -- the settings in a Log, which is the first record and nowhere else
 unfoldable pub settings_in : Text → Option Settings
 settings_in body =
-    option_and_then settings_with (tagged log_tag settings_at (number_at w8 (at body 0)))
+    option_and_then log_settings_with (tagged log_tag settings_at (number_at w8 (at body 0)))
 
 -- the entry and the key in an Entry
 unfoldable pub item_in : Text → Option (Text × Text)

@@ -36,16 +36,16 @@ mark_refusal v broken end =
 
 -- The answer to an item keeps to its refusal. Memory may be refused behind the first two tests, and
 -- a fault told where there is no refusal.
-abbrev pub KeepsTo : Option LogError → Result ℕ LogError → Type 0
-KeepsTo wanted (Ok index) = wanted ≡ None
-KeepsTo wanted (Err Full) = wanted ≡ Some Full
-KeepsTo wanted (Err TooLarge) = wanted ≡ Some TooLarge
-KeepsTo wanted (Err NoSuchEntry) = ⊥
-KeepsTo wanted (Err NothingNew) = ⊥
-KeepsTo wanted (Err (Append append_error.Failed)) = wanted ≡ None
-KeepsTo wanted (Err (Append append_error.Broken)) = wanted ≡ Some (Append append_error.Broken)
-KeepsTo wanted (Err (Append append_error.Full)) = wanted ≡ Some (Append append_error.Full)
-KeepsTo wanted (Err Memory) = (wanted ≢ Some Full) × (wanted ≢ Some TooLarge)
+abbrev pub ItemKeepsTo : Option LogError → Result ℕ LogError → Type 0
+ItemKeepsTo wanted (Ok index) = wanted ≡ None
+ItemKeepsTo wanted (Err Full) = wanted ≡ Some Full
+ItemKeepsTo wanted (Err TooLarge) = wanted ≡ Some TooLarge
+ItemKeepsTo wanted (Err NoSuchEntry) = ⊥
+ItemKeepsTo wanted (Err NothingNew) = ⊥
+ItemKeepsTo wanted (Err (Append append_error.Failed)) = wanted ≡ None
+ItemKeepsTo wanted (Err (Append append_error.Broken)) = wanted ≡ Some (Append append_error.Broken)
+ItemKeepsTo wanted (Err (Append append_error.Full)) = wanted ≡ Some (Append append_error.Full)
+ItemKeepsTo wanted (Err Memory) = (wanted ≢ Some Full) × (wanted ≢ Some TooLarge)
 
 -- So does the answer to a landmark, where memory may be refused behind the first test.
 abbrev pub MarkKeepsTo : Option LogError → Result (ℕ × ℕ) LogError → Type 0

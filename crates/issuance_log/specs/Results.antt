@@ -5,16 +5,16 @@ use Rattle.issuance_log.specs.declared.error.RecordError.{RecordError}
 use Rattle.issuance_log.specs.declared.error.RecordError.TheVariants.{Unfit, Memory}
 
 -- what was wanted is found, or there is none, or memory was refused
-abbrev pub Finds : {X Y : Type 0} → (X → Y) → Option Y → Result X RecordError → Type 0
-Finds view wanted (Ok x) = wanted ≡ Some (view x)
-Finds view wanted (Err Unfit) = wanted ≡ None
-Finds view wanted (Err Memory) = Unit {0}
+abbrev pub LogFinds : {X Y : Type 0} → (X → Y) → Option Y → Result X RecordError → Type 0
+LogFinds view wanted (Ok x) = wanted ≡ Some (view x)
+LogFinds view wanted (Err Unfit) = wanted ≡ None
+LogFinds view wanted (Err Memory) = Unit {0}
 
 -- the log becomes what was wanted; where there is none, or memory was refused, it stays
-abbrev pub Takes : Option LogState → LogState → Result (Unit {0}) RecordError → LogState → Type 0
-Takes wanted old (Ok done) new = wanted ≡ Some new
-Takes wanted old (Err Unfit) new = (wanted ≡ None) × (new ≡ old)
-Takes wanted old (Err Memory) new = new ≡ old
+abbrev pub LogTakes : Option LogState → LogState → Result (Unit {0}) RecordError → LogState → Type 0
+LogTakes wanted old (Ok done) new = wanted ≡ Some new
+LogTakes wanted old (Err Unfit) new = (wanted ≡ None) × (new ≡ old)
+LogTakes wanted old (Err Memory) new = new ≡ old
 
 -- the log is what was wanted, or there is none, by the answer
 abbrev pub HasTried : {E : Type 0} → Option LogState → LogState → Result Bool E → Type 0

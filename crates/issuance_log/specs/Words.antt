@@ -36,24 +36,24 @@ module _ {H D : Type 0} {hashes : Hashes H} {g : Ghosts D} where
   log_broken log = is_broken log.journal
 
   -- the settings, the items and the landmarks
-  abbrev pub state_of : Log H D hashes g → LogState
-  state_of log = log.contents.state
+  abbrev pub log_state : Log H D hashes g → LogState
+  log_state log = log.contents.state
 
   -- what its refusals look at
   abbrev pub view_of : Log H D hashes g → LogView
-  view_of log = view_in (state_of log)
+  view_of log = view_in (log_state log)
 
   -- no call of the disk, and the log is as it was
   pub record LogIsUntouched (old new : Log H D hashes g) : Type 0 where
     pub disk : log_disk new ≡ log_disk old
-    pub state : state_of new ≡ state_of old
+    pub state : log_state new ≡ log_state old
     pub end : log_end new ≡ log_end old
     pub broken : log_broken new ≡ log_broken old
 
   -- a call of the disk failed: the log is to be opened again, and shows what it showed before
   pub record LogHasBroken (old new : Log H D hashes g) : Type 0 where
     pub cause : Rose (g.faults (log_disk old)) (g.faults (log_disk new))
-    pub state : state_of new ≡ state_of old
+    pub state : log_state new ≡ log_state old
     pub end : log_end new ≡ log_end old
     pub was_sound : log_broken old ≡ false
     pub broken : log_broken new ≡ true
@@ -61,7 +61,7 @@ module _ {H D : Type 0} {hashes : Hashes H} {g : Ghosts D} where
   -- this record more, which makes this log of the old one
   pub record LogHasGrown (body : Text) (next : LogState) (old new : Log H D hashes g) : Type 0 where
     pub records : log_records new ≡ option_map (λ list. list ++ body ∷ []) (log_records old)
-    pub state : state_of new ≡ next
+    pub state : log_state new ≡ next
     pub end : log_end new ≡ log_end old + 5 + length body
     pub was_sound : log_broken old ≡ false
     pub sound : log_broken new ≡ false

@@ -1,10 +1,10 @@
 //! What the records of a journal make of a log, with the leaf hashes of its entries.
 ghost use Rattle.std.specs.Prelude.{◌≡◌, ◌<◌, ◌≤◌, [], ◌∷◌, ◌++◌, length, map, nat_lt, not, option_and_then, vec_len, vec_capacity, IfOk, OnOk};
-ghost use Rattle.issuance_log.specs.Folds.{begun, new_log, next_log, with_entry, with_item, with_landmark, with_mark};
+ghost use Rattle.issuance_log.specs.Folds.{begun_log, new_log, next_log, with_entry, with_item, with_landmark, with_mark};
 ghost use Rattle.issuance_log.specs.Marks.{last_mark, AreRising};
 ghost use Rattle.issuance_log.specs.Records.{IsShort, mark_in};
 ghost use Rattle.issuance_log.specs.Settings.{AreAllowed};
-ghost use Rattle.issuance_log.specs.Results.{Finds, Takes};
+ghost use Rattle.issuance_log.specs.Results.{LogFinds, LogTakes};
 ghost use Rattle.issuance_log.specs.Sound.{IsItem, IsSound};
 ghost use Rattle.tree_core.specs.Tree.{leaf_hash};
 
@@ -79,9 +79,9 @@ fn put(list: &mut Vec<u64>, number: u64)
 
 impl<H: TreeHash> Contents<H> {
     /// The log that the first record begins.
-    #[tactic(auto, unfolding(crate::specs::Folds::begun))]
+    #[tactic(auto, unfolding(crate::specs::Folds::begun_log))]
     pub(crate) fn begin(alloc: Global, body: &[u8]) -> Result<Contents<H>, RecordError>
-        ensures { Finds (λ c. c.state) (begun body.now) result }
+        ensures { LogFinds (λ c. c.state) (begun_log body.now) result }
     {
         let settings = read_settings(alloc, body)?;
         let contents = Contents::new(alloc, settings)?;
@@ -107,7 +107,7 @@ impl<H: TreeHash> Contents<H> {
     /// Takes one record more. `Unfit` comes exactly where it breaks the rules, and a refusal leaves
     /// the log as it was.
     pub(crate) fn take(&mut self, body: &[u8]) -> Result<(), RecordError>
-        ensures { Takes (next_log H.hash self.old.state body.now)
+        ensures { LogTakes (next_log H.hash self.old.state body.now)
             self.old.state result self.new.state }
     {
         match read_item(body) {
@@ -120,7 +120,7 @@ impl<H: TreeHash> Contents<H> {
     fn take_item(&mut self, entry: &[u8], key: &[u8]) -> Result<(), RecordError>
         requires short_entry { IsShort entry.now }
         requires short_key { IsShort key.now }
-        ensures { Takes (with_entry H.hash self.old.state (entry.now, key.now))
+        ensures { LogTakes (with_entry H.hash self.old.state (entry.now, key.now))
             self.old.state result self.new.state }
     {
         if self.is_full() || !key_matches::<H>(entry, key) {
@@ -133,7 +133,7 @@ impl<H: TreeHash> Contents<H> {
 
     // Takes a record that is no Entry.
     fn take_mark(&mut self, body: &[u8]) -> Result<(), RecordError>
-        ensures { Takes (option_and_then (with_landmark self.old.state) (mark_in body.now))
+        ensures { LogTakes (option_and_then (with_landmark self.old.state) (mark_in body.now))
             self.old.state result self.new.state }
     {
         let size = read_mark(body)?;

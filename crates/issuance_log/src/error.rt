@@ -2,7 +2,7 @@
 ghost use Rattle.std.specs.Prelude.{◌≡◌};
 ghost use Rattle.issuance_log.specs.declared.error.LogError.TheVariants.{Append as NotAppended, Memory as LogMemory};
 ghost use Rattle.issuance_log.specs.declared.error.RecordError.TheVariants.{Unfit, Memory as RecordMemory};
-ghost use Rattle.issuance_log.specs.Faults.{of_id};
+ghost use Rattle.issuance_log.specs.Faults.{log_id_fault};
 
 use journal_core::{AppendError, OpenError};
 use mtc_io::Memory;
@@ -92,7 +92,7 @@ impl From<Short> for RecordError {
 }
 
 impl From<AnchorBytesError> for RecordError {
-    ghost from_gives = { λ fault e. e ≡ of_id fault };
+    ghost from_gives = { λ fault e. e ≡ log_id_fault fault };
 
     fn from(fault: AnchorBytesError) -> Self {
         match fault {

@@ -3,7 +3,7 @@ ghost use Rattle.std.specs.Prelude.{◌≡◌, ◌<◌, ◌^◌, ℕ, List, ◌�
 ghost use Rattle.byte_forms.specs.Types.{Text, HashFunction};
 ghost use Rattle.byte_forms.specs.Places.{IsBytes};
 ghost use Rattle.journal_core.specs.Format.{StandsFor};
-ghost use Rattle.issuance_log.specs.Folds.{LogState, begun, next_log, log_behind, log_of};
+ghost use Rattle.issuance_log.specs.Folds.{LogState, begun_log, next_log, log_behind, log_of};
 ghost use Rattle.issuance_log.specs.Openings.{FoundLog, log_read};
 ghost use Rattle.issuance_log.specs.Records.{IsShort, entry_record, item_in, landmark_record, mark_in, settings_in};
 ghost use Rattle.issuance_log.specs.Rules.{IsFirst, IsNext};
@@ -27,8 +27,8 @@ pub fn landmarks_are_read_as_spelled()
 
 /// A record begins a log, or makes a log of another one, exactly where it keeps to the rules.
 pub fn records_keep_to_the_rules()
-    ensures first { (body : Text) (s : LogState) → IsFirst body s → begun body ≡ Some s }
-    ensures only_first { (body : Text) (s : LogState) → IsBytes body → begun body ≡ Some s
+    ensures first { (body : Text) (s : LogState) → IsFirst body s → begun_log body ≡ Some s }
+    ensures only_first { (body : Text) (s : LogState) → IsBytes body → begun_log body ≡ Some s
         → IsFirst body s }
     ensures next { (h : HashFunction) (s : LogState) (body : Text) (t : LogState)
         → IsNext h s body t

@@ -7,11 +7,11 @@ ghost use Rattle.journal_core.specs.Words.{is_broken, records, AllStandFor};
 ghost use Rattle.issuance_log.specs.Folds.{log_of, with_item, with_mark};
 ghost use Rattle.log_entry.specs.Matching.{matches};
 ghost use Rattle.tree_core.specs.Tree.{leaf_hash};
-ghost use Rattle.issuance_log.specs.Openings.{CountsNoOther, HasCauseOf, log_read};
+ghost use Rattle.issuance_log.specs.Openings.{LogCountsNoOther, HasLogCause, log_read};
 ghost use Rattle.issuance_log.specs.Marks.{AreRising};
 ghost use Rattle.issuance_log.specs.Records.{entry_record, landmark_record};
 ghost use Rattle.issuance_log.specs.Settings.{AreAllowed};
-ghost use Rattle.issuance_log.specs.Refusals.{add_refusal, KeepsTo, mark_refusal, MarkKeepsTo, item_at, GivesItem};
+ghost use Rattle.issuance_log.specs.Refusals.{add_refusal, ItemKeepsTo, mark_refusal, MarkKeepsTo, item_at, GivesItem};
 ghost use Rattle.issuance_log.specs.Sound.{IsSound};
 
 use crate::contents::Contents;
@@ -51,7 +51,7 @@ fn copy(bytes: &Bytes, out: &mut Bytes) -> Result<(), Memory>
 }
 
 impl<H: TreeHash, D: Disk> Log<H, D> {
-    ghost use Rattle.issuance_log.specs.Words.{log_disk, log_records, log_end, log_broken, state_of, view_of, LogAppends};
+    ghost use Rattle.issuance_log.specs.Words.{log_disk, log_records, log_end, log_broken, log_state, view_of, LogAppends};
 
     /// Opens the log in a journal. Its records are read and tested one by one.
     ///
@@ -63,9 +63,9 @@ impl<H: TreeHash, D: Disk> Log<H, D> {
         ensures looks { IfOk result (λ it. Looks D.Disk disk (log_disk it)) }
         ensures fine { IfOk result (λ it. D.faults (log_disk it) ≡ D.faults disk) }
         ensures found { IfOk result (λ it. IfSome (D.told disk) (λ b. IfSome (log_records it)
-            (λ list. log_read H.hash b ≡ Ok (record { records = list; state = state_of it })))) }
+            (λ list. log_read H.hash b ≡ Ok (record { records = list; state = log_state it })))) }
         ensures valid { IfOk result (λ it. IfSome (log_records it)
-            (λ list. log_of H.hash list ≡ Ok (state_of it))) }
+            (λ list. log_of H.hash list ≡ Ok (log_state it))) }
         ensures stands { IfOk result (λ it. IfSome (D.told (log_disk it))
             (λ b. IfSome (log_records it) (StandsFor b))) }
         ensures all { IfOk result
@@ -73,8 +73,8 @@ impl<H: TreeHash, D: Disk> Log<H, D> {
         ensures end { IfOk result (λ it. IfSome (log_records it)
             (λ list. log_end it ≡ end_behind list)) }
         ensures err { IfErr result (λ e. Looks D.Disk disk e.disk) }
-        ensures cause { IfErr result (λ e. HasCauseOf D.Disk H.hash disk e.disk e.why) }
-        ensures fine_err { IfErr result (λ e. CountsNoOther D.Disk disk e.disk e.why) }
+        ensures cause { IfErr result (λ e. HasLogCause D.Disk H.hash disk e.disk e.why) }
+        ensures fine_err { IfErr result (λ e. LogCountsNoOther D.Disk disk e.disk e.why) }
     {
         let mut opening = match Opening::begin(alloc, disk) {
             Ok(opening) => opening,
@@ -102,15 +102,15 @@ impl<H: TreeHash, D: Disk> Log<H, D> {
     pub fn add(&mut self, entry: &[u8], spki: &[u8]) -> Result<u64, LogError>
         requires { matches H.hash entry.now spki.now ≡ true }
         ensures appends { LogAppends (entry_record entry.now spki.now)
-            (with_item entry.now spki.now (state_of self.old)) self.old self.new result }
-        ensures index { IfOk result (λ index. index ≡ length (state_of self.old).entries) }
-        ensures answer { KeepsTo (add_refusal (view_of self.old) (log_broken self.old)
+            (with_item entry.now spki.now (log_state self.old)) self.old self.new result }
+        ensures index { IfOk result (λ index. index ≡ length (log_state self.old).entries) }
+        ensures answer { ItemKeepsTo (add_refusal (view_of self.old) (log_broken self.old)
             (log_end self.old) entry.now spki.now) result }
         ensures valid { add_refusal (view_of self.old) (log_broken self.old)
             (log_end self.old) entry.now spki.now ≡ None
             → IfSome (log_records self.old)
             (λ list. log_of H.hash (list ++ entry_record entry.now spki.now ∷ [])
-            ≡ Ok (with_item entry.now spki.now (state_of self.old))) }
+            ≡ Ok (with_item entry.now spki.now (log_state self.old))) }
     {
         let index = self.contents.len();
         if self.contents.is_full() {
@@ -136,18 +136,18 @@ impl<H: TreeHash, D: Disk> Log<H, D> {
     /// before answers `Append(Broken)`.
     #[tactic(auto, unfolding(crate::specs::Refusals::mark_refusal))]
     pub fn mark(&mut self) -> Result<(u64, u64), LogError>
-        ensures appends { LogAppends (landmark_record (length (state_of self.old).entries))
-            (with_mark (state_of self.old)) self.old self.new result }
+        ensures appends { LogAppends (landmark_record (length (log_state self.old).entries))
+            (with_mark (log_state self.old)) self.old self.new result }
         ensures number { IfOk result
-            (λ landmark. landmark.0 ≡ length (state_of self.old).marks + 1) }
-        ensures size { IfOk result (λ landmark. landmark.1 ≡ length (state_of self.old).entries) }
+            (λ landmark. landmark.0 ≡ length (log_state self.old).marks + 1) }
+        ensures size { IfOk result (λ landmark. landmark.1 ≡ length (log_state self.old).entries) }
         ensures answer { MarkKeepsTo
             (mark_refusal (view_of self.old) (log_broken self.old) (log_end self.old)) result }
         ensures valid { mark_refusal (view_of self.old) (log_broken self.old) (log_end self.old)
             ≡ None → IfSome (log_records self.old)
             (λ list. log_of H.hash
-            (list ++ landmark_record (length (state_of self.old).entries) ∷ [])
-            ≡ Ok (with_mark (state_of self.old))) }
+            (list ++ landmark_record (length (log_state self.old).entries) ∷ [])
+            ≡ Ok (with_mark (log_state self.old))) }
     {
         let size = self.contents.len() as u64;
         if self.contents.last_mark() == size {
@@ -162,9 +162,9 @@ impl<H: TreeHash, D: Disk> Log<H, D> {
 
     /// How many entries the log has, the null entry among them.
     pub fn size(&self) -> u64
-        ensures value { result ≡ length (state_of self.now).entries }
+        ensures value { result ≡ length (log_state self.now).entries }
         ensures some { 1 ≤ result }
-        ensures few { result ≤ (state_of self.now).settings.limit }
+        ensures few { result ≤ (log_state self.now).settings.limit }
     {
         self.contents.len() as u64
     }
@@ -173,13 +173,13 @@ impl<H: TreeHash, D: Disk> Log<H, D> {
     /// entry but the first reads as one of type 1 to which its key belongs, the lengths of both are
     /// told in two bytes, and the landmarks rise up to the size at most.
     pub fn sound(&self)
-        ensures { IsSound H.hash (state_of self.now) }
+        ensures { IsSound H.hash (log_state self.now) }
     {
         let _ = self.contents.len();
     }
 
     pub fn settings(&self) -> &LogSettings
-        ensures value { result.now ≡ (state_of self.now).settings }
+        ensures value { result.now ≡ (log_state self.now).settings }
         ensures allowed { AreAllowed result.now.max_active result.now.limit }
     {
         self.contents.settings()
@@ -188,15 +188,15 @@ impl<H: TreeHash, D: Disk> Log<H, D> {
     /// The sizes at the landmarks, from the first to the last. They rise strictly, and none is
     /// above the size of the log.
     pub fn marks(&self) -> &[u64]
-        ensures value { result.now ≡ (state_of self.now).marks }
-        ensures rising { AreRising 0 (length (state_of self.now).entries) result.now }
+        ensures value { result.now ≡ (log_state self.now).marks }
+        ensures rising { AreRising 0 (length (log_state self.now).entries) result.now }
     {
         self.contents.marks()
     }
 
     // The leaf hashes of the entries, each at its index.
     pub(crate) fn leaves(&self) -> &Listed<H>
-        ensures { result.now.leaves ≡ map (leaf_hash H.hash) (state_of self.now).entries }
+        ensures { result.now.leaves ≡ map (leaf_hash H.hash) (log_state self.now).entries }
     {
         self.contents.leaves()
     }
@@ -207,7 +207,7 @@ impl<H: TreeHash, D: Disk> Log<H, D> {
     /// `Memory`. After a refusal both byte strings are empty.
     #[tactic(auto, unfolding(crate::specs::Refusals::item_at))]
     pub fn entry(&mut self, index: u64, entry: &mut Bytes, spki: &mut Bytes) -> Result<(), LogError>
-        ensures item { GivesItem (item_at (state_of self.old) index) result entry.new spki.new }
+        ensures item { GivesItem (item_at (log_state self.old) index) result entry.new spki.new }
         ensures same { self.new ≡ self.old }
     {
         entry.truncate(0);

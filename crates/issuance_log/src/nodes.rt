@@ -1,6 +1,6 @@
 //! The tree over the entries of a log.
 ghost use Rattle.std.specs.Prelude.{◌≡◌, length, map};
-ghost use Rattle.issuance_log.specs.Words.{state_of};
+ghost use Rattle.issuance_log.specs.Words.{log_state};
 ghost use Rattle.tree_core.specs.Tree.{leaf_hash};
 
 use crate::Log;
@@ -19,15 +19,15 @@ impl<H: TreeHash, D: Disk> Nodes for Log<H, D> {
 
     type H = H;
 
-    ghost leaves = { λ log. Some (map (leaf_hash H.hash) (state_of log).entries) };
+    ghost leaves = { λ log. Some (map (leaf_hash H.hash) (log_state log).entries) };
 
-    ghost count = { λ log. length (state_of log).entries };
+    ghost count = { λ log. length (log_state log).entries };
 
     ghost faults = { λ _. 0 };
 
     ghost stays = { λ old new. new ≡ old };
 
-    ghost counted = { λ log. sym (length-map (state_of log).entries (leaf_hash H.hash)) };
+    ghost counted = { λ log. sym (length-map (log_state log).entries (leaf_hash H.hash)) };
 
     ghost stays_before = { λ _. refl };
 

@@ -2,8 +2,8 @@
 ghost use Rattle.std.specs.Prelude.{◌≡◌, ◌<◌, [], false, None, option_map, MatchBool, IfOk, IfErr, OnOk};
 ghost use Rattle.disk_core.specs.Moments.{Looks};
 ghost use Rattle.journal_core.specs.Openings.{opening_disk, read_list, is_ended, refusal, bytes_left};
-ghost use Rattle.issuance_log.specs.Faults.{refusal_at};
-ghost use Rattle.issuance_log.specs.Openings.{CountsNoOther, HasCauseOf};
+ghost use Rattle.issuance_log.specs.Faults.{log_refusal_at};
+ghost use Rattle.issuance_log.specs.Openings.{LogCountsNoOther, HasLogCause};
 ghost use Rattle.journal_core.specs.Readings.{HasFolded, HasFound};
 ghost use Rattle.issuance_log.specs.Folds.{log_fold};
 
@@ -16,7 +16,7 @@ use tree_core::TreeHash;
 
 // A record that is not taken is refused by its number.
 fn refusal_at(number: u64, why: RecordError) -> LogOpenError
-    ensures { result ≡ refusal_at number why }
+    ensures { result ≡ log_refusal_at number why }
 {
     match why {
         RecordError::Unfit => LogOpenError::BadRecord(number),
@@ -33,12 +33,12 @@ fn read_first<H: TreeHash, D: Disk>(
         ≡ option_map (λ _. []) (D.told (opening_disk opening.old)) }
     requires goes_on { (is_ended opening.old ≡ false) × (refusal opening.old ≡ None) }
     ensures folded { IfOk result (λ c. HasFolded (log_fold H.hash) c.state opening.new) }
-    ensures err { IfErr result (HasCauseOf D.Disk H.hash (opening_disk opening.old)
+    ensures err { IfErr result (HasLogCause D.Disk H.hash (opening_disk opening.old)
         (opening_disk opening.new)) }
     ensures looks { Looks D.Disk (opening_disk opening.old) (opening_disk opening.new) }
     ensures fine { OnOk result (D.faults (opening_disk opening.new)
         ≡ D.faults (opening_disk opening.old)) }
-    ensures fine_err { IfErr result (CountsNoOther D.Disk (opening_disk opening.old)
+    ensures fine_err { IfErr result (LogCountsNoOther D.Disk (opening_disk opening.old)
         (opening_disk opening.new)) }
 {
     match opening.next() {
@@ -62,12 +62,12 @@ fn read_next<H: TreeHash, D: Disk>(
         (HasFound (log_fold H.hash) contents.new.state opening.new)) }
     ensures shorter { IfOk result
         (λ more. MatchBool more (bytes_left opening.new < bytes_left opening.old) (Unit {0})) }
-    ensures err { IfErr result (HasCauseOf D.Disk H.hash (opening_disk opening.old)
+    ensures err { IfErr result (HasLogCause D.Disk H.hash (opening_disk opening.old)
         (opening_disk opening.new)) }
     ensures looks { Looks D.Disk (opening_disk opening.old) (opening_disk opening.new) }
     ensures fine { OnOk result (D.faults (opening_disk opening.new)
         ≡ D.faults (opening_disk opening.old)) }
-    ensures fine_err { IfErr result (CountsNoOther D.Disk (opening_disk opening.old)
+    ensures fine_err { IfErr result (LogCountsNoOther D.Disk (opening_disk opening.old)
         (opening_disk opening.new)) }
 {
     let number = opening.read_count();
@@ -88,12 +88,12 @@ fn read_rest<H: TreeHash, D: Disk>(
 ) -> Result<(), LogOpenError>
     requires { HasFolded (log_fold H.hash) contents.old.state opening.old }
     ensures found { OnOk result (HasFound (log_fold H.hash) contents.new.state opening.new) }
-    ensures err { IfErr result (HasCauseOf D.Disk H.hash (opening_disk opening.old)
+    ensures err { IfErr result (HasLogCause D.Disk H.hash (opening_disk opening.old)
         (opening_disk opening.new)) }
     ensures looks { Looks D.Disk (opening_disk opening.old) (opening_disk opening.new) }
     ensures fine { OnOk result (D.faults (opening_disk opening.new)
         ≡ D.faults (opening_disk opening.old)) }
-    ensures fine_err { IfErr result (CountsNoOther D.Disk (opening_disk opening.old)
+    ensures fine_err { IfErr result (LogCountsNoOther D.Disk (opening_disk opening.old)
         (opening_disk opening.new)) }
 {
     'records: loop {
@@ -112,12 +112,12 @@ pub(crate) fn read_log<H: TreeHash, D: Disk>(
         ≡ option_map (λ _. []) (D.told (opening_disk opening.old)) }
     requires goes_on { (is_ended opening.old ≡ false) × (refusal opening.old ≡ None) }
     ensures found { IfOk result (λ c. HasFound (log_fold H.hash) c.state opening.new) }
-    ensures err { IfErr result (HasCauseOf D.Disk H.hash (opening_disk opening.old)
+    ensures err { IfErr result (HasLogCause D.Disk H.hash (opening_disk opening.old)
         (opening_disk opening.new)) }
     ensures looks { Looks D.Disk (opening_disk opening.old) (opening_disk opening.new) }
     ensures fine { OnOk result (D.faults (opening_disk opening.new)
         ≡ D.faults (opening_disk opening.old)) }
-    ensures fine_err { IfErr result (CountsNoOther D.Disk (opening_disk opening.old)
+    ensures fine_err { IfErr result (LogCountsNoOther D.Disk (opening_disk opening.old)
         (opening_disk opening.new)) }
 {
     let mut contents = read_first::<H, D>(alloc, opening)?;

@@ -1,8 +1,8 @@
 //! The bodies of a log's records.
 ghost use Rattle.std.specs.Prelude.{◌≡◌, ◌+◌, ◌<◌, ◌≤◌, length, true, IfOk};
 ghost use Rattle.byte_forms.specs.Readings.{Moves};
-ghost use Rattle.issuance_log.specs.Records.{settings_at, entry_at, settings_with, settings_in, item_in, mark_in, settings_record, IsShort, entry_record, landmark_record};
-ghost use Rattle.issuance_log.specs.Results.{Finds};
+ghost use Rattle.issuance_log.specs.Records.{settings_at, entry_at, log_settings_with, settings_in, item_in, mark_in, settings_record, IsShort, entry_record, landmark_record};
+ghost use Rattle.issuance_log.specs.Results.{LogFinds};
 ghost use Rattle.issuance_log.specs.Settings.{most_item, are_allowed, AreAllowed};
 ghost use Rattle.tls_wire.specs.Arcs.{IsAnchorId};
 
@@ -54,7 +54,7 @@ fn settings_with(
     max_active: u32,
     limit: u32,
 ) -> Result<LogSettings, RecordError>
-    ensures found { Finds (λ s. s) (settings_with (id.now, (max_active, limit))) result }
+    ensures found { LogFinds (λ s. s) (log_settings_with (id.now, (max_active, limit))) result }
     ensures allowed { IfOk result (λ s. AreAllowed s.max_active s.limit) }
 {
     if !are_allowed(max_active, limit) {
@@ -71,7 +71,7 @@ fn settings_with(
 /// The settings in the body of a Log, the first record of a journal.
 #[tactic(auto, unfolding(crate::specs::Records::settings_in))]
 pub(crate) fn read_settings(alloc: Global, body: &[u8]) -> Result<LogSettings, RecordError>
-    ensures found { Finds (λ s. s) (settings_in body.now) result }
+    ensures found { LogFinds (λ s. s) (settings_in body.now) result }
     ensures allowed { IfOk result (λ s. AreAllowed s.max_active s.limit) }
 {
     let mut cursor = Cursor::new(body);
@@ -88,7 +88,7 @@ pub(crate) fn read_settings(alloc: Global, body: &[u8]) -> Result<LogSettings, R
 // The entry and the key in the body of an Entry.
 #[tactic(auto, unfolding(crate::specs::Records::item_in))]
 fn item_in(body: &[u8]) -> Result<(&[u8], &[u8]), RecordError>
-    ensures { Finds (λ x. (x.0.now, x.1.now)) (item_in body.now) result }
+    ensures { LogFinds (λ x. (x.0.now, x.1.now)) (item_in body.now) result }
 {
     let mut cursor = Cursor::new(body);
     if cursor.u8()? != ENTRY {
@@ -103,7 +103,7 @@ fn item_in(body: &[u8]) -> Result<(&[u8], &[u8]), RecordError>
 
 /// The entry and the key in the body of an Entry. The length of each is told in two bytes.
 pub(crate) fn read_item(body: &[u8]) -> Result<(&[u8], &[u8]), RecordError>
-    ensures found { Finds (λ x. (x.0.now, x.1.now)) (item_in body.now) result }
+    ensures found { LogFinds (λ x. (x.0.now, x.1.now)) (item_in body.now) result }
     ensures short_entry { IfOk result (λ x. IsShort x.0.now) }
     ensures short_key { IfOk result (λ x. IsShort x.1.now) }
 {
@@ -114,7 +114,7 @@ pub(crate) fn read_item(body: &[u8]) -> Result<(&[u8], &[u8]), RecordError>
 /// The size in the body of a Landmark.
 #[tactic(auto, unfolding(crate::specs::Records::mark_in))]
 pub(crate) fn read_mark(body: &[u8]) -> Result<u64, RecordError>
-    ensures { Finds (λ size. size) (mark_in body.now) result }
+    ensures { LogFinds (λ size. size) (mark_in body.now) result }
 {
     let mut cursor = Cursor::new(body);
     if cursor.u8()? != LANDMARK {

@@ -9,7 +9,7 @@ use Rattle.journal_core.specs.Format.{StandsFor}
 use Rattle.journal_core.specs.Words.{AllStandFor}
 use Rattle.journal_core.specs.declared.error.OpenError.TheVariants as open_error
 use Rattle.cosigner_core.specs.Folds.{CosignerState}
-use Rattle.cosigner_core.specs.Openings.{FoundCosigner, HasCauseOf, cosigner_read}
+use Rattle.cosigner_core.specs.Openings.{FoundCosigner, HasCosignerCause, cosigner_read}
 use Rattle.cosigner_core.specs.declared.error.CosignerOpenError.{CosignerOpenError}
 use Rattle.cosigner_core.specs.declared.error.CosignerOpenError.TheVariants.{BadRecord, Open}
 use Rattle.mtc_answers.specs.Answers.{no_memory, refused, replied, room_failed}
@@ -17,7 +17,8 @@ use Rattle.mtc_answers.specs.Steps.{Outcome, answers, with_form}
 use Rattle.mtc_answers.specs.Works.{HasWorkedOn}
 use Rattle.mtc_answers.specs.declared.answer.Stopped.TheVariants.{BadForm}
 use Rattle.mtc_answers.proofs.Works.{not_opened}
-use Rattle.mtc_cosigner.specs.Works.{bytes_say, found_cosigner, open_ending, open_fault_text}
+use Rattle.mtc_cosigner.specs.Works.{cosigner_bytes_say, found_cosigner, cosigner_open_ending}
+use Rattle.mtc_cosigner.specs.Works.{cosigner_open_text}
 
 -- What is known behind an opening of these records: the outcome of the bytes is that of them, and
 -- the device and each image of it stand for them.
@@ -32,33 +33,36 @@ module _ (h : HashFunction) (name : Text) (says : FoundCosigner → Outcome) whe
   pub found_says : (told : Option Text) (list : Option (List Text)) (state : CosignerState)
       → IfSome told (λ b. IfSome list (λ l. cosigner_read h b ≡ Ok (found_cosigner state l)))
       → IfSome told (λ b. IfSome list (λ l.
-      bytes_say h name says b ≡ says (found_cosigner state l)))
+      cosigner_bytes_say h name says b ≡ says (found_cosigner state l)))
   found_says told list state found = IfSome_then told found (λ b read. IfSome_then list read
-      (λ l is. ap (λ r. with_form open_fault_text name r says) is))
+      (λ l is. ap (λ r. with_form cosigner_open_text name r says) is))
 
   module _ {D : Type 0} (g : Ghosts D) (old new : D) (looks : Looks g old new) where
     -- a file that is no cosigner's
     no_cosigner : (why : CosignerOpenError)
         → IfSome (g.told old) (λ b. cosigner_read h b ≡ Err why)
-        → HasWorkedOn g name (bytes_say h name says) old new
-        (replied (refused BadForm (Some name) (open_fault_text why)))
-    no_cosigner why is = not_opened g name (bytes_say h name says) old new looks
-        (replied (refused BadForm (Some name) (open_fault_text why)))
+        → HasWorkedOn g name (cosigner_bytes_say h name says) old new
+        (replied (refused BadForm (Some name) (cosigner_open_text why)))
+    no_cosigner why is = not_opened g name (cosigner_bytes_say h name says) old new looks
+        (replied (refused BadForm (Some name) (cosigner_open_text why)))
         (record { plain = λ e. absurd cc; later = looks.faults; fault = tt }) (inr (inl refl))
         (IfSome_then (g.told old) is
-        (λ b read. ap (λ r. with_form open_fault_text name r says) read))
+        (λ b read. ap (λ r. with_form cosigner_open_text name r says) read))
 
     -- a cosigner that wasn't opened
-    pub refused_says : (why : CosignerOpenError) → HasCauseOf g h old new why
-        → HasWorkedOn g name (bytes_say h name says) old new (open_ending name why)
+    pub refused_says : (why : CosignerOpenError) → HasCosignerCause g h old new why
+        → HasWorkedOn g name (cosigner_bytes_say h name says) old new
+        (cosigner_open_ending name why)
     refused_says (BadRecord number) is = no_cosigner (BadRecord number) is
     refused_says (Open open_error.NotJournal) is = no_cosigner (Open open_error.NotJournal) is
     refused_says (Open (open_error.BadLength place)) is =
         no_cosigner (Open (open_error.BadLength place)) is
     refused_says (Open (open_error.CutShort place)) is =
         no_cosigner (Open (open_error.CutShort place)) is
-    refused_says (Open open_error.Failed) is = not_opened g name (bytes_say h name says) old new
+    refused_says (Open open_error.Failed) is = not_opened g name
+        (cosigner_bytes_say h name says) old new
         looks (room_failed name)
         (record { plain = tt; later = looks.faults; fault = (is, inl refl) }) tt tt
-    refused_says (Open open_error.Memory) is = not_opened g name (bytes_say h name says) old new
+    refused_says (Open open_error.Memory) is = not_opened g name
+        (cosigner_bytes_say h name says) old new
         looks no_memory (record { plain = tt; later = looks.faults; fault = tt }) tt tt

@@ -12,9 +12,9 @@ use Rattle.journal_core.specs.declared.error.AppendError.TheVariants as append_e
 use Rattle.tree_core.specs.declared.hashing.TreeHash.{Ghosts as Hashes}
 use Rattle.cosigner_core.specs.Folds.{CosignerState, cosigner_of}
 use Rattle.cosigner_core.specs.Openings.{FoundCosigner}
-use Rattle.cosigner_core.specs.Refusals.{KeepsTo}
+use Rattle.cosigner_core.specs.Refusals.{CosignKeepsTo}
 use Rattle.cosigner_core.specs.Words.{CosignerAppends, CosignerLeaves, cosigner_broken}
-use Rattle.cosigner_core.specs.Words.{cosigner_disk, cosigner_end, cosigner_records, state_of}
+use Rattle.cosigner_core.specs.Words.{cosigner_disk, cosigner_end, cosigner_records, cosigner_state}
 use Rattle.cosigner_core.specs.declared.cosigner.Cosigner.{Cosigner}
 use Rattle.cosigner_core.specs.declared.error.CosignError.{CosignError}
 use Rattle.cosigner_core.specs.declared.error.CosignError.TheVariants.{WrongLog, NotNewer}
@@ -30,7 +30,8 @@ use Rattle.mtc_answers.specs.declared.answer.Stopped.TheVariants.{NotAllowed}
 use Rattle.mtc_answers.specs.declared.answer.Stopped.TheVariants.{Beyond as OverLimit}
 use Rattle.mtc_answers.proofs.Works.{appended_on, failed_on, read_on, says_so}
 use Rattle.mtc_cosigner.specs.CosignerOutcomes.{step_ending, step_fault_text, step_stopped, stepped}
-use Rattle.mtc_cosigner.specs.Works.{HasWorked, IsCosigner, IsReady, StaysCosigner}
+use Rattle.mtc_cosigner.specs.Works.{HasWorkedOnCosigner, IsCosigner, IsReadyCosigner}
+use Rattle.mtc_cosigner.specs.Works.{StaysCosigner}
 use Rattle.mtc_cosigner.specs.Works.{found_cosigner}
 
 -- the statuses of steps that aren't taken
@@ -43,7 +44,7 @@ no_words why kind one = elim kind [
 -- A call that appends this record and has this text, by the refusal of a cosigner that no append
 -- has broken and whose journal ends at this place.
 module _ {H D : Type 0} {hashes : Hashes H} {g : Ghosts D} (name : Text)
-    (old new : Cosigner H D hashes g) (ready : IsReady old) (body text : Text)
+    (old new : Cosigner H D hashes g) (ready : IsReadyCosigner old) (body text : Text)
     (next : CosignerState) (refusal : Bool → ℕ → Option CosignError) where
   -- what is wanted of it
   abbrev pub says : FoundCosigner → Outcome
@@ -54,16 +55,16 @@ module _ {H D : Type 0} {hashes : Hashes H} {g : Ghosts D} (name : Text)
 
   same_says : (found : Option CosignError) → met ≡ found
       → IfSome (cosigner_records old) (λ list.
-      stepped (found_cosigner (state_of old) list) body text found
-      ≡ says (found_cosigner (state_of old) list))
+      stepped (found_cosigner (cosigner_state old) list) body text found
+      ≡ says (found_cosigner (cosigner_state old) list))
   same_says found is = IfSome_then (cosigner_records old) ready.end (λ list end.
-      ap (stepped (found_cosigner (state_of old) list) body text) (sym is
+      ap (stepped (found_cosigner (cosigner_state old) list) body text) (sym is
       ∙ ap (λ broken. refusal broken (cosigner_end old)) ready.sound
       ∙ ap (refusal false) end))
 
   pub step_made : met ≡ None
       → CosignerAppends body next old new (Ok tt)
-      → HasWorked name says old new (replied (said Done text))
+      → HasWorkedOnCosigner name says old new (replied (said Done text))
   step_made free made = says_so g name (cosigner_records old) (cosigner_disk old)
       (cosigner_disk new) _ _ _ (same_says None free)
       (appended_on g name (cosigner_records old) (cosigner_disk old) (cosigner_disk new) body text
@@ -71,7 +72,7 @@ module _ {H D : Type 0} {hashes : Hashes H} {g : Ghosts D} (name : Text)
 
   untaken : (why : CosignError) → met ≡ Some why → cosigner_disk new ≡ cosigner_disk old
       → (step_stopped why ≡ NotAllowed) ⊎ (step_stopped why ≡ OverLimit)
-      → HasWorked name says old new
+      → HasWorkedOnCosigner name says old new
       (replied (refused (step_stopped why) None (step_fault_text why)))
   untaken why is same kind = says_so g name (cosigner_records old) (cosigner_disk old)
       (cosigner_disk new) _ _ _ (same_says (Some why) is)
@@ -80,7 +81,7 @@ module _ {H D : Type 0} {hashes : Hashes H} {g : Ghosts D} (name : Text)
       (refl, λ one. no_words (step_stopped why) kind one))
 
   pub step_refused : (why : CosignError) → CosignerAppends body next old new (Err why)
-      → KeepsTo met (Err why) → HasWorked name says old new (step_ending name why)
+      → CosignKeepsTo met (Err why) → HasWorkedOnCosigner name says old new (step_ending name why)
   step_refused WrongLog made is = untaken WrongLog is made.leaves.disk (inl refl)
   step_refused (NotNewer held) made is = untaken (NotNewer held) is made.leaves.disk (inl refl)
   step_refused BadSubtree made is = untaken BadSubtree is made.leaves.disk (inl refl)
@@ -101,7 +102,7 @@ module _ {H D : Type 0} {hashes : Hashes H} {g : Ghosts D} (name : Text)
   made_valid : (h : HashFunction) (list : List Text) (found : Option CosignError)
       → (found ≡ None → cosigner_of h (list ++ body ∷ []) ≡ Ok next)
       → AddsValid (IsCosigner h)
-      (journaled_by (stepped (found_cosigner (state_of old) list) body text found))
+      (journaled_by (stepped (found_cosigner (cosigner_state old) list) body text found))
   made_valid h list None valid = subst IsOk (sym (valid refl)) refl
   made_valid h list (Some why) valid = tt
 
@@ -109,7 +110,7 @@ module _ {H D : Type 0} {hashes : Hashes H} {g : Ghosts D} (name : Text)
       → IfSome records (λ list. cosigner_end old ≡ end_behind list)
       → (met ≡ None → IfSome records (λ list. cosigner_of h (list ++ body ∷ []) ≡ Ok next))
       → IfSome records (λ list.
-      AddsValid (IsCosigner h) (journaled_by (says (found_cosigner (state_of old) list))))
+      AddsValid (IsCosigner h) (journaled_by (says (found_cosigner (cosigner_state old) list))))
   each_valid h None end valid = tt
   each_valid h (Some list) end valid = made_valid h list (refusal false (end_behind list))
       (λ free. valid (ap (λ broken. refusal broken (cosigner_end old)) ready.sound

@@ -7,8 +7,8 @@ use Rattle.mtc_answers.specs.Steps.{Outcome, Files, starts, with_bytes, with_fre
 use Rattle.mtc_cosigner.specs.KeygenOutcome.{lms_type, ots_type, public_line, with_secret}
 
 -- What a cosigner says of itself from its first record on.
-abbrev pub settings_of : Text → Text → ℕ → ℕ → CosignerSettings
-settings_of id log height width =
+abbrev pub cosigner_settings_of : Text → Text → ℕ → ℕ → CosignerSettings
+cosigner_settings_of id log height width =
     record { id = id; log = log; lms = lms_type height; ots = ots_type width }
 
 -- The secret is tested, and then a journal of the cosigner's first record is made where its name
@@ -20,4 +20,4 @@ init_says journal s file at secret = with_secret file secret
 abbrev pub init_cosigner_outcome : Text → Text → Text → ℕ → ℕ → Text → Files → Outcome
 init_cosigner_outcome journal id log height width file files =
     with_bytes 16777216 file (files file)
-    (init_says journal (settings_of id log height width) file (files journal))
+    (init_says journal (cosigner_settings_of id log height width) file (files journal))

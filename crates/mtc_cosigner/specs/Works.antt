@@ -11,7 +11,7 @@ use Rattle.cosigner_core.specs.Openings.{FoundCosigner, cosigner_read}
 use Rattle.cosigner_core.specs.Reading.{advance_in, subtree_in}
 use Rattle.cosigner_core.specs.Views.{advance_parts, subtree_parts}
 use Rattle.cosigner_core.specs.Words.{cosigner_broken, cosigner_disk, cosigner_end}
-use Rattle.cosigner_core.specs.Words.{cosigner_records, state_of}
+use Rattle.cosigner_core.specs.Words.{cosigner_records, cosigner_state}
 use Rattle.cosigner_core.specs.declared.cosigner.Cosigner.{Cosigner}
 use Rattle.cosigner_core.specs.declared.error.CosignerOpenError.{CosignerOpenError}
 use Rattle.cosigner_core.specs.declared.error.CosignerOpenError.TheVariants.{BadRecord, Open}
@@ -26,53 +26,54 @@ use Rattle.mtc_cosigner.specs.declared.work.Work.{Work}
 use Rattle.mtc_cosigner.specs.declared.work.Work.TheVariants.{Advance, Cosign, Export}
 
 -- Why a file is no cosigner's.
-abbrev pub open_fault_text : CosignerOpenError → Text
-open_fault_text (BadRecord number) = codes "BadRecord " ++ decimal number
-open_fault_text (Open open_error.NotJournal) = codes "NotJournal"
-open_fault_text (Open (open_error.BadLength place)) = codes "BadLength " ++ decimal place
-open_fault_text (Open (open_error.CutShort place)) = codes "CutShort " ++ decimal place
-open_fault_text (Open open_error.Failed) = codes "Failed"
-open_fault_text (Open open_error.Memory) = codes "Memory"
+abbrev pub cosigner_open_text : CosignerOpenError → Text
+cosigner_open_text (BadRecord number) = codes "BadRecord " ++ decimal number
+cosigner_open_text (Open open_error.NotJournal) = codes "NotJournal"
+cosigner_open_text (Open (open_error.BadLength place)) = codes "BadLength " ++ decimal place
+cosigner_open_text (Open (open_error.CutShort place)) = codes "CutShort " ++ decimal place
+cosigner_open_text (Open open_error.Failed) = codes "Failed"
+cosigner_open_text (Open open_error.Memory) = codes "Memory"
 
 -- What comes of it: the file is told to be none, unless the device failed or memory was refused.
-abbrev pub open_ending : Text → CosignerOpenError → Ending
-open_ending file (Open open_error.Failed) = room_failed file
-open_ending file (Open open_error.Memory) = no_memory
-open_ending file why = replied (refused BadForm (Some file) (open_fault_text why))
+abbrev pub cosigner_open_ending : Text → CosignerOpenError → Ending
+cosigner_open_ending file (Open open_error.Failed) = room_failed file
+cosigner_open_ending file (Open open_error.Memory) = no_memory
+cosigner_open_ending file why = replied (refused BadForm (Some file) (cosigner_open_text why))
 
 -- A cosigner was found, with the records of its journal.
 abbrev pub found_cosigner : CosignerState → List Text → FoundCosigner
 found_cosigner state list = record { records = list; state = state }
 
 -- What a command has to reply over a cosigner that was found.
-unfoldable pub work_says : HashFunction → Work → FoundCosigner → Outcome
-work_says h (Advance request) found = advance_says h (advance_parts request) found
-work_says h (Cosign request) found = cosign_says h (subtree_parts request) found
-work_says h Export found = export_says found
+unfoldable pub cosigner_work_says : HashFunction → Work → FoundCosigner → Outcome
+cosigner_work_says h (Advance request) found = advance_says h (advance_parts request) found
+cosigner_work_says h (Cosign request) found = cosign_says h (subtree_parts request) found
+cosigner_work_says h Export found = export_says found
 
 -- The outcome of a command on the cosigner of a journal with these bytes.
-abbrev pub bytes_say : HashFunction → Text → (FoundCosigner → Outcome) → Text → Outcome
-bytes_say h journal says bytes = with_form open_fault_text journal (cosigner_read h bytes) says
+abbrev pub cosigner_bytes_say : HashFunction → Text → (FoundCosigner → Outcome) → Text → Outcome
+cosigner_bytes_say h journal says bytes = with_form cosigner_open_text journal
+    (cosigner_read h bytes) says
 
 -- The same over the file of its name, which may not be there.
-abbrev pub journal_outcome : HashFunction → Text → Option Text → (FoundCosigner → Outcome)
+abbrev pub cosigner_outcome : HashFunction → Text → Option Text → (FoundCosigner → Outcome)
     → Outcome
-journal_outcome h journal file says = with_file journal file (bytes_say h journal says)
+cosigner_outcome h journal file says = with_file journal file (cosigner_bytes_say h journal says)
 
 -- The outcomes of `advance S REQUEST` and `cosign S REQUEST`: the request first, then the journal.
 unfoldable pub advance_outcome : HashFunction → Text → Text → Files → Outcome
 advance_outcome h journal request files = with_bytes 16777216 request (files request)
     (λ bytes. with_form form_fault_text request (advance_in bytes)
-    (λ r. journal_outcome h journal (files journal) (advance_says h r)))
+    (λ r. cosigner_outcome h journal (files journal) (advance_says h r)))
 
 unfoldable pub cosign_outcome : HashFunction → Text → Text → Files → Outcome
 cosign_outcome h journal request files = with_bytes 16777216 request (files request)
     (λ bytes. with_form form_fault_text request (subtree_in bytes)
-    (λ r. journal_outcome h journal (files journal) (cosign_says h r)))
+    (λ r. cosigner_outcome h journal (files journal) (cosign_says h r)))
 
 -- The outcome of `export S`.
 unfoldable pub export_outcome : HashFunction → Text → Files → Outcome
-export_outcome h journal files = journal_outcome h journal (files journal) export_says
+export_outcome h journal files = cosigner_outcome h journal (files journal) export_says
 
 -- The records of a journal make a cosigner.
 abbrev pub IsCosigner : HashFunction → List Text → Type 0
@@ -80,19 +81,21 @@ IsCosigner h list = IsOk (cosigner_of h list)
 
 module _ {H D : Type 0} {hashes : Hashes H} {g : Ghosts D} where
   -- A cosigner that was opened just now.
-  pub record IsReady (it : Cosigner H D hashes g) : Type 0 where
+  pub record IsReadyCosigner (it : Cosigner H D hashes g) : Type 0 where
     pub sound : cosigner_broken it ≡ false
     pub end : IfSome (cosigner_records it) (λ list. cosigner_end it ≡ end_behind list)
 
   -- The work on the cosigner of this journal, which has to give that outcome.
-  abbrev pub HasWorked : Text → (FoundCosigner → Outcome) → Cosigner H D hashes g
+  abbrev pub HasWorkedOnCosigner : Text → (FoundCosigner → Outcome) → Cosigner H D hashes g
       → Cosigner H D hashes g → Ending → Type 0
-  HasWorked name says old new ending = HasWorkedWith g name (cosigner_records old)
-      (λ list. says (found_cosigner (state_of old) list)) (cosigner_disk old) (cosigner_disk new)
+  HasWorkedOnCosigner name says old new ending = HasWorkedWith g name (cosigner_records old)
+      (λ list. says (found_cosigner (cosigner_state old) list)) (cosigner_disk old)
+      (cosigner_disk new)
       ending
 
   -- And by which its records make a cosigner again.
   abbrev pub StaysCosigner : HashFunction → (FoundCosigner → Outcome) → Cosigner H D hashes g
       → Cosigner H D hashes g → Type 0
   StaysCosigner h says old new = WorksValidly g (IsCosigner h) (cosigner_records old)
-      (λ list. says (found_cosigner (state_of old) list)) (cosigner_disk old) (cosigner_disk new)
+      (λ list. says (found_cosigner (cosigner_state old) list)) (cosigner_disk old)
+      (cosigner_disk new)

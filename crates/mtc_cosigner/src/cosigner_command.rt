@@ -5,7 +5,7 @@ ghost use Rattle.mtc_answers.specs.Answers.{stop_ending, ending_of};
 ghost use Rattle.mtc_answers.specs.Served.{HasServed};
 ghost use Rattle.mtc_answers.specs.Valid.{KeepsValid, ServesValidly};
 ghost use Rattle.mtc_answers.specs.Works.{HasWorkedOn};
-ghost use Rattle.mtc_cosigner.specs.Works.{IsCosigner, bytes_say, journal_outcome, open_ending, work_says};
+ghost use Rattle.mtc_cosigner.specs.Works.{IsCosigner, cosigner_bytes_say, cosigner_outcome, cosigner_open_ending, cosigner_work_says};
 
 use crate::work::{Work, carry_out};
 use cosigner_core::{Cosigner, CosignerOpenError};
@@ -18,7 +18,7 @@ use tree_core::TreeHash;
 
 // Why a journal isn't opened as a cosigner's.
 fn refuse_cosigner<'a>(journal: &'a str, why: CosignerOpenError) -> Stop<'a>
-    ensures { stop_ending result ≡ open_ending journal.now why }
+    ensures { stop_ending result ≡ cosigner_open_ending journal.now why }
 {
     let bad = Stopped::BadForm;
     match why {
@@ -46,10 +46,10 @@ fn on_device<'a, H: TreeHash, D: Disk>(
     journal: &'a str,
     work: &Work<'_>,
 ) -> (D, Result<Answer, Stop<'a>>)
-    ensures serves { HasWorkedOn D.Disk journal.now (bytes_say H.hash journal.now
-        (work_says H.hash work.now)) disk result.0 (ending_of result.1) }
-    ensures valid { ServesValidly D.Disk (IsCosigner H.hash) (bytes_say H.hash journal.now
-        (work_says H.hash work.now)) disk result.0 }
+    ensures serves { HasWorkedOn D.Disk journal.now (cosigner_bytes_say H.hash journal.now
+        (cosigner_work_says H.hash work.now)) disk result.0 (ending_of result.1) }
+    ensures valid { ServesValidly D.Disk (IsCosigner H.hash) (cosigner_bytes_say H.hash journal.now
+        (cosigner_work_says H.hash work.now)) disk result.0 }
 {
     match Cosigner::<H, D>::open(alloc, disk) {
         Ok(mut cosigner) => {
@@ -70,11 +70,11 @@ pub fn on_cosigner<'a, H: TreeHash, R: Room>(
 ) -> Result<Answer, Stop<'a>>
     requires { R.lent room.old < 2 ^ 32 }
     ensures serves { HasServed R.Room R.Dsk.Disk (journal.now ∷ []) journal.now
-        (journal_outcome H.hash journal.now (R.file room.old journal.now)
-        (work_says H.hash work.now)) room.old room.new (ending_of result) }
+        (cosigner_outcome H.hash journal.now (R.file room.old journal.now)
+        (cosigner_work_says H.hash work.now)) room.old room.new (ending_of result) }
     ensures valid { KeepsValid R.Room R.Dsk.Disk (IsCosigner H.hash) (journal.now ∷ [])
-        (journal_outcome H.hash journal.now (R.file room.old journal.now)
-        (work_says H.hash work.now)) room.old room.new }
+        (cosigner_outcome H.hash journal.now (R.file room.old journal.now)
+        (cosigner_work_says H.hash work.now)) room.old room.new }
 {
     let disk = lend(room, journal)?;
     let (disk, answer) = on_device::<H, R::Dsk>(alloc, disk, journal, work);

@@ -4,7 +4,7 @@ ghost use Rattle.mtc_answers.specs.Answers.{ending_of};
 ghost use Rattle.mtc_cosigner.specs.CosignerOutcomes.{export_says};
 ghost use Rattle.mtc_answers.specs.Served.{HasServed};
 ghost use Rattle.mtc_answers.specs.Valid.{KeepsValid};
-ghost use Rattle.mtc_cosigner.specs.Works.{HasWorked, IsCosigner, IsReady, StaysCosigner, export_outcome};
+ghost use Rattle.mtc_cosigner.specs.Works.{HasWorkedOnCosigner, IsCosigner, IsReadyCosigner, StaysCosigner, export_outcome};
 
 use crate::cosigner_command::on_cosigner;
 use crate::work::Work;
@@ -57,8 +57,8 @@ pub(crate) fn export_on<'a, H: TreeHash, D: Disk>(
     journal: &'a str,
     cosigner: &mut Cosigner<H, D>,
 ) -> Result<Answer, Stop<'a>>
-    requires { IsReady cosigner.old }
-    ensures works { HasWorked journal.now export_says cosigner.old cosigner.new
+    requires { IsReadyCosigner cosigner.old }
+    ensures works { HasWorkedOnCosigner journal.now export_says cosigner.old cosigner.new
         (ending_of result) }
     ensures valid { StaysCosigner H.hash export_says cosigner.old cosigner.new }
 {

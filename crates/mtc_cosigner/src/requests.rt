@@ -7,7 +7,7 @@ ghost use Rattle.mtc_answers.specs.Answers.{stop_ending, ending_of, reason_text}
 ghost use Rattle.mtc_answers.specs.Served.{HasServed};
 ghost use Rattle.mtc_answers.specs.Valid.{KeepsValid};
 ghost use Rattle.mtc_cosigner.specs.CosignerOutcomes.{advance_says, advanced_text, cosign_says, form_fault_text, step_ending};
-ghost use Rattle.mtc_cosigner.specs.Works.{HasWorked, IsCosigner, IsReady, StaysCosigner, advance_outcome, cosign_outcome};
+ghost use Rattle.mtc_cosigner.specs.Works.{HasWorkedOnCosigner, IsCosigner, IsReadyCosigner, StaysCosigner, advance_outcome, cosign_outcome};
 
 use crate::cosigner_command::on_cosigner;
 use crate::work::Work;
@@ -76,8 +76,9 @@ pub(crate) fn advance_on<'a, H: TreeHash, D: Disk>(
     cosigner: &mut Cosigner<H, D>,
     request: &AdvanceRequest<'_>,
 ) -> Result<Answer, Stop<'a>>
-    requires { IsReady cosigner.old }
-    ensures works { HasWorked journal.now (advance_says H.hash (advance_parts request.now))
+    requires { IsReadyCosigner cosigner.old }
+    ensures works { HasWorkedOnCosigner journal.now (advance_says H.hash
+        (advance_parts request.now))
         cosigner.old cosigner.new (ending_of result) }
     ensures valid { StaysCosigner H.hash (advance_says H.hash (advance_parts request.now))
         cosigner.old cosigner.new }
@@ -128,8 +129,8 @@ pub(crate) fn cosign_on<'a, H: TreeHash, D: Disk>(
     cosigner: &mut Cosigner<H, D>,
     request: &SubtreeRequest<'_>,
 ) -> Result<Answer, Stop<'a>>
-    requires { IsReady cosigner.old }
-    ensures works { HasWorked journal.now (cosign_says H.hash (subtree_parts request.now))
+    requires { IsReadyCosigner cosigner.old }
+    ensures works { HasWorkedOnCosigner journal.now (cosign_says H.hash (subtree_parts request.now))
         cosigner.old cosigner.new (ending_of result) }
     ensures valid { StaysCosigner H.hash (cosign_says H.hash (subtree_parts request.now))
         cosigner.old cosigner.new }

@@ -1,7 +1,7 @@
 //! The work of a command on a cosigner whose journal is open: its own refusals, its text, and at
 //! most one append, behind which nothing wants memory.
 ghost use Rattle.mtc_answers.specs.Answers.{ending_of};
-ghost use Rattle.mtc_cosigner.specs.Works.{HasWorked, IsReady, StaysCosigner, work_says};
+ghost use Rattle.mtc_cosigner.specs.Works.{HasWorkedOnCosigner, IsReadyCosigner, StaysCosigner, cosigner_work_says};
 
 use crate::export::export_on;
 use crate::requests::{advance_on, cosign_on};
@@ -24,17 +24,19 @@ pub enum Work<'r> {
 
 /// Carries out a command on the cosigner of a journal. A failure of its device is told by the
 /// journal's name.
-#[tactic(auto, unfolding(crate::specs::Works::work_says))]
+#[tactic(auto, unfolding(crate::specs::Works::cosigner_work_says))]
 pub(crate) fn carry_out<'a, H: TreeHash, D: Disk>(
     alloc: Global,
     journal: &'a str,
     cosigner: &mut Cosigner<H, D>,
     work: &Work<'_>,
 ) -> Result<Answer, Stop<'a>>
-    requires { IsReady cosigner.old }
-    ensures works { HasWorked journal.now (work_says H.hash work.now) cosigner.old cosigner.new
+    requires { IsReadyCosigner cosigner.old }
+    ensures works { HasWorkedOnCosigner journal.now (cosigner_work_says H.hash work.now)
+        cosigner.old cosigner.new
         (ending_of result) }
-    ensures valid { StaysCosigner H.hash (work_says H.hash work.now) cosigner.old cosigner.new }
+    ensures valid { StaysCosigner H.hash (cosigner_work_says H.hash work.now) cosigner.old
+        cosigner.new }
 {
     match work {
         Work::Advance(request) => advance_on(alloc, journal, cosigner, request),

@@ -19,13 +19,13 @@ use Rattle.mtc_answers.specs.Valid.{AddsValid, WorksValidly}
 use Rattle.mtc_answers.specs.Works.{HasWorked, journaled_by}
 use Rattle.mtc_answers.specs.declared.answer.Said.TheVariants.{Done}
 use Rattle.mtc_answers.proofs.Works.{appended_on, failed_on, read_on, says_so, starved_on}
-use Rattle.mtc_logs.specs.Works.{IsReady}
+use Rattle.mtc_logs.specs.Works.{IsReadyLog}
 
 -- The outcome over these records, by what the log refuses, which it does by what its journal shows.
 module _ {H D : Type 0} {hashes : Hashes H} {g : Ghosts D}
     (outcome_by : List Text → Option LogError → Outcome)
     (refusal_by : Bool → ℕ → Option LogError)
-    (name : Text) (old new : OpenLog H D hashes g) (ready : IsReady old) where
+    (name : Text) (old new : OpenLog H D hashes g) (ready : IsReadyLog old) where
   abbrev refusal : Option LogError
   refusal = refusal_by (log_broken old) (log_end old)
 

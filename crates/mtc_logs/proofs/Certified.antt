@@ -16,7 +16,7 @@ use Rattle.mtc_logs.specs.CertCommand.{cert_outcome, signed_says}
 use Rattle.mtc_logs.specs.CertOutcome.{certificate_in, certificate_with, cert_replies, cert_reply}
 use Rattle.mtc_logs.specs.CertOutcome.{light_reply, light_text, signatures_fault_text}
 use Rattle.mtc_logs.specs.CertOutcome.{signatures_in}
-use Rattle.mtc_logs.specs.Works.{journal_outcome}
+use Rattle.mtc_logs.specs.Works.{log_outcome}
 use Rattle.mtc_logs.specs.declared.work.Work.TheVariants.{Cert}
 use Rattle.mtc_logs.proofs.Reading.{bytes_read}
 
@@ -64,9 +64,9 @@ module _ (h : HashFunction) (journal : Text) (index start end : ℕ) (file : Tex
 
   -- the file holds signatures
   pub signed_so : (held : Option Text) (signatures : Text) → signatures_in bytes ≡ Ok signatures
-      → held ≡ files journal → journal_outcome h journal held (Cert index start end signatures)
+      → held ≡ files journal → log_outcome h journal held (Cert index start end signatures)
       ≡ cert_outcome h journal index start end file files
   signed_so held signatures read same = sym (read_so
       ∙ ap (λ x. with_form signatures_fault_text file x
-      (λ q. journal_outcome h journal (files journal) (Cert index start end q))) read
-      ∙ ap (λ x. journal_outcome h journal x (Cert index start end signatures)) (sym same))
+      (λ q. log_outcome h journal (files journal) (Cert index start end q))) read
+      ∙ ap (λ x. log_outcome h journal x (Cert index start end signatures)) (sym same))

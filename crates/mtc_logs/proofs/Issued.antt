@@ -9,7 +9,7 @@ use Rattle.tree_core.specs.declared.hashing.TreeHash.{Ghosts as Hashes}
 use Rattle.issuance_log.specs.Folds.{log_of}
 use Rattle.issuance_log.specs.Refusals.{add_refusal}
 use Rattle.issuance_log.specs.Words.{LogAppends, log_broken, log_disk, log_end, log_records}
-use Rattle.issuance_log.specs.Words.{state_of, view_of}
+use Rattle.issuance_log.specs.Words.{log_state, view_of}
 use Rattle.issuance_log.specs.declared.error.LogError.{LogError}
 use Rattle.issuance_log.specs.declared.error.LogError.TheVariants.{Full, TooLarge, NoSuchEntry}
 use Rattle.issuance_log.specs.declared.error.LogError.TheVariants.{NothingNew, Append, Memory}
@@ -27,7 +27,7 @@ use Rattle.mtc_answers.specs.declared.answer.Said.TheVariants.{Done}
 use Rattle.mtc_answers.specs.declared.answer.Stopped.TheVariants.{Beyond}
 use Rattle.mtc_logs.specs.IssueOutcome.{issue_ending, issue_says, issued, issued_text}
 use Rattle.mtc_logs.specs.IssueOutcome.{log_fault_text}
-use Rattle.mtc_logs.specs.Works.{HasWorked, IsLog, IsReady, StaysLog, found_log}
+use Rattle.mtc_logs.specs.Works.{HasWorkedOnLog, IsLog, IsReadyLog, StaysLog, found_log}
 use Rattle.mtc_logs.proofs.Appends.{done_so, failed_so, starved_so, told_so, valid_so}
 
 -- the answer of a call that refuses
@@ -35,41 +35,41 @@ abbrev pub failed : IssueError → Result ℕ IssueError
 failed why = Err why
 
 module _ {H D : Type 0} {hashes : Hashes H} {g : Ghosts D} (h : HashFunction) (r : RequestParts)
-    (name : Text) (old new : OpenLog H D hashes g) (ready : IsReady old) where
+    (name : Text) (old new : OpenLog H D hashes g) (ready : IsReadyLog old) where
   abbrev refusal_by : Bool → ℕ → Option LogError
   refusal_by broken end =
-      add_refusal (view_of old) broken end (issued_entry h (state_of old) r) r.key
+      add_refusal (view_of old) broken end (issued_entry h (log_state old) r) r.key
 
   abbrev pub refusal : Option LogError
   refusal = refusal_by (log_broken old) (log_end old)
 
   abbrev outcome_by : List Text → Option LogError → Outcome
-  outcome_by list why = issued h r (found_log (state_of old) list) why
+  outcome_by list why = issued h r (found_log (log_state old) list) why
 
   abbrev body : Text
-  body = issued_record h (state_of old) r
+  body = issued_record h (log_state old) r
 
   abbrev line : Text
-  line = issued_text (length (state_of old).entries)
+  line = issued_text (length (log_state old).entries)
 
   -- what the call leaves, by its answer
   abbrev pub HasIssued : Result ℕ LogError → Type 0
-  HasIssued result = LogAppends body (issued_log h (state_of old) r) old new result
+  HasIssued result = LogAppends body (issued_log h (log_state old) r) old new result
 
   pub issued_so : (index : ℕ) → refusal ≡ None → HasIssued (Ok index)
-      → HasWorked name (issue_says h r) old new (replied (said Done line))
+      → HasWorkedOnLog name (issue_says h r) old new (replied (said Done line))
   issued_so index free run = done_so outcome_by refusal_by name old new ready body line
-      (issued_log h (state_of old) r) (λ list. refl) free index run
+      (issued_log h (log_state old) r) (λ list. refl) free index run
 
   told : (why : LogError) → refusal ≡ Some why → log_disk new ≡ log_disk old
-      → HasWorked name (issue_says h r) old new
+      → HasWorkedOnLog name (issue_says h r) old new
       (replied (refused Beyond None (log_fault_text why)))
   told why is same = told_so outcome_by refusal_by name old new ready why
       (refused Beyond None (log_fault_text why)) (λ list. refl) (λ e. absurd cc) is same
 
   pub refused_so : (why : IssueError) → HasIssued (of_log (Err why))
       → KeepsToOrMemory refusal (of_log (Err why))
-      → HasWorked name (issue_says h r) old new (issue_ending name why)
+      → HasWorkedOnLog name (issue_says h r) old new (issue_ending name why)
   refused_so (Log Full) run is = told Full is run.leaves.disk
   refused_so (Log TooLarge) run is = told TooLarge is run.leaves.disk
   refused_so (Log NoSuchEntry) run is = absurd is
@@ -79,7 +79,7 @@ module _ {H D : Type 0} {hashes : Hashes H} {g : Ghosts D} (h : HashFunction) (r
   refused_so (Log (Append append_error.Broken)) run is =
       told (Append append_error.Broken) is run.leaves.disk
   refused_so (Log (Append append_error.Failed)) run is =
-      failed_so outcome_by refusal_by name old new ready body line (issued_log h (state_of old) r)
+      failed_so outcome_by refusal_by name old new ready body line (issued_log h (log_state old) r)
       (λ list. refl) is run
   refused_so (Log Memory) run is =
       starved_so outcome_by refusal_by name old new ready run.leaves.disk
@@ -102,7 +102,7 @@ module _ {H D : Type 0} {hashes : Hashes H} {g : Ghosts D} (h : HashFunction) (r
 
   -- the record makes a log with those before it
   abbrev pub IsSoundBehind : List Text → Type 0
-  IsSoundBehind list = log_of h (list ++ body ∷ []) ≡ Ok (issued_log h (state_of old) r)
+  IsSoundBehind list = log_of h (list ++ body ∷ []) ≡ Ok (issued_log h (log_state old) r)
 
   adds_valid : (list : List Text) (why : Option LogError) → (why ≡ None → IsSoundBehind list)
       → AddsValid (IsLog h) (journaled_by (outcome_by list why))

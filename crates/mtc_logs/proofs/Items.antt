@@ -21,7 +21,7 @@ use Rattle.entry_list.proofs.Written.{items_again}
 use Rattle.issuance_log.specs.Folds.{LogState}
 use Rattle.issuance_log.specs.Refusals.{item_at}
 use Rattle.issuance_log.specs.Sound.{IsSound}
-use Rattle.mtc_logs.specs.LogOutcomes.{IsItem, items_of}
+use Rattle.mtc_logs.specs.LogOutcomes.{IsItemAt, items_of}
 
 -- one item more
 pub items_more : (items : ItemLists) (count : ℕ)
@@ -47,7 +47,7 @@ short h s (suc i) sound below =
     let item = sound.items (suc i) (omega arith) below in (item.short_entry, item.short_key)
 
 pub is_item : (h : HashFunction) (s : LogState) (index : ℕ) (entry key : Text) → IsSound h s
-    → index < length s.entries → item_at s index ≡ Ok (entry, key) → IsItem s index entry key
+    → index < length s.entries → item_at s index ≡ Ok (entry, key) → IsItemAt s index entry key
 is_item h s index entry key sound below is =
     let same = given s index entry key below is in
     let both = short h s index sound below in

@@ -10,7 +10,7 @@ use Rattle.issuance_log.specs.Folds.{log_of, with_mark}
 use Rattle.issuance_log.specs.Records.{landmark_record}
 use Rattle.issuance_log.specs.Refusals.{MarkKeepsTo, mark_refusal}
 use Rattle.issuance_log.specs.Words.{LogAppends, log_broken, log_disk, log_end, log_records}
-use Rattle.issuance_log.specs.Words.{state_of, view_of}
+use Rattle.issuance_log.specs.Words.{log_state, view_of}
 use Rattle.issuance_log.specs.declared.error.LogError.{LogError}
 use Rattle.issuance_log.specs.declared.error.LogError.TheVariants.{Full, TooLarge, NoSuchEntry}
 use Rattle.issuance_log.specs.declared.error.LogError.TheVariants.{NothingNew, Append, Memory}
@@ -22,11 +22,11 @@ use Rattle.mtc_answers.specs.Works.{journaled_by}
 use Rattle.mtc_answers.specs.declared.answer.Said.TheVariants.{Done}
 use Rattle.mtc_logs.specs.LandmarkOutcomes.{MayRefuseMark, landmark_says, mark_ending, mark_refused}
 use Rattle.mtc_logs.specs.LandmarkOutcomes.{marked, next_line}
-use Rattle.mtc_logs.specs.Works.{HasWorked, IsLog, IsReady, StaysLog, found_log}
+use Rattle.mtc_logs.specs.Works.{HasWorkedOnLog, IsLog, IsReadyLog, StaysLog, found_log}
 use Rattle.mtc_logs.proofs.Appends.{done_so, failed_so, starved_so, told_so, valid_so}
 
 module _ {H D : Type 0} {hashes : Hashes H} {g : Ghosts D} (name : Text)
-    (old new : OpenLog H D hashes g) (ready : IsReady old) where
+    (old new : OpenLog H D hashes g) (ready : IsReadyLog old) where
   abbrev refusal_by : Bool → ℕ → Option LogError
   refusal_by broken end = mark_refusal (view_of old) broken end
 
@@ -34,28 +34,29 @@ module _ {H D : Type 0} {hashes : Hashes H} {g : Ghosts D} (name : Text)
   refusal = refusal_by (log_broken old) (log_end old)
 
   abbrev outcome_by : List Text → Option LogError → Outcome
-  outcome_by list why = marked (found_log (state_of old) list) why
+  outcome_by list why = marked (found_log (log_state old) list) why
 
   abbrev body : Text
-  body = landmark_record (length (state_of old).entries)
+  body = landmark_record (length (log_state old).entries)
 
   -- what the call leaves, by its answer
   abbrev pub HasMarked : Result (ℕ × ℕ) LogError → Type 0
-  HasMarked result = LogAppends body (with_mark (state_of old)) old new result
+  HasMarked result = LogAppends body (with_mark (log_state old)) old new result
 
   pub marked_so : (landmark : ℕ × ℕ) → refusal ≡ None → HasMarked (Ok landmark)
-      → HasWorked name landmark_says old new (replied (said Done (next_line (state_of old))))
+      → HasWorkedOnLog name landmark_says old new (replied (said Done (next_line (log_state old))))
   marked_so landmark free run = done_so outcome_by refusal_by name old new ready body
-      (next_line (state_of old)) (with_mark (state_of old)) (λ list. refl) free landmark run
+      (next_line (log_state old)) (with_mark (log_state old)) (λ list. refl) free landmark run
 
   told : (why : LogError) → status_of (mark_refused why) ≢ 1 → refusal ≡ Some why
       → log_disk new ≡ log_disk old
-      → HasWorked name landmark_says old new (replied (mark_refused why))
+      → HasWorkedOnLog name landmark_says old new (replied (mark_refused why))
   told why code is same = told_so outcome_by refusal_by name old new ready why
       (mark_refused why) (λ list. refl) code is same
 
   pub refused_so : (why : LogError) → MayRefuseMark why → HasMarked (Err why)
-      → MarkKeepsTo refusal (Err why) → HasWorked name landmark_says old new (mark_ending name why)
+      → MarkKeepsTo refusal (Err why) → HasWorkedOnLog name landmark_says old new
+      (mark_ending name why)
   refused_so Full may run is = absurd is
   refused_so TooLarge may run is = absurd is
   refused_so NoSuchEntry may run is = absurd is
@@ -64,8 +65,8 @@ module _ {H D : Type 0} {hashes : Hashes H} {g : Ghosts D} (name : Text)
       told (Append append_error.Full) (λ e. absurd cc) is run.leaves.disk
   refused_so (Append append_error.Broken) may run is = absurd may
   refused_so (Append append_error.Failed) may run is =
-      failed_so outcome_by refusal_by name old new ready body (next_line (state_of old))
-      (with_mark (state_of old)) (λ list. refl) is run
+      failed_so outcome_by refusal_by name old new ready body (next_line (log_state old))
+      (with_mark (log_state old)) (λ list. refl) is run
   refused_so Memory may run is =
       starved_so outcome_by refusal_by name old new ready run.leaves.disk
 
@@ -93,7 +94,7 @@ module _ {H D : Type 0} {hashes : Hashes H} {g : Ghosts D} (name : Text)
   -- the record makes a log with those before it
   module _ (h : HashFunction) where
     abbrev pub IsSoundBehind : List Text → Type 0
-    IsSoundBehind list = log_of h (list ++ body ∷ []) ≡ Ok (with_mark (state_of old))
+    IsSoundBehind list = log_of h (list ++ body ∷ []) ≡ Ok (with_mark (log_state old))
 
     adds_valid : (list : List Text) (why : Option LogError) → (why ≡ None → IsSoundBehind list)
         → AddsValid (IsLog h) (journaled_by (outcome_by list why))

@@ -22,7 +22,7 @@ use Rattle.mtc_answers.proofs.Made.{OnlyNow}
 use Rattle.mtc_answers.proofs.Served.{stopped}
 use Rattle.mtc_logs.specs.IssueCommand.{issue_outcome, request_says}
 use Rattle.mtc_logs.specs.IssueOutcome.{request_ending, request_fault_text}
-use Rattle.mtc_logs.specs.Works.{journal_outcome}
+use Rattle.mtc_logs.specs.Works.{log_outcome}
 use Rattle.mtc_logs.specs.declared.work.Work.TheVariants.{Issue}
 
 -- a file is there and short enough
@@ -43,18 +43,18 @@ module _ (h : HashFunction) (journal file : Text) (files : Files) (bytes : Text)
   -- and it is a request
   pub asked_so : (file' : Option Text) (r : RequestParts) → request_of bytes ≡ Ok r
       → file' ≡ files journal
-      → journal_outcome h journal file' (Issue r) ≡ issue_outcome h journal file files
+      → log_outcome h journal file' (Issue r) ≡ issue_outcome h journal file files
   asked_so file' r read same = sym (read_so
       ∙ ap (λ x. with_form request_fault_text file x
-      (λ q. journal_outcome h journal (files journal) (Issue q))) read
-      ∙ ap (λ x. journal_outcome h journal x (Issue r)) (sym same))
+      (λ q. log_outcome h journal (files journal) (Issue q))) read
+      ∙ ap (λ x. log_outcome h journal x (Issue r)) (sym same))
 
   -- or it is none
   refused_so : (why : RequestError) → request_of bytes ≡ Err why
       → issue_outcome h journal file files
       ≡ answers (refused BadForm (Some file) (request_fault_text why))
   refused_so why read = read_so ∙ ap (λ x. with_form request_fault_text file x
-      (λ q. journal_outcome h journal (files journal) (Issue q))) read
+      (λ q. log_outcome h journal (files journal) (Issue q))) read
 
 -- the command ends where the file is no request
 module _ {R S D : Type 0} (rooms : Rooms R S D) (disks : Disks D) (h : HashFunction)

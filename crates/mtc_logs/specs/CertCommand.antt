@@ -3,14 +3,14 @@ use Rattle.std.specs.Prelude.{ℕ, Option}
 use Rattle.byte_forms.specs.Types.{HashFunction, Text}
 use Rattle.mtc_answers.specs.Steps.{Outcome, Files, with_bytes, with_form}
 use Rattle.mtc_logs.specs.CertOutcome.{signatures_fault_text, signatures_in}
-use Rattle.mtc_logs.specs.Works.{journal_outcome}
+use Rattle.mtc_logs.specs.Works.{log_outcome}
 use Rattle.mtc_logs.specs.declared.work.Work.TheVariants.{Cert}
 
 -- The signatures are read, and then the certificate is written.
 abbrev pub signed_says : HashFunction → Text → ℕ → ℕ → ℕ → Text → Option Text → Text → Outcome
 signed_says h journal index start end file held bytes =
     with_form signatures_fault_text file (signatures_in bytes)
-    (λ signatures. journal_outcome h journal held (Cert index start end signatures))
+    (λ signatures. log_outcome h journal held (Cert index start end signatures))
 
 abbrev pub cert_outcome : HashFunction → Text → ℕ → ℕ → ℕ → Text → Files → Outcome
 cert_outcome h journal index start end file files = with_bytes 16777216 file (files file)

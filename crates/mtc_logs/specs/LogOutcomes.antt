@@ -19,8 +19,8 @@ use Rattle.mtc_answers.specs.Steps.{Outcome, Files, answers_on, starts, with_fre
 -- A new log.
 
 -- What a log says of itself from its first record on.
-abbrev pub settings_of : Text → ℕ → ℕ → Settings
-settings_of id active limit = record { id = id; max_active = active; limit = limit }
+abbrev pub log_settings_of : Text → ℕ → ℕ → Settings
+log_settings_of id active limit = record { id = id; max_active = active; limit = limit }
 
 -- The line of a log that was made.
 abbrev pub log_line : Text → Text
@@ -28,7 +28,7 @@ log_line id = codes "log " ++ (text_of id ++ codes "\n")
 
 abbrev pub init_log_outcome : Text → Text → ℕ → ℕ → Files → Outcome
 init_log_outcome journal id active limit files = with_fresh journal (files journal)
-    (starts (settings_record (settings_of id active limit)) (log_line id))
+    (starts (settings_record (log_settings_of id active limit)) (log_line id))
 
 -- The size and the tree hash.
 
@@ -61,7 +61,7 @@ abbrev pub entries_says : ℕ → FoundLog → Outcome
 entries_says size found = answers_on found.records (entries_reply size found.state)
 
 -- These are the entry and the key at an index, and both have fewer than 2^16 bytes.
-pub record IsItem (s : LogState) (index : ℕ) (entry key : Text) : Type 0 where
+pub record IsItemAt (s : LogState) (index : ℕ) (entry key : Text) : Type 0 where
   pub entry_is : entry ≡ slice_index_or s.entries index []
   pub key_is : key ≡ slice_index_or s.keys index []
   pub short_entry : length entry < 65536

@@ -25,8 +25,8 @@ prefix_proof h entries start end size =
 abbrev pub growth_at : HashFunction → List Text → ℕ → ℕ → List Hash
 growth_at h entries old new = if old == 0 then [] else prefix_proof h entries 0 old new
 
-abbrev pub advance_of : HashFunction → LogState → ℕ → ℕ → AdvanceParts
-advance_of h s old new = record {
+abbrev pub advance_by_log : HashFunction → LogState → ℕ → ℕ → AdvanceParts
+advance_by_log h s old new = record {
   log = s.settings.id;
   size = new;
   root = tree_hash h (take new s.entries);
@@ -38,7 +38,7 @@ abbrev pub consist_reply : HashFunction → ℕ → ℕ → LogState → Reply
 consist_reply h old new s =
     if nat_le new old then not_allowed (codes "NothingNew")
     else (if nat_lt (length s.entries) new then beyond (length s.entries)
-    else said Done (advance_text (advance_of h s old new)))
+    else said Done (advance_text (advance_by_log h s old new)))
 
 abbrev pub consist_says : HashFunction → ℕ → ℕ → FoundLog → Outcome
 consist_says h old new found = answers_on found.records (consist_reply h old new found.state)

@@ -8,7 +8,7 @@ use Rattle.journal_core.specs.declared.error.OpenError.TheVariants as open_error
 use Rattle.tree_core.specs.declared.hashing.TreeHash.{Ghosts as Hashes}
 use Rattle.issuance_log.specs.Folds.{LogState, log_of}
 use Rattle.issuance_log.specs.Openings.{FoundLog, log_read}
-use Rattle.issuance_log.specs.Words.{log_broken, log_disk, log_end, log_records, state_of}
+use Rattle.issuance_log.specs.Words.{log_broken, log_disk, log_end, log_records, log_state}
 use Rattle.issuance_log.specs.declared.error.LogOpenError.{LogOpenError}
 use Rattle.issuance_log.specs.declared.error.LogOpenError.TheVariants.{BadRecord, Open}
 use Rattle.issuance_log.specs.declared.log.Log.{Log}
@@ -28,46 +28,46 @@ use Rattle.mtc_logs.specs.declared.work.Work.TheVariants.{Subtree, Landmark, Lan
 use Rattle.mtc_logs.specs.declared.work.Work.TheVariants.{Cert}
 
 -- Why a file is no log.
-abbrev pub open_fault_text : LogOpenError → Text
-open_fault_text (BadRecord number) = codes "BadRecord " ++ decimal number
-open_fault_text (Open open_error.NotJournal) = codes "NotJournal"
-open_fault_text (Open (open_error.BadLength place)) = codes "BadLength " ++ decimal place
-open_fault_text (Open (open_error.CutShort place)) = codes "CutShort " ++ decimal place
-open_fault_text (Open open_error.Failed) = codes "Failed"
-open_fault_text (Open open_error.Memory) = codes "Memory"
+abbrev pub log_open_text : LogOpenError → Text
+log_open_text (BadRecord number) = codes "BadRecord " ++ decimal number
+log_open_text (Open open_error.NotJournal) = codes "NotJournal"
+log_open_text (Open (open_error.BadLength place)) = codes "BadLength " ++ decimal place
+log_open_text (Open (open_error.CutShort place)) = codes "CutShort " ++ decimal place
+log_open_text (Open open_error.Failed) = codes "Failed"
+log_open_text (Open open_error.Memory) = codes "Memory"
 
 -- What comes of it: the file is told not to be a log, unless the device failed or memory was
 -- refused.
-abbrev pub open_ending : Text → LogOpenError → Ending
-open_ending file (Open open_error.Failed) = room_failed file
-open_ending file (Open open_error.Memory) = no_memory
-open_ending file why = replied (refused BadForm (Some file) (open_fault_text why))
+abbrev pub log_open_ending : Text → LogOpenError → Ending
+log_open_ending file (Open open_error.Failed) = room_failed file
+log_open_ending file (Open open_error.Memory) = no_memory
+log_open_ending file why = replied (refused BadForm (Some file) (log_open_text why))
 
 -- A log was found, with its records.
 abbrev pub found_log : LogState → List Text → FoundLog
 found_log state list = record { records = list; state = state }
 
 -- What a command has to reply over a log that was found.
-unfoldable pub work_says : HashFunction → Work → FoundLog → Outcome
-work_says h Checkpoint found = checkpoint_says h found
-work_says h (Entries size) found = entries_says size found
-work_says h (Issue request) found = issue_says h request found
-work_says h (Consist old new) found = consist_says h old new found
-work_says h (Subtree start end size) found = subtree_says h start end size found
-work_says h Landmark found = landmark_says found
-work_says h Landmarks found = landmarks_says found
-work_says h (LightCert index) found = light_says h index found
-work_says h (Cert index start end signatures) found =
+unfoldable pub log_work_says : HashFunction → Work → FoundLog → Outcome
+log_work_says h Checkpoint found = checkpoint_says h found
+log_work_says h (Entries size) found = entries_says size found
+log_work_says h (Issue request) found = issue_says h request found
+log_work_says h (Consist old new) found = consist_says h old new found
+log_work_says h (Subtree start end size) found = subtree_says h start end size found
+log_work_says h Landmark found = landmark_says found
+log_work_says h Landmarks found = landmarks_says found
+log_work_says h (LightCert index) found = light_says h index found
+log_work_says h (Cert index start end signatures) found =
     cert_says h index start end signatures found
 
 -- The outcome of a command on the log of a journal with these bytes.
-abbrev pub bytes_say : HashFunction → Text → Work → Text → Outcome
-bytes_say h journal work bytes =
-    with_form open_fault_text journal (log_read h bytes) (work_says h work)
+abbrev pub log_bytes_say : HashFunction → Text → Work → Text → Outcome
+log_bytes_say h journal work bytes =
+    with_form log_open_text journal (log_read h bytes) (log_work_says h work)
 
 -- The same over the file of its name, which may not be there.
-unfoldable pub journal_outcome : HashFunction → Text → Option Text → Work → Outcome
-journal_outcome h journal file work = with_file journal file (bytes_say h journal work)
+unfoldable pub log_outcome : HashFunction → Text → Option Text → Work → Outcome
+log_outcome h journal file work = with_file journal file (log_bytes_say h journal work)
 
 -- The records of a journal make a log.
 abbrev pub IsLog : HashFunction → List Text → Type 0
@@ -75,18 +75,18 @@ IsLog h list = IsOk (log_of h list)
 
 module _ {H D : Type 0} {hashes : Hashes H} {g : Ghosts D} where
   -- A log that was opened just now.
-  pub record IsReady (log : Log H D hashes g) : Type 0 where
+  pub record IsReadyLog (log : Log H D hashes g) : Type 0 where
     pub sound : log_broken log ≡ false
     pub end : IfSome (log_records log) (λ list. log_end log ≡ end_behind list)
 
   -- The work on the log of this journal, which has to give that outcome.
-  abbrev pub HasWorked : Text → (FoundLog → Outcome) → Log H D hashes g → Log H D hashes g
+  abbrev pub HasWorkedOnLog : Text → (FoundLog → Outcome) → Log H D hashes g → Log H D hashes g
       → Ending → Type 0
-  HasWorked name says old new ending = HasWorkedWith g name (log_records old)
-      (λ list. says (found_log (state_of old) list)) (log_disk old) (log_disk new) ending
+  HasWorkedOnLog name says old new ending = HasWorkedWith g name (log_records old)
+      (λ list. says (found_log (log_state old) list)) (log_disk old) (log_disk new) ending
 
   -- And by which its records make a log again.
   abbrev pub StaysLog : HashFunction → (FoundLog → Outcome) → Log H D hashes g → Log H D hashes g
       → Type 0
   StaysLog h says old new = WorksValidly g (IsLog h) (log_records old)
-      (λ list. says (found_log (state_of old) list)) (log_disk old) (log_disk new)
+      (λ list. says (found_log (log_state old) list)) (log_disk old) (log_disk new)

@@ -1,7 +1,7 @@
 //! The commands `cert` and `light-cert`: the certificate of an entry.
 ghost use Rattle.std.specs.Prelude.{◌≡◌, ◌<◌, ◌^◌, [], ◌∷◌};
 ghost use Rattle.byte_forms.specs.Readings.{Gives};
-ghost use Rattle.issuance_log.specs.Words.{state_of};
+ghost use Rattle.issuance_log.specs.Words.{log_state};
 ghost use Rattle.mtc_answers.specs.Answers.{stop_ending, ending_of};
 ghost use Rattle.mtc_answers.specs.Endings.{Replies};
 ghost use Rattle.mtc_answers.specs.Served.{HasServed};
@@ -92,7 +92,7 @@ pub(crate) fn certificate<'a, H: TreeHash, D: Disk>(
     signatures: &Signatures,
 ) -> Result<Answer, Stop<'a>>
     ensures reply { Replies
-        (exactly (cert_reply H.hash index start end signatures.now (state_of log.old)))
+        (exactly (cert_reply H.hash index start end signatures.now (log_state log.old)))
         (ending_of result) }
     ensures same { log.new ≡ log.old }
 {
@@ -111,7 +111,7 @@ pub(crate) fn light_certificate<'a, H: TreeHash, D: Disk>(
     log: &mut Log<H, D>,
     index: u64,
 ) -> Result<Answer, Stop<'a>>
-    ensures reply { Replies (exactly (light_reply H.hash index (state_of log.old)))
+    ensures reply { Replies (exactly (light_reply H.hash index (log_state log.old)))
         (ending_of result) }
     ensures same { log.new ≡ log.old }
 {

@@ -1,11 +1,11 @@
 //! The commands `checkpoint` and `entries`: what a log holds.
 ghost use Rattle.std.specs.Prelude.{◌≡◌, ◌<◌, ◌≤◌, ◌++◌, length, IfOk, OnOk};
-ghost use Rattle.issuance_log.specs.Words.{state_of};
+ghost use Rattle.issuance_log.specs.Words.{log_state};
 ghost use Rattle.mtc_answers.specs.Answers.{stop_ending, ending_of, replied};
 ghost use Rattle.mtc_answers.specs.Endings.{Replies};
 ghost use Rattle.mtc_answers.specs.Wanted.{exactly};
 ghost use Rattle.entry_list.specs.Items.{file_text, listed_text};
-ghost use Rattle.mtc_logs.specs.LogOutcomes.{IsItem, beyond, checkpoint_reply, entries_reply, items_of};
+ghost use Rattle.mtc_logs.specs.LogOutcomes.{IsItemAt, beyond, checkpoint_reply, entries_reply, items_of};
 
 use crate::tree::root_of;
 use disk_core::Disk;
@@ -21,7 +21,7 @@ pub fn checkpoint<'a, H: TreeHash, D: Disk>(
     alloc: Global,
     log: &mut Log<H, D>,
 ) -> Result<Answer, Stop<'a>>
-    ensures reply { Replies (exactly (checkpoint_reply H.hash (state_of log.old).entries))
+    ensures reply { Replies (exactly (checkpoint_reply H.hash (log_state log.old).entries))
         (ending_of result) }
     ensures same { log.new ≡ log.old }
 {
@@ -49,8 +49,8 @@ fn read_item<H: TreeHash, D: Disk>(
     entry: &mut Bytes,
     key: &mut Bytes,
 ) -> Result<(), Memory>
-    requires { index < length (state_of log.old).entries }
-    ensures item { OnOk result (IsItem (state_of log.old) index entry.new key.new) }
+    requires { index < length (log_state log.old).entries }
+    ensures item { OnOk result (IsItemAt (log_state log.old) index entry.new key.new) }
     ensures same { log.new ≡ log.old }
 {
     log.sound();
@@ -70,9 +70,9 @@ fn put_item<H: TreeHash, D: Disk>(
     key: &mut Bytes,
     out: &mut Bytes,
 ) -> Result<(), Memory>
-    requires { index < length (state_of log.old).entries }
+    requires { index < length (log_state log.old).entries }
     ensures text { OnOk result
-        (out.new ≡ out.old ++ listed_text (items_of (state_of log.old)) index) }
+        (out.new ≡ out.old ++ listed_text (items_of (log_state log.old)) index) }
     ensures same { log.new ≡ log.old }
 {
     read_item(log, index, entry, key)?;
@@ -86,8 +86,8 @@ fn items<H: TreeHash, D: Disk>(
     log: &mut Log<H, D>,
     count: u64,
 ) -> Result<Bytes, Memory>
-    requires { count ≤ length (state_of log.old).entries }
-    ensures text { IfOk result (λ text. text ≡ file_text (items_of (state_of log.old)) count) }
+    requires { count ≤ length (log_state log.old).entries }
+    ensures text { IfOk result (λ text. text ≡ file_text (items_of (log_state log.old)) count) }
     ensures same { log.new ≡ log.old }
 {
     let mut out = Bytes::new(alloc);
@@ -105,7 +105,7 @@ pub fn entries<'a, H: TreeHash, D: Disk>(
     log: &mut Log<H, D>,
     size: u64,
 ) -> Result<Answer, Stop<'a>>
-    ensures reply { Replies (exactly (entries_reply size (state_of log.old))) (ending_of result) }
+    ensures reply { Replies (exactly (entries_reply size (log_state log.old))) (ending_of result) }
     ensures same { log.new ≡ log.old }
 {
     if log.size() < size {

@@ -5,7 +5,7 @@ ghost use Rattle.mtc_answers.specs.Served.{HasServed};
 ghost use Rattle.mtc_answers.specs.Valid.{KeepsValid};
 ghost use Rattle.mtc_logs.specs.IssueOutcome.{field_text, issue_ending, issue_says, issued_text, request_ending};
 ghost use Rattle.mtc_logs.specs.IssueCommand.{issue_outcome};
-ghost use Rattle.mtc_logs.specs.Works.{HasWorked, IsLog, IsReady, StaysLog};
+ghost use Rattle.mtc_logs.specs.Works.{HasWorkedOnLog, IsLog, IsReadyLog, StaysLog};
 
 use crate::log_command::on_log;
 use crate::work::Work;
@@ -58,8 +58,8 @@ pub fn issue_on<'a, H: TreeHash, D: Disk>(
     log: &mut Log<H, D>,
     request: &Request,
 ) -> Result<Answer, Stop<'a>>
-    requires { IsReady log.old }
-    ensures works { HasWorked journal.now (issue_says H.hash request.now) log.old log.new
+    requires { IsReadyLog log.old }
+    ensures works { HasWorkedOnLog journal.now (issue_says H.hash request.now) log.old log.new
         (ending_of result) }
     ensures valid { StaysLog H.hash (issue_says H.hash request.now) log.old log.new }
 {

@@ -4,7 +4,7 @@ ghost use Rattle.mtc_answers.specs.Answers.{stop_ending, ending_of};
 ghost use Rattle.mtc_answers.specs.Served.{HasServed};
 ghost use Rattle.mtc_answers.specs.Valid.{KeepsValid, ServesValidly};
 ghost use Rattle.mtc_answers.specs.Works.{HasWorkedOn};
-ghost use Rattle.mtc_logs.specs.Works.{IsLog, bytes_say, journal_outcome, open_ending};
+ghost use Rattle.mtc_logs.specs.Works.{IsLog, log_bytes_say, log_outcome, log_open_ending};
 
 use crate::work::{Work, carry_out};
 use disk_core::Disk;
@@ -17,7 +17,7 @@ use tree_core::TreeHash;
 
 // Why a journal isn't opened as a log.
 fn refuse_log<'a>(journal: &'a str, why: LogOpenError) -> Stop<'a>
-    ensures { stop_ending result ≡ open_ending journal.now why }
+    ensures { stop_ending result ≡ log_open_ending journal.now why }
 {
     let bad = Stopped::BadForm;
     match why {
@@ -45,9 +45,9 @@ fn on_device<'a, H: TreeHash, D: Disk>(
     journal: &'a str,
     work: Work,
 ) -> (D, Result<Answer, Stop<'a>>)
-    ensures serves { HasWorkedOn D.Disk journal.now (bytes_say H.hash journal.now work) disk
+    ensures serves { HasWorkedOn D.Disk journal.now (log_bytes_say H.hash journal.now work) disk
         result.0 (ending_of result.1) }
-    ensures valid { ServesValidly D.Disk (IsLog H.hash) (bytes_say H.hash journal.now work) disk
+    ensures valid { ServesValidly D.Disk (IsLog H.hash) (log_bytes_say H.hash journal.now work) disk
         result.0 }
 {
     match Log::<H, D>::open(alloc, disk) {
@@ -60,7 +60,7 @@ fn on_device<'a, H: TreeHash, D: Disk>(
 }
 
 /// Lends a journal, opens its log and works on it. Whatever comes of it, the device is put back.
-#[tactic(auto, unfolding(crate::specs::Works::journal_outcome))]
+#[tactic(auto, unfolding(crate::specs::Works::log_outcome))]
 pub fn on_log<'a, H: TreeHash, R: Room>(
     alloc: Global,
     room: &mut R,
@@ -69,10 +69,10 @@ pub fn on_log<'a, H: TreeHash, R: Room>(
 ) -> Result<Answer, Stop<'a>>
     requires { R.lent room.old < 2 ^ 32 }
     ensures serves { HasServed R.Room R.Dsk.Disk (journal.now ∷ []) journal.now
-        (journal_outcome H.hash journal.now (R.file room.old journal.now) work)
+        (log_outcome H.hash journal.now (R.file room.old journal.now) work)
         room.old room.new (ending_of result) }
     ensures valid { KeepsValid R.Room R.Dsk.Disk (IsLog H.hash) (journal.now ∷ [])
-        (journal_outcome H.hash journal.now (R.file room.old journal.now) work)
+        (log_outcome H.hash journal.now (R.file room.old journal.now) work)
         room.old room.new }
 {
     let disk = lend(room, journal)?;

@@ -1,11 +1,11 @@
 //! The commands `landmark` and `landmarks`: a landmark more, and the list of the active ones.
 ghost use Rattle.std.specs.Prelude.{◌≡◌, IfOk};
-ghost use Rattle.issuance_log.specs.Words.{state_of};
+ghost use Rattle.issuance_log.specs.Words.{log_state};
 ghost use Rattle.mtc_answers.specs.Answers.{ending_of, stop_ending};
 ghost use Rattle.mtc_answers.specs.Endings.{Replies};
 ghost use Rattle.mtc_answers.specs.Wanted.{exactly};
 ghost use Rattle.mtc_logs.specs.LandmarkOutcomes.{MayRefuseMark, landmark_line, landmark_says, landmarks_reply, log_landmarks, mark_ending};
-ghost use Rattle.mtc_logs.specs.Works.{HasWorked, IsReady, StaysLog};
+ghost use Rattle.mtc_logs.specs.Works.{HasWorkedOnLog, IsReadyLog, StaysLog};
 
 use disk_core::Disk;
 use issuance_log::{Log, LogError};
@@ -49,8 +49,8 @@ pub fn set_landmark<'a, H: TreeHash, D: Disk>(
     journal: &'a str,
     log: &mut Log<H, D>,
 ) -> Result<Answer, Stop<'a>>
-    requires { IsReady log.old }
-    ensures works { HasWorked journal.now landmark_says log.old log.new (ending_of result) }
+    requires { IsReadyLog log.old }
+    ensures works { HasWorkedOnLog journal.now landmark_says log.old log.new (ending_of result) }
     ensures valid { StaysLog H.hash landmark_says log.old log.new }
 {
     let number = log.marks().len() as u64 + 1;
@@ -66,7 +66,7 @@ pub fn set_landmark<'a, H: TreeHash, D: Disk>(
 
 // The landmarks of a log, as many of them active as it allows.
 fn landmarks_in<H: TreeHash, D: Disk>(alloc: Global, log: &Log<H, D>) -> Result<Landmarks, Memory>
-    ensures { IfOk result (λ l. l ≡ log_landmarks (state_of log.now)) }
+    ensures { IfOk result (λ l. l ≡ log_landmarks (log_state log.now)) }
 {
     log.sound();
     of_marks(alloc, log.marks(), log.settings().max_active)
@@ -77,7 +77,7 @@ pub fn list_landmarks<'a, H: TreeHash, D: Disk>(
     alloc: Global,
     log: &mut Log<H, D>,
 ) -> Result<Answer, Stop<'a>>
-    ensures reply { Replies (exactly (landmarks_reply (state_of log.old))) (ending_of result) }
+    ensures reply { Replies (exactly (landmarks_reply (log_state log.old))) (ending_of result) }
     ensures same { log.new ≡ log.old }
 {
     let landmarks = landmarks_in(alloc, log)?;

@@ -1,12 +1,12 @@
 //! The commands `consist` and `subtree`: requests to a cosigner of a log.
 ghost use Rattle.std.specs.Prelude.{◌≡◌, ◌<◌, ◌≤◌, true, length, IfOk};
 ghost use Rattle.cosigner_core.specs.Requests.{advance_text, subtree_text};
-ghost use Rattle.issuance_log.specs.Words.{state_of};
+ghost use Rattle.issuance_log.specs.Words.{log_state};
 ghost use Rattle.tree_core.specs.Subtree.{is_subtree};
 ghost use Rattle.mtc_answers.specs.Answers.{ending_of};
 ghost use Rattle.mtc_answers.specs.Endings.{Replies};
 ghost use Rattle.mtc_answers.specs.Wanted.{exactly};
-ghost use Rattle.mtc_logs.specs.RequestOutcomes.{advance_of, consist_reply, subtree_of, subtree_reply};
+ghost use Rattle.mtc_logs.specs.RequestOutcomes.{advance_by_log, consist_reply, subtree_of, subtree_reply};
 
 use crate::checkpoint::too_many;
 use crate::tree::{growth_of, hash_of, proof_of, root_of};
@@ -26,9 +26,9 @@ fn advance_request<H: TreeHash, D: Disk>(
     new: u64,
 ) -> Result<Bytes, Memory>
     requires more { old < new }
-    requires within { new ≤ length (state_of log.old).entries }
+    requires within { new ≤ length (log_state log.old).entries }
     ensures text { IfOk result (λ text. text
-        ≡ advance_text (advance_of H.hash (state_of log.old) old new)) }
+        ≡ advance_text (advance_by_log H.hash (log_state log.old) old new)) }
     ensures same { log.new ≡ log.old }
 {
     let root = root_of(log, new);
@@ -44,7 +44,7 @@ pub fn consist<'a, H: TreeHash, D: Disk>(
     old: u64,
     new: u64,
 ) -> Result<Answer, Stop<'a>>
-    ensures reply { Replies (exactly (consist_reply H.hash old new (state_of log.old)))
+    ensures reply { Replies (exactly (consist_reply H.hash old new (log_state log.old)))
         (ending_of result) }
     ensures same { log.new ≡ log.old }
 {
@@ -70,9 +70,9 @@ fn subtree_request<H: TreeHash, D: Disk>(
 ) -> Result<Bytes, Memory>
     requires valid { is_subtree start end ≡ true }
     requires inside { end ≤ size }
-    requires within { size ≤ length (state_of log.old).entries }
+    requires within { size ≤ length (log_state log.old).entries }
     ensures text { IfOk result (λ text. text
-        ≡ subtree_text (subtree_of H.hash (state_of log.old) start end size)) }
+        ≡ subtree_text (subtree_of H.hash (log_state log.old) start end size)) }
     ensures same { log.new ≡ log.old }
 {
     let hash = hash_of(log, start, end);
@@ -89,7 +89,7 @@ pub fn subtree<'a, H: TreeHash, D: Disk>(
     end: u64,
     size: u64,
 ) -> Result<Answer, Stop<'a>>
-    ensures reply { Replies (exactly (subtree_reply H.hash start end size (state_of log.old)))
+    ensures reply { Replies (exactly (subtree_reply H.hash start end size (log_state log.old)))
         (ending_of result) }
     ensures same { log.new ≡ log.old }
 {

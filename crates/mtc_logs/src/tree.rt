@@ -1,6 +1,6 @@
 //! Hashes and proofs over the first entries of a log.
 ghost use Rattle.std.specs.Prelude.{◌≡◌, ◌<◌, ◌≤◌, true, length, take};
-ghost use Rattle.issuance_log.specs.Words.{state_of};
+ghost use Rattle.issuance_log.specs.Words.{log_state};
 ghost use Rattle.tree_core.specs.Path.{part_of};
 ghost use Rattle.tree_core.specs.Subtree.{is_subtree};
 ghost use Rattle.tree_core.specs.Tree.{tree_hash};
@@ -15,8 +15,8 @@ use tree_proofs::{Path, node_of};
 // The hash of the subtree `[start, end)` of the entries.
 pub fn hash_of<H: TreeHash, D: Disk>(log: &mut Log<H, D>, start: u64, end: u64) -> [u8; 32]
     requires valid { is_subtree start end ≡ true }
-    requires within { end ≤ length (state_of log.old).entries }
-    ensures hash { result ≡ tree_hash H.hash (part_of (state_of log.old).entries start end) }
+    requires within { end ≤ length (log_state log.old).entries }
+    ensures hash { result ≡ tree_hash H.hash (part_of (log_state log.old).entries start end) }
     ensures same { log.new ≡ log.old }
 {
     match node_of(log, start, end) {
@@ -28,8 +28,8 @@ pub fn hash_of<H: TreeHash, D: Disk>(log: &mut Log<H, D>, start: u64, end: u64) 
 // The tree hash of the first `size` entries (RFC 9162, section 2.1.1).
 pub fn root_of<H: TreeHash, D: Disk>(log: &mut Log<H, D>, size: u64) -> [u8; 32]
     requires some { 0 < size }
-    requires within { size ≤ length (state_of log.old).entries }
-    ensures hash { result ≡ tree_hash H.hash (take size (state_of log.old).entries) }
+    requires within { size ≤ length (log_state log.old).entries }
+    ensures hash { result ≡ tree_hash H.hash (take size (log_state log.old).entries) }
     ensures same { log.new ≡ log.old }
 {
     hash_of(log, 0, size)
@@ -39,8 +39,8 @@ pub fn root_of<H: TreeHash, D: Disk>(log: &mut Log<H, D>, size: u64) -> [u8; 32]
 pub fn proof_of<H: TreeHash, D: Disk>(log: &mut Log<H, D>, start: u64, end: u64, size: u64) -> Path
     requires valid { is_subtree start end ≡ true }
     requires inside { end ≤ size }
-    requires within { size ≤ length (state_of log.old).entries }
-    ensures proof { result ≡ prefix_proof H.hash (state_of log.old).entries start end size }
+    requires within { size ≤ length (log_state log.old).entries }
+    ensures proof { result ≡ prefix_proof H.hash (log_state log.old).entries start end size }
     ensures same { log.new ≡ log.old }
 {
     let mut proof = Path::new();
@@ -54,8 +54,8 @@ pub fn proof_of<H: TreeHash, D: Disk>(log: &mut Log<H, D>, start: u64, end: u64,
 // to prove.
 pub fn growth_of<H: TreeHash, D: Disk>(log: &mut Log<H, D>, old: u64, new: u64) -> Path
     requires more { old < new }
-    requires within { new ≤ length (state_of log.old).entries }
-    ensures proof { result ≡ growth_at H.hash (state_of log.old).entries old new }
+    requires within { new ≤ length (log_state log.old).entries }
+    ensures proof { result ≡ growth_at H.hash (log_state log.old).entries old new }
     ensures same { log.new ≡ log.old }
 {
     if old == 0 {

@@ -44,7 +44,7 @@ accepted_in h bytes store moment =
     lifted ProofGrammar (proof_in c.proof) >>= λ p.
     Ok (record { accepted = a; cert = c; proof = p })
 
--- The same as a case of an audit, against these items and what was kept of a cosigner.
+-- The same as a case of an audit, against these items and the export of a cosigner.
 abbrev pub case_of : Store → ItemLists → Option Export → AcceptedParts → AuditCase
 case_of store items kept j = record {
   accepted = j.accepted;
@@ -73,7 +73,7 @@ collision_text one other = codes "collision\n" ++ (encode_lower one ++ (codes "\
     ++ (encode_lower other ++ codes "\n")))
 
 -- The hash that is wanted of the list and the one that it has, where they aren't the same; or else
--- that nothing which was kept supports the acceptance; or that the entry and the key stand at the
+-- that no export supports the acceptance; or that the entry and the key stand at the
 -- index; or any two different strings with one hash, the first from the list, the second from the
 -- certificate or the cosigner.
 abbrev pub audit_by : HashFunction → AuditCase → Option (Hash × Hash) → Bool → Bool → Outcome

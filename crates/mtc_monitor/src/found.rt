@@ -47,7 +47,7 @@ fn answer_to(alloc: Global, found: Audit) -> Result<Answer, Memory>
     }
 }
 
-/// Holds what was accepted against these items, and against what was kept of a cosigner.
+/// Holds what was accepted against these items, and against the export of a cosigner.
 pub(crate) fn audited<H: TreeHash>(
     alloc: Global,
     accepted: &AcceptedCert,

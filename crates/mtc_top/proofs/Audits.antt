@@ -86,7 +86,7 @@ audit_asked h files cert store moment entries kept x is =
     is.kept_read
     ∙ ap (audit_accepted_says h cert x.store x.items x.kept) is.judged
 
--- ---- what was kept supports it
+-- ---- the export supports it
 
 module _ {X : Type 0} (p : X → Bool) where
   place_within : (xs : List X) (i : ℕ) (x : X) → i < length xs → get_or xs i x ≡ x → p x ≡ true

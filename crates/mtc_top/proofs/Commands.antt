@@ -30,7 +30,7 @@ use Rattle.mtc_answers.specs.declared.answer.Stopped.TheVariants.{BadForm, Beyon
 use Rattle.mtc_cosigner.specs.CosignerOutcomes.{advance_says, advanced_text, cosign_says}
 use Rattle.mtc_cosigner.specs.CosignerOutcomes.{cosigned_text, export_says, form_fault_text}
 use Rattle.mtc_cosigner.specs.CosignerOutcomes.{stepped}
-use Rattle.mtc_cosigner.specs.InitOutcome.{init_says, settings_of as cosigner_settings}
+use Rattle.mtc_cosigner.specs.InitOutcome.{init_says, cosigner_settings_of}
 use Rattle.mtc_cosigner.specs.KeygenOutcome.{public_line, with_secret}
 use Rattle.mtc_cosigner.specs.Works.{advance_outcome, cosign_outcome, export_outcome}
 use Rattle.mtc_cosigner.specs.Works as cosigners
@@ -39,7 +39,7 @@ use Rattle.mtc_logs.specs.CertOutcome.{signatures_fault_text, signatures_in}
 use Rattle.mtc_logs.specs.IssueCommand.{issue_outcome, request_says}
 use Rattle.mtc_logs.specs.IssueOutcome.{issued, request_fault_text}
 use Rattle.mtc_logs.specs.LandmarkOutcomes.{marked}
-use Rattle.mtc_logs.specs.LogOutcomes.{log_line, settings_of as log_settings}
+use Rattle.mtc_logs.specs.LogOutcomes.{log_line, log_settings_of}
 use Rattle.mtc_logs.specs.Works as logs
 use Rattle.mtc_logs.specs.declared.work.Work.{Work}
 use Rattle.mtc_logs.specs.declared.work.Work.TheVariants.{Checkpoint, Entries, Issue, Consist}
@@ -243,7 +243,7 @@ new_of_command h (show file) files = tt
 new_of_command h (verify certificate store moment) files = tt
 new_of_command h (init_log journal id active limit) files = (
   new_fresh journal (files journal)
-      (starts (settings_record (log_settings id active limit)) (log_line id)),
+      (starts (settings_record (log_settings_of id active limit)) (log_line id)),
   tt,
 )
 new_of_command h (issue journal request) files =
@@ -258,7 +258,7 @@ new_of_command h (subtree journal start end size) files =
     (inl (on_log h journal (files journal) (Subtree start end size)), tt)
 new_of_command h (keygen height width file) files = tt
 new_of_command h (init_cosigner journal id log height width file) files =
-    let s = cosigner_settings id log height width in (
+    let s = cosigner_settings_of id log height width in (
       new_bytes (files journal) 16777216 file (files file)
           (init_says journal s file (files journal))
           (λ secret. new_secret (files journal) file secret

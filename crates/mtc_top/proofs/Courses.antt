@@ -22,7 +22,7 @@ use Rattle.node_history.proofs.GoesOn.{begins_fresh}
 use Rattle.node_history.proofs.Sound.{began_so, grown}
 use Rattle.node_history.proofs.Steps.{some_is}
 use Rattle.mtc_top.specs.Courses.{Turn, Link, ran, stops, cut, HasTurned, DidWith}
-use Rattle.mtc_top.specs.Courses.{images_of, images_from, HasStopped, IsCourse, WasMade, HasHeld}
+use Rattle.mtc_top.specs.Courses.{images_in, images_from, HasStopped, IsCourse, WasMade, HasHeld}
 use Rattle.mtc_top.specs.Courses.{WasHeld, HandsOut}
 use Rattle.mtc_top.specs.Nodes.{AllStandForNode, EndsWell, StandsForNode, TookSome}
 use Rattle.mtc_top.specs.Nodes.{end_state, steps_of}
@@ -45,7 +45,7 @@ module _ {R S D O E : Type 0} (h : HashFunction) (rooms : Rooms R S D) (disks : 
   Turned = HasTurned h rooms disks outs errs
 
   abbrev Images : R → List ℕ → List ℕ → Type 0
-  Images = images_of h rooms disks outs errs
+  Images = images_in h rooms disks outs errs
 
   abbrev Between : R → R → List ℕ → List ℕ → Type 0
   Between = images_from h rooms disks outs errs

@@ -32,7 +32,7 @@ use Rattle.mtc_answers.specs.Wanted.{Meets}
 use Rattle.mtc_answers.specs.declared.answer.Stopped.TheVariants.{Missing}
 use Rattle.mtc_answers.proofs.Made.{OnlyNow, ReadsImage}
 use Rattle.mtc_cosigner.specs.CosignerOutcomes.{export_says}
-use Rattle.mtc_cosigner.specs.Works.{bytes_say, export_outcome, open_fault_text}
+use Rattle.mtc_cosigner.specs.Works.{cosigner_bytes_say, export_outcome, cosigner_open_text}
 use Rattle.node_history.specs.Rules.{IsReadAs, StartsWith}
 use Rattle.node_history.specs.declared.start.NodeStart.{NodeStart}
 use Rattle.node_history.specs.declared.start.NodeStart.TheVariants.{Cosigner}
@@ -82,16 +82,16 @@ asked_absent : (h : HashFunction) (name : List ℕ) (files : Files) → files na
     → export_outcome h name files ≡ stops_at Missing name (codes "Absent")
 unfolding export_outcome
 asked_absent h name files none =
-    ap (λ (o : Option (List ℕ)). with_file name o (bytes_say h name export_says)) none
+    ap (λ (o : Option (List ℕ)). with_file name o (cosigner_bytes_say h name export_says)) none
 
 asked_there : (h : HashFunction) (name : List ℕ) (files : Files) (bytes : List ℕ)
     (found : FoundCosigner) → files name ≡ Some bytes → cosigner_read h bytes ≡ Ok found
     → export_outcome h name files ≡ export_says found
 unfolding export_outcome
 asked_there h name files bytes found there read =
-    ap (λ (o : Option (List ℕ)). with_file name o (bytes_say h name export_says)) there
+    ap (λ (o : Option (List ℕ)). with_file name o (cosigner_bytes_say h name export_says)) there
     ∙ ap (λ (r : Result FoundCosigner CosignerOpenError).
-    with_form open_fault_text name r export_says) read
+    with_form cosigner_open_text name r export_says) read
 
 spoken_export : (h : HashFunction) (r : Result CommandValue WordError) (name : List ℕ)
     (files : Files) → r ≡ Ok (export name)

@@ -48,7 +48,7 @@ use Rattle.mtc_answers.proofs.Made.{OnlyNow, ReadsImage}
 use Rattle.mtc_cosigner.specs.CosignerOutcomes.{advance_says, cosign_says, export_says}
 use Rattle.mtc_cosigner.specs.CosignerOutcomes.{form_fault_text, stepped}
 use Rattle.mtc_cosigner.specs.Works.{advance_outcome, cosign_outcome, export_outcome}
-use Rattle.mtc_cosigner.specs.Works.{journal_outcome, open_fault_text}
+use Rattle.mtc_cosigner.specs.Works.{cosigner_outcome, cosigner_open_text}
 use Rattle.mtc_logs.specs.CertOutcome.{cert_refused, cert_replies, cert_reply, certificate_in}
 use Rattle.mtc_logs.specs.CertOutcome.{light_reply, light_text, signatures_fault_text}
 use Rattle.mtc_logs.specs.CertOutcome.{signatures_in}
@@ -56,9 +56,9 @@ use Rattle.mtc_logs.specs.IssueOutcome.{issued, request_fault_text}
 use Rattle.mtc_logs.specs.LandmarkOutcomes.{landmarks_reply, mark_refused, marked}
 use Rattle.mtc_logs.specs.LogOutcomes.{beyond, checkpoint_reply, entries_reply, items_of}
 use Rattle.mtc_logs.specs.LogOutcomes.{not_allowed}
-use Rattle.mtc_logs.specs.RequestOutcomes.{advance_of, consist_reply, subtree_of, subtree_reply}
-use Rattle.mtc_logs.specs.Works.{journal_outcome as log_outcome, open_fault_text as log_open_fault}
-use Rattle.mtc_logs.specs.Works.{work_says}
+use Rattle.mtc_logs.specs.RequestOutcomes.{advance_by_log, consist_reply, subtree_of, subtree_reply}
+use Rattle.mtc_logs.specs.Works.{log_outcome, log_open_text}
+use Rattle.mtc_logs.specs.Works.{log_work_says}
 use Rattle.mtc_logs.specs.declared.work.Work.{Work}
 use Rattle.mtc_logs.specs.declared.work.Work.TheVariants.{Cert, Checkpoint, Consist, Entries, Issue}
 use Rattle.mtc_logs.specs.declared.work.Work.TheVariants.{Landmark, Landmarks, LightCert, Subtree}
@@ -154,7 +154,7 @@ module _ (h : HashFunction) where
   consist_two : (old new : ℕ) (s : LogState) → NotTwo (consist_reply h old new s)
   consist_two old new s =
       let short : Bool = nat_lt (length s.entries) new in
-      let done : Reply = said Done (advance_text (advance_of h s old new)) in
+      let done : Reply = said Done (advance_text (advance_by_log h s old new)) in
       if_two (nat_le new old) (not_allowed (codes "NothingNew"))
       (if short then beyond (length s.entries) else done) four_two
       (if_two short (beyond (length s.entries)) done four_two zero_two)
@@ -170,8 +170,8 @@ module _ (h : HashFunction) where
       (if_two short (beyond (length s.entries)) (if outside then beyond size else done) four_two
       (if_two outside (beyond size) done four_two zero_two))
 
-  work_two : (work : Work) (found : FoundLog) → NeverTwo (work_says h work found)
-  unfolding work_says
+  work_two : (work : Work) (found : FoundLog) → NeverTwo (log_work_says h work found)
+  unfolding log_work_says
   work_two Checkpoint found =
       λ reply. exact_two (checkpoint_reply h found.state.entries) reply zero_two
   work_two (Entries size) found =
@@ -242,16 +242,16 @@ module _ (h : HashFunction) where
   log_two name None work reads = λ reply. exact_two _ reply seven_two
   log_two name (Some c) work reads =
       let found = reads c refl in
-      subst (λ r. NeverTwo (with_form log_open_fault name r (work_says h work))) (sym found.1)
+      subst (λ r. NeverTwo (with_form log_open_text name r (log_work_says h work))) (sym found.1)
       (work_two work found.0)
 
   cosigner_two : (name : List ℕ) (o : Option (List ℕ)) (says : FoundCosigner → Outcome)
       → CosignersRead o → ((found : FoundCosigner) → NeverTwo (says found))
-      → NeverTwo (journal_outcome h name o says)
+      → NeverTwo (cosigner_outcome h name o says)
   cosigner_two name None says reads never = λ reply. exact_two _ reply seven_two
   cosigner_two name (Some c) says reads never =
       let found = reads c refl in
-      subst (λ r. NeverTwo (with_form open_fault_text name r says)) (sym found.1) (never found.0)
+      subst (λ r. NeverTwo (with_form cosigner_open_text name r says)) (sym found.1) (never found.0)
 
   module _ (name : List ℕ) (files : Files) where
     abbrev Only : CommandValue → Type 0
@@ -269,7 +269,7 @@ module _ (h : HashFunction) where
 
     of_cosigner : (journal : List ℕ) (says : FoundCosigner → Outcome) → journal ≡ name
         → CosignersRead (files name) → ((found : FoundCosigner) → NeverTwo (says found))
-        → NeverTwo (journal_outcome h journal (files journal) says)
+        → NeverTwo (cosigner_outcome h journal (files journal) says)
     of_cosigner journal says same reads = cosigner_two journal (files journal) says
         (subst (λ (n : List ℕ). CosignersRead (files n)) (sym same) reads)
 
@@ -324,7 +324,7 @@ module _ (h : HashFunction) where
         (λ r. of_cosigner journal (cosign_says h r) same reads
         (λ found. step_two found _ _ _)))
     cosigner_only settings public (export journal) same reads =
-        none_only [] (journal_outcome h journal (files journal) export_says)
+        none_only [] (cosigner_outcome h journal (files journal) export_says)
         (of_cosigner journal export_says same reads export_two)
     cosigner_only settings public (member file) opens reads = absurd opens
     cosigner_only settings public (show file) opens reads = absurd opens

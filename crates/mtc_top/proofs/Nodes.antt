@@ -26,7 +26,7 @@ use Rattle.node_history.proofs.GoesOn.{goes_on}
 use Rattle.node_history.proofs.Sound.{sound}
 use Rattle.mtc_top.specs.Nodes.{StandsForNode, AllStandForNode, same, end_state, steps_of}
 use Rattle.mtc_top.specs.Nodes.{stopped, begun, has_settled, has_handed, IsRecord, NotHanded}
-use Rattle.mtc_top.specs.Nodes.{GoesOn, IsMoment, TookSome, EndsWell, held_by}
+use Rattle.mtc_top.specs.Nodes.{GoesOn, IsNodeMoment, TookSome, EndsWell, records_left}
 
 -- ---- the steps of an end are those of a history
 
@@ -147,7 +147,7 @@ module _ (h : HashFunction) (status : ℕ) (took : Type 0) (n : HistoryState) (f
         (subst (λ (l : List (List ℕ)). AreRecords h (l ++ body ∷ [])) s.is records)
   ]
 
-  past : (did : Journaled) (c : List ℕ) → before c → IsMoment h did n first c
+  past : (did : Journaled) (c : List ℕ) → before c → IsNodeMoment h did n first c
   past did c is = record {
     end = same;
     may = tt;
@@ -157,7 +157,7 @@ module _ (h : HashFunction) (status : ℕ) (took : Type 0) (n : HistoryState) (f
 
   since_node : (did : Journaled) (list : List (List ℕ)) (body c : List ℕ) → IsRecord did body
       → (s : Stopped n first list) → Allows h n first s.kept body
-      → before c ⊎ StandsForEither list body c → IsMoment h did n first c
+      → before c ⊎ StandsForEither list body c → IsNodeMoment h did n first c
   since_node did list body c is s allows either = elim either [
     | inl was ↦ past did c was
     | inr new ↦ record {
@@ -169,7 +169,7 @@ module _ (h : HashFunction) (status : ℕ) (took : Type 0) (n : HistoryState) (f
   ]
 
   stays : (did : Journaled) → IsEarly status → NotHanded did took → Kept before now since
-      → (status ≢ 5 → status ≢ 8 → IfSome (held_by did) (λ list. list ≡ first ∷ n.settled))
+      → (status ≢ 5 → status ≢ 8 → IfSome (records_left did) (λ list. list ≡ first ∷ n.settled))
       → EndsWell h did status took n first now since
   stays did early not kept holds = record {
     end = same;
@@ -228,7 +228,7 @@ module _ (h : HashFunction) (status : ℕ) (took : Type 0) (n : HistoryState) (f
       let s = stop_of list made.read in
       let allows : Allows h n first s.kept body
       = allowed list body some.0 s valid some.1 (made.now_is some.0 some.1) in
-      let each : (c : List ℕ) → since c → IsMoment h (appended list body) n first c
+      let each : (c : List ℕ) → since c → IsNodeMoment h (appended list body) n first c
       = λ c is. since_node (appended list body) list body c (list, refl) s allows
       (made.since_is c is) in
       let stands : (c : List ℕ) → now c

@@ -39,14 +39,14 @@ use Rattle.mtc_answers.specs.declared.answer.Stopped.TheVariants.{BadForm, BadWo
 use Rattle.mtc_answers.specs.declared.answer.Stopped.TheVariants.{Missing, NotAllowed}
 use Rattle.mtc_cosigner.specs.CosignerOutcomes.{cosigned_text, form_fault_text}
 use Rattle.mtc_cosigner.specs.CosignerOutcomes.{stepped}
-use Rattle.mtc_cosigner.specs.Works.{cosign_outcome, open_fault_text}
+use Rattle.mtc_cosigner.specs.Works.{cosign_outcome, cosigner_open_text}
 use Rattle.mtc_logs.specs.IssueCommand.{issue_outcome}
 use Rattle.mtc_logs.specs.IssueOutcome.{issued, issued_text, request_fault_text}
-use Rattle.mtc_logs.specs.Works.{journal_outcome as log_outcome}
-use Rattle.mtc_logs.specs.Works.{open_fault_text as log_open_fault, work_says}
+use Rattle.mtc_logs.specs.Works.{log_outcome}
+use Rattle.mtc_logs.specs.Works.{log_open_text, log_work_says}
 use Rattle.node_history.proofs.Cosigners.{number_added, sign_read}
 use Rattle.mtc_top.specs.Concluded.{Prints}
-use Rattle.mtc_top.specs.Courses.{Turn, HasTurned, DidWith, IsAmong}
+use Rattle.mtc_top.specs.Courses.{Turn, HasTurned, DidWith, AreAmong}
 use Rattle.mtc_top.specs.Outcome.{command_outcome, journals_of, spoken, spoken_outcome}
 use Rattle.mtc_top.specs.PrintLaws.{HasCosigned, HasIssued, IndicesArePrinted}
 use Rattle.mtc_top.specs.PrintLaws.{SignaturesArePrinted}
@@ -136,7 +136,7 @@ module _ {R S D O E : Type 0} (h : HashFunction) (rooms : Rooms R S D) (disks : 
     added_so : (list : List (List ℕ)) (body text : List ℕ) → HasDone (appends list body text)
         → HasAdded list body text
     added_so list body text done = record {
-      did = subst (λ (js : Journals). IsAmong js name (appended list body))
+      did = subst (λ (js : Journals). AreAmong js name (appended list body))
           (sym done.journals_are) (inl (refl, refl));
       printed = subst (λ (r : Reply). Prints outs turn.out turn.out_after (out_of r))
           done.meets done.text;
@@ -158,7 +158,7 @@ module _ {R S D O E : Type 0} (h : HashFunction) (rooms : Rooms R S D) (disks : 
         let file = past_bytes 16777216 request (rooms.file old request) _ done in
         let form = past_form form_fault_text request (subtree_in file.0) _ file.2 in
         let journal = past_file name (rooms.file old name) _ form.2 in
-        let found = past_form open_fault_text name (cosigner_read h journal.0) _ journal.2 in
+        let found = past_form cosigner_open_text name (cosigner_read h journal.0) _ journal.2 in
         let are = file_bytes disks (rooms.file old name) (rooms.device old name) journal.0 bytes
         (told old name tells) journal.1 in
         let stands = found_stands (cosigner_fold h) journal.0 found.0 are found.1 in
@@ -196,12 +196,12 @@ module _ {R S D O E : Type 0} (h : HashFunction) (rooms : Rooms R S D) (disks : 
     of_request : (request : List ℕ) → rooms.tells old
         → HasDone (issue_outcome h name request (rooms.file old))
         → HasIssued h rooms disks outs errs name old turn
-    unfolding log_outcome work_says
+    unfolding log_outcome log_work_says
     of_request request tells done =
         let file = past_bytes 16777216 request (rooms.file old request) _ done in
         let form = past_form request_fault_text request (request_of file.0) _ file.2 in
         let journal = past_file name (rooms.file old name) _ form.2 in
-        let found = past_form log_open_fault name (log_read h journal.0) _ journal.2 in
+        let found = past_form log_open_text name (log_read h journal.0) _ journal.2 in
         let are = file_bytes disks (rooms.file old name) (rooms.device old name) journal.0 bytes
         (told old name tells) journal.1 in
         let stands = found_stands (log_fold h) journal.0 found.0 are found.1 in

@@ -32,7 +32,7 @@ use Rattle.mtc_top.specs.CourseLaws.{CoursesAreHistories, EntriesStand, HandedOu
 use Rattle.mtc_top.specs.CourseLaws.{JournalsAreRead, KeysSignOnce, KeysSignOneMessage}
 use Rattle.mtc_top.specs.CourseLaws.{RecoveredListsGrow}
 use Rattle.mtc_top.specs.Courses.{Link, IsCourse, IsReached, IsRecovered, WasHeld, WasMade}
-use Rattle.mtc_top.specs.Courses.{WentOut, images_of}
+use Rattle.mtc_top.specs.Courses.{WentOut, images_in}
 use Rattle.mtc_top.specs.Nodes.{StandsForNode}
 use Rattle.mtc_top.proofs.Courses.{IsLater, Goes, course_goes, course_held}
 use Rattle.mtc_top.proofs.Courses.{made_at, start_of}
@@ -174,7 +174,7 @@ module _ {R S D O E : Type 0} (h : HashFunction) (rooms : Rooms R S D) (disks : 
         (of_node h last.state first (sound_of last) found.0 list
         (last.at.stands found.0 found.1.0) found.1.1)
 
-    pub read_file : (c : List ℕ) → images_of h rooms disks outs errs new name c
+    pub read_file : (c : List ℕ) → images_in h rooms disks outs errs new name c
         ⊎ (rooms.file new name ≡ Some c) → IsReadAsNode h start first c
     read_file c is =
         subst (λ (s : NodeStart). IsReadAsNode h s first c) (same_start last)

@@ -18,8 +18,8 @@ use Rattle.mtc_answers.specs.Made.{HasMade, Leaves}
 use Rattle.mtc_answers.specs.Valid.{LeavesValid}
 use Rattle.mtc_answers.proofs.Made.{OnlyNow, ReadsImage}
 use Rattle.node_history.specs.Rules.{AreRecords}
-use Rattle.mtc_top.specs.Courses.{Turn, Link, ran, stops, cut, IsAmong, HasTurned, DidWith}
-use Rattle.mtc_top.specs.Courses.{images_of, images_from, IsCourse, HasHeld}
+use Rattle.mtc_top.specs.Courses.{Turn, Link, ran, stops, cut, AreAmong, HasTurned, DidWith}
+use Rattle.mtc_top.specs.Courses.{images_in, images_from, IsCourse, HasHeld}
 use Rattle.mtc_top.specs.Courses.{WasHeld, HandsOut, WasHandedOut}
 use Rattle.mtc_top.specs.Run.{journals}
 use Rattle.mtc_top.specs.RunLaws.{RunSteps}
@@ -32,15 +32,15 @@ use Rattle.mtc_top.proofs.RunLaws.{run_steps, took_none}
 
 -- a name is that of one of the journals, or of none
 pub find_name : (names : List (List ℕ)) (dids : List Journaled) (name : List ℕ)
-    → IsOther names name ⊎ ((did : Journaled) × IsAmong (done_with names dids) name did)
+    → IsOther names name ⊎ ((did : Journaled) × AreAmong (done_with names dids) name did)
 find_name [] dids name = inl tt
 find_name (other ∷ others) dids name =
     go (bytes_eq other name) refl (find_name others (rest_journaled dids) name)
   where
     go : (b : Bool) → bytes_eq other name ≡ b → IsOther others name
-        ⊎ ((did : Journaled) × IsAmong (done_with others (rest_journaled dids)) name did)
+        ⊎ ((did : Journaled) × AreAmong (done_with others (rest_journaled dids)) name did)
         → IsOther (other ∷ others) name
-        ⊎ ((did : Journaled) × IsAmong (done_with (other ∷ others) dids) name did)
+        ⊎ ((did : Journaled) × AreAmong (done_with (other ∷ others) dids) name did)
     go true is rest =
         inr (first_journaled dids, inl ((bytes_eq-Decides other name).0 is, refl))
     go false is rest = elim rest [
@@ -52,7 +52,7 @@ find_name (other ∷ others) dids name =
     ]
 
 pub of_each : (P : List ℕ → Journaled → Type 0) (journals : Journals) (name : List ℕ)
-    (did : Journaled) → OfEach P journals → IsAmong journals name did → P name did
+    (did : Journaled) → OfEach P journals → AreAmong journals name did → P name did
 of_each P [] name did all among = absurd among
 of_each P (j ∷ js) name did all among = elim among [
   | inl here ↦ subst (λ (d : Journaled). P name d) here.1
@@ -74,7 +74,7 @@ module _ {R S D O E : Type 0} (h : HashFunction) (rooms : Rooms R S D) (disks : 
   Turned = HasTurned h rooms disks outs errs
 
   abbrev Images : R → List ℕ → List ℕ → Type 0
-  Images = images_of h rooms disks outs errs
+  Images = images_in h rooms disks outs errs
 
   abbrev Between : R → R → List ℕ → List ℕ → Type 0
   Between = images_from h rooms disks outs errs

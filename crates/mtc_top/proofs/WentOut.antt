@@ -10,7 +10,7 @@ use Rattle.mtc_answers.specs.Served.{IsOther, Journals, done_with, rest_journale
 use Rattle.node_history.specs.Laws.{AreAtMost, Begins, handed_bodies}
 use Rattle.node_history.specs.Nodes.{HistoryState, stop, with_pending}
 use Rattle.node_history.proofs.Handed.{one_handed, same_handed}
-use Rattle.mtc_top.specs.Courses.{IsAmong}
+use Rattle.mtc_top.specs.Courses.{AreAmong}
 use Rattle.mtc_top.specs.Nodes.{End, IsUnsettled, begun, end_state, has_handed, has_settled, same}
 use Rattle.mtc_top.specs.Nodes.{stopped}
 
@@ -79,8 +79,8 @@ added_here other name (appended list body) = go (bytes_eq other name) refl
         absurd (true≢false (sym ((bytes_eq-Decides other name).1 eq) ∙ is)))
 
 pub find_added : (journals : Journals) (name : List ℕ)
-    → ((list : List (List ℕ)) × ((body : List ℕ) × IsAmong journals name (appended list body)))
-    ⊎ ((list : List (List ℕ)) (body : List ℕ) → IsAmong journals name (appended list body) → ⊥)
+    → ((list : List (List ℕ)) × ((body : List ℕ) × AreAmong journals name (appended list body)))
+    ⊎ ((list : List (List ℕ)) (body : List ℕ) → AreAmong journals name (appended list body) → ⊥)
 find_added [] name = inr (λ list body among. among)
 find_added (j ∷ js) name = elim (added_here j.0 name j.1) [
   | inl here ↦ inl (here.0, (here.1.0, inl (here.1.1.0, here.1.1.1)))
@@ -95,7 +95,7 @@ find_added (j ∷ js) name = elim (added_here j.0 name j.1) [
 
 -- a name that is none of these is that of no journal
 pub other_none : (names : List (List ℕ)) (dids : List Journaled) (name : List ℕ)
-    (did : Journaled) → IsOther names name → IsAmong (done_with names dids) name did → ⊥
+    (did : Journaled) → IsOther names name → AreAmong (done_with names dids) name did → ⊥
 other_none [] dids name did other among = among
 other_none (n ∷ names) dids name did other among = elim among [
   | inl here ↦ other.0 (sym here.0)

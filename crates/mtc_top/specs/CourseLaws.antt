@@ -15,7 +15,7 @@ use Rattle.node_history.specs.Rules.{IsReadAs, may_follow}
 use Rattle.node_history.specs.declared.start.NodeStart.{NodeStart}
 use Rattle.node_history.specs.declared.start.NodeStart.TheVariants.{Log, Cosigner}
 use Rattle.mtc_top.specs.Courses.{Link, IsCourse, WasMade, IsReached, IsRecovered, WasHeld}
-use Rattle.mtc_top.specs.Courses.{DidWith, HasTurned, Turn, WasHandedOut, images_of}
+use Rattle.mtc_top.specs.Courses.{DidWith, HasTurned, Turn, WasHandedOut, images_in}
 
 -- These records begin with the first one of the node's journal, and the others may stand behind it.
 pub record AreOfNode (h : HashFunction) (start : NodeStart) (first : List ℕ)
@@ -52,7 +52,7 @@ module _ {R S D O E : Type 0} (h : HashFunction) (rooms : Rooms R S D) (disks : 
   -- read as the node.
   abbrev pub JournalsAreRead : Type 0
   JournalsAreRead = OfCourses (λ name start first made links new.
-      (c : List ℕ) → images_of h rooms disks outs errs new name c ⊎ (rooms.file new name ≡ Some c)
+      (c : List ℕ) → images_in h rooms disks outs errs new name c ⊎ (rooms.file new name ≡ Some c)
       → IsReadAsNode h start first c)
 
   -- The i-th Sign record of a cosigner, counted from 0, has the number i, so no number stands

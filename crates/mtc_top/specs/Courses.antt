@@ -13,7 +13,7 @@ use Rattle.node_history.specs.Nodes.{HistoryState}
 use Rattle.node_history.specs.Rules.{StartsWith, may_follow}
 use Rattle.node_history.specs.declared.start.NodeStart.{NodeStart}
 use Rattle.node_history.specs.declared.step.NodeStep.{NodeStep}
-use Rattle.mtc_top.specs.Nodes.{AllStandForNode, TookSome, held_by}
+use Rattle.mtc_top.specs.Nodes.{AllStandForNode, TookSome, records_left}
 use Rattle.mtc_top.specs.Run.{HasRun, journals}
 
 -- A run: its words, standard output and standard error before and after, its status, and the room
@@ -44,10 +44,10 @@ room_after (stops room) = room
 room_after (cut turn room) = room
 
 -- One of these journals has this name, and so it was worked on.
-abbrev pub IsAmong : Journals → List ℕ → Journaled → Type 0
-IsAmong [] name did = ⊥
-IsAmong (journal ∷ rest) name did =
-    ((journal.0 ≡ name) × (journal.1 ≡ did)) ⊎ IsAmong rest name did
+abbrev pub AreAmong : Journals → List ℕ → Journaled → Type 0
+AreAmong [] name did = ⊥
+AreAmong (journal ∷ rest) name did =
+    ((journal.0 ≡ name) × (journal.1 ≡ did)) ⊎ AreAmong rest name did
 
 module _ {R S D O E : Type 0} (h : HashFunction) (rooms : Rooms R S D) (disks : Disks D)
     (outs : Sinks O) (errs : Sinks E) where
@@ -58,12 +58,12 @@ module _ {R S D O E : Type 0} (h : HashFunction) (rooms : Rooms R S D) (disks : 
 
   -- It did this with the journal of this name.
   abbrev pub DidWith : R → Turn R O E → List ℕ → Journaled → Type 0
-  DidWith old turn = IsAmong (journals h rooms disks outs errs turn.words old turn.room
+  DidWith old turn = AreAmong (journals h rooms disks outs errs turn.words old turn.room
       turn.out turn.out_after turn.err turn.err_after)
 
   -- what a crash may leave of the file of a name
-  abbrev pub images_of : R → List ℕ → List ℕ → Type 0
-  images_of room name = images_at disks (rooms.device room name)
+  abbrev pub images_in : R → List ℕ → List ℕ → Type 0
+  images_in room name = images_at disks (rooms.device room name)
 
   -- what a crash may have left of it at some moment since the room was so
   abbrev pub images_from : R → R → List ℕ → List ℕ → Type 0
@@ -75,12 +75,12 @@ module _ {R S D O E : Type 0} (h : HashFunction) (rooms : Rooms R S D) (disks : 
     pub tells : rooms.tells old → rooms.tells new
     pub image : List ℕ → List ℕ
     pub may : (name : List ℕ) → May name (image name)
-    pub only : (name c : List ℕ) → images_of new name c → c ≡ image name
+    pub only : (name c : List ℕ) → images_in new name c → c ≡ image name
 
   -- The link begins with this room.
   abbrev pub IsLink : R → Link R O E → Type 0
   IsLink old (ran turn) = HasTurned old turn
-  IsLink old (stops new) = HasStopped (images_of old) old new
+  IsLink old (stops new) = HasStopped (images_in old) old new
   IsLink old (cut turn new) =
       HasTurned old turn × HasStopped (images_from old turn.room) turn.room new
 
@@ -103,7 +103,7 @@ module _ {R S D O E : Type 0} (h : HashFunction) (rooms : Rooms R S D) (disks : 
 
   -- With these records the journal may be recovered: a crash may leave a file that stands for them.
   abbrev pub IsRecovered : List ℕ → R → List (List ℕ) → Type 0
-  IsRecovered name room list = (c : List ℕ) × (images_of room name c × StandsFor c list)
+  IsRecovered name room list = (c : List ℕ) × (images_in room name c × StandsFor c list)
 
   -- The run opened or made the journal of this name, which then had these records, and ended
   -- without a failure of the room and without want of memory.
@@ -111,7 +111,7 @@ module _ {R S D O E : Type 0} (h : HashFunction) (rooms : Rooms R S D) (disks : 
       : Type 0 where
     pub did : Journaled
     pub among : DidWith old turn name did
-    pub held : held_by did ≡ Some list
+    pub held : records_left did ≡ Some list
     pub no_failure : turn.status ≢ 5
     pub no_want : turn.status ≢ 8
 
@@ -151,7 +151,7 @@ module _ {R S D O E : Type 0} (h : HashFunction) (rooms : Rooms R S D) (disks : 
     pub steps : List NodeStep
     pub state : HistoryState
     pub leads : LeadsTo (may_follow h) (start ∷ []) steps 0 state
-    pub stands : AllStandForNode state first (images_of room name)
+    pub stands : AllStandForNode state first (images_in room name)
     pub handed : WentOut name made links (handed_bodies state)
 
   -- A run of the course did so.

@@ -72,11 +72,11 @@ MayEnd did status took (has_settled kept body) = IsRecord did body × (took → 
 MayEnd did status took (has_handed kept body) = IsRecord did body × took
 
 -- The records that a command leaves in its journal, where it opens it.
-abbrev pub held_by : Journaled → Option (List (List ℕ))
-held_by untouched = None
-held_by (reads list) = Some list
-held_by (appended list body) = Some (list ++ body ∷ [])
-held_by (started body) = Some (body ∷ [])
+abbrev pub records_left : Journaled → Option (List (List ℕ))
+records_left untouched = None
+records_left (reads list) = Some list
+records_left (appended list body) = Some (list ++ body ∷ [])
+records_left (started body) = Some (body ∷ [])
 
 -- The end in the middle of a command: its record isn't settled yet.
 abbrev pub IsUnsettled : Journaled → End → Type 0
@@ -88,7 +88,7 @@ IsUnsettled did (has_handed kept body) = ⊥
 
 -- What a crash may leave at a moment of the command stands for the state before, or for one with
 -- the command's record begun behind a stop.
-pub record IsMoment (h : HashFunction) (did : Journaled) (n : HistoryState)
+pub record IsNodeMoment (h : HashFunction) (did : Journaled) (n : HistoryState)
     (first c : List ℕ) : Type 0 where
   pub end : End
   pub may : IsUnsettled did end
@@ -109,7 +109,7 @@ pub record EndsWell (h : HashFunction) (did : Journaled) (status : ℕ) (took : 
   pub may : MayEnd did status took end
   pub goes_on : GoesOn h n first end
   pub stands : AllStandForNode (end_state end n) first now
-  pub each : (c : List ℕ) → since c → IsMoment h did n first c
+  pub each : (c : List ℕ) → since c → IsNodeMoment h did n first c
   -- Where it answered, what it opened has the node's records.
   pub holds : status ≢ 5 → status ≢ 8
-      → IfSome (held_by did) (λ list. list ≡ first ∷ (end_state end n).settled)
+      → IfSome (records_left did) (λ list. list ≡ first ∷ (end_state end n).settled)

@@ -21,7 +21,7 @@ use Rattle.mtc_reads.specs.ShowOutcome.{show_outcome}
 use Rattle.mtc_answers.specs.Steps.{Outcome, Files}
 use Rattle.mtc_reads.specs.VerifyOutcome.{verify_outcome}
 use Rattle.mtc_top.specs.WordsOutcome.{words_say}
-use Rattle.mtc_logs.specs.Works.{IsLog, journal_outcome}
+use Rattle.mtc_logs.specs.Works.{IsLog, log_outcome}
 use Rattle.mtc_logs.specs.declared.work.Work.TheVariants.{Checkpoint, Entries, Consist, Subtree}
 use Rattle.mtc_logs.specs.declared.work.Work.TheVariants.{Landmark, Landmarks, LightCert}
 
@@ -35,23 +35,23 @@ command_outcome h (init_log journal id active limit) files =
     init_log_outcome journal id active limit files
 command_outcome h (issue journal request) files = issue_outcome h journal request files
 command_outcome h (checkpoint journal) files =
-    journal_outcome h journal (files journal) Checkpoint
+    log_outcome h journal (files journal) Checkpoint
 command_outcome h (entries journal size) files =
-    journal_outcome h journal (files journal) (Entries size)
+    log_outcome h journal (files journal) (Entries size)
 command_outcome h (consist journal old new) files =
-    journal_outcome h journal (files journal) (Consist old new)
+    log_outcome h journal (files journal) (Consist old new)
 command_outcome h (subtree journal start end size) files =
-    journal_outcome h journal (files journal) (Subtree start end size)
+    log_outcome h journal (files journal) (Subtree start end size)
 command_outcome h (keygen height width file) files = keygen_outcome height width file files
 command_outcome h (init_cosigner journal id log height width file) files =
     init_cosigner_outcome journal id log height width file files
 command_outcome h (advance journal request) files = advance_outcome h journal request files
 command_outcome h (cosign journal request) files = cosign_outcome h journal request files
 command_outcome h (export journal) files = export_outcome h journal files
-command_outcome h (landmark journal) files = journal_outcome h journal (files journal) Landmark
-command_outcome h (landmarks journal) files = journal_outcome h journal (files journal) Landmarks
+command_outcome h (landmark journal) files = log_outcome h journal (files journal) Landmark
+command_outcome h (landmarks journal) files = log_outcome h journal (files journal) Landmarks
 command_outcome h (light_cert journal index) files =
-    journal_outcome h journal (files journal) (LightCert index)
+    log_outcome h journal (files journal) (LightCert index)
 command_outcome h (trust_landmarks list active items) files =
     trust_outcome h list active items files
 command_outcome h (cert journal index start end file) files =

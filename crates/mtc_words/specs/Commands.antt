@@ -80,17 +80,17 @@ abbrev pub is_time : ℕ → Bool
 is_time n = nat_le n last_moment
 
 -- The numbers of active landmarks that a log may have, and of entries.
-abbrev pub most_active : ℕ
-most_active = 10000
+abbrev pub most_active_asked : ℕ
+most_active_asked = 10000
 
-abbrev pub most_entries : ℕ
-most_entries = 1048576
+abbrev pub most_entries_asked : ℕ
+most_entries_asked = 1048576
 
 abbrev pub is_active : ℕ → Bool
-is_active n = nat_le 1 n && nat_le n most_active
+is_active n = nat_le 1 n && nat_le n most_active_asked
 
 abbrev pub is_limit : ℕ → Bool
-is_limit n = nat_le 2 n && nat_le n most_entries
+is_limit n = nat_le 2 n && nat_le n most_entries_asked
 
 -- Every number.
 abbrev pub is_any : ℕ → Bool

@@ -14,7 +14,8 @@ use Rattle.journal_core.specs.Folds.{taken_from}
 use Rattle.journal_core.specs.Format.{StandsFor}
 use Rattle.journal_core.proofs.Found.{read_standing}
 use Rattle.issuance_log.specs.Folds.{LogState, log_fold, log_of}
-use Rattle.issuance_log.specs.Records.{settings_at, settings_in, settings_with, tagged, whole_of}
+use Rattle.issuance_log.specs.Records.{settings_at, settings_in, log_settings_with, tagged}
+use Rattle.issuance_log.specs.Records.{whole_of}
 use Rattle.issuance_log.specs.Settings.{Settings}
 use Rattle.issuance_log.proofs.Behind as logs
 use Rattle.cosigner_core.specs.Counts.{AreCounted}
@@ -48,12 +49,12 @@ tested true o x is = refl
 tested false o x is = no_some x is
 
 log_tagged : (r : Result (ℕ × At) Short) (s : Settings)
-    → option_and_then settings_with (tagged 1 settings_at r) ≡ Some s
+    → option_and_then log_settings_with (tagged 1 settings_at r) ≡ Some s
     → (tag : ℕ × At) × ((r ≡ Ok tag) × (tag.0 ≡ 1))
 log_tagged (Err short) s is = no_some s is
 log_tagged (Ok tag) s is = (tag, (refl, eqb-true tag.0 1 (go (tag.0 == 1) is)))
   where
-    go : (b : Bool) → option_and_then settings_with
+    go : (b : Bool) → option_and_then log_settings_with
         (if b then whole_of (settings_at tag.1) else None) ≡ Some s → b ≡ true
     go true is = refl
     go false is = no_some s is

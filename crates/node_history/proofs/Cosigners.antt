@@ -16,7 +16,8 @@ use Rattle.lms_core.specs.declared.heights.LmsType.TheVariants.{H5, H10, H15, H2
 use Rattle.tree_core.specs.Subtree.{is_subtree}
 use Rattle.cosigner_core.specs.Checkpoints.{has_subtree}
 use Rattle.cosigner_core.specs.Counts.{index_before, indices_in, indices_of}
-use Rattle.cosigner_core.specs.Folds.{CosignerState, after_step, begun, cosigner_fold, cosigner_of}
+use Rattle.cosigner_core.specs.Folds.{CosignerState, after_step, begun_cosigner, cosigner_fold}
+use Rattle.cosigner_core.specs.Folds.{cosigner_of}
 use Rattle.cosigner_core.specs.Folds.{key_count, new_cosigner, next_state, progress_of}
 use Rattle.cosigner_core.specs.Folds.{with_progress}
 use Rattle.cosigner_core.specs.Progress.{is_allowed, with_step}
@@ -67,7 +68,7 @@ pub of_first : (h : HashFunction) (settings : CosignerSettings) (public first : 
     (bodies : List Text) (s : CosignerState) → StartsWith (Cosigner settings public) first
     → cosigner_of h (first ∷ bodies) ≡ Ok s
     → (s.id ≡ settings.id) × (s.log ≡ settings.log) × (one_level_public s.key.key ≡ public)
-unfolding state_behind begun
+unfolding state_behind begun_cosigner
 of_first h settings public first bodies s begins is =
     let new : CosignerState = new_cosigner h settings begins.0 in
     let taken : taken_from (cosigner_fold h) 1 new bodies ≡ Ok s =

@@ -31,14 +31,14 @@ id_data_at place d = if nat_lt place most_cosigners then id_data d else None
 unfoldable pub hss_key : Text → Option Text
 hss_key bytes = option_map (λ types. bytes) (hss_key_types bytes)
 
-unfoldable pub key_data : Data → Option Text
-key_data d = option_and_then hss_key (bytes_data d)
+unfoldable pub hss_key_data : Data → Option Text
+hss_key_data d = option_and_then hss_key (bytes_data d)
 
 unfoldable pub cosigner_data : ℕ → Data → Result Known StoreError
 cosigner_data place d = do
   ms ← table_with cosigner_keys d
   id ← store_field CosignerId (id_data_at place) (get_member (codes "id") ms)
-  key ← store_field CosignerKey key_data (get_member (codes "key") ms)
+  key ← store_field CosignerKey hss_key_data (get_member (codes "key") ms)
   Ok (record { id = id; key = key })
 
 -- Each cosigner from this place on: the first fault is told.

@@ -7,7 +7,7 @@ ghost use Rattle.toml.specs.View.{items_view, table_view, view};
 ghost use Rattle.policy_core.specs.declared.error.StoreError.{StoreError};
 ghost use Rattle.policy_core.specs.Fields.{store_field};
 ghost use Rattle.policy_core.specs.Limits.{most_cosigners};
-ghost use Rattle.policy_core.specs.CosignerFields.{cosigner_data, cosigners_at, cosigners_from, id_data_at, hss_key, key_data};
+ghost use Rattle.policy_core.specs.CosignerFields.{cosigner_data, cosigners_at, cosigners_from, id_data_at, hss_key, hss_key_data};
 
 use crate::cosigners::{Cosigners, Known, MOST_COSIGNERS};
 use crate::error::{Key, StoreError};
@@ -47,9 +47,9 @@ fn public_key(bytes: &[u8]) -> Option<[u8; PUBLIC_KEY_LEN]>
 }
 
 // The public key, where the value is the text of one.
-#[tactic(auto, unfolding(crate::specs::CosignerFields::key_data))]
+#[tactic(auto, unfolding(crate::specs::CosignerFields::hss_key_data))]
 fn key_of(alloc: Global, value: &Value) -> Result<Option<[u8; PUBLIC_KEY_LEN]>, Memory>
-    ensures { IfOk result (λ o. o ≡ key_data (view value.now)) }
+    ensures { IfOk result (λ o. o ≡ hss_key_data (view value.now)) }
 {
     match bytes_of(alloc, value)? {
         Some(bytes) => Ok(public_key(bytes.as_slice())),
@@ -60,7 +60,7 @@ fn key_of(alloc: Global, value: &Value) -> Result<Option<[u8; PUBLIC_KEY_LEN]>, 
 // The public key of a cosigner.
 fn key_at(alloc: Global, table: &Table) -> Result<[u8; PUBLIC_KEY_LEN], StoreError>
     ensures { Answers StoreError.Memory
-        (store_field Key.CosignerKey key_data (get_member (codes "key") (table_view table.now)))
+        (store_field Key.CosignerKey hss_key_data (get_member (codes "key") (table_view table.now)))
         result }
 {
     let Some(value) = value_at(table, "key") else {

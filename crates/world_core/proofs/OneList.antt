@@ -22,7 +22,8 @@ use Rattle.collide.proofs.Extracting.{IsSized, ProofsExtract_always}
 use Rattle.world_core.specs.Laws.{HasHashes, OneListBehind}
 use Rattle.world_core.specs.Walk.{AreSteps, HasFront, IsOfList, front_inputs, held_behind, held_by}
 use Rattle.world_core.specs.Walk.{held_sizes, proof_inputs, step_inputs, with_steps}
-use Rattle.world_core.proofs.Steps.{IsAdvance, advance_checks, allowed_at, front_at, held_advance}
+use Rattle.world_core.proofs.Steps.{IsAdvanceFrom, advance_checks, allowed_at, front_at}
+use Rattle.world_core.proofs.Steps.{held_advance}
 use Rattle.world_core.proofs.Steps.{held_sign, inputs_at, none_held, size_at}
 use Rattle.world_core.proofs.Walks.{empty_front, sign_checked, size_there}
 
@@ -90,7 +91,7 @@ found_in h entries steps k size s below is there found = (
 advance_at : (h : HashFunction) (steps : List Step) (k size : ℕ) (root : Hash) (proof : List Hash)
     → AreSteps h steps → k < length steps
     → Advance size root proof ≡ get_or steps k (Advance size root proof)
-    → IsAdvance h (held_behind h steps k) size root proof
+    → IsAdvanceFrom h (held_behind h steps k) size root proof
 unfolding held_by
 advance_at h steps k size root proof are below is =
     let first = first_progress h in

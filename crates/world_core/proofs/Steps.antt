@@ -189,14 +189,14 @@ front_shown h held size root proof e =
           (ok_is_unit _ c.1))
     ]
 
-pub record IsAdvance (h : HashFunction) (held : Checkpoint) (size : ℕ) (root : Hash)
+pub record IsAdvanceFrom (h : HashFunction) (held : Checkpoint) (size : ℕ) (root : Hash)
     (proof : List Hash) : Type 0 where
   pub more : held.size < size
   pub shown : (held.size ≡ 0) ⊎ Checks h 0 held.size size held.root root proof
 
 pub advance_checks : (h : HashFunction) (keys : ℕ) (p : Progress) (size : ℕ) (root : Hash)
     (proof : List Hash) → is_allowed h keys p (Advance size root proof) ≡ true
-    → IsAdvance h p.held size root proof
+    → IsAdvanceFrom h p.held size root proof
 advance_checks h keys p size root proof e =
     let one = and_parts (nat_lt p.held.size size) _ e in
     record {

@@ -149,7 +149,7 @@ advance_long h es steps k size root proof below is front =
     sym (length-take-le size es long)
 
 -- the proof of an Advance from what is held checks
-pub record HasGrown (h : HashFunction) (held : Checkpoint) (size : ℕ) (root : Hash)
+pub record HasGrownFrom (h : HashFunction) (held : Checkpoint) (size : ℕ) (root : Hash)
     (proof : List Hash) : Type 0 where
   pub more : held.size < size
   pub checks : Checks h 0 held.size size held.root root proof
@@ -158,7 +158,7 @@ pub advance_grown : (h : HashFunction) (es : List (Bor Text)) (steps : List Step
     (root : Hash) (proof : List Hash) → AreSteps h steps → k < length steps
     → Advance size root proof ≡ get_or steps k (Advance size root proof)
     → (HasFront h (texts es) (held_behind h steps k) → ⊥)
-    → HasGrown h (held_behind h steps k) size root proof
+    → HasGrownFrom h (held_behind h steps k) size root proof
 unfolding held_by
 advance_grown h es steps k size root proof are below is apart =
     let first = first_progress h in

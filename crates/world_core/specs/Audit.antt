@@ -33,7 +33,7 @@ use Rattle.world_core.specs.declared.answer.Audit.{Audit}
 use Rattle.world_core.specs.declared.answer.Audit.TheVariants.{Foreign, Pair, Stands, Unrecorded}
 
 -- What an audit looks at: a certificate that a store accepts by its proof, the items of a list, and
--- what was kept of a cosigner, if anything.
+-- the export of a cosigner, if there is one.
 pub record AuditCase : Type 0 where
   pub accepted : Accepted
   pub cert : Parts
@@ -53,7 +53,7 @@ pub record WasJudged (h : HashFunction) (store : Store) (c : Parts) (p : ProofPa
 -- ---- the list
 
 -- The hash that a part of the list has to have: by a landmark the accepted one of its interval, by
--- cosigners that of all that the one which was kept holds at last.
+-- cosigners that of all that the exported one holds at last.
 abbrev pub of_interval : Accepted → WantedHash
 of_interval a = record { start = a.start; end = a.end; hash = a.hash }
 
@@ -83,7 +83,7 @@ abbrev pub foreign_of : HashFunction → AuditCase → Option (Hash × Hash)
 foreign_of h x =
     foreign_in h x.items.entries (wanted_hash h x.accepted x.kept x.accepted.by)
 
--- ---- what was kept
+-- ---- the export
 
 -- The cosigner at this place counts, and has this id and this public key.
 abbrev pub is_counted_as : ℕ → Text → Text → ℕ → Known → Bool
@@ -104,7 +104,7 @@ is_sign_of a (Advance size root proof) = false
 is_sign_of a (Sign index start end hash proof) =
     (start == a.start) && ((end == a.end) && bytes_eq hash a.hash)
 
--- What was kept is of the store's log and of a cosigner that counts, who has signed the hash.
+-- The export is of the store's log and of a cosigner that counts, who has signed the hash.
 unfoldable pub is_recorded : Store → Accepted → ℕ → Export → Bool
 is_recorded store a set e =
     bytes_eq e.log store.log
@@ -160,7 +160,7 @@ seconds_of h x =
 
 -- ---- the answers
 
--- Nothing that was kept supports the acceptance, and the list is the one that is wanted, if any.
+-- No export supports the acceptance, and the list is the one that is wanted, if any.
 pub record IsUnrecorded (h : HashFunction) (x : AuditCase) : Type 0 where
   pub list : foreign_of h x ≡ None
   pub lacks : is_supported x ≡ false
@@ -175,7 +175,8 @@ Settles h x (Pair one other) =
     (has_own h x.items x.accepted x.cert ≡ false)
     × IsCollision h (firsts_of h x) (seconds_of h x) one other
 
--- The list is the one that is wanted, what is wanted was kept, and this answer settles the case.
+-- The list is the one that is wanted, an export that is wanted supports it, and this answer settles
+-- the case.
 pub record IsSettledCase (h : HashFunction) (x : AuditCase) (answer : Audit) : Type 0 where
   pub list : foreign_of h x ≡ None
   pub supported : is_supported x ≡ true
@@ -202,7 +203,7 @@ pub record HasInterval (h : HashFunction) (items : ItemLists) (a : Accepted) : T
   pub within : a.end ≤ length items.entries
   pub root : tree_hash h (part_of items.entries a.start a.end) ≡ a.hash
 
--- What was kept doesn't support the acceptance, or it does and this answer settles the case.
+-- The export doesn't support the acceptance, or it does and this answer settles the case.
 abbrev pub SettlesRecorded : HashFunction → ℕ → Export → AuditCase → Audit → Type 0
 SettlesRecorded h set e x (Foreign wanted found) = ⊥
 SettlesRecorded h set e x Unrecorded = is_recorded x.store x.accepted set e ≡ false

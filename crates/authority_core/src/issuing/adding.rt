@@ -4,7 +4,7 @@ ghost use Rattle.std.specs.Prelude.{◌≡◌, ◌≢◌, ◌++◌, ◌∷◌, [
 ghost use Rattle.issuance_log.specs.Folds.{log_of};
 ghost use Rattle.issuance_log.specs.declared.error.LogError.TheVariants.{Memory as NoMemory};
 ghost use Rattle.issuance_log.specs.Refusals.{add_refusal};
-ghost use Rattle.issuance_log.specs.Words.{log_end, log_broken, log_records, state_of, view_of, LogAppends};
+ghost use Rattle.issuance_log.specs.Words.{log_end, log_broken, log_records, log_state, view_of, LogAppends};
 ghost use Rattle.authority_core.specs.Acceptance.{IsOwnEntry};
 ghost use Rattle.authority_core.specs.Issues.{KeepsToOrMemory, issued_entry, issued_log, issued_record, of_log};
 
@@ -28,21 +28,21 @@ pub fn issue<H: TreeHash, D: Disk>(
     log: &mut Log<H, D>,
     request: &Request,
 ) -> Result<u64, IssueError>
-    ensures appends { LogAppends (issued_record H.hash (state_of log.old) request.now)
-        (issued_log H.hash (state_of log.old) request.now) log.old log.new (of_log result) }
-    ensures index { IfOk result (λ index. index ≡ length (state_of log.old).entries) }
-    ensures own { IfOk result (λ index. IsOwnEntry (state_of log.new).settings.id
-        (slice_index_or (state_of log.new).entries index [])) }
+    ensures appends { LogAppends (issued_record H.hash (log_state log.old) request.now)
+        (issued_log H.hash (log_state log.old) request.now) log.old log.new (of_log result) }
+    ensures index { IfOk result (λ index. index ≡ length (log_state log.old).entries) }
+    ensures own { IfOk result (λ index. IsOwnEntry (log_state log.new).settings.id
+        (slice_index_or (log_state log.new).entries index [])) }
     ensures answer { KeepsToOrMemory
         (add_refusal (view_of log.old) (log_broken log.old) (log_end log.old)
-        (issued_entry H.hash (state_of log.old) request.now) request.now.key)
+        (issued_entry H.hash (log_state log.old) request.now) request.now.key)
         (of_log result) }
     ensures valid { result ≢ Err (IssueError.Log NoMemory)
         → add_refusal (view_of log.old) (log_broken log.old) (log_end log.old)
-        (issued_entry H.hash (state_of log.old) request.now) request.now.key ≡ None
+        (issued_entry H.hash (log_state log.old) request.now) request.now.key ≡ None
         → IfSome (log_records log.old) (λ list. log_of H.hash
-        (list ++ issued_record H.hash (state_of log.old) request.now ∷ [])
-        ≡ Ok (issued_log H.hash (state_of log.old) request.now)) }
+        (list ++ issued_record H.hash (log_state log.old) request.now ∷ [])
+        ≡ Ok (issued_log H.hash (log_state log.old) request.now)) }
 {
     let settings = log.settings();
     let entry = entry_of_request::<H>(alloc, &settings.id, request)?;

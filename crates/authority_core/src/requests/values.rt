@@ -6,7 +6,7 @@ ghost use Rattle.cert_fields.specs.Grammar.{IsPublicKey};
 ghost use Rattle.cert_time.specs.Calendar.{IsMoment};
 ghost use Rattle.toml.specs.Data.{get_member};
 ghost use Rattle.toml.specs.View.{items_view, table_view, view};
-ghost use Rattle.authority_core.specs.Files.{common_name_data, field, field_or_none, host_data, hosts_in, key_data, names_data, time_data};
+ghost use Rattle.authority_core.specs.Files.{common_name_data, field, field_or_none, host_data, hosts_in, public_key_data, names_data, time_data};
 ghost use Rattle.authority_core.specs.Hosts.{IsHostName};
 ghost use Rattle.authority_core.specs.Requests.{IsCommonName};
 
@@ -131,9 +131,9 @@ pub fn common_name_at(alloc: Global, table: &Table) -> Result<Option<Bytes>, Req
 }
 
 // A public key, in base64.
-#[tactic(auto, unfolding(crate::specs::Files::key_data))]
+#[tactic(auto, unfolding(crate::specs::Files::public_key_data))]
 fn key_of(alloc: Global, value: &Value) -> Result<Option<Bytes>, Memory>
-    ensures value { IfOk result (λ o. o ≡ key_data (view value.now)) }
+    ensures value { IfOk result (λ o. o ≡ public_key_data (view value.now)) }
     ensures key { IfOk result (λ o. IfSome o IsPublicKey) }
 {
     match bytes_of(alloc, value)? {
@@ -145,7 +145,8 @@ fn key_of(alloc: Global, value: &Value) -> Result<Option<Bytes>, Memory>
 /// The public key of a request.
 pub fn key_at(alloc: Global, table: &Table) -> Result<Bytes, RequestError>
     ensures value { Answers RequestError.Memory
-        (field Field.PublicKey key_data (get_member (codes "key") (table_view table.now))) result }
+        (field Field.PublicKey public_key_data (get_member (codes "key") (table_view table.now)))
+        result }
     ensures key { IfOk result IsPublicKey }
 {
     let Some(value) = value_at(table, "key") else {

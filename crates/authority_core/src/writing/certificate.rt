@@ -1,7 +1,7 @@
 //! Certificates of the entries of a log, in any subtree of it and with signatures.
 
 ghost use Rattle.std.specs.Prelude.{◌≡◌, IfOk};
-ghost use Rattle.issuance_log.specs.Words.{state_of, view_of};
+ghost use Rattle.issuance_log.specs.Words.{log_state, view_of};
 ghost use Rattle.mtc_proof.specs.Proofs.{AreSignatures};
 ghost use Rattle.authority_core.specs.Acceptance.{StoresAccept};
 ghost use Rattle.authority_core.specs.Certificates.{cert_refusal, IsWritten, KeepsToRefusal};
@@ -41,9 +41,9 @@ pub fn cert<H: TreeHash, D: Disk>(
     ensures answer { KeepsToRefusal
         (cert_refusal (view_of log.old) index start end signatures.now) result }
     ensures written { IfOk result
-        (IsWritten H.hash (state_of log.old) index start end signatures.now) }
+        (IsWritten H.hash (log_state log.old) index start end signatures.now) }
     ensures accepted { IfOk result
-        (StoresAccept H.hash (state_of log.old) index start end signatures.now) }
+        (StoresAccept H.hash (log_state log.old) index start end signatures.now) }
     ensures same { log.new ≡ log.old }
 {
     if log.size() <= index {

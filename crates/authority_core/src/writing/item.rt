@@ -3,7 +3,7 @@
 ghost use Rattle.std.specs.Prelude.{◌≡◌, ◌^◌, ◌<◌, ◌≤◌, length, true, IfOk};
 ghost use Rattle.cert_fields.specs.Given.{given};
 ghost use Rattle.issuance_log.specs.Records.{IsShort};
-ghost use Rattle.issuance_log.specs.Words.{state_of};
+ghost use Rattle.issuance_log.specs.Words.{log_state};
 ghost use Rattle.log_entry.specs.Matching.{matches};
 ghost use Rattle.log_entry.specs.Views.{tbs_parts};
 ghost use Rattle.mtc_proof.specs.Proofs.{AreSignatures};
@@ -81,13 +81,13 @@ pub fn written<H: TreeHash, D: Disk>(
     requires valid { is_subtree start end ≡ true }
     requires from { start ≤ index }
     requires below { index < end }
-    requires within { end ≤ length (state_of log.old).entries }
+    requires within { end ≤ length (log_state log.old).entries }
     requires signed { AreSignatures signatures.now }
     requires short { length signatures.now < 2 ^ 16 }
     ensures written { IfOk result
-        (IsWritten H.hash (state_of log.old) index start end signatures.now) }
+        (IsWritten H.hash (log_state log.old) index start end signatures.now) }
     ensures accepted { IfOk result
-        (StoresAccept H.hash (state_of log.old) index start end signatures.now) }
+        (StoresAccept H.hash (log_state log.old) index start end signatures.now) }
     ensures same { log.new ≡ log.old }
 {
     log.sound();

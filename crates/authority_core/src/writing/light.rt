@@ -1,7 +1,7 @@
 //! Certificates of the entries of a log by its landmarks, without signatures.
 
 ghost use Rattle.std.specs.Prelude.{◌≡◌, length, IfOk, IfSome};
-ghost use Rattle.issuance_log.specs.Words.{state_of, view_of};
+ghost use Rattle.issuance_log.specs.Words.{log_state, view_of};
 ghost use Rattle.authority_core.specs.Acceptance.{StoresAcceptLightly};
 ghost use Rattle.authority_core.specs.Certificates.{covering_in, HoldsEntry, IsLightlyWritten, KeepsToLightRefusal, light_refusal};
 
@@ -22,7 +22,7 @@ fn covering_subtree<H: TreeHash, D: Disk>(
 ) -> Result<Option<Span>, Memory>
     ensures exact { IfOk result (λ span. span ≡ covering_in (view_of log.now) index) }
     ensures holds { IfOk result (λ span. IfSome span
-        (HoldsEntry (length (state_of log.now).entries) index)) }
+        (HoldsEntry (length (log_state log.now).entries) index)) }
 {
     log.sound();
     let landmarks = of_marks(alloc, log.marks(), log.settings().max_active)?;
@@ -47,8 +47,8 @@ pub fn light_cert<H: TreeHash, D: Disk>(
     index: u64,
 ) -> Result<Bytes, WriteError>
     ensures answer { KeepsToLightRefusal (light_refusal (view_of log.old) index) result }
-    ensures written { IfOk result (IsLightlyWritten H.hash (state_of log.old) index) }
-    ensures accepted { IfOk result (StoresAcceptLightly H.hash (state_of log.old) index) }
+    ensures written { IfOk result (IsLightlyWritten H.hash (log_state log.old) index) }
+    ensures accepted { IfOk result (StoresAcceptLightly H.hash (log_state log.old) index) }
     ensures same { log.new ≡ log.old }
 {
     if log.size() <= index {

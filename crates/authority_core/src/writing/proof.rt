@@ -2,7 +2,7 @@
 
 ghost use Rattle.std.specs.Prelude.{◌≡◌, ◌^◌, ◌<◌, ◌≤◌, length, true, IfOk};
 ghost use Rattle.tls_wire.specs.Spelling.{AreHashes};
-ghost use Rattle.issuance_log.specs.Words.{state_of};
+ghost use Rattle.issuance_log.specs.Words.{log_state};
 ghost use Rattle.mtc_proof.specs.Proofs.{AreSignatures, IsProof, proof_text};
 ghost use Rattle.tree_core.specs.Subtree.{is_subtree};
 ghost use Rattle.authority_core.specs.Certificates.{proof_for};
@@ -37,13 +37,13 @@ pub fn proof_of<H: TreeHash, D: Disk>(
     requires valid { is_subtree start end ≡ true }
     requires from { start ≤ index }
     requires below { index < end }
-    requires within { end ≤ length (state_of log.old).entries }
+    requires within { end ≤ length (log_state log.old).entries }
     requires signed { AreSignatures signatures.now }
     requires short { length signatures.now < 2 ^ 16 }
     ensures proof { IfOk result (λ bytes. bytes
-        ≡ proof_text (proof_for H.hash (state_of log.old) index start end signatures.now)) }
+        ≡ proof_text (proof_for H.hash (log_state log.old) index start end signatures.now)) }
     ensures fits { IfOk result (λ _. IsProof
-        (proof_for H.hash (state_of log.old) index start end signatures.now)) }
+        (proof_for H.hash (log_state log.old) index start end signatures.now)) }
     ensures few { IfOk result (λ bytes. length bytes ≤ 200000) }
     ensures same { log.new ≡ log.old }
 {

@@ -1,6 +1,6 @@
 use Rattle.std.proofs.Common.{◌≡◌, ◌+◌, ◌-◌, ◌≤◌}
 use Rattle.journal_core.specs.Words.{disk_of, end_of}
-use Rattle.cosigner_core.specs.Exports.{IsRead, records_text}
+use Rattle.cosigner_core.specs.Exports.{IsLookedOn, records_text}
 use Rattle.cosigner_core.proofs.Copies.{IsCopied, OfRecords}
 use Rattle.cosigner_core.proofs.export.copy_records.Given as goal
 
@@ -11,7 +11,7 @@ pub record Invariant (g : goal.Over) (l : goal.Live-loop-gate g) : Type 0 where
   pub written : OfRecords (g.D.Disk.told (disk_of l.initial.journal)) l.first
       (end_of l.initial.journal) (λ bytes bodies. IsCopied bytes (records_text bodies) l.gate
       (end_of l.initial.journal) (g.O.Sink.taken l.initial.out) (g.O.Sink.taken l.out))
-  pub kept : IsRead l.initial.journal l.journal
+  pub kept : IsLookedOn l.initial.journal l.journal
   pub read : g.D.Disk.faults (disk_of l.journal) ≡ g.D.Disk.faults (disk_of l.initial.journal)
   pub took : g.O.Sink.faults l.out ≡ g.O.Sink.faults l.initial.out
 

@@ -1,6 +1,6 @@
 use Rattle.std.proofs.Common.{ap, subst, sym, ◌∙◌, Ok}
 use Rattle.journal_core.specs.Openings.{opening_disk, Nexts}
-use Rattle.cosigner_core.specs.Openings.{HasCauseOf}
+use Rattle.cosigner_core.specs.Openings.{HasCosignerCause}
 use Rattle.journal_core.proofs.FoldSteps.{folded_next, found_last, cause_next}
 use Rattle.cosigner_core.specs.Folds.{cosigner_fold}
 use Rattle.cosigner_core.specs.declared.error.CosignerOpenError.TheVariants.{Open}
@@ -22,7 +22,7 @@ returns-in-Err-take-clause-err g c =
     let new = c.next.follows.lender-at-none in
     let read = subst (Nexts old new) (c.in-Ok-Some.is
     ∙ ap Ok c.in-Ok-Some.field-0-is) c.next.follows.holds-at-none in
-    subst (HasCauseOf g.D.Disk g.H.TreeHash.hash (opening_disk old) (opening_disk new))
+    subst (HasCosignerCause g.D.Disk g.H.TreeHash.hash (opening_disk old) (opening_disk new))
     (sym c.refusal_at.ensures)
     (cause_taken g.H.TreeHash.hash old new c.in-Ok-Some.body.now read.0 read.1 read.2.looks
     c.args.contents.now c.take.new.self c.read_count-number.result c.in-Err-take.why

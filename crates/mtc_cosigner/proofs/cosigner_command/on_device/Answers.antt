@@ -1,13 +1,14 @@
 use Rattle.std.proofs.Common.{inl, List, Option, subst, sym}
 use Rattle.byte_forms.specs.Types.{Text}
-use Rattle.cosigner_core.specs.Words.{cosigner_disk, cosigner_records, state_of}
+use Rattle.cosigner_core.specs.Words.{cosigner_disk, cosigner_records, cosigner_state}
 use Rattle.mtc_answers.specs.Answers.{Ending, ending_of}
 use Rattle.mtc_answers.specs.Steps.{Outcome}
 use Rattle.mtc_answers.specs.Valid.{WorksValidly}
 use Rattle.mtc_answers.specs.Works.{HasWorked as HasWorkedWith, HasWorkedOn}
 use Rattle.mtc_answers.proofs.Works.{worked_on}
 use Rattle.mtc_answers.proofs.Valid.{valid_on}
-use Rattle.mtc_cosigner.specs.Works.{IsCosigner, bytes_say, found_cosigner, work_says}
+use Rattle.mtc_cosigner.specs.Works.{IsCosigner, cosigner_bytes_say, found_cosigner}
+use Rattle.mtc_cosigner.specs.Works.{cosigner_work_says}
 use Rattle.mtc_cosigner.proofs.Opened.{IsFound, found_says, refused_says}
 use Rattle.mtc_cosigner.proofs.cosigner_command.on_device.Goals as goal
 
@@ -16,20 +17,21 @@ returns-in-Ok-clause-serves g c =
     let d = g.D.Disk in
     let h = g.H.TreeHash.hash in
     let name = c.args.journal.now in
-    let says = work_says h c.args.work.now in
+    let says = cosigner_work_says h c.args.work.now in
     let it = c.in-Ok.cosigner in
     let opened = c.in-Ok.ensures in
-    let next : List Text → Outcome = λ list. says (found_cosigner (state_of it) list) in
+    let next : List Text → Outcome = λ list. says (found_cosigner (cosigner_state it) list) in
     let done = cosigner_disk c.carry_out-answer.new.cosigner in
     let ending = ending_of c.carry_out-answer.result in
-    let found = subst (IsFound d (bytes_say h name says) next c.args.disk (cosigner_disk it))
+    let found = subst (IsFound d (cosigner_bytes_say h name says) next c.args.disk
+    (cosigner_disk it))
     opened.list (record {
-      told = found_says h name says (d.told c.args.disk) (cosigner_records it) (state_of it)
+      told = found_says h name says (d.told c.args.disk) (cosigner_records it) (cosigner_state it)
           opened.found;
       stands = opened.stands;
       all = opened.all;
     }) in
-    rw c.into_disk.ensures (worked_on d name (bytes_say h name says) next c.args.disk
+    rw c.into_disk.ensures (worked_on d name (cosigner_bytes_say h name says) next c.args.disk
     (cosigner_disk it) done ending g.met.D.Disk.reads_image opened.looks opened.fine found.told
     found.stands found.all
     (subst (λ (o : Option (List Text)). HasWorkedWith d name o next (cosigner_disk it) done ending)
@@ -40,9 +42,9 @@ returns-in-Err-clause-serves g c =
     let d = g.D.Disk in
     let h = g.H.TreeHash.hash in
     let name = c.args.journal.now in
-    let says = work_says h c.args.work.now in
+    let says = cosigner_work_says h c.args.work.now in
     let disk = c.in-Err.field-0.disk in
-    subst (λ (e : Ending). HasWorkedOn d name (bytes_say h name says) c.args.disk disk e)
+    subst (λ (e : Ending). HasWorkedOn d name (cosigner_bytes_say h name says) c.args.disk disk e)
     (sym c.refuse_cosigner.ensures)
     (refused_says h name says d c.args.disk disk c.in-Err.ensures.err _ c.in-Err.ensures.cause)
 
@@ -51,19 +53,20 @@ returns-in-Ok-clause-valid g c =
     let d = g.D.Disk in
     let h = g.H.TreeHash.hash in
     let name = c.args.journal.now in
-    let says = work_says h c.args.work.now in
+    let says = cosigner_work_says h c.args.work.now in
     let it = c.in-Ok.cosigner in
     let opened = c.in-Ok.ensures in
-    let next : List Text → Outcome = λ list. says (found_cosigner (state_of it) list) in
+    let next : List Text → Outcome = λ list. says (found_cosigner (cosigner_state it) list) in
     let done = cosigner_disk c.carry_out-answer.new.cosigner in
-    let found = subst (IsFound d (bytes_say h name says) next c.args.disk (cosigner_disk it))
+    let found = subst (IsFound d (cosigner_bytes_say h name says) next c.args.disk
+    (cosigner_disk it))
     opened.list (record {
-      told = found_says h name says (d.told c.args.disk) (cosigner_records it) (state_of it)
+      told = found_says h name says (d.told c.args.disk) (cosigner_records it) (cosigner_state it)
           opened.found;
       stands = opened.stands;
       all = opened.all;
     }) in
-    rw c.into_disk.ensures (valid_on d (IsCosigner h) name (bytes_say h name says) next
+    rw c.into_disk.ensures (valid_on d (IsCosigner h) name (cosigner_bytes_say h name says) next
     c.args.disk (cosigner_disk it) done opened.looks found.told found.stands found.all
     (subst (λ (o : Option (List Text)). WorksValidly d (IsCosigner h) o next (cosigner_disk it)
     done) opened.list c.carry_out-answer.ensures.valid))

@@ -4,7 +4,7 @@ use Rattle.mtc_answers.specs.Answers.{ending_of}
 use Rattle.mtc_answers.proofs.Begins.{begins_behind, begins_stopped}
 use Rattle.mtc_answers.proofs.Served.{behind}
 use Rattle.mtc_answers.proofs.Valid.{behind_valid, kept_valid}
-use Rattle.mtc_cosigner.specs.InitOutcome.{init_cosigner_outcome, init_says, settings_of}
+use Rattle.mtc_cosigner.specs.InitOutcome.{init_cosigner_outcome, init_says, cosigner_settings_of}
 use Rattle.mtc_cosigner.specs.Works.{IsCosigner}
 use Rattle.mtc_cosigner.proofs.Begun.{asked_so}
 use Rattle.mtc_cosigner.proofs.init_cosigner.init_cosigner.Goals as goal
@@ -16,7 +16,7 @@ returns-in_err-secret-clause-serves g c =
     let stopped = err_from_is_err_and c.from_residual.result c.from_residual.ensures.1 in
     rw (stopped.1, stopped.2) (c.in_err-secret.ensures.stops (journal ∷ (file ∷ []))
     (journal ∷ []) (init_says journal
-    (settings_of c.args.id c.args.log c.args.height c.args.width) file
+    (cosigner_settings_of c.args.id c.args.log c.args.height c.args.width) file
     (g.R.Room.file c.args.room.now journal)) (inr (inl refl)))
 
 pub returns-clause-serves : goal.returns-clause-serves

@@ -4,11 +4,11 @@ use Rattle.cosigner_core.specs.Folds.{holding}
 use Rattle.cosigner_core.specs.Records.{advance_record}
 use Rattle.cosigner_core.specs.Refusals.{advance_refused}
 use Rattle.cosigner_core.specs.Views.{advance_parts}
-use Rattle.cosigner_core.specs.Words.{cosigner_broken, cosigner_end, state_of}
+use Rattle.cosigner_core.specs.Words.{cosigner_broken, cosigner_end, cosigner_state}
 use Rattle.mtc_answers.specs.Answers.{Ending, replied, said}
 use Rattle.mtc_answers.specs.declared.answer.Said.TheVariants.{Done}
 use Rattle.mtc_cosigner.specs.CosignerOutcomes.{advance_says, advanced_text}
-use Rattle.mtc_cosigner.specs.Works.{HasWorked}
+use Rattle.mtc_cosigner.specs.Works.{HasWorkedOnCosigner}
 use Rattle.mtc_cosigner.proofs.Asked.{advance_sound}
 use Rattle.mtc_cosigner.proofs.Stepped.{step_made, step_refused, step_valid}
 use Rattle.mtc_cosigner.proofs.requests.advance_on.Goals as goal
@@ -17,7 +17,7 @@ pub refuse_step-requires : goal.refuse_step-requires
 refuse_step-requires g c = λ broken.
     let h = g.H.TreeHash.hash in
     let old = c.args.cosigner.now in
-    advance_sound h (state_of old) (cosigner_broken old) (cosigner_end old)
+    advance_sound h (cosigner_state old) (cosigner_broken old) (cosigner_end old)
     (advance_parts c.args.request.now) c.requires.sound (search rules)
 
 pub returns-in-Ok-clause-works : goal.returns-in-Ok-clause-works
@@ -27,11 +27,12 @@ returns-in-Ok-clause-works g c =
     let old = c.args.cosigner.now in
     let new = c.advance.new.self in
     let r = advance_parts c.args.request.now in
-    subst (λ (t : Text). HasWorked name (advance_says h r) old new (replied (said Done t)))
+    subst (λ (t : Text). HasWorkedOnCosigner name (advance_says h r) old new
+    (replied (said Done t)))
     (sym c.in_ok-text.ensures)
     (step_made name old new c.requires (advance_record r.size r.root r.proof)
-    (advanced_text r.size) (holding r.size r.root (state_of old))
-    (λ broken end. advance_refused h (state_of old) broken end r) c.in-Ok.ensures.answer
+    (advanced_text r.size) (holding r.size r.root (cosigner_state old))
+    (λ broken end. advance_refused h (cosigner_state old) broken end r) c.in-Ok.ensures.answer
     c.in-Ok.ensures.appends)
 
 pub returns-in-Err-clause-works : goal.returns-in-Err-clause-works
@@ -41,11 +42,11 @@ returns-in-Err-clause-works g c =
     let old = c.args.cosigner.now in
     let new = c.advance.new.self in
     let r = advance_parts c.args.request.now in
-    subst (λ (e : Ending). HasWorked name (advance_says h r) old new e)
+    subst (λ (e : Ending). HasWorkedOnCosigner name (advance_says h r) old new e)
     (sym c.refuse_step.ensures)
     (step_refused name old new c.requires (advance_record r.size r.root r.proof)
-    (advanced_text r.size) (holding r.size r.root (state_of old))
-    (λ broken end. advance_refused h (state_of old) broken end r) c.in-Err.why
+    (advanced_text r.size) (holding r.size r.root (cosigner_state old))
+    (λ broken end. advance_refused h (cosigner_state old) broken end r) c.in-Err.why
     c.in-Err.ensures.appends c.in-Err.ensures.answer)
 
 pub returns-in-Ok-clause-valid : goal.returns-in-Ok-clause-valid
@@ -55,8 +56,8 @@ returns-in-Ok-clause-valid g c =
     let old = c.args.cosigner.now in
     let r = advance_parts c.args.request.now in
     step_valid name old c.advance.new.self c.requires (advance_record r.size r.root r.proof)
-    (advanced_text r.size) (holding r.size r.root (state_of old))
-    (λ broken end. advance_refused h (state_of old) broken end r) h
+    (advanced_text r.size) (holding r.size r.root (cosigner_state old))
+    (λ broken end. advance_refused h (cosigner_state old) broken end r) h
     c.in-Ok.ensures.valid
 
 pub returns-in-Err-clause-valid : goal.returns-in-Err-clause-valid
@@ -66,6 +67,6 @@ returns-in-Err-clause-valid g c =
     let old = c.args.cosigner.now in
     let r = advance_parts c.args.request.now in
     step_valid name old c.advance.new.self c.requires (advance_record r.size r.root r.proof)
-    (advanced_text r.size) (holding r.size r.root (state_of old))
-    (λ broken end. advance_refused h (state_of old) broken end r) h
+    (advanced_text r.size) (holding r.size r.root (cosigner_state old))
+    (λ broken end. advance_refused h (cosigner_state old) broken end r) h
     c.in-Err.ensures.valid

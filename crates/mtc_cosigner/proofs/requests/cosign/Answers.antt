@@ -9,7 +9,8 @@ use Rattle.mtc_answers.specs.Steps.{with_form}
 use Rattle.mtc_answers.proofs.Served.{behind}
 use Rattle.mtc_answers.proofs.Valid.{behind_valid, kept_valid}
 use Rattle.mtc_cosigner.specs.CosignerOutcomes.{cosign_says, form_fault_text}
-use Rattle.mtc_cosigner.specs.Works.{IsCosigner, cosign_outcome, journal_outcome, work_says}
+use Rattle.mtc_cosigner.specs.Works.{IsCosigner, cosign_outcome, cosigner_outcome}
+use Rattle.mtc_cosigner.specs.Works.{cosigner_work_says}
 use Rattle.mtc_cosigner.specs.declared.work.Work.TheVariants.{Cosign}
 use Rattle.mtc_cosigner.proofs.Asked.{asked_so, no_request}
 use Rattle.mtc_cosigner.proofs.requests.cosign.Goals as goal
@@ -24,10 +25,11 @@ returns-in_err-bytes-clause-serves g c =
     let stopped = err_from_is_err_and c.from_residual.result c.from_residual.ensures.1 in
     rw (stopped.1, stopped.2) (c.in_err-bytes.ensures.stops (journal ∷ (file ∷ []))
     (journal ∷ []) (λ bytes. with_form form_fault_text file (subtree_in bytes)
-    (λ r. journal_outcome h journal at (cosign_says h r))) (inr (inl refl)))
+    (λ r. cosigner_outcome h journal at (cosign_says h r))) (inr (inl refl)))
 
 pub returns-in-Ok-clause-serves : goal.returns-in-Ok-clause-serves
-unfolding Rattle.mtc_cosigner.specs.Works.cosign_outcome Rattle.mtc_cosigner.specs.Works.work_says
+unfolding Rattle.mtc_cosigner.specs.Works.cosign_outcome
+    Rattle.mtc_cosigner.specs.Works.cosigner_work_says
 returns-in-Ok-clause-serves g c =
     let h = g.H.TreeHash.hash in
     let rooms = g.R.Room in
@@ -37,15 +39,15 @@ returns-in-Ok-clause-serves g c =
     let mid = c.read_input.new.room in
     let read = c.in_ok-bytes.ensures in
     let wanted = λ (q : SubtreeParts).
-    journal_outcome h journal (rooms.file old journal) (cosign_says h q) in
+    cosigner_outcome h journal (rooms.file old journal) (cosign_says h q) in
     let r = subtree_parts c.in-Ok.request in
     let is : subtree_in c.in_ok-bytes.bytes ≡ Ok r =
     subst (λ (t : Text). subtree_in t ≡ Ok r) c.as_slice.ensures c.in-Ok.ensures in
     behind rooms g.R.Dsk.Disk (journal ∷ (file ∷ [])) (journal ∷ []) (journal ∷ [])
     (cosign_outcome h journal file (rooms.file old))
-    (journal_outcome h journal (rooms.file mid journal) (cosign_says h r)) old mid
+    (cosigner_outcome h journal (rooms.file mid journal) (cosign_says h r)) old mid
     c.on_cosigner.new.room (ending_of c.on_cosigner.result) read.settled
-    (λ t. ap (λ x. journal_outcome h journal x (cosign_says h r))
+    (λ t. ap (λ x. cosigner_outcome h journal x (cosign_says h r))
     (read.settled.others journal tt).bytes
     ∙ sym (asked_so subtree_in
     wanted file (rooms.file old file) c.in_ok-bytes.bytes r (read.bytes t).0 (read.bytes t).1 is))
@@ -62,7 +64,7 @@ returns-clause-serves g c =
     let old = c.args.room.now in
     let read = c.in_ok-bytes.ensures in
     let wanted = λ (q : SubtreeParts).
-    journal_outcome h journal (rooms.file old journal) (cosign_says h q) in
+    cosigner_outcome h journal (rooms.file old journal) (cosign_says h q) in
     let is : subtree_in c.in_ok-bytes.bytes ≡ Err c.in-Err.why =
     subst (λ (t : Text). subtree_in t ≡ Err c.in-Err.why) c.as_slice.ensures c.in-Err.ensures in
     no_request subtree_in wanted
@@ -79,7 +81,8 @@ returns-in_err-bytes-clause-valid g c =
     g.met.R.Dsk.Disk.only_now
 
 pub returns-in-Ok-clause-valid : goal.returns-in-Ok-clause-valid
-unfolding Rattle.mtc_cosigner.specs.Works.cosign_outcome Rattle.mtc_cosigner.specs.Works.work_says
+unfolding Rattle.mtc_cosigner.specs.Works.cosign_outcome
+    Rattle.mtc_cosigner.specs.Works.cosigner_work_says
 returns-in-Ok-clause-valid g c =
     let h = g.H.TreeHash.hash in
     let rooms = g.R.Room in
@@ -89,15 +92,15 @@ returns-in-Ok-clause-valid g c =
     let mid = c.read_input.new.room in
     let read = c.in_ok-bytes.ensures in
     let wanted = λ (q : SubtreeParts).
-    journal_outcome h journal (rooms.file old journal) (cosign_says h q) in
+    cosigner_outcome h journal (rooms.file old journal) (cosign_says h q) in
     let r = subtree_parts c.in-Ok.request in
     let is : subtree_in c.in_ok-bytes.bytes ≡ Ok r =
     subst (λ (t : Text). subtree_in t ≡ Ok r) c.as_slice.ensures c.in-Ok.ensures in
     behind_valid rooms g.R.Dsk.Disk (IsCosigner h) (journal ∷ [])
     (cosign_outcome h journal file (rooms.file old))
-    (journal_outcome h journal (rooms.file mid journal) (cosign_says h r)) old mid
+    (cosigner_outcome h journal (rooms.file mid journal) (cosign_says h r)) old mid
     c.on_cosigner.new.room read.settled
-    (λ t. ap (λ x. journal_outcome h journal x (cosign_says h r))
+    (λ t. ap (λ x. cosigner_outcome h journal x (cosign_says h r))
     (read.settled.others journal tt).bytes
     ∙ sym (asked_so subtree_in
     wanted file (rooms.file old file) c.in_ok-bytes.bytes r (read.bytes t).0 (read.bytes t).1 is))

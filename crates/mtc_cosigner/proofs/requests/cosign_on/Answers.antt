@@ -6,11 +6,11 @@ use Rattle.cosigner_core.specs.Folds.{having_signed}
 use Rattle.cosigner_core.specs.Records.{sign_record}
 use Rattle.cosigner_core.specs.Refusals.{cosign_refused}
 use Rattle.cosigner_core.specs.Views.{subtree_parts}
-use Rattle.cosigner_core.specs.Words.{cosigner_broken, cosigner_end, state_of}
+use Rattle.cosigner_core.specs.Words.{cosigner_broken, cosigner_end, cosigner_state}
 use Rattle.mtc_answers.specs.Answers.{Ending, replied, said}
 use Rattle.mtc_answers.specs.declared.answer.Said.TheVariants.{Done}
 use Rattle.mtc_cosigner.specs.CosignerOutcomes.{cosign_says, cosigned_text}
-use Rattle.mtc_cosigner.specs.Works.{HasWorked}
+use Rattle.mtc_cosigner.specs.Works.{HasWorkedOnCosigner}
 use Rattle.mtc_cosigner.proofs.Asked.{cosign_sound}
 use Rattle.mtc_cosigner.proofs.Stepped.{step_made, step_refused, step_valid}
 use Rattle.mtc_cosigner.proofs.requests.cosign_on.Goals as goal
@@ -19,7 +19,7 @@ pub refuse_step-requires : goal.refuse_step-requires
 refuse_step-requires g c = λ broken.
     let h = g.H.TreeHash.hash in
     let old = c.args.cosigner.now in
-    cosign_sound h (state_of old) (cosigner_broken old) (cosigner_end old)
+    cosign_sound h (cosigner_state old) (cosigner_broken old) (cosigner_end old)
     (subtree_parts c.args.request.now) c.requires.sound (search rules)
 
 pub returns-in-Ok-clause-works : goal.returns-in-Ok-clause-works
@@ -29,16 +29,16 @@ returns-in-Ok-clause-works g c =
     let old = c.args.cosigner.now in
     let new = c.cosign.new.self in
     let r = subtree_parts c.args.request.now in
-    subst (λ (t : Text). HasWorked name (cosign_says h r) old new (replied (said Done t)))
+    subst (λ (t : Text). HasWorkedOnCosigner name (cosign_says h r) old new (replied (said Done t)))
     (sym (c.with_signature.ensures
     ∙ ap (λ (t : Text). t ++ vector w16 c.as_slice.result.now)
     (c.in_ok-text.ensures.text ∙ ap (vector w8) c.id.ensures)
-    ∙ ap (λ (t : Text). vector w8 (state_of old).id ++ vector w16 t)
+    ∙ ap (λ (t : Text). vector w8 (cosigner_state old).id ++ vector w16 t)
     (c.as_slice.ensures ∙ c.in-Ok.ensures.signature)))
     (step_made name old new c.requires
-    (sign_record (state_of old).key.next r.start r.end r.hash r.proof)
-    (cosigned_text (state_of old) r) (having_signed (state_of old))
-    (λ broken end. cosign_refused h (state_of old) broken end r) c.in-Ok.ensures.answer
+    (sign_record (cosigner_state old).key.next r.start r.end r.hash r.proof)
+    (cosigned_text (cosigner_state old) r) (having_signed (cosigner_state old))
+    (λ broken end. cosign_refused h (cosigner_state old) broken end r) c.in-Ok.ensures.answer
     c.in-Ok.ensures.appends)
 
 pub returns-in-Err-clause-works : goal.returns-in-Err-clause-works
@@ -48,12 +48,12 @@ returns-in-Err-clause-works g c =
     let old = c.args.cosigner.now in
     let new = c.cosign.new.self in
     let r = subtree_parts c.args.request.now in
-    subst (λ (e : Ending). HasWorked name (cosign_says h r) old new e)
+    subst (λ (e : Ending). HasWorkedOnCosigner name (cosign_says h r) old new e)
     (sym c.refuse_step.ensures)
     (step_refused name old new c.requires
-    (sign_record (state_of old).key.next r.start r.end r.hash r.proof)
-    (cosigned_text (state_of old) r) (having_signed (state_of old))
-    (λ broken end. cosign_refused h (state_of old) broken end r) c.in-Err.why
+    (sign_record (cosigner_state old).key.next r.start r.end r.hash r.proof)
+    (cosigned_text (cosigner_state old) r) (having_signed (cosigner_state old))
+    (λ broken end. cosign_refused h (cosigner_state old) broken end r) c.in-Err.why
     c.in-Err.ensures.appends c.in-Err.ensures.answer)
 
 pub returns-in-Ok-clause-valid : goal.returns-in-Ok-clause-valid
@@ -63,9 +63,9 @@ returns-in-Ok-clause-valid g c =
     let old = c.args.cosigner.now in
     let r = subtree_parts c.args.request.now in
     step_valid name old c.cosign.new.self c.requires
-    (sign_record (state_of old).key.next r.start r.end r.hash r.proof)
-    (cosigned_text (state_of old) r) (having_signed (state_of old))
-    (λ broken end. cosign_refused h (state_of old) broken end r) h
+    (sign_record (cosigner_state old).key.next r.start r.end r.hash r.proof)
+    (cosigned_text (cosigner_state old) r) (having_signed (cosigner_state old))
+    (λ broken end. cosign_refused h (cosigner_state old) broken end r) h
     c.in-Ok.ensures.valid
 
 pub returns-in-Err-clause-valid : goal.returns-in-Err-clause-valid
@@ -75,7 +75,7 @@ returns-in-Err-clause-valid g c =
     let old = c.args.cosigner.now in
     let r = subtree_parts c.args.request.now in
     step_valid name old c.cosign.new.self c.requires
-    (sign_record (state_of old).key.next r.start r.end r.hash r.proof)
-    (cosigned_text (state_of old) r) (having_signed (state_of old))
-    (λ broken end. cosign_refused h (state_of old) broken end r) h
+    (sign_record (cosigner_state old).key.next r.start r.end r.hash r.proof)
+    (cosigned_text (cosigner_state old) r) (having_signed (cosigner_state old))
+    (λ broken end. cosign_refused h (cosigner_state old) broken end r) h
     c.in-Err.ensures.valid

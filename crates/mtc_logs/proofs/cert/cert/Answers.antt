@@ -4,7 +4,7 @@ use Rattle.mtc_answers.specs.Answers.{ending_of}
 use Rattle.mtc_answers.proofs.Served.{behind}
 use Rattle.mtc_answers.proofs.Valid.{behind_valid, kept_valid}
 use Rattle.mtc_logs.specs.CertCommand.{cert_outcome, signed_says}
-use Rattle.mtc_logs.specs.Works.{IsLog, journal_outcome}
+use Rattle.mtc_logs.specs.Works.{IsLog, log_outcome}
 use Rattle.mtc_logs.specs.declared.work.Work.TheVariants.{Cert}
 use Rattle.mtc_logs.proofs.Certified.{signed_so}
 use Rattle.mtc_logs.proofs.cert.cert.Goals as goal
@@ -29,7 +29,7 @@ returns-in-Ok-clause-serves g c =
     let read = c.in_ok-bytes.ensures in
     behind rooms g.R.Dsk.Disk (journal ∷ file ∷ []) (journal ∷ []) (journal ∷ [])
     (cert_outcome h journal c.args.index c.args.start c.args.end file (rooms.file old))
-    (journal_outcome h journal (rooms.file mid journal)
+    (log_outcome h journal (rooms.file mid journal)
     (Cert c.args.index c.args.start c.args.end c.in-Ok.signatures)) old mid
     c.on_log.new.room (ending_of c.on_log.result) read.settled
     (λ t. signed_so h journal c.args.index c.args.start c.args.end file (rooms.file old)
@@ -56,7 +56,7 @@ returns-in-Ok-clause-valid g c =
     let read = c.in_ok-bytes.ensures in
     behind_valid rooms g.R.Dsk.Disk (IsLog h) (journal ∷ [])
     (cert_outcome h journal c.args.index c.args.start c.args.end file (rooms.file old))
-    (journal_outcome h journal (rooms.file mid journal)
+    (log_outcome h journal (rooms.file mid journal)
     (Cert c.args.index c.args.start c.args.end c.in-Ok.signatures)) old mid
     c.on_log.new.room read.settled
     (λ t. signed_so h journal c.args.index c.args.start c.args.end file (rooms.file old)

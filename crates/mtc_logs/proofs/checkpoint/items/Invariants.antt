@@ -1,5 +1,5 @@
 use Rattle.std.proofs.Common.{◌≡◌}
-use Rattle.issuance_log.specs.Words.{state_of}
+use Rattle.issuance_log.specs.Words.{log_state}
 use Rattle.entry_list.specs.Items.{file_text}
 use Rattle.mtc_logs.specs.LogOutcomes.{items_of}
 use Rattle.mtc_logs.proofs.checkpoint.items.Given as goal
@@ -8,5 +8,5 @@ use Rattle.mtc_logs.proofs.checkpoint.items.Given as goal
 abbrev pub invariant-loop-index : goal.invariant-loop-index
 invariant-loop-index g l = record {
   same : l.log ≡ l.initial.log;
-  text : l.out ≡ file_text (items_of (state_of l.log)) l.index;
+  text : l.out ≡ file_text (items_of (log_state l.log)) l.index;
 }

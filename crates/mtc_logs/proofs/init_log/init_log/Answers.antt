@@ -6,14 +6,14 @@ use Rattle.mtc_answers.specs.Served.{HasServed}
 use Rattle.mtc_answers.specs.Steps.{starts, with_fresh}
 use Rattle.mtc_answers.proofs.Begins.{begins_of}
 use Rattle.mtc_answers.proofs.Valid.{new_valid, same_valid}
-use Rattle.mtc_logs.specs.LogOutcomes.{init_log_outcome, log_line, settings_of}
+use Rattle.mtc_logs.specs.LogOutcomes.{init_log_outcome, log_line, log_settings_of}
 use Rattle.mtc_logs.specs.Works.{IsLog}
 use Rattle.mtc_logs.proofs.init_log.init_log.Goals as goal
 
 pub returns-clause-serves : goal.returns-clause-serves
 returns-clause-serves g c =
     let name = c.args.journal.now in
-    let record_of = settings_record (settings_of c.args.id c.args.max_active c.args.limit) in
+    let record_of = settings_record (log_settings_of c.args.id c.args.max_active c.args.limit) in
     let served = λ (first text : Text). HasServed g.R.Room g.R.Dsk.Disk (name ∷ []) name
     (with_fresh name (g.R.Room.file c.args.room.now name) (starts first text))
     c.args.room.now c.make_journal.new.room (ending_of c.make_journal.result) in
@@ -36,7 +36,7 @@ returns-in_err-first-clause-valid g c = λ h.
 pub returns-clause-valid : goal.returns-clause-valid
 returns-clause-valid g c = λ h.
     let name = c.args.journal.now in
-    let record_of = settings_record (settings_of c.args.id c.args.max_active c.args.limit) in
+    let record_of = settings_record (log_settings_of c.args.id c.args.max_active c.args.limit) in
     let text = log_line c.args.id in
     new_valid g.R.Room g.R.Dsk.Disk (IsLog h) name record_of text
     (g.R.Room.file c.args.room.now name) c.args.room.now c.make_journal.new.room

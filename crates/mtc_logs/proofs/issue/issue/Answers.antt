@@ -9,7 +9,7 @@ use Rattle.mtc_answers.specs.Served.{HasServed}
 use Rattle.mtc_answers.proofs.Served.{behind}
 use Rattle.mtc_answers.proofs.Valid.{behind_valid, kept_valid}
 use Rattle.mtc_logs.specs.IssueCommand.{issue_outcome, request_says}
-use Rattle.mtc_logs.specs.Works.{IsLog, journal_outcome}
+use Rattle.mtc_logs.specs.Works.{IsLog, log_outcome}
 use Rattle.mtc_logs.specs.declared.work.Work.TheVariants.{Issue}
 use Rattle.mtc_logs.proofs.Reading.{asked_so, unread}
 use Rattle.mtc_logs.proofs.issue.issue.Goals as goal
@@ -37,7 +37,7 @@ returns-in-Ok-clause-serves g c =
     c.in-Ok.ensures.exact in
     behind rooms g.R.Dsk.Disk (journal ∷ file ∷ []) (journal ∷ []) (journal ∷ [])
     (issue_outcome h journal file (rooms.file old))
-    (journal_outcome h journal (rooms.file mid journal) (Issue c.in-Ok.request)) old mid
+    (log_outcome h journal (rooms.file mid journal) (Issue c.in-Ok.request)) old mid
     c.on_log.new.room (ending_of c.on_log.result) read.settled
     (λ t. asked_so h journal file (rooms.file old) c.in_ok-text.text (read.bytes t).0
     (read.bytes t).1 (rooms.file mid journal) c.in-Ok.request is
@@ -81,7 +81,7 @@ returns-in-Ok-clause-valid g c =
     c.in-Ok.ensures.exact in
     behind_valid rooms g.R.Dsk.Disk (IsLog h) (journal ∷ [])
     (issue_outcome h journal file (rooms.file old))
-    (journal_outcome h journal (rooms.file mid journal) (Issue c.in-Ok.request)) old mid
+    (log_outcome h journal (rooms.file mid journal) (Issue c.in-Ok.request)) old mid
     c.on_log.new.room read.settled
     (λ t. asked_so h journal file (rooms.file old) c.in_ok-text.text (read.bytes t).0
     (read.bytes t).1 (rooms.file mid journal) c.in-Ok.request is

@@ -5,7 +5,7 @@ use Rattle.journal_core.specs.declared.error.AppendError.TheVariants.{Broken}
 use Rattle.mtc_answers.specs.Answers.{Ending, replied, said}
 use Rattle.mtc_answers.specs.declared.answer.Said.TheVariants.{Done}
 use Rattle.mtc_logs.specs.IssueOutcome.{issue_says, issued_text}
-use Rattle.mtc_logs.specs.Works.{HasWorked}
+use Rattle.mtc_logs.specs.Works.{HasWorkedOnLog}
 use Rattle.mtc_logs.proofs.Issued.{issued_so, issued_valid, never_broken, refusal, refused_so}
 use Rattle.mtc_logs.proofs.Issued.{refused_valid}
 use Rattle.mtc_logs.proofs.issue.issue_on.Goals as goal
@@ -25,7 +25,7 @@ returns-in-Ok-clause-works g c =
     let new = c.issue.new.log in
     let line : c.in_ok-text.text ≡ issued_text _ =
     c.in_ok-text.ensures ∙ ap issued_text c.size.ensures.value in
-    subst (λ (t : Text). HasWorked name (issue_says h c.args.request.now) old new
+    subst (λ (t : Text). HasWorkedOnLog name (issue_says h c.args.request.now) old new
     (replied (said Done t))) (sym line)
     (issued_so h c.args.request.now name old new c.requires _ c.in-Ok.ensures.answer
     c.in-Ok.ensures.appends)
@@ -36,7 +36,7 @@ returns-in-Err-clause-works g c =
     let name = c.args.journal.now in
     let old = c.args.log.now in
     let new = c.issue.new.log in
-    subst (λ (e : Ending). HasWorked name (issue_says h c.args.request.now) old new e)
+    subst (λ (e : Ending). HasWorkedOnLog name (issue_says h c.args.request.now) old new e)
     (sym c.refuse_entry.ensures)
     (refused_so h c.args.request.now name old new c.requires c.in-Err.why c.in-Err.ensures.appends
     c.in-Err.ensures.answer)

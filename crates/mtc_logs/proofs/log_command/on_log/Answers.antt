@@ -3,33 +3,33 @@ use Rattle.std.proofs.lemmas.Result.{err_from_is_err_and}
 use Rattle.mtc_answers.specs.Answers.{ending_of}
 use Rattle.mtc_answers.proofs.Works.{served}
 use Rattle.mtc_answers.proofs.Valid.{kept_valid, served_valid}
-use Rattle.mtc_logs.specs.Works.{IsLog, bytes_say, journal_outcome}
+use Rattle.mtc_logs.specs.Works.{IsLog, log_bytes_say, log_outcome}
 use Rattle.mtc_logs.proofs.log_command.on_log.Goals as goal
 
 pub returns-clause-serves : goal.returns-clause-serves
-unfolding Rattle.mtc_logs.specs.Works.journal_outcome
+unfolding Rattle.mtc_logs.specs.Works.log_outcome
 returns-clause-serves g c =
     let name = c.args.journal.now in
     served g.R.Room g.R.Dsk.Disk name (name ∷ [])
-    (bytes_say g.H.TreeHash.hash name c.args.work) c.args.room.now c.lend.new.room
+    (log_bytes_say g.H.TreeHash.hash name c.args.work) c.args.room.now c.lend.new.room
     c.give_back.new.room c.in_ok-disk.disk c.on_device-disk.result.0
     (ending_of c.on_device-disk.result.1) c.in_ok-disk.ensures.lent c.on_device-disk.ensures.serves
     c.give_back.ensures (inl refl)
 
 pub returns-in_err-disk-clause-serves : goal.returns-in_err-disk-clause-serves
-unfolding Rattle.mtc_logs.specs.Works.journal_outcome
+unfolding Rattle.mtc_logs.specs.Works.log_outcome
 returns-in_err-disk-clause-serves g c =
     let name = c.args.journal.now in
     let stopped = err_from_is_err_and c.from_residual.result c.from_residual.ensures.1 in
     rw (stopped.1, stopped.2) (c.in_err-disk.ensures.stops (name ∷ [])
-    (bytes_say g.H.TreeHash.hash name c.args.work) (inl refl))
+    (log_bytes_say g.H.TreeHash.hash name c.args.work) (inl refl))
 
 pub returns-clause-valid : goal.returns-clause-valid
-unfolding Rattle.mtc_logs.specs.Works.journal_outcome
+unfolding Rattle.mtc_logs.specs.Works.log_outcome
 returns-clause-valid g c =
     let h = g.H.TreeHash.hash in
     let name = c.args.journal.now in
-    served_valid g.R.Room g.R.Dsk.Disk (IsLog h) name (bytes_say h name c.args.work)
+    served_valid g.R.Room g.R.Dsk.Disk (IsLog h) name (log_bytes_say h name c.args.work)
     c.args.room.now c.lend.new.room c.give_back.new.room c.in_ok-disk.disk
     c.on_device-disk.result.0 c.in_ok-disk.ensures.lent c.on_device-disk.ensures.valid
     c.give_back.ensures
@@ -39,5 +39,5 @@ returns-in_err-disk-clause-valid g c =
     let h = g.H.TreeHash.hash in
     let name = c.args.journal.now in
     kept_valid g.R.Room g.R.Dsk.Disk (IsLog h) (name ∷ [])
-    (journal_outcome h name (g.R.Room.file c.args.room.now name) c.args.work)
+    (log_outcome h name (g.R.Room.file c.args.room.now name) c.args.work)
     c.args.room.now c.lend.new.room c.in_err-disk.ensures.refused g.met.R.Dsk.Disk.only_now

@@ -1,10 +1,10 @@
 use Rattle.std.proofs.Common.{◌≡◌, ◌∙◌, inl, refl, rules, subst, sym}
 use Rattle.byte_forms.specs.Types.{Text}
-use Rattle.issuance_log.specs.Words.{state_of}
+use Rattle.issuance_log.specs.Words.{log_state}
 use Rattle.mtc_answers.specs.Answers.{Ending, replied, said}
 use Rattle.mtc_answers.specs.declared.answer.Said.TheVariants.{Done}
 use Rattle.mtc_logs.specs.LandmarkOutcomes.{landmark_says, next_line}
-use Rattle.mtc_logs.specs.Works.{HasWorked}
+use Rattle.mtc_logs.specs.Works.{HasWorkedOnLog}
 use Rattle.mtc_logs.proofs.Marked.{marked_so, marked_valid, may_refuse, refused_so}
 use Rattle.mtc_logs.proofs.marks.set_landmark.Goals as goal
 
@@ -18,9 +18,10 @@ returns-in-Ok-clause-works g c =
     let name = c.args.journal.now in
     let old = c.args.log.now in
     let new = c.mark.new.self in
-    let line : c.in_ok-text.text ≡ next_line (state_of old) =
+    let line : c.in_ok-text.text ≡ next_line (log_state old) =
     c.in_ok-text.ensures ∙ search rules in
-    subst (λ (t : Text). HasWorked name landmark_says old new (replied (said Done t))) (sym line)
+    subst (λ (t : Text). HasWorkedOnLog name landmark_says old new (replied (said Done t)))
+    (sym line)
     (marked_so name old new c.requires _ c.in-Ok.ensures.answer c.in-Ok.ensures.appends)
 
 pub returns-in-Err-clause-works : goal.returns-in-Err-clause-works
@@ -28,7 +29,8 @@ returns-in-Err-clause-works g c =
     let name = c.args.journal.now in
     let old = c.args.log.now in
     let new = c.mark.new.self in
-    subst (λ (e : Ending). HasWorked name landmark_says old new e) (sym c.refuse_landmark.ensures)
+    subst (λ (e : Ending). HasWorkedOnLog name landmark_says old new e)
+    (sym c.refuse_landmark.ensures)
     (refused_so name old new c.requires c.in-Err.why
     (may_refuse name old new c.requires c.in-Err.why c.in-Err.ensures.answer)
     c.in-Err.ensures.appends c.in-Err.ensures.answer)

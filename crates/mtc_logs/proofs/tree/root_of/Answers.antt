@@ -1,5 +1,5 @@
 use Rattle.std.proofs.Common.{◌∙◌}
-use Rattle.issuance_log.specs.Words.{state_of}
+use Rattle.issuance_log.specs.Words.{log_state}
 use Rattle.mtc_logs.proofs.Asked.{first_part, first_subtree}
 use Rattle.mtc_logs.proofs.tree.root_of.Goals as goal
 
@@ -8,4 +8,4 @@ hash_of-requires-clause-valid g c = first_subtree c.args.size c.requires.some
 
 pub returns-clause-hash : goal.returns-clause-hash
 returns-clause-hash g c = c.hash_of.ensures.hash
-    ∙ first_part g.H.TreeHash.hash (state_of c.args.log.now).entries c.args.size
+    ∙ first_part g.H.TreeHash.hash (log_state c.args.log.now).entries c.args.size

@@ -2,7 +2,7 @@ use Rattle.std.proofs.Common.{◌≡◌, ◌++◌, ◌∷◌, [], IfSome, None, 
 use Rattle.byte_forms.specs.Types.{Text}
 use Rattle.issuance_log.specs.Folds.{log_of, with_item}
 use Rattle.issuance_log.specs.Records.{entry_record}
-use Rattle.issuance_log.specs.Words.{log_broken, log_end, log_records, state_of, view_of}
+use Rattle.issuance_log.specs.Words.{log_broken, log_end, log_records, log_state, view_of}
 use Rattle.issuance_log.specs.Words.{LogAppends}
 use Rattle.issuance_log.specs.Refusals.{add_refusal}
 use Rattle.issuance_log.specs.Settings.{Settings}
@@ -25,8 +25,8 @@ returns-clause-appends g c =
     let h = g.H.TreeHash.hash in
     let r = c.args.request.now in
     of_same (λ (entry key : Text). LogAppends (entry_record entry key)
-    (with_item entry key (state_of log)) log c.add.new.self (Ok c.in_ok-index.index)) _ _
-    (issued_entry h (state_of log) r) r.key
+    (with_item entry key (log_state log)) log c.add.new.self (Ok c.in_ok-index.index)) _ _
+    (issued_entry h (log_state log) r) r.key
     (c.as_slice.ensures ∙ c.in_ok-entry.ensures.bytes
     ∙ ap (λ (s : Settings). entry_for h s.id r) (c.settings.view_is
     ∙ c.settings-settings.ensures.value))
@@ -36,7 +36,7 @@ returns-clause-appends g c =
 pub returns-clause-own : goal.returns-clause-own
 returns-clause-own g c =
     let log = c.args.log.now in
-    own_added (state_of log) (state_of c.add.new.self) _ c.as_slice.result.now
+    own_added (log_state log) (log_state c.add.new.self) _ c.as_slice.result.now
     c.as_slice-2.result.now
     c.in_ok-index.index c.in_ok-index.ensures.appends.leaves.state c.in_ok-index.ensures.index
     (ap (λ (s : Settings). s.id) (c.settings.view_is ∙ c.settings-settings.ensures.value))
@@ -50,8 +50,8 @@ returns-clause-valid g c = λ made.
     let r = c.args.request.now in
     of_same (λ (entry key : Text). add_refusal (view_of log) (log_broken log) (log_end log) entry
     key ≡ None → IfSome (log_records log) (λ list. log_of h (list ++ entry_record entry key ∷ [])
-    ≡ Ok (with_item entry key (state_of log)))) _ _
-    (issued_entry h (state_of log) r) r.key
+    ≡ Ok (with_item entry key (log_state log)))) _ _
+    (issued_entry h (log_state log) r) r.key
     (c.as_slice.ensures ∙ c.in_ok-entry.ensures.bytes
     ∙ ap (λ (s : Settings). entry_for h s.id r) (c.settings.view_is
     ∙ c.settings-settings.ensures.value))

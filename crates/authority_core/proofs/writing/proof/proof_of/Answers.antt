@@ -1,7 +1,7 @@
 use Rattle.std.proofs.Common.{subst}
 use Rattle.tls_wire.specs.Spelling.{AreHashes}
 use Rattle.mtc_proof.specs.Proofs.{ProofParts}
-use Rattle.issuance_log.specs.Words.{state_of}
+use Rattle.issuance_log.specs.Words.{log_state}
 use Rattle.authority_core.specs.Certificates.{proof_for}
 use Rattle.authority_core.proofs.Certificates.{proof_within, short_so, fits_so}
 use Rattle.authority_core.proofs.writing.proof.proof_of.Goals as goal
@@ -21,7 +21,8 @@ returns-clause-few g c =
 pub returns-clause-fits : goal.returns-clause-fits
 returns-clause-fits g c =
     let hashes = subst AreHashes c.as_slice.ensures.value c.are_hashes.ensures in
-    fits_so c.write_proof.result (proof_for g.H.TreeHash.hash (state_of c.args.log.now) c.args.index
+    fits_so c.write_proof.result (proof_for g.H.TreeHash.hash
+    (log_state c.args.log.now) c.args.index
     c.args.start c.args.end c.args.signatures.now)
     (record {
       start = c.ranges.start.fits;

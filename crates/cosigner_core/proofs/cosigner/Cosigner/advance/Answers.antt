@@ -5,7 +5,8 @@ use Rattle.cosigner_core.specs.declared.step.Step.TheVariants.{Advance}
 use Rattle.cosigner_core.specs.Folds.{holding}
 use Rattle.cosigner_core.specs.Refusals.{advance_refusal}
 use Rattle.cosigner_core.specs.Views.{advance_parts}
-use Rattle.cosigner_core.specs.Words.{cosigner_broken, cosigner_end, cosigner_records, state_of}
+use Rattle.cosigner_core.specs.Words.{cosigner_broken, cosigner_end, cosigner_records}
+use Rattle.cosigner_core.specs.Words.{cosigner_state}
 use Rattle.cosigner_core.proofs.Adds.{grown, keeps_append, keeps_second, none_of, not_appended}
 use Rattle.cosigner_core.proofs.Adds.{refused, some_body, stay_kept}
 use Rattle.cosigner_core.proofs.Allowed.{added, advance_allowed, valid_step}
@@ -39,13 +40,13 @@ returns-in_err-append-clause-appends g c =
       as_read = c.in_err-append.ensures.as_read;
       any_moment = c.in_err-append.ensures.any_moment;
       afterwards = c.in_err-append.ensures.afterwards;
-    }) refl c.args.self.now.kept
+    }) refl c.args.self.now.settled
 
 pub returns-in_err-append-clause-answer : goal.returns-in_err-append-clause-answer
 returns-in_err-append-clause-answer g c =
     let it = c.args.self.now in
     let r = advance_parts c.args.request.now in
-    keeps_second (advance_refusal g.H.TreeHash.hash (state_of it) r) _
+    keeps_second (advance_refusal g.H.TreeHash.hash (cosigner_state it) r) _
     c.from_residual-in_err-append.result c.in_ok-test_advance.ensures.exact
     (keeps_append (cosigner_broken it) (cosigner_end it) c.as_slice.result.now
     (advance_record r.size r.root r.proof) c.from_residual-in_err-append.result
@@ -57,18 +58,19 @@ pub returns-in_err-append-clause-valid : goal.returns-in_err-append-clause-valid
 returns-in_err-append-clause-valid g c =
     let it = c.args.self.now in
     let r = advance_parts c.args.request.now in
-    valid_step g.H.TreeHash.hash (state_of it) (holding r.size r.root (state_of it))
+    valid_step g.H.TreeHash.hash (cosigner_state it) (holding r.size r.root (cosigner_state it))
     (Advance r.size r.root r.proof) c.advance-body.ensures.fits (cosigner_records it)
-    (advance_refusal g.H.TreeHash.hash (state_of it) r) (cosigner_broken it) (cosigner_end it)
+    (advance_refusal g.H.TreeHash.hash (cosigner_state it) r) (cosigner_broken it) (cosigner_end it)
     (advance_record r.size r.root r.proof)
-    (made_of g.H.TreeHash.hash (state_of it) it.journal it.kept)
-    (advance_allowed g.H.TreeHash.hash (state_of it) r)
+    (made_of g.H.TreeHash.hash (cosigner_state it) it.journal it.settled)
+    (advance_allowed g.H.TreeHash.hash (cosigner_state it) r)
 
 pub invariant_of-self : goal.invariant_of-self
 invariant_of-self g c = record {
-  kept =
+  settled =
       let it = c.args.self.now in
-      (stay_kept g.H.TreeHash.hash (state_of it) it.journal c.append.new.self c.as_slice.result.now
+      (stay_kept g.H.TreeHash.hash (cosigner_state it) it.journal c.append.new.self
+      c.as_slice.result.now
       c.in_err-append.field-0.0 (record {
         leaves = c.in_err-append.ensures.leaves;
         broken = c.in_err-append.ensures.broken;
@@ -77,24 +79,25 @@ invariant_of-self g c = record {
         as_read = c.in_err-append.ensures.as_read;
         any_moment = c.in_err-append.ensures.any_moment;
         afterwards = c.in_err-append.ensures.afterwards;
-      }) it.kept).0;
+      }) it.settled).0;
 }
 
 pub invariant_of-self-2 : goal.invariant_of-self-2
 invariant_of-self-2 g c = record {
-  kept =
+  settled =
       let it = c.args.self.now in
       let r = advance_parts c.args.request.now in
       let h = g.H.TreeHash.hash in
       let did = c.in_ok-append.ensures.leaves in
       keeps_sound h c.hold.new.self c.append.new.self did.sound
-      (added h (state_of it) (holding r.size r.root (state_of it)) (Advance r.size r.root r.proof)
+      (added h (cosigner_state it) (holding r.size r.root (cosigner_state it))
+      (Advance r.size r.root r.proof)
       c.advance-body.ensures.fits (records it.journal) (records c.append.new.self)
       c.as_slice.result.now c.hold.new.self did.records
       (c.as_slice.ensures.value ∙ c.advance-body.ensures.bytes) c.hold.ensures
-      (advance_allowed h (state_of it) r (none_of (advance_refusal h (state_of it) r)
+      (advance_allowed h (cosigner_state it) r (none_of (advance_refusal h (cosigner_state it) r)
       c.in_ok-test_advance.ensures.exact))
-      (made_sound h (state_of it) it.journal did.was_sound it.kept));
+      (made_sound h (cosigner_state it) it.journal did.was_sound it.settled));
 }
 
 pub returns-clause-appends : goal.returns-clause-appends
@@ -115,9 +118,9 @@ pub returns-clause-valid : goal.returns-clause-valid
 returns-clause-valid g c =
     let it = c.args.self.now in
     let r = advance_parts c.args.request.now in
-    valid_step g.H.TreeHash.hash (state_of it) (holding r.size r.root (state_of it))
+    valid_step g.H.TreeHash.hash (cosigner_state it) (holding r.size r.root (cosigner_state it))
     (Advance r.size r.root r.proof) c.advance-body.ensures.fits (cosigner_records it)
-    (advance_refusal g.H.TreeHash.hash (state_of it) r) (cosigner_broken it) (cosigner_end it)
+    (advance_refusal g.H.TreeHash.hash (cosigner_state it) r) (cosigner_broken it) (cosigner_end it)
     (advance_record r.size r.root r.proof)
-    (made_of g.H.TreeHash.hash (state_of it) it.journal it.kept)
-    (advance_allowed g.H.TreeHash.hash (state_of it) r)
+    (made_of g.H.TreeHash.hash (cosigner_state it) it.journal it.settled)
+    (advance_allowed g.H.TreeHash.hash (cosigner_state it) r)

@@ -5,7 +5,8 @@ use Rattle.cosigner_core.specs.declared.step.Step.TheVariants.{Sign}
 use Rattle.cosigner_core.specs.Folds.{having_signed}
 use Rattle.cosigner_core.specs.Refusals.{subtree_refusal}
 use Rattle.cosigner_core.specs.Views.{subtree_parts}
-use Rattle.cosigner_core.specs.Words.{cosigner_broken, cosigner_end, cosigner_records, state_of}
+use Rattle.cosigner_core.specs.Words.{cosigner_broken, cosigner_end, cosigner_records}
+use Rattle.cosigner_core.specs.Words.{cosigner_state}
 use Rattle.cosigner_core.proofs.Adds.{grown, keeps_append, keeps_second, none_of, not_appended}
 use Rattle.cosigner_core.proofs.Adds.{refused, some_body, stay_kept}
 use Rattle.cosigner_core.proofs.Allowed.{added, sign_allowed, valid_step}
@@ -22,10 +23,10 @@ pub append-requires-clause-some : goal.append-requires-clause-some
 append-requires-clause-some g c =
     let it = c.args.self.now in
     let r = subtree_parts c.args.request.now in
-    some_body c.as_slice.result.now (sign_record (state_of it).key.next r.start r.end
+    some_body c.as_slice.result.now (sign_record (cosigner_state it).key.next r.start r.end
     r.hash r.proof)
     (c.as_slice.ensures.value ∙ c.record_of-body.ensures.bytes)
-    (length-sign (state_of it).key.next r.start r.end r.hash r.proof)
+    (length-sign (cosigner_state it).key.next r.start r.end r.hash r.proof)
 
 pub returns-in_err-append-clause-appends : goal.returns-in_err-append-clause-appends
 returns-in_err-append-clause-appends g c =
@@ -41,16 +42,16 @@ returns-in_err-append-clause-appends g c =
       as_read = c.in_err-append.ensures.as_read;
       any_moment = c.in_err-append.ensures.any_moment;
       afterwards = c.in_err-append.ensures.afterwards;
-    }) refl c.args.self.now.kept
+    }) refl c.args.self.now.settled
 
 pub returns-in_err-append-clause-answer : goal.returns-in_err-append-clause-answer
 returns-in_err-append-clause-answer g c =
     let it = c.args.self.now in
     let r = subtree_parts c.args.request.now in
-    keeps_second (subtree_refusal g.H.TreeHash.hash (state_of it) r) _
+    keeps_second (subtree_refusal g.H.TreeHash.hash (cosigner_state it) r) _
     c.from_residual-in_err-append.result c.in_ok-test_subtree.ensures.exact
     (keeps_append (cosigner_broken it) (cosigner_end it) c.as_slice.result.now
-    (sign_record (state_of it).key.next r.start r.end r.hash r.proof)
+    (sign_record (cosigner_state it).key.next r.start r.end r.hash r.proof)
     c.from_residual-in_err-append.result
     c.in_err-append.field-0.0 c.from_residual-in_err-append.ensures.1
     (c.as_slice.ensures.value ∙ c.record_of-body.ensures.bytes) c.in_err-append.ensures.broken
@@ -60,19 +61,20 @@ pub returns-in_err-append-clause-valid : goal.returns-in_err-append-clause-valid
 returns-in_err-append-clause-valid g c =
     let it = c.args.self.now in
     let r = subtree_parts c.args.request.now in
-    valid_step g.H.TreeHash.hash (state_of it) (having_signed (state_of it))
-    (Sign (state_of it).key.next r.start r.end r.hash r.proof) c.record_of-body.ensures.fits
+    valid_step g.H.TreeHash.hash (cosigner_state it) (having_signed (cosigner_state it))
+    (Sign (cosigner_state it).key.next r.start r.end r.hash r.proof) c.record_of-body.ensures.fits
     (cosigner_records it)
-    (subtree_refusal g.H.TreeHash.hash (state_of it) r) (cosigner_broken it) (cosigner_end it)
-    (sign_record (state_of it).key.next r.start r.end r.hash r.proof)
-    (made_of g.H.TreeHash.hash (state_of it) it.journal it.kept)
-    (sign_allowed g.H.TreeHash.hash (state_of it) r)
+    (subtree_refusal g.H.TreeHash.hash (cosigner_state it) r) (cosigner_broken it) (cosigner_end it)
+    (sign_record (cosigner_state it).key.next r.start r.end r.hash r.proof)
+    (made_of g.H.TreeHash.hash (cosigner_state it) it.journal it.settled)
+    (sign_allowed g.H.TreeHash.hash (cosigner_state it) r)
 
 pub invariant_of-self : goal.invariant_of-self
 invariant_of-self g c = record {
-  kept =
+  settled =
       let it = c.args.self.now in
-      (stay_kept g.H.TreeHash.hash (state_of it) it.journal c.append.new.self c.as_slice.result.now
+      (stay_kept g.H.TreeHash.hash (cosigner_state it) it.journal c.append.new.self
+      c.as_slice.result.now
       c.in_err-append.field-0.0 (record {
         leaves = c.in_err-append.ensures.leaves;
         broken = c.in_err-append.ensures.broken;
@@ -81,25 +83,25 @@ invariant_of-self g c = record {
         as_read = c.in_err-append.ensures.as_read;
         any_moment = c.in_err-append.ensures.any_moment;
         afterwards = c.in_err-append.ensures.afterwards;
-      }) it.kept).0;
+      }) it.settled).0;
 }
 
 pub invariant_of-self-2 : goal.invariant_of-self-2
 invariant_of-self-2 g c = record {
-  kept =
+  settled =
       let it = c.args.self.now in
       let r = subtree_parts c.args.request.now in
       let h = g.H.TreeHash.hash in
       let did = c.in_ok-append.ensures.leaves in
       keeps_sound h c.sign.new.self c.append.new.self did.sound
-      (added h (state_of it) (having_signed (state_of it))
-      (Sign (state_of it).key.next r.start r.end r.hash r.proof)
+      (added h (cosigner_state it) (having_signed (cosigner_state it))
+      (Sign (cosigner_state it).key.next r.start r.end r.hash r.proof)
       c.record_of-body.ensures.fits (records it.journal) (records c.append.new.self)
       c.as_slice.result.now c.sign.new.self did.records
       (c.as_slice.ensures.value ∙ c.record_of-body.ensures.bytes) c.sign.ensures.counted
-      (sign_allowed h (state_of it) r (none_of (subtree_refusal h (state_of it) r)
+      (sign_allowed h (cosigner_state it) r (none_of (subtree_refusal h (cosigner_state it) r)
       c.in_ok-test_subtree.ensures.exact))
-      (made_sound h (state_of it) it.journal did.was_sound it.kept));
+      (made_sound h (cosigner_state it) it.journal did.was_sound it.settled));
 }
 
 pub returns-clause-appends : goal.returns-clause-appends
@@ -120,10 +122,10 @@ pub returns-clause-valid : goal.returns-clause-valid
 returns-clause-valid g c =
     let it = c.args.self.now in
     let r = subtree_parts c.args.request.now in
-    valid_step g.H.TreeHash.hash (state_of it) (having_signed (state_of it))
-    (Sign (state_of it).key.next r.start r.end r.hash r.proof) c.record_of-body.ensures.fits
+    valid_step g.H.TreeHash.hash (cosigner_state it) (having_signed (cosigner_state it))
+    (Sign (cosigner_state it).key.next r.start r.end r.hash r.proof) c.record_of-body.ensures.fits
     (cosigner_records it)
-    (subtree_refusal g.H.TreeHash.hash (state_of it) r) (cosigner_broken it) (cosigner_end it)
-    (sign_record (state_of it).key.next r.start r.end r.hash r.proof)
-    (made_of g.H.TreeHash.hash (state_of it) it.journal it.kept)
-    (sign_allowed g.H.TreeHash.hash (state_of it) r)
+    (subtree_refusal g.H.TreeHash.hash (cosigner_state it) r) (cosigner_broken it) (cosigner_end it)
+    (sign_record (cosigner_state it).key.next r.start r.end r.hash r.proof)
+    (made_of g.H.TreeHash.hash (cosigner_state it) it.journal it.settled)
+    (sign_allowed g.H.TreeHash.hash (cosigner_state it) r)

@@ -7,7 +7,7 @@ use Rattle.journal_core.specs.Openings.{opening_disk, read_list}
 use Rattle.journal_core.specs.Words.{AllStandFor, disk_of}
 use Rattle.journal_core.proofs.FoldSteps.{cause_begin}
 use Rattle.cosigner_core.specs.Folds.{cosigner_fold, cosigner_of}
-use Rattle.cosigner_core.specs.Kept.{kept_records}
+use Rattle.cosigner_core.specs.SettledRecords.{settled_records}
 use Rattle.cosigner_core.specs.Openings.{cosigner_read}
 use Rattle.cosigner_core.proofs.Keeps.{both_told, keeps_sound, of_sound, sound_records}
 use Rattle.cosigner_core.proofs.cosigner.Cosigner.open.Goals as goal
@@ -25,7 +25,7 @@ returns-in-Ok-read_signer-clause-looks g c =
 
 pub invariant_of-result : goal.invariant_of-result
 invariant_of-result g c = record {
-  kept =
+  settled =
       let h = g.H.TreeHash.hash in
       let signer = c.in-Ok-read_signer.signer in
       keeps_sound h signer c.ready.result c.ready.ensures.sound
@@ -44,7 +44,7 @@ returns-in-Ok-read_signer-clause-found g c =
     both_told (λ b list. cosigner_read h b
     ≡ Ok (record { records = list; state = c.in-Ok-read_signer.signer }))
     (g.D.Disk.told (opening_disk opening)) (g.D.Disk.told c.args.disk) (read_list opening)
-    (kept_records c.ready.result)
+    (settled_records c.ready.result)
     (sym (c.read_signer.ensures.looks.told ∙ c.in-Ok.ensures.ok.looks.told))
     (sound_records c.ready.result c.ready.ensures.sound ∙ c.ready.ensures.list)
     c.in-Ok-read_signer.ensures.found.found
@@ -53,7 +53,7 @@ pub returns-in-Ok-read_signer-clause-stands : goal.returns-in-Ok-read_signer-cla
 returns-in-Ok-read_signer-clause-stands g c =
     let opening = c.read_signer.new.opening in
     both_told StandsFor (g.D.Disk.told (opening_disk opening))
-    (g.D.Disk.told (disk_of c.ready.result)) (read_list opening) (kept_records c.ready.result)
+    (g.D.Disk.told (disk_of c.ready.result)) (read_list opening) (settled_records c.ready.result)
     (ap g.D.Disk.told c.ready.ensures.disk)
     (sound_records c.ready.result c.ready.ensures.sound ∙ c.ready.ensures.list)
     c.in-Ok-read_signer.ensures.found.stands

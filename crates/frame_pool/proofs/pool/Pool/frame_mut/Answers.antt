@@ -1,7 +1,7 @@
 use Rattle.std.proofs.Common.{◌≡◌, ◌<◌, [], get_or, length, refl, sym, ◌∙◌, ap, arith}
 use Rattle.std.proofs.lemmas.List.{get_or_default}
-use Rattle.frame_pool.specs.Frames.{bytes_at}
-use Rattle.frame_pool.specs.Lending.{with_bytes}
+use Rattle.frame_pool.specs.Frames.{frame_at}
+use Rattle.frame_pool.specs.Lending.{with_frame}
 use Rattle.frame_pool.proofs.pool.Pool.frame_mut.Goals as goal
 
 pub returns : goal.returns
@@ -13,10 +13,10 @@ returns c =
     c.as_mut_slice.ensures.value ∙ c.index_mut.ensures.value
     ∙ get_or_default c.self.inside.frames.items c.args.slot.0 c.index_mut.result.now [] inside in
     let whole = sym (ap length c.frame-whole.ensures.value) ∙ c.frame-whole.ensures.size in (
-      (refl, λ w. ap (λ p. with_bytes p c.args.slot.0 w) c.self.view_is),
+      (refl, λ w. ap (λ p. with_frame p c.args.slot.0 w) c.self.view_is),
       record {
         writes_back = tt;
-        value = value ∙ ap (λ p. bytes_at p c.args.slot.0) c.self.view_is;
+        value = value ∙ ap (λ p. frame_at p c.args.slot.0) c.self.view_is;
         size = ap length value ∙ whole;
       },
     )

@@ -1,7 +1,7 @@
 use Rattle.std.proofs.Common.{◌<◌, set, Some, false, length, sym, subst}
 use Rattle.frame_pool.proofs.Sounds.{sound-claimed}
 use Rattle.frame_pool.specs.Frames.{IsUnheld}
-use Rattle.frame_pool.specs.Sound.{IsSound}
+use Rattle.frame_pool.specs.Sound.{IsSoundPool}
 use Rattle.frame_pool.proofs.pool.Pool.put.Goals as goal
 
 pub move_last-requires : goal.move_last-requires
@@ -11,7 +11,7 @@ move_last-requires c =
 
 pub invariant_of-self : goal.invariant_of-self
 invariant_of-self c =
-    subst (λ order. IsSound (record {
+    subst (λ order. IsSoundPool (record {
       keys = set c.self.inside.keys.items c.args.slot (Some c.args.key);
       pins = set c.self.inside.pins.items c.args.slot false;
       order = order;

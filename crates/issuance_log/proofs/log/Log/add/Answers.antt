@@ -3,7 +3,7 @@ use Rattle.journal_core.specs.Words.{disk_of}
 use Rattle.journal_core.proofs.Appends.{all_kept, untouched_moment, untouched_after}
 use Rattle.issuance_log.specs.Folds.{with_item}
 use Rattle.issuance_log.specs.Records.{entry_record}
-use Rattle.issuance_log.specs.Words.{log_records, log_broken, log_end, state_of}
+use Rattle.issuance_log.specs.Words.{log_records, log_broken, log_end, log_state}
 use Rattle.issuance_log.specs.declared.error.LogError.TheVariants.{TooLarge}
 use Rattle.issuance_log.proofs.Adds.{room_of, record_some, record_few, added_to, added_unrefused}
 use Rattle.issuance_log.proofs.Adds.{agrees_behind, same_item, moment_is, after_is, left_alone}
@@ -12,7 +12,7 @@ use Rattle.issuance_log.proofs.log.Log.add.Goals as goal
 pub returns-in_err-record-clause-valid : goal.returns-in_err-record-clause-valid
 returns-in_err-record-clause-valid g c =
     let log = c.args.self.now in
-    added_unrefused g.H.TreeHash.hash (state_of log) c.args.entry.now c.args.spki.now c.requires
+    added_unrefused g.H.TreeHash.hash (log_state log) c.args.entry.now c.args.spki.now c.requires
     (log_records log) (log_broken log) (log_end log) log.agrees c.is_full.ensures.sound
 
 pub append-requires-clause-some : goal.append-requires-clause-some
@@ -27,19 +27,19 @@ append-requires-clause-few g c =
 pub returns-in_err-item-clause-valid : goal.returns-in_err-item-clause-valid
 returns-in_err-item-clause-valid g c =
     let log = c.args.self.now in
-    added_unrefused g.H.TreeHash.hash (state_of log) c.args.entry.now c.args.spki.now c.requires
+    added_unrefused g.H.TreeHash.hash (log_state log) c.args.entry.now c.args.spki.now c.requires
     (log_records log) (log_broken log) (log_end log) log.agrees c.is_full.ensures.sound
 
 pub returns-in_err-append-clause-valid : goal.returns-in_err-append-clause-valid
 returns-in_err-append-clause-valid g c =
     let log = c.args.self.now in
-    added_unrefused g.H.TreeHash.hash (state_of log) c.args.entry.now c.args.spki.now c.requires
+    added_unrefused g.H.TreeHash.hash (log_state log) c.args.entry.now c.args.spki.now c.requires
     (log_records log) (log_broken log) (log_end log) log.agrees c.is_full.ensures.sound
 
 pub returns-clause-valid : goal.returns-clause-valid
 returns-clause-valid g c =
     let log = c.args.self.now in
-    added_unrefused g.H.TreeHash.hash (state_of log) c.args.entry.now c.args.spki.now c.requires
+    added_unrefused g.H.TreeHash.hash (log_state log) c.args.entry.now c.args.spki.now c.requires
     (log_records log) (log_broken log) (log_end log) log.agrees c.is_full.ensures.sound
 
 pub returns-then-entry-spki-gt-MAX_ITEM-clause-appends
@@ -47,7 +47,7 @@ pub returns-then-entry-spki-gt-MAX_ITEM-clause-appends
 returns-then-entry-spki-gt-MAX_ITEM-clause-appends g c =
     let log = c.args.self.now in
     left_alone (entry_record c.args.entry.now c.args.spki.now)
-    (with_item c.args.entry.now c.args.spki.now (state_of log)) log (g.met.D.Disk.only_now _)
+    (with_item c.args.entry.now c.args.spki.now (log_state log)) log (g.met.D.Disk.only_now _)
     TooLarge (record { disk = refl; state = refl; end = refl; broken = refl })
 
 pub returns-in_err-item-clause-appends : goal.returns-in_err-item-clause-appends
@@ -99,11 +99,11 @@ invariant_of-self-2 g c = record {
       let item = c.in_ok-item.ensures in
       agrees_behind g.H.TreeHash.hash (log_records log) _ c.as_slice.result.now
       (entry_record c.args.entry.now c.args.spki.now)
-      (with_item c.args.entry.now c.args.spki.now (state_of log)) c.push.new.self.state
+      (with_item c.args.entry.now c.args.spki.now (log_state log)) c.push.new.self.state
       c.in_ok-append.ensures.leaves.records (c.as_slice.ensures
       ∙ c.in_ok-record.ensures) (c.push.ensures
       ∙ same_item _ _ _ _ _ _ item.entry item.key item.same)
-      (added_to g.H.TreeHash.hash (state_of log) c.args.entry.now c.args.spki.now c.requires
+      (added_to g.H.TreeHash.hash (log_state log) c.args.entry.now c.args.spki.now c.requires
       (log_records log) (log.agrees c.in_ok-append.ensures.leaves.was_sound)
       (room_of _ _ (sym c.if-is_full.ensures.full)) c.if-entry-spki-gt-MAX_ITEM.false);
 }

@@ -4,7 +4,7 @@ use Rattle.journal_core.proofs.Appends.{all_kept}
 use Rattle.issuance_log.specs.Folds.{LogState, with_mark}
 use Rattle.issuance_log.specs.Marks.{last_mark}
 use Rattle.issuance_log.specs.Records.{landmark_record}
-use Rattle.issuance_log.specs.Words.{log_records, log_broken, log_end, state_of}
+use Rattle.issuance_log.specs.Words.{log_records, log_broken, log_end, log_state}
 use Rattle.issuance_log.proofs.Adds.{above_last, marked_to, marked_unrefused, agrees_behind}
 use Rattle.issuance_log.proofs.Adds.{moment_is, after_is}
 use Rattle.issuance_log.proofs.Growth.{size_fits}
@@ -14,25 +14,25 @@ use Rattle.issuance_log.proofs.log.Log.mark.Goals as goal
 pub returns-in_err-body-clause-valid : goal.returns-in_err-body-clause-valid
 returns-in_err-body-clause-valid g c =
     let log = c.args.self.now in
-    marked_unrefused g.H.TreeHash.hash (state_of log) (log_records log) (log_broken log)
+    marked_unrefused g.H.TreeHash.hash (log_state log) (log_records log) (log_broken log)
     (log_end log) log.agrees c.last_mark.ensures.sound
 
 pub returns-in_err-prepare_mark-clause-valid : goal.returns-in_err-prepare_mark-clause-valid
 returns-in_err-prepare_mark-clause-valid g c =
     let log = c.args.self.now in
-    marked_unrefused g.H.TreeHash.hash (state_of log) (log_records log) (log_broken log)
+    marked_unrefused g.H.TreeHash.hash (log_state log) (log_records log) (log_broken log)
     (log_end log) log.agrees c.last_mark.ensures.sound
 
 pub returns-in_err-append-clause-valid : goal.returns-in_err-append-clause-valid
 returns-in_err-append-clause-valid g c =
     let log = c.args.self.now in
-    marked_unrefused g.H.TreeHash.hash (state_of log) (log_records log) (log_broken log)
+    marked_unrefused g.H.TreeHash.hash (log_state log) (log_records log) (log_broken log)
     (log_end log) log.agrees c.last_mark.ensures.sound
 
 pub returns-clause-valid : goal.returns-clause-valid
 returns-clause-valid g c =
     let log = c.args.self.now in
-    marked_unrefused g.H.TreeHash.hash (state_of log) (log_records log) (log_broken log)
+    marked_unrefused g.H.TreeHash.hash (log_state log) (log_records log) (log_broken log)
     (log_end log) log.agrees c.last_mark.ensures.sound
 
 pub append-requires-clause-some : goal.append-requires-clause-some
@@ -50,7 +50,7 @@ append-requires-clause-few g c =
 pub push_mark-requires-clause-above : goal.push_mark-requires-clause-above
 push_mark-requires-clause-above g c =
     subst (λ (s : LogState). last_mark s.marks < length s.entries) (sym c.prepare_mark.ensures.same)
-    (above_last g.H.TreeHash.hash (state_of c.args.self.now) c.last_mark.result c.len-size.result
+    (above_last g.H.TreeHash.hash (log_state c.args.self.now) c.last_mark.result c.len-size.result
     c.last_mark.ensures.value c.len-size.ensures.value c.if-last_mark-size.false
     c.last_mark.ensures.sound)
 
@@ -78,7 +78,7 @@ returns-clause-appends g c =
     record {
       leaves = search rules;
       kept = all_kept g.D.Disk disk (g.D.Disk.told disk) (log_records log)
-          c.as_slice.result.now (landmark_record (length (state_of log).entries))
+          c.as_slice.result.now (landmark_record (length (log_state log).entries))
           grown.records body_is grown.all;
       count = c.append.ensures.count;
       any_moment = λ sound. moment_is g.D.Disk _ _ _ _ _ body_is
@@ -94,12 +94,12 @@ invariant_of-self-2 g c = record {
       let h = g.H.TreeHash.hash in
       let grown = c.in_ok-append.ensures.leaves in
       agrees_behind h (log_records log) _ c.as_slice.result.now
-      (landmark_record (length (state_of log).entries)) (with_mark (state_of log))
+      (landmark_record (length (log_state log).entries)) (with_mark (log_state log))
       c.push_mark.new.self.state grown.records (c.as_slice.ensures ∙ c.in_ok-body.ensures
       ∙ ap landmark_record c.len-size.ensures.value) (c.push_mark.ensures
       ∙ ap with_mark c.prepare_mark.ensures.same)
-      (marked_to h (state_of log) (log_records log) (log.agrees grown.was_sound)
-      (size_fits h (state_of log) c.last_mark.ensures.sound)
-      (above_last h (state_of log) c.last_mark.result c.len-size.result c.last_mark.ensures.value
+      (marked_to h (log_state log) (log_records log) (log.agrees grown.was_sound)
+      (size_fits h (log_state log) c.last_mark.ensures.sound)
+      (above_last h (log_state log) c.last_mark.result c.len-size.result c.last_mark.ensures.value
       c.len-size.ensures.value c.if-last_mark-size.false c.last_mark.ensures.sound));
 }

@@ -11,20 +11,22 @@ use Rattle.journal_core.specs.declared.journal.Journal.{Journal}
 use Rattle.cosigner_core.specs.Folds.{CosignerState, cosigner_of}
 
 -- the records before the closed gate that ends here
-abbrev pub kept_of : ℕ → Text → List Text
-kept_of end bytes = records_before bytes (end - 1)
+abbrev pub settled_of : ℕ → Text → List Text
+settled_of end bytes = records_before bytes (end - 1)
 
 -- They stand in the bytes up to that gate, and make this cosigner.
-pub record IsKept (h : HashFunction) (s : CosignerState) (end : ℕ) (bytes : Text) : Type 0 where
-  pub there : AreRecordsAt bytes 16 (kept_of end bytes)
-  pub last : end ≡ end_behind (kept_of end bytes)
-  pub made : cosigner_of h (kept_of end bytes) ≡ Ok s
+pub record IsSettledAs (h : HashFunction) (s : CosignerState) (end : ℕ)
+    (bytes : Text) : Type 0 where
+  pub there : AreRecordsAt bytes 16 (settled_of end bytes)
+  pub last : end ≡ end_behind (settled_of end bytes)
+  pub made : cosigner_of h (settled_of end bytes) ≡ Ok s
 
 -- it has one proof at most
-pub IsKept-prop : (h : HashFunction) (s : CosignerState) (end : ℕ) (bytes : Text)
-    → IsProp (IsKept h s end bytes)
-IsKept-prop h s end bytes = hlevel (props, AreRecordsAt-prop bytes 16 (kept_of end bytes))
+pub IsSettledAs-prop : (h : HashFunction) (s : CosignerState) (end : ℕ) (bytes : Text)
+    → IsProp (IsSettledAs h s end bytes)
+IsSettledAs-prop h s end bytes = hlevel (props, AreRecordsAt-prop bytes 16 (settled_of end bytes))
 
 -- the same of the bytes that a journal's disk tells
-abbrev pub kept_records : {D : Type 0} {g : Ghosts D} → Journal D g → Option (List Text)
-kept_records {D} {g} journal = option_map (kept_of (end_of journal)) (g.told (disk_of journal))
+abbrev pub settled_records : {D : Type 0} {g : Ghosts D} → Journal D g → Option (List Text)
+settled_records {D} {g} journal = option_map (settled_of (end_of journal))
+    (g.told (disk_of journal))
