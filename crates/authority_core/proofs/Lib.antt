@@ -2,7 +2,7 @@ mod Certificates
 mod Identifiers
 mod Labels
 mod Items
-mod Marks
+pub mod Marks
 mod Sizes
 mod Issued
 mod Accepted

@@ -1,4 +1,4 @@
--- The landmarks of a log, from its marks.
+-- The landmarks of a log, from its marks. They rise strictly, and are within its size.
 use Rattle.std.proofs.Common.{◌≡◌, ℕ, zero, suc, ◌+◌, ◌≤◌, List, [], ◌∷◌, get_or}
 use Rattle.std.proofs.Common.{Option, Some, None, IfSome, MatchOption, ap, subst, arith}
 use Rattle.std.specs.List.Sorted.{IsStrictlyIncreasing}

@@ -1,7 +1,6 @@
 pub mod Items
 pub mod Asked
 pub mod Opened
-pub mod Rising
 pub mod Appends
 pub mod Issued
 pub mod Marked

@@ -1,6 +1,6 @@
 use Rattle.std.proofs.Common.{suc, length, arith}
 use Rattle.issuance_log.specs.Words.{log_state}
-use Rattle.mtc_logs.proofs.Rising.{bounded, strictly}
+use Rattle.authority_core.proofs.Marks.{bounded, strictly}
 use Rattle.mtc_logs.proofs.marks.landmarks_in.Goals as goal
 
 pub of_marks-requires-clause-rise : goal.of_marks-requires-clause-rise
