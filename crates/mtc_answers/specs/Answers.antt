@@ -1,8 +1,9 @@
 -- How a command ends: with a reply or without one; and what a reply means: the status, and what
 -- goes to standard output and to standard error.
-use Rattle.std.specs.Prelude.{◌≡◌, ◌⊎◌, ℕ, List, [], ◌++◌, codes, Option, option_map}
+use Rattle.std.specs.Prelude.{◌≡◌, ◌⊎◌, ℕ, [], ◌++◌, codes, Option, option_map}
 use Rattle.std.specs.Prelude.{Result, Ok, Err}
 use Rattle.std.specs.Fmt.{decimal}
+use Rattle.byte_forms.specs.Types.{Text}
 use Rattle.mtc_answers.specs.Lines.{line_of}
 use Rattle.mtc_answers.specs.declared.answer.Said.{Said}
 use Rattle.mtc_answers.specs.declared.answer.Said.TheVariants.{Done, Against, Collided}
@@ -21,15 +22,15 @@ use Rattle.mtc_answers.specs.declared.answer.Stop.TheVariants.{Refused, Room, Me
 -- What a command replies.
 pub data Reply : Type 0 where
   -- It did its work or judged, and this goes to standard output.
-  said : Said → List ℕ → Reply
+  said : Said → Text → Reply
   -- It is refused: why, the file that the refusal is about, and the reason.
-  refused : Stopped → Option (List ℕ) → List ℕ → Reply
+  refused : Stopped → Option Text → Text → Reply
 
 -- How a command ends.
 pub data Ending : Type 0 where
   replied : Reply → Ending
   -- The room, or an object that it lent, failed at this file.
-  room_failed : List ℕ → Ending
+  room_failed : Text → Ending
   -- Memory was refused.
   no_memory : Ending
 
@@ -51,12 +52,12 @@ status_of (said status text) = said_code status
 status_of (refused why file reason) = stopped_code why
 
 -- What goes to standard output.
-abbrev pub out_of : Reply → List ℕ
+abbrev pub out_of : Reply → Text
 out_of (said status text) = text
 out_of (refused why file reason) = []
 
 -- What goes to standard error, where the words begin with this command.
-abbrev pub err_of : List ℕ → Reply → List ℕ
+abbrev pub err_of : Text → Reply → Text
 err_of command (said status text) = []
 err_of command (refused why file reason) = line_of command file reason
 
@@ -72,13 +73,13 @@ IfReply (room_failed file) P = Unit {0}
 IfReply no_memory P = Unit {0}
 
 -- The text of a reason: its name, and what stands behind it.
-abbrev pub more_text : More → List ℕ
+abbrev pub more_text : More → Text
 more_text Nothing = []
 more_text (Name name) = codes " " ++ name.now
 more_text (Number number) = codes " " ++ decimal number
 more_text (Numbers first second) = codes " " ++ (decimal first ++ (codes " " ++ decimal second))
 
-abbrev pub reason_text : Reason → List ℕ
+abbrev pub reason_text : Reason → Text
 reason_text reason = reason.name.now ++ more_text reason.more
 
 -- What the program's values say.

@@ -1,5 +1,6 @@
 -- What follows of the way in which a command ends.
-use Rattle.std.specs.Prelude.{◌≡◌, ◌≢◌, ◌⊎◌, ℕ, List, [], ◌∷◌, codes, Some}
+use Rattle.std.specs.Prelude.{◌≡◌, ◌≢◌, ◌⊎◌, List, [], ◌∷◌, codes, Some}
+use Rattle.byte_forms.specs.Types.{Text}
 use Rattle.disk_core.specs.declared.disk.Disk.{Ghosts}
 use Rattle.mtc_answers.specs.Answers.{Ending, replied, room_failed, no_memory, refused, status_of}
 use Rattle.mtc_answers.specs.declared.answer.Stopped.TheVariants.{Beyond, Missing}
@@ -14,20 +15,20 @@ LeftBy (room_failed file) did = MayHaveMade did
 LeftBy no_memory did = HasKept did
 
 -- The file is one of these.
-abbrev pub IsNamed : List (List ℕ) → List ℕ → Type 0
+abbrev pub IsNamed : List Text → Text → Type 0
 IsNamed [] file = ⊥
 IsNamed (name ∷ names) file = (file ≡ name) ⊎ IsNamed names file
 
 -- What an input file stops a command with: it isn't there, it is over its limit, the room failed at
 -- it, or memory was refused.
-abbrev pub IsInputStop : List ℕ → Ending → Type 0
+abbrev pub IsInputStop : Text → Ending → Type 0
 IsInputStop file ending = (ending ≡ replied (refused Missing (Some file) (codes "Absent")))
     ⊎ ((ending ≡ replied (refused Beyond (Some file) (codes "TooLong")))
     ⊎ ((ending ≡ room_failed file) ⊎ (ending ≡ no_memory)))
 
 -- The room is named as the cause only where it failed, and at one of these files; want of memory is
 -- free.
-abbrev pub FailedOnly : Type 0 → List (List ℕ) → Ending → Type 0
+abbrev pub FailedOnly : Type 0 → List Text → Ending → Type 0
 FailedOnly Fault files (replied reply) = Unit {0}
 FailedOnly Fault files (room_failed file) = Fault × IsNamed files file
 FailedOnly Fault files no_memory = Unit {0}

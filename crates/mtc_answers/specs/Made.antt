@@ -1,6 +1,7 @@
 -- What a command leaves of its journal: the images that a crash may leave of it now, and since the
 -- call began.
 use Rattle.std.specs.Prelude.{◌≡◌, ◌⊎◌, ◌≤◌, ℕ, List, [], ◌∷◌, ◌++◌, Option, None, Some}
+use Rattle.byte_forms.specs.Types.{Text}
 use Rattle.disk_core.specs.Moments.{LeavesOnly, Looks}
 use Rattle.disk_core.specs.declared.disk.Disk.{Ghosts}
 use Rattle.journal_core.specs.Format.{StandsFor, StandsForEither}
@@ -11,11 +12,11 @@ pub data Journaled : Type 0 where
   -- It isn't opened.
   untouched : Journaled
   -- It is opened, these records are found, and no record is added.
-  reads : List (List ℕ) → Journaled
+  reads : List Text → Journaled
   -- These records are found, and one is added.
-  appended : List (List ℕ) → List ℕ → Journaled
+  appended : List Text → Text → Journaled
   -- It is a new journal with this first record.
-  started : List ℕ → Journaled
+  started : Text → Journaled
 
 -- It works on a journal that was there.
 abbrev pub IsOnOld : Journaled → Type 0
@@ -27,7 +28,7 @@ IsOnOld (started body) = ⊥
 -- The images that a crash may leave, and what is said of those before a call, of those now, and of
 -- those at any moment since it began.
 abbrev pub Images : Type 1
-Images = List ℕ → Type 0
+Images = Text → Type 0
 
 abbrev pub Leaving : Type 1
 Leaving = Images → Images → Images → Type 0
@@ -35,7 +36,7 @@ Leaving = Images → Images → Images → Type 0
 -- A name's device: its images, its moment and the images since a moment. A file that isn't there is
 -- like an empty one at moment 0.
 module _ {D : Type 0} (g : Ghosts D) where
-  abbrev pub images_at : Option D → List ℕ → Type 0
+  abbrev pub images_at : Option D → Text → Type 0
   images_at None c = c ≡ []
   images_at (Some d) c = g.may_leave d c
 
@@ -43,38 +44,38 @@ module _ {D : Type 0} (g : Ghosts D) where
   moment_at None = 0
   moment_at (Some d) = g.moment d
 
-  abbrev pub images_since : Option D → ℕ → List ℕ → Type 0
+  abbrev pub images_since : Option D → ℕ → Text → Type 0
   images_since None t c = c ≡ []
   images_since (Some d) t c = g.left_since d t c
 
 -- Nothing new is left: each image, now and since the call began, is one from before.
 pub record Kept (before now since : Images) : Type 0 where
-  pub now_is : (c : List ℕ) → now c → before c
-  pub since_is : (c : List ℕ) → since c → before c
+  pub now_is : (c : Text) → now c → before c
+  pub since_is : (c : Text) → since c → before c
 
 -- So it is of each command that wanted memory.
 abbrev pub HasKept : Journaled → Leaving
 HasKept did before now since = Kept before now since
 
 -- What was read is an image from before, and stands for these records.
-pub record WasRead (before : Images) (list : List (List ℕ)) : Type 0 where
-  pub bytes : List ℕ
+pub record WasRead (before : Images) (list : List Text) : Type 0 where
+  pub bytes : Text
   pub image : before bytes
   pub stands : StandsFor bytes list
 
 -- The records that were read are on the disk, and nothing else.
-pub record WasOpened (list : List (List ℕ)) (before now since : Images) : Type 0 where
+pub record WasOpened (list : List Text) (before now since : Images) : Type 0 where
   pub read : WasRead before list
-  pub now_is : (c : List ℕ) → now c → StandsFor c list
-  pub since_is : (c : List ℕ) → since c → before c
+  pub now_is : (c : Text) → now c → StandsFor c list
+  pub since_is : (c : Text) → since c → before c
 
 -- One record is added behind those that were read. Each image now is one of these: one with the new
 -- record, or where a fault came between, one with it or without it.
-pub record HasAdded (list : List (List ℕ)) (body : List ℕ)
+pub record HasAdded (list : List Text) (body : Text)
     (Now before now since : Images) : Type 0 where
   pub read : WasRead before list
-  pub now_is : (c : List ℕ) → now c → Now c
-  pub since_is : (c : List ℕ) → since c → before c ⊎ StandsForEither list body c
+  pub now_is : (c : Text) → now c → Now c
+  pub since_is : (c : Text) → since c → before c ⊎ StandsForEither list body c
 
 -- What a command has left of its journal that ends without a fault of the room or want of memory.
 abbrev pub HasMade : Journaled → Leaving
@@ -82,7 +83,7 @@ HasMade untouched before now since = Kept before now since
 HasMade (reads list) before now since = WasOpened list before now since
 HasMade (appended list body) before now since =
     HasAdded list body (λ c. StandsFor c (list ++ body ∷ [])) before now since
-HasMade (started body) before now since = (c : List ℕ) → now c → StandsFor c (body ∷ [])
+HasMade (started body) before now since = (c : Text) → now c → StandsFor c (body ∷ [])
 
 -- And one that a fault of the room has ended.
 abbrev pub MayHaveMade : Journaled → Leaving
@@ -95,8 +96,8 @@ MayHaveMade (started body) before now since = Unit {0}
 -- The same over a device as it was opened and as it is afterwards.
 module _ {D : Type 0} (g : Ghosts D) where
   -- It was opened and stands for these records.
-  pub record IsOpen (mid : D) (list : List (List ℕ)) : Type 0 where
-    pub bytes : List ℕ
+  pub record IsOpen (mid : D) (list : List Text) : Type 0 where
+    pub bytes : Text
     pub told : g.told mid ≡ Some bytes
     pub stands : StandsFor bytes list
     pub all : AllStandFor g mid list
@@ -119,7 +120,7 @@ module _ {D : Type 0} (g : Ghosts D) where
   MayAdd (reads list) mid new = IsOpen mid list × OnlyLooks mid new
   MayAdd (appended list body) mid new = IsOpen mid list
       × LeavesOnly g mid new (StandsForEither list body)
-      × ((c : List ℕ) → g.may_leave new c → StandsForEither list body c)
+      × ((c : Text) → g.may_leave new c → StandsForEither list body c)
   MayAdd (started body) mid new = ⊥
 
 -- From one device of a name to a later one moments don't fall, and the images are so.

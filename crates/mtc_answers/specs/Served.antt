@@ -1,5 +1,6 @@
 -- What a command leaves of a room, and how it ends.
-use Rattle.std.specs.Prelude.{◌≡◌, ◌≢◌, ◌≤◌, ℕ, List, [], ◌∷◌, None}
+use Rattle.std.specs.Prelude.{◌≡◌, ◌≢◌, ◌≤◌, List, [], ◌∷◌, None}
+use Rattle.byte_forms.specs.Types.{Text}
 use Rattle.disk_core.specs.declared.disk.Disk.{Ghosts as Disks}
 use Rattle.mtc_io.specs.Counts.{Rose}
 use Rattle.mtc_room.specs.Room.{Stays}
@@ -12,10 +13,10 @@ use Rattle.mtc_answers.specs.Wanted.{Meets}
 
 -- The journals that a command works on, each by its name, and what it does with it.
 abbrev pub Journals : Type 0
-Journals = List (List ℕ × Journaled)
+Journals = List (Text × Journaled)
 
 -- It is so of each of them.
-abbrev pub OfEach : (List ℕ → Journaled → Type 0) → Journals → Type 0
+abbrev pub OfEach : (Text → Journaled → Type 0) → Journals → Type 0
 OfEach P [] = Unit {0}
 OfEach P (journal ∷ rest) = P journal.0 journal.1 × OfEach P rest
 
@@ -29,27 +30,27 @@ abbrev pub rest_journaled : List Journaled → List Journaled
 rest_journaled [] = []
 rest_journaled (did ∷ rest) = rest
 
-abbrev pub done_with : List (List ℕ) → List Journaled → Journals
+abbrev pub done_with : List Text → List Journaled → Journals
 done_with [] dids = []
 done_with (name ∷ names) dids = (name, first_journaled dids) ∷ done_with names (rest_journaled dids)
 
 -- The name is none of these.
-abbrev pub IsOther : List (List ℕ) → List ℕ → Type 0
+abbrev pub IsOther : List Text → Text → Type 0
 IsOther [] name = Unit {0}
 IsOther (other ∷ others) name = (name ≢ other) × IsOther others name
 
 module _ {R S D : Type 0} (rooms : Rooms R S D) (old new : R) where
   -- All that was lent is given back, the room's count of faults hasn't fallen, and each file that
   -- is no journal of these names stays.
-  pub record GivesBack (names : List (List ℕ)) : Type 0 where
+  pub record GivesBack (names : List Text) : Type 0 where
     pub lent : rooms.lent new ≡ rooms.lent old
     pub later : rooms.faults old ≤ rooms.faults new
     pub tells : rooms.tells old → rooms.tells new
-    pub others : (name : List ℕ) → IsOther names name
+    pub others : (name : Text) → IsOther names name
         → Stays (rooms.file old) (rooms.file new) (rooms.device old) (rooms.device new) name
 
   -- No file of this name is made.
-  abbrev pub IsUnmade : List ℕ → Type 0
+  abbrev pub IsUnmade : Text → Type 0
   IsUnmade name = rooms.file old name ≡ None → rooms.file new name ≡ None
 
 module _ {R S D : Type 0} (rooms : Rooms R S D) (disks : Disks D) (old new : R) where
@@ -68,7 +69,7 @@ module _ {R S D : Type 0} (rooms : Rooms R S D) (disks : Disks D) (old new : R) 
 -- A command that has to give this outcome, names these files, and works on these journals ended so.
 -- Where the room tells its files the reply is the one that is wanted, and one before which a
 -- journal wasn't opened has one of the early statuses. Bad says that the words are no command.
-pub record EndsAs (Tells Fault Bad : Type 0) (files : List (List ℕ)) (journals : Journals)
+pub record EndsAs (Tells Fault Bad : Type 0) (files : List Text) (journals : Journals)
     (wanted : Outcome) (ending : Ending) : Type 0 where
   pub reply : IfReply ending (λ reply. Tells → Meets wanted.answer reply)
   pub words : Bad → RepliesToBadWords wanted.answer ending
@@ -78,7 +79,7 @@ pub record EndsAs (Tells Fault Bad : Type 0) (files : List (List ℕ)) (journals
       → OfEach (λ name did. did ≡ untouched → IsEarly (status_of reply)) journals)
 
 module _ {R S D : Type 0} (rooms : Rooms R S D) (disks : Disks D) (Bad : Type 0)
-    (files names : List (List ℕ)) (wanted : Outcome) (old new : R) where
+    (files names : List Text) (wanted : Outcome) (old new : R) where
   -- A command that names these files, works on the journals of these names and has to give that
   -- outcome left the room so, and ended so.
   pub record HasDone (ending : Ending) : Type 0 where
@@ -90,9 +91,9 @@ module _ {R S D : Type 0} (rooms : Rooms R S D) (disks : Disks D) (Bad : Type 0)
 
 module _ {R S D : Type 0} (rooms : Rooms R S D) (disks : Disks D) where
   -- A command that only reads these files.
-  abbrev pub HasAnswered : List (List ℕ) → Outcome → R → R → Ending → Type 0
+  abbrev pub HasAnswered : List Text → Outcome → R → R → Ending → Type 0
   HasAnswered files wanted = HasDone rooms disks ⊥ files [] wanted
 
   -- A command on the one journal of this name.
-  abbrev pub HasServed : List (List ℕ) → List ℕ → Outcome → R → R → Ending → Type 0
+  abbrev pub HasServed : List Text → Text → Outcome → R → R → Ending → Type 0
   HasServed files name wanted = HasDone rooms disks ⊥ files (name ∷ []) wanted

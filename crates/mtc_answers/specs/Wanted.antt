@@ -1,5 +1,6 @@
 -- Which replies a command has to give.
-use Rattle.std.specs.Prelude.{◌≡◌, ◌≢◌, ℕ, Bool, true, List, Contains}
+use Rattle.std.specs.Prelude.{◌≡◌, ◌≢◌, Bool, true, List, Contains}
+use Rattle.byte_forms.specs.Types.{HashFunction, Text}
 use Rattle.mtc_answers.specs.Answers.{Reply, said, refused}
 use Rattle.mtc_answers.specs.declared.answer.Said.{Said}
 
@@ -7,15 +8,15 @@ pub data Wanted : Type 0 where
   -- This reply.
   exactly : Reply → Wanted
   -- A text of this form, with this status.
-  formed : Said → (List ℕ → Bool) → Wanted
+  formed : Said → (Text → Bool) → Wanted
   -- Two different strings with one hash, one of each list, so spelled, with this status.
-  pair_of : Said → (List ℕ → List ℕ) → (List ℕ → List ℕ → List ℕ)
-      → List (List ℕ) → List (List ℕ) → Wanted
+  pair_of : Said → HashFunction → (Text → Text → Text)
+      → List Text → List Text → Wanted
 
-pub record IsPair (h : List ℕ → List ℕ) (spelled : List ℕ → List ℕ → List ℕ)
-    (firsts seconds : List (List ℕ)) (text : List ℕ) : Type 0 where
-  pub x : List ℕ
-  pub y : List ℕ
+pub record IsPair (h : HashFunction) (spelled : Text → Text → Text)
+    (firsts seconds : List Text) (text : Text) : Type 0 where
+  pub x : Text
+  pub y : Text
   pub first : Contains firsts x
   pub second : Contains seconds y
   pub differ : x ≢ y

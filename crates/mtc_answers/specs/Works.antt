@@ -1,7 +1,8 @@
 -- The work of a command on the device of one journal: how it ends, and what it leaves.
-use Rattle.std.specs.Prelude.{◌≡◌, ◌≢◌, ◌⊎◌, ◌≤◌, ◌+◌, ℕ, List, [], ◌∷◌, Option, None, Some, IfSome}
+use Rattle.std.specs.Prelude.{◌≡◌, ◌≢◌, ◌⊎◌, ◌≤◌, ◌+◌, List, [], ◌∷◌, Option, None, Some, IfSome}
 use Rattle.std.specs.Prelude.{IsSome, codes, Result, Ok, Err}
 use Rattle.std.specs.Option.{IsSomeAnd}
+use Rattle.byte_forms.specs.Types.{Text}
 use Rattle.mtc_io.specs.Counts.{Rose, with_count}
 use Rattle.disk_core.specs.Moments.{Looks}
 use Rattle.disk_core.specs.Same.{SameDevice}
@@ -26,7 +27,7 @@ use Rattle.mtc_answers.specs.Wanted.{Meets}
 abbrev pub journaled_by : Outcome → Journaled
 journaled_by wanted = first_journaled wanted.journals
 
-module _ {D : Type 0} (g : Ghosts D) (name : List ℕ) where
+module _ {D : Type 0} (g : Ghosts D) (name : Text) where
   -- What holds of each ending, whatever the device tells: the words were a command's, and a failure
   -- is one of this journal's device.
   pub record HasFinished (old new : D) (ending : Ending) : Type 0 where
@@ -36,7 +37,7 @@ module _ {D : Type 0} (g : Ghosts D) (name : List ℕ) where
 
   -- The work on an open device, where these records were found if it tells them, which has to give
   -- the outcome of those records.
-  pub record HasWorked (list : Option (List (List ℕ))) (says : List (List ℕ) → Outcome)
+  pub record HasWorked (list : Option (List Text)) (says : List Text → Outcome)
       (old new : D) (ending : Ending) : Type 0 where
     pub ends : HasFinished old new ending
     pub reply : IfReply ending (λ reply. IfSome list (λ records. Meets (says records).answer reply))
@@ -44,7 +45,7 @@ module _ {D : Type 0} (g : Ghosts D) (name : List ℕ) where
         → AddsBy g ending (journaled_by (says records)) old new)
 
   -- The work on a device that was lent, which has to give the outcome of its bytes.
-  pub record HasWorkedOn (says : List ℕ → Outcome) (old new : D) (ending : Ending) : Type 0 where
+  pub record HasWorkedOn (says : Text → Outcome) (old new : D) (ending : Ending) : Type 0 where
     pub ends : HasFinished old new ending
     pub reply : IfReply ending (λ reply. IfSome (g.told old) (λ bytes.
         Meets (says bytes).answer reply))
@@ -53,7 +54,7 @@ module _ {D : Type 0} (g : Ghosts D) (name : List ℕ) where
     pub early : IfReply ending (λ reply. IfSome (g.told old) (λ bytes.
         journaled_by (says bytes) ≡ untouched → IsEarly (status_of reply)))
 
-module _ {R S D : Type 0} (rooms : Rooms R S D) (g : Ghosts D) (name : List ℕ) where
+module _ {R S D : Type 0} (rooms : Rooms R S D) (g : Ghosts D) (name : Text) where
   -- The device of this journal was lent: it has no fault so far, reads as the file does, and leaves
   -- what the file's device leaves.
   pub record HasLent (old new : R) (disk : D) : Type 0 where
@@ -77,11 +78,11 @@ module _ {R S D : Type 0} (rooms : Rooms R S D) (g : Ghosts D) (name : List ℕ)
         → IsSomeAnd (rooms.device new name) (λ d. SameDevice g disk d)
 
 -- The refusal of a new journal of this name.
-abbrev pub not_new : List ℕ → List ℕ → Ending
+abbrev pub not_new : Text → Text → Ending
 not_new name reason = replied (refused Missing (Some name) reason)
 
 -- What comes of making a journal with this text: all memory for it was taken before.
-abbrev pub made_ending : List ℕ → List ℕ → Result (Unit {0}) StartError → Ending
+abbrev pub made_ending : Text → Text → Result (Unit {0}) StartError → Ending
 made_ending file text (Ok done) = replied (said Done text)
 made_ending file text (Err NotEmpty) = not_new file (codes "NotEmpty")
 made_ending file text (Err Failed) = room_failed file
@@ -89,15 +90,15 @@ made_ending file text (Err Memory) = no_memory
 
 -- What came of beginning a journal with this record on a device. It was empty and is a journal; or
 -- it held bytes, and was only looked at; or it failed, and was only looked at where it held bytes.
-abbrev pub BeginsOn : {D : Type 0} → Ghosts D → List ℕ → D → D → Result (Unit {0}) StartError
+abbrev pub BeginsOn : {D : Type 0} → Ghosts D → Text → D → D → Result (Unit {0}) StartError
     → Type 0
 BeginsOn g first old new (Ok done) = (g.faults new ≡ g.faults old)
     × IfSome (g.told old) (λ bytes. (bytes ≡ [])
-    × ((c : List ℕ) → g.may_leave new c → StandsFor c (first ∷ [])))
+    × ((c : Text) → g.may_leave new c → StandsFor c (first ∷ [])))
 BeginsOn g first old new (Err why) = IsNotStarted g old new why × (why ≢ Memory)
     × IfSome (g.told old) (λ bytes. bytes ≢ [] → Looks g old new)
 
-module _ {R S D : Type 0} (rooms : Rooms R S D) (g : Ghosts D) (name : List ℕ) where
+module _ {R S D : Type 0} (rooms : Rooms R S D) (g : Ghosts D) (name : Text) where
   -- No device was lent for a new file, and none is made: the name has one, or the room failed.
   pub record IsNotLent (old new : R) (ending : Ending) : Type 0 where
     pub lent : rooms.lent new ≡ rooms.lent old
@@ -110,7 +111,7 @@ module _ {R S D : Type 0} (rooms : Rooms R S D) (g : Ghosts D) (name : List ℕ)
 
   -- A device was lent, the journal begun on it and the device put back, over any room. The ending
   -- is what came of it.
-  pub record HasBegunOn (first text : List ℕ) (new : R) (ending : Ending) : Type 0 where
+  pub record HasBegunOn (first text : Text) (new : R) (ending : Ending) : Type 0 where
     pub mid : R
     pub lent : D
     pub left : D
@@ -130,4 +131,4 @@ module _ {R S D : Type 0} (rooms : Rooms R S D) (g : Ghosts D) (name : List ℕ)
 
   abbrev pub TellsNew : R → R → Ending → Type 0
   TellsNew old new ending = IsNotBegun old new ending
-      ⊎ ((first : List ℕ) × (text : List ℕ) × HasBegunOn first text new ending)
+      ⊎ ((first : Text) × (text : Text) × HasBegunOn first text new ending)

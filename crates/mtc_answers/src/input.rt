@@ -1,5 +1,6 @@
 //! The input files of a command.
-ghost use Rattle.std.specs.Prelude.{◌≡◌, ◌<◌, ◌≤◌, ◌^◌, ℕ, List, [], Some, length, IfOk, IfErr};
+ghost use Rattle.std.specs.Prelude.{◌≡◌, ◌<◌, ◌≤◌, ◌^◌, List, [], Some, length, IfOk, IfErr};
+ghost use Rattle.byte_forms.specs.Types.{Text};
 ghost use Rattle.mtc_answers.specs.Answers.{stop_ending};
 ghost use Rattle.mtc_answers.specs.Served.{GivesBack, HasDone};
 ghost use Rattle.mtc_answers.specs.Endings.{IsInputStop, IsNamed};
@@ -29,8 +30,8 @@ pub fn read_input<'a, R: Room>(
     ensures bytes { IfOk result (λ bytes. R.tells room.old
         → (R.file room.old name.now ≡ Some bytes) × (length bytes ≤ limit)) }
     ensures kind { IfErr result (λ stop. IsInputStop name.now (stop_ending stop)) }
-    ensures stops { IfErr result (λ stop. (files names : List (List ℕ))
-        (next : List ℕ → Outcome) → IsNamed files name.now
+    ensures stops { IfErr result (λ stop. (files names : List Text)
+        (next : Text → Outcome) → IsNamed files name.now
         → HasDone R.Room R.Dsk.Disk ⊥ files names
         (with_bytes limit name.now (R.file room.old name.now) next)
         room.old room.new (stop_ending stop)) }

@@ -1,5 +1,6 @@
 //! The journal of a command: one that is there is lent and given back, or a new one is made.
-ghost use Rattle.std.specs.Prelude.{◌≡◌, ◌⊎◌, ◌≤◌, ◌<◌, ◌^◌, ℕ, List, [], IfOk, IfErr};
+ghost use Rattle.std.specs.Prelude.{◌≡◌, ◌⊎◌, ◌≤◌, ◌<◌, ◌^◌, List, [], IfOk, IfErr};
+ghost use Rattle.byte_forms.specs.Types.{Text};
 ghost use Rattle.journal_core.specs.Packed.{first_body};
 ghost use Rattle.mtc_answers.specs.Answers.{stop_ending, ending_of};
 ghost use Rattle.mtc_answers.specs.Endings.{IsNamed};
@@ -20,7 +21,7 @@ use mtc_room::{Room, RoomError};
 pub fn lend<'a, R: Room>(room: &mut R, journal: &'a str) -> Result<R::Dsk, Stop<'a>>
     requires { R.lent room.old < 2 ^ 32 }
     ensures lent { IfOk result (HasLent R.Room R.Dsk.Disk journal.now room.old room.new) }
-    ensures stops { IfErr result (λ stop. (files : List (List ℕ)) (says : List ℕ → Outcome)
+    ensures stops { IfErr result (λ stop. (files : List Text) (says : Text → Outcome)
         → IsNamed files journal.now → HasServed R.Room R.Dsk.Disk files journal.now
         (with_file journal.now (R.file room.old journal.now) says)
         room.old room.new (stop_ending stop)) }
@@ -90,7 +91,7 @@ pub fn make_journal<'a, R: Room>(
     text: Bytes,
 ) -> Result<Answer, Stop<'a>>
     requires { R.lent room.old < 2 ^ 32 }
-    ensures serves { (files : List (List ℕ)) → IsNamed files journal.now
+    ensures serves { (files : List Text) → IsNamed files journal.now
         → HasServed R.Room R.Dsk.Disk files journal.now
         (with_fresh journal.now (R.file room.old journal.now) (starts (first_body first) text))
         room.old room.new (ending_of result) }

@@ -1,6 +1,7 @@
 -- What contracts see of a room in memory.
 use Rattle.std.specs.Prelude.{ℕ, List, Option, option_map, Result, Ok, Err}
 use Rattle.std.specs.BTreeMap.{get_by_text}
+use Rattle.byte_forms.specs.Types.{Text}
 use Rattle.disk_core.specs.Memory.{bytes_of, failing_of}
 use Rattle.disk_core.specs.declared.memory.mem_disk.MemDisk.{MemDisk}
 use Rattle.mtc_io.specs.Counts.{with_count}
@@ -10,13 +11,13 @@ use Rattle.mtc_room.specs.declared.memory.MemRoom.{MemRoom}
 
 -- a file in memory: its bytes, and the numbers of the calls that fail
 pub record FileState : Type 0 where
-  pub bytes : List ℕ
+  pub bytes : Text
   pub failing : List ℕ
 
 -- a room in memory: the file of each name, the calls that fail of each file that is yet to be made,
 -- the objects that are out, the faults so far, and those that came from want of memory
 pub record RoomState : Type 0 where
-  pub file : List ℕ → Option FileState
+  pub file : Text → Option FileState
   pub fresh_failing : List ℕ
   pub lent : ℕ
   pub faults : ℕ
@@ -27,7 +28,7 @@ abbrev pub file_of : MemDisk → FileState
 file_of disk = record { bytes = bytes_of disk; failing = failing_of disk }
 
 -- the device of each name
-abbrev pub disk_in : MemRoom → List ℕ → Option MemDisk
+abbrev pub disk_in : MemRoom → Text → Option MemDisk
 disk_in room name = get_by_text room.files name
 
 -- what a room holds and counts
@@ -41,7 +42,7 @@ state room = record {
 }
 
 -- the bytes of each name's file
-abbrev pub bytes_in : MemRoom → List ℕ → Option (List ℕ)
+abbrev pub bytes_in : MemRoom → Text → Option Text
 bytes_in room name = option_map bytes_of (disk_in room name)
 
 -- a count of faults after a call that lends: the room in memory fails for want of memory alone, and

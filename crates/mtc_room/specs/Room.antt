@@ -1,7 +1,8 @@
 -- What the calls of a room do. A room's files are a function from names to bytes, and one from
 -- names to devices.
-use Rattle.std.specs.Prelude.{◌≡◌, ◌≢◌, ℕ, ◌+◌, ◌≤◌, List, Option, None, Some, Result, is_ok}
+use Rattle.std.specs.Prelude.{◌≡◌, ◌≢◌, ℕ, ◌+◌, ◌≤◌, Option, None, Some, Result, is_ok}
 use Rattle.std.specs.Prelude.{IsSome, IsErrOf, OnOk, if◌then◌else◌}
+use Rattle.byte_forms.specs.Types.{Text}
 use Rattle.mtc_io.specs.Counts.{Rose}
 use Rattle.mtc_room.specs.declared.error.RoomError.{RoomError}
 use Rattle.mtc_room.specs.declared.error.RoomError.TheVariants.{Absent, Exists, Failed}
@@ -18,28 +19,28 @@ pub record Lending {T : Type 0} (lent lent' faults faults' : ℕ)
   pub exists : IsErrOf result Exists → faults' ≡ faults
 
 -- the file of this name, and its device, are as they were
-pub record Stays {D : Type 0} (file file' : List ℕ → Option (List ℕ))
-    (device device' : List ℕ → Option D) (name : List ℕ) : Type 0 where
+pub record Stays {D : Type 0} (file file' : Text → Option Text)
+    (device device' : Text → Option D) (name : Text) : Type 0 where
   pub bytes : file' name ≡ file name
   pub disk : device' name ≡ device name
 
 -- each file, and each device, is as it was
-abbrev pub AllStay : {D : Type 0} → (List ℕ → Option (List ℕ)) → (List ℕ → Option (List ℕ))
-    → (List ℕ → Option D) → (List ℕ → Option D) → Type 0
-AllStay file file' device device' = (name : List ℕ) → Stays file file' device device' name
+abbrev pub AllStay : {D : Type 0} → (Text → Option Text) → (Text → Option Text)
+    → (Text → Option D) → (Text → Option D) → Type 0
+AllStay file file' device device' = (name : Text) → Stays file file' device device' name
 
 -- so is each of another name
-abbrev pub OthersStay : {D : Type 0} → (List ℕ → Option (List ℕ)) → (List ℕ → Option (List ℕ))
-    → (List ℕ → Option D) → (List ℕ → Option D) → List ℕ → Type 0
+abbrev pub OthersStay : {D : Type 0} → (Text → Option Text) → (Text → Option Text)
+    → (Text → Option D) → (Text → Option D) → Text → Type 0
 OthersStay file file' device device' but
-    = (name : List ℕ) → name ≢ but → Stays file file' device device' name
+    = (name : Text) → name ≢ but → Stays file file' device device' name
 
 -- there is a file, and what was lent tells its bytes
-pub record LendsBytes (file lent : Option (List ℕ)) : Type 0 where
+pub record LendsBytes (file lent : Option Text) : Type 0 where
   pub there : IsSome file
   pub same : lent ≡ file
 
 -- a name has a file exactly where it has a device, and that tells the file's bytes
-abbrev pub TellsFile : {D : Type 0} → (D → Option (List ℕ)) → Option (List ℕ) → Option D → Type 0
+abbrev pub TellsFile : {D : Type 0} → (D → Option Text) → Option Text → Option D → Type 0
 TellsFile told file None = file ≡ None
 TellsFile told file (Some d) = (told d ≡ file) × IsSome file

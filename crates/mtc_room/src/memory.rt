@@ -1,6 +1,7 @@
 //! A room in memory.
-ghost use Rattle.std.specs.Prelude.{◌≡◌, ◌≢◌, ⊤, ℕ, ◌+◌, ◌<◌, ◌^◌, List, [], Option, Result, Ok, Some, None, IfOk, OnOk, OnErr, IsErrOf, IsSome, IfErr, IsErr, length};
+ghost use Rattle.std.specs.Prelude.{◌≡◌, ◌≢◌, ⊤, ◌+◌, ◌<◌, ◌^◌, [], Option, Result, Ok, Some, None, IfOk, OnOk, OnErr, IsErrOf, IsSome, IfErr, IsErr, length};
 ghost use Rattle.std.specs.Option.{option_copied, IsSomeAnd};
+ghost use Rattle.byte_forms.specs.Types.{Text};
 ghost use Rattle.mtc_io.specs.Counts.{with_count};
 ghost use Rattle.disk_core.specs.Same.{SameDevice};
 ghost use Rattle.disk_core.specs.Memory.{bytes_of, calls_of, failing_of, made_of, faults_of, starved_of, images_of, IsFresh};
@@ -46,7 +47,7 @@ impl MemRoom {
 
     /// A room without a file. It takes no memory.
     pub fn new(alloc: Global) -> MemRoom
-        ensures empty { (name : List ℕ) → (state result).file name ≡ None }
+        ensures empty { (name : Text) → (state result).file name ≡ None }
         ensures fresh_failing { (state result).fresh_failing ≡ [] }
         ensures lent { (state result).lent ≡ 0 }
         ensures faults { (state result).faults ≡ 0 }
@@ -75,9 +76,9 @@ impl MemRoom {
     pub fn place(&mut self, name: &str, bytes: Bytes, failing: Vec<u64>) -> Result<(), Memory>
         ensures placed { OnOk result (IsSomeAnd (disk_in self.new name.now)
             (λ d. IsFresh bytes d × (failing_of d ≡ failing.items))) }
-        ensures others { (other : List ℕ) → other ≢ name.now
+        ensures others { (other : Text) → other ≢ name.now
             → disk_in self.new other ≡ disk_in self.old other }
-        ensures err { OnErr result ((other : List ℕ)
+        ensures err { OnErr result ((other : Text)
             → disk_in self.new other ≡ disk_in self.old other) }
         ensures fresh_failing { (state self.new).fresh_failing ≡ (state self.old).fresh_failing }
         ensures lent { (state self.new).lent ≡ (state self.old).lent }
@@ -134,7 +135,7 @@ impl MemRoom {
 
     // Makes an empty file, and a copy of its device to lend.
     fn make(&mut self, name: &str) -> Result<MemDisk, Memory>
-        ensures others { (other : List ℕ) → other ≢ name.now
+        ensures others { (other : Text) → other ≢ name.now
             → disk_in self.new other ≡ disk_in self.old other }
         ensures err { OnErr result (disk_in self.new name.now ≡ disk_in self.old name.now) }
         ensures made { IfOk result (λ d. IsSomeAnd (disk_in self.new name.now)
@@ -246,7 +247,7 @@ impl Room for MemRoom {
             × (Some (bytes_of d) ≡ Some [])) }
         ensures device { IfOk result (λ d. ⊤
             → IsSomeAnd (disk_in self.new name.now) (λ e. SameDevice ⟦<MemDisk as Disk>⟧ e d)) }
-        ensures only { IfOk result (λ d. ⊤ → (c : List ℕ) → images_of d c → c ≡ []) }
+        ensures only { IfOk result (λ d. ⊤ → (c : Text) → images_of d c → c ≡ []) }
         ensures time { IfOk result (λ d. length (calls_of d) ≡ 0) }
         ensures begins { IfOk result (λ d. faults_of d ≡ 0) }
         ensures exists { IsErrOf result RoomError.Exists → ⊤ → IsSome (bytes_in self.old name.now) }

@@ -1,6 +1,7 @@
 //! What the program asks of the files that it may reach.
-ghost use Rattle.std.specs.Prelude.{◌≡◌, ℕ, ◌+◌, ◌<◌, ◌^◌, List, [], Option, None, Some, IsSome, IfOk, OnOk, OnErr, IsErrOf};
+ghost use Rattle.std.specs.Prelude.{◌≡◌, ℕ, ◌+◌, ◌<◌, ◌^◌, [], Option, None, Some, IsSome, IfOk, OnOk, OnErr, IsErrOf};
 ghost use Rattle.std.specs.Option.{IsSomeAnd};
+ghost use Rattle.byte_forms.specs.Types.{Text};
 
 use crate::RoomError;
 use disk_core::Disk;
@@ -23,10 +24,10 @@ pub trait Room {
 
     /// The bytes of each name's file, or none where there is no such file. It says nothing where
     /// the room doesn't tell its files.
-    ghost file: { Self → List ℕ → Option (List ℕ) };
+    ghost file: { Self → Text → Option Text };
 
     /// The device of each name's file, as it was when it was last put back.
-    ghost device: { Self → List ℕ → Option Self.Dsk };
+    ghost device: { Self → Text → Option Self.Dsk };
 
     /// How often it has failed, with the faults of what was put back. The count never falls.
     ghost faults: { Self → ℕ };
@@ -87,7 +88,7 @@ pub trait Room {
         ensures device { IfOk result (λ d. tells self.old
             → IsSomeAnd (device self.new name.now) (λ e. SameDevice Self.Dsk.Disk e d)) }
         ensures only { IfOk result (λ d. tells self.old
-            → (c : List ℕ) → Self.Dsk.may_leave d c → c ≡ []) }
+            → (c : Text) → Self.Dsk.may_leave d c → c ≡ []) }
         ensures time { IfOk result (λ d. Self.Dsk.moment d ≡ 0) }
         ensures begins { IfOk result (λ d. Self.Dsk.faults d ≡ 0) }
         ensures exists { IsErrOf result RoomError.Exists → tells self.old
@@ -119,6 +120,6 @@ pub trait Room {
             → IsSomeAnd (device self.new name.now) (λ e. SameDevice Self.Dsk.Disk disk e) };
 
     /// Where the room tells its files, each has a device, and that tells the same bytes.
-    ghost told_file: { (m : Self) (name : List ℕ) → tells m
+    ghost told_file: { (m : Self) (name : Text) → tells m
         → TellsFile Self.Dsk.told (file m name) (device m name) };
 }

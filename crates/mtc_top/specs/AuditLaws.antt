@@ -2,7 +2,7 @@
 -- course handed out.
 use Rattle.std.specs.Prelude.{◌≡◌, ◌≢◌, ◌⊎◌, ℕ, ◌≤◌, true, pos, List, ◌∷◌, ◌++◌, length, None}
 use Rattle.std.specs.Prelude.{Some, Ok, slice_get}
-use Rattle.byte_forms.specs.Types.{HashFunction}
+use Rattle.byte_forms.specs.Types.{HashFunction, Text}
 use Rattle.disk_core.specs.declared.disk.Disk.{Ghosts as Disks}
 use Rattle.mtc_io.specs.declared.sink.Sink.{Ghosts as Sinks}
 use Rattle.mtc_room.specs.declared.room.Room.{Ghosts as Rooms}
@@ -27,21 +27,21 @@ use Rattle.mtc_top.specs.Concluded.{Prints}
 use Rattle.mtc_top.specs.Courses.{Link, Turn, HasTurned, IsCourse, WasHandedOut, WasMade}
 
 -- The file of this name has this text, which is no longer than the limit.
-pub record HoldsText (files : Files) (name : List ℕ) (limit : ℕ) (text : List ℕ) : Type 0 where
+pub record HoldsText (files : Files) (name : Text) (limit : ℕ) (text : Text) : Type 0 where
   pub there : files name ≡ Some text
   pub few : length text ≤ limit
 
 -- The four files are read, each by its grammar, and the store accepts the certificate at that
 -- moment: this is the case to be audited.
-pub record IsAuditOf (h : HashFunction) (files : Files) (cert store : List ℕ) (moment : ℕ)
-    (entries kept : List ℕ) (x : AuditCase) : Type 0 where
-  pub cert_text : List ℕ
+pub record IsAuditOf (h : HashFunction) (files : Files) (cert store : Text) (moment : ℕ)
+    (entries kept : Text) (x : AuditCase) : Type 0 where
+  pub cert_text : Text
   pub has_cert : HoldsText files cert 16777216 cert_text
-  pub store_text : List ℕ
+  pub store_text : Text
   pub has_store : HoldsText files store 16777216 store_text
-  pub entries_text : List ℕ
+  pub entries_text : Text
   pub has_entries : HoldsText files entries 1073741824 entries_text
-  pub kept_text : List ℕ
+  pub kept_text : Text
   pub has_kept : HoldsText files kept 1073741824 kept_text
   pub store_read : store_of store_text ≡ Ok x.store
   pub items_read : items_in h entries_text ≡ Ok x.items
@@ -50,7 +50,7 @@ pub record IsAuditOf (h : HashFunction) (files : Files) (cert store : List ℕ) 
       ≡ Ok (record { accepted = x.accepted; cert = x.cert; proof = x.proof })
 
 -- The store has a cosigner with this id and this public key, at a place of the set.
-pub record HasCounted (store : Store) (set : ℕ) (id key : List ℕ) : Type 0 where
+pub record HasCounted (store : Store) (set : ℕ) (id key : Text) : Type 0 where
   pub place : ℕ
   pub known : Known
   pub there : slice_get store.cosigners place ≡ Some known
@@ -62,12 +62,12 @@ module _ {R S D O E : Type 0} (h : HashFunction) (rooms : Rooms R S D) (disks : 
     (outs : Sinks O) (errs : Sinks E) where
   -- In a course of a cosigner's journal a signature of the accepted interval and hash was handed
   -- out, a run of `export` behind it printed what was kept, and the store counts the cosigner.
-  pub record IsSignedInCourse (x : AuditCase) (kept_text : List ℕ) : Type 0 where
+  pub record IsSignedInCourse (x : AuditCase) (kept_text : Text) : Type 0 where
     -- a run made the journal
-    pub name : List ℕ
+    pub name : Text
     pub settings : CosignerSettings
-    pub public : List ℕ
-    pub first : List ℕ
+    pub public : Text
+    pub first : Text
     pub made : R
     pub was : WasMade h rooms disks outs errs name (Cosigner settings public) first made
     -- the course
@@ -75,11 +75,11 @@ module _ {R S D O E : Type 0} (h : HashFunction) (rooms : Rooms R S D) (disks : 
     pub old : R
     pub course : IsCourse h rooms disks outs errs made links old
     -- a record that it handed out
-    pub front : List (List ℕ)
-    pub body : List ℕ
+    pub front : List Text
+    pub body : Text
     pub handed : WasHandedOut h rooms disks outs errs name made links (first ∷ front) body
     pub index : ℕ
-    pub proof : List (List ℕ)
+    pub proof : List Text
     pub signs : step_in body
         ≡ Some (Sign index x.accepted.start x.accepted.end x.accepted.hash proof)
     -- the run of `export`, over an output that tells what it took
@@ -87,7 +87,7 @@ module _ {R S D O E : Type 0} (h : HashFunction) (rooms : Rooms R S D) (disks : 
     pub turned : HasTurned h rooms disks outs errs old turn
     pub spoken : command_of turn.words ≡ Ok (export name)
     pub done : turn.status ≡ 0
-    pub before : List ℕ
+    pub before : Text
     pub told : outs.taken turn.out ≡ Some before
     pub printed : outs.taken turn.out_after ≡ Some (before ++ kept_text)
     -- The cosigner is one of those that the store counted, and of its log.
@@ -101,15 +101,15 @@ module _ {R S D O E : Type 0} (h : HashFunction) (rooms : Rooms R S D) (disks : 
   abbrev pub StandsOrPair : AuditCase → Turn R O E → Type 0
   StandsOrPair x turn = ((turn.status ≡ 0) × (has_own h x.items x.accepted x.cert ≡ true)
       × Prints outs turn.out turn.out_after (stands_text x.accepted.index))
-      ⊎ ((text : List ℕ) × ((turn.status ≡ 10)
+      ⊎ ((text : Text) × ((turn.status ≡ 10)
       × IsPair h collision_text (firsts_of h x) (seconds_of h x) text
       × Prints outs turn.out turn.out_after text))
 
   -- So it is of each run of `audit` that ends without a failure and without want of memory, over a
   -- certificate that a landmark or such a signature backs, and a list that is the wanted one.
   abbrev pub AuditsStand : Type 0
-  AuditsStand = (old : R) (turn : Turn R O E) (cert store : List ℕ) (moment : ℕ)
-      (entries kept : List ℕ) (x : AuditCase) → rooms.tells old
+  AuditsStand = (old : R) (turn : Turn R O E) (cert store : Text) (moment : ℕ)
+      (entries kept : Text) (x : AuditCase) → rooms.tells old
       → HasTurned h rooms disks outs errs old turn
       → command_of turn.words ≡ Ok (audit cert store moment entries kept)
       → (is : IsAuditOf h (rooms.file old) cert store moment entries kept x)

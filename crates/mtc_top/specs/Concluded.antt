@@ -1,6 +1,7 @@
 -- What goes out where a command ends, and its status.
-use Rattle.std.specs.Prelude.{◌≡◌, ◌⊎◌, ℕ, List, [], Option, None, Some, codes}
+use Rattle.std.specs.Prelude.{◌≡◌, ◌⊎◌, ℕ, [], Option, None, Some, codes}
 use Rattle.std.specs.Io.KnownBytes.{Appends}
+use Rattle.byte_forms.specs.Types.{Text}
 use Rattle.mtc_io.specs.Counts.{Rose}
 use Rattle.mtc_io.specs.Streams.{AppendsPrefix}
 use Rattle.mtc_io.specs.declared.sink.Sink.{Ghosts as Sinks}
@@ -9,18 +10,18 @@ use Rattle.mtc_answers.specs.Answers.{status_of, out_of, err_of}
 use Rattle.mtc_answers.specs.Lines.{line_of, WritesLine}
 
 -- This went to standard output; a front of it did.
-abbrev pub Prints : {O : Type 0} → Sinks O → O → O → List ℕ → Type 0
+abbrev pub Prints : {O : Type 0} → Sinks O → O → O → Text → Type 0
 Prints outs out out' text = Appends (outs.taken out) (outs.taken out') text
 
-abbrev pub PrintsFront : {O : Type 0} → Sinks O → O → O → List ℕ → Type 0
+abbrev pub PrintsFront : {O : Type 0} → Sinks O → O → O → Text → Type 0
 PrintsFront outs out out' text = AppendsPrefix (outs.taken out) (outs.taken out') text
 
 -- This line went to standard error, or a front of it where that failed.
-abbrev pub Reports : {E : Type 0} → Sinks E → E → E → List ℕ → Type 0
+abbrev pub Reports : {E : Type 0} → Sinks E → E → E → Text → Type 0
 Reports errs err err' line = WritesLine (Rose (errs.faults err) (errs.faults err'))
     (errs.taken err) (errs.taken err') line
 
-module _ {O E : Type 0} (outs : Sinks O) (errs : Sinks E) (command : List ℕ)
+module _ {O E : Type 0} (outs : Sinks O) (errs : Sinks E) (command : Text)
     (out out' : O) (err err' : E) where
   -- The reply went out.
   pub record Wrote (reply : Reply) (status : ℕ) : Type 0 where
@@ -29,14 +30,14 @@ module _ {O E : Type 0} (outs : Sinks O) (errs : Sinks E) (command : List ℕ)
     pub line : Reports errs err err' (err_of command reply)
 
   -- Standard output failed.
-  pub record Lost (text : List ℕ) (status : ℕ) : Type 0 where
+  pub record Lost (text : Text) (status : ℕ) : Type 0 where
     pub code : status ≡ 6
     pub cause : Rose (outs.faults out) (outs.faults out')
     pub front : PrintsFront outs out out' text
     pub line : Reports errs err err' (line_of command None (codes "OutputFailed"))
 
   -- There is no reply.
-  pub record Told (code : ℕ) (file : Option (List ℕ)) (reason : List ℕ) (status : ℕ) : Type 0 where
+  pub record Told (code : ℕ) (file : Option Text) (reason : Text) (status : ℕ) : Type 0 where
     pub is : status ≡ code
     pub nothing : Prints outs out out' []
     pub line : Reports errs err err' (line_of command file reason)

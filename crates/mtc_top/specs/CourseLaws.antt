@@ -1,6 +1,6 @@
 -- What holds of each course behind the run that made a journal.
 use Rattle.std.specs.Prelude.{◌≡◌, ◌⊎◌, ℕ, true, List, [], ◌∷◌, ◌++◌, length, Some, Ok}
-use Rattle.byte_forms.specs.Types.{HashFunction}
+use Rattle.byte_forms.specs.Types.{HashFunction, Text}
 use Rattle.disk_core.specs.declared.disk.Disk.{Ghosts as Disks}
 use Rattle.mtc_io.specs.declared.sink.Sink.{Ghosts as Sinks}
 use Rattle.mtc_room.specs.declared.room.Room.{Ghosts as Rooms}
@@ -18,28 +18,28 @@ use Rattle.mtc_top.specs.Courses.{Link, IsCourse, WasMade, IsReached, IsRecovere
 use Rattle.mtc_top.specs.Courses.{DidWith, HasTurned, Turn, WasHandedOut, images_in}
 
 -- These records begin with the first one of the node's journal, and the others may stand behind it.
-pub record AreOfNode (h : HashFunction) (start : NodeStart) (first : List ℕ)
-    (list : List (List ℕ)) : Type 0 where
-  pub others : List (List ℕ)
+pub record AreOfNode (h : HashFunction) (start : NodeStart) (first : Text)
+    (list : List Text) : Type 0 where
+  pub others : List Text
   pub is : list ≡ first ∷ others
   pub valid : may_follow h start others ≡ true
 
 -- A file is read as the log or the cosigner that has these records, which are the node's.
-pub record IsReadAsNode (h : HashFunction) (start : NodeStart) (first c : List ℕ) : Type 0 where
-  pub records : List (List ℕ)
+pub record IsReadAsNode (h : HashFunction) (start : NodeStart) (first c : Text) : Type 0 where
+  pub records : List Text
   pub of_node : AreOfNode h start first records
   pub read : IsReadAs h start c records
 
 -- The record adds this number to those of the one-time keys that these records have used.
-abbrev pub UsesKey : List (List ℕ) → List ℕ → ℕ → Type 0
+abbrev pub UsesKey : List Text → Text → ℕ → Type 0
 UsesKey list body number = indices_of (list ++ body ∷ []) ≡ indices_of list ++ number ∷ []
 
 module _ {R S D O E : Type 0} (h : HashFunction) (rooms : Rooms R S D) (disks : Disks D)
     (outs : Sinks O) (errs : Sinks E) where
   -- So it is of each course behind a run that made the journal.
-  abbrev pub OfCourses : (List ℕ → NodeStart → List ℕ → R → List (Link R O E) → R → Type 0)
+  abbrev pub OfCourses : (Text → NodeStart → Text → R → List (Link R O E) → R → Type 0)
       → Type 0
-  OfCourses P = (name : List ℕ) (start : NodeStart) (first : List ℕ) (made new : R)
+  OfCourses P = (name : Text) (start : NodeStart) (first : Text) (made new : R)
       (links : List (Link R O E)) → WasMade h rooms disks outs errs name start first made
       → IsCourse h rooms disks outs errs made links new → P name start first made links new
 
@@ -52,22 +52,22 @@ module _ {R S D O E : Type 0} (h : HashFunction) (rooms : Rooms R S D) (disks : 
   -- read as the node.
   abbrev pub JournalsAreRead : Type 0
   JournalsAreRead = OfCourses (λ name start first made links new.
-      (c : List ℕ) → images_in h rooms disks outs errs new name c ⊎ (rooms.file new name ≡ Some c)
+      (c : Text) → images_in h rooms disks outs errs new name c ⊎ (rooms.file new name ≡ Some c)
       → IsReadAsNode h start first c)
 
   -- The i-th Sign record of a cosigner, counted from 0, has the number i, so no number stands
   -- twice.
   abbrev pub KeysSignOnce : Type 0
   KeysSignOnce = OfCourses (λ name start first made links new.
-      (settings : CosignerSettings) (public : List ℕ) → start ≡ Cosigner settings public
-      → (record0 : List ℕ) (bodies : List (List ℕ))
+      (settings : CosignerSettings) (public : Text) → start ≡ Cosigner settings public
+      → (record0 : Text) (bodies : List Text)
       → IsRecovered h rooms disks outs errs name new (record0 ∷ bodies) → AreCounted bodies)
 
   -- Two records behind which a byte went out, and which used one key, are one record.
   abbrev pub KeysSignOneMessage : Type 0
   KeysSignOneMessage = OfCourses (λ name start first made links new.
-      (settings : CosignerSettings) (public : List ℕ) → start ≡ Cosigner settings public
-      → (list other : List (List ℕ)) (body message : List ℕ) (number : ℕ)
+      (settings : CosignerSettings) (public : Text) → start ≡ Cosigner settings public
+      → (list other : List Text) (body message : Text) (number : ℕ)
       → WasHandedOut h rooms disks outs errs name made links list body
       → WasHandedOut h rooms disks outs errs name made links other message
       → UsesKey list body number → UsesKey other message number → body ≡ message)
@@ -75,21 +75,21 @@ module _ {R S D O E : Type 0} (h : HashFunction) (rooms : Rooms R S D) (disks : 
   -- The records that a run found or made are the first ones of each list that may be recovered
   -- behind it.
   abbrev pub RecoveredListsGrow : Type 0
-  RecoveredListsGrow = OfCourses (λ name start first made links new. (list found : List (List ℕ))
+  RecoveredListsGrow = OfCourses (λ name start first made links new. (list found : List Text)
       → WasHeld h rooms disks outs errs name made links list
       → IsRecovered h rooms disks outs errs name new found → Begins list found)
 
   -- So are those with the record behind which a byte went out.
   abbrev pub HandedOutStand : Type 0
-  HandedOutStand = OfCourses (λ name start first made links new. (list found : List (List ℕ))
-      (body : List ℕ) → WasHandedOut h rooms disks outs errs name made links list body
+  HandedOutStand = OfCourses (λ name start first made links new. (list found : List Text)
+      (body : Text) → WasHandedOut h rooms disks outs errs name made links list body
       → IsRecovered h rooms disks outs errs name new found → Begins (list ++ body ∷ []) found)
 
   -- Each entry that a log had where a run found or made its records has its index in each log that
   -- may be recovered behind it, and so has its key.
   abbrev pub EntriesStand : Type 0
   EntriesStand = OfCourses (λ name start first made links new. (settings : Settings)
-      (list found : List (List ℕ)) (s : LogState) → start ≡ Log settings
+      (list found : List Text) (s : LogState) → start ≡ Log settings
       → WasHeld h rooms disks outs errs name made links list → log_of h list ≡ Ok s
       → IsRecovered h rooms disks outs errs name new found
       → (log : LogState) × ((log_of h found ≡ Ok log) × KeepsItems s log))
@@ -98,7 +98,7 @@ module _ {R S D O E : Type 0} (h : HashFunction) (rooms : Rooms R S D) (disks : 
   -- it, and is the one that `issue` prints.
   abbrev pub AddedEntriesStand : Type 0
   AddedEntriesStand = OfCourses (λ name start first made links new. (settings : Settings)
-      (list found : List (List ℕ)) (body entry key : List ℕ) (s : LogState)
+      (list found : List Text) (body entry key : Text) (s : LogState)
       → start ≡ Log settings
       → WasHeld h rooms disks outs errs name made links (list ++ body ∷ [])
       → log_of h list ≡ Ok s → item_in body ≡ Some (entry, key)
@@ -109,7 +109,7 @@ module _ {R S D O E : Type 0} (h : HashFunction) (rooms : Rooms R S D) (disks : 
   -- Each journal that a run made with status 0 or 6 is that of a node, as the laws of courses
   -- suppose.
   abbrev pub MadeOfNodes : Type 0
-  MadeOfNodes = (name first : List ℕ) (old : R) (turn : Turn R O E) → rooms.tells old
+  MadeOfNodes = (name first : Text) (old : R) (turn : Turn R O E) → rooms.tells old
       → HasTurned h rooms disks outs errs old turn → (turn.status ≡ 0) ⊎ (turn.status ≡ 6)
       → DidWith h rooms disks outs errs old turn name (started first)
       → (start : NodeStart) × WasMade h rooms disks outs errs name start first turn.room

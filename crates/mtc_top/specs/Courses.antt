@@ -1,7 +1,7 @@
 -- Courses: what happens to a room, one run after the other, with stops of the machine between the
 -- runs and in the middle of one.
 use Rattle.std.specs.Prelude.{◌≡◌, ◌≢◌, ◌⊎◌, ℕ, List, [], ◌∷◌, ◌++◌, Some}
-use Rattle.byte_forms.specs.Types.{HashFunction}
+use Rattle.byte_forms.specs.Types.{HashFunction, Text}
 use Rattle.disk_core.specs.declared.disk.Disk.{Ghosts as Disks}
 use Rattle.journal_core.specs.Format.{StandsFor}
 use Rattle.mtc_io.specs.declared.sink.Sink.{Ghosts as Sinks}
@@ -19,7 +19,7 @@ use Rattle.mtc_top.specs.Run.{HasRun, journals}
 -- A run: its words, standard output and standard error before and after, its status, and the room
 -- that it leaves.
 pub record Turn (R O E : Type 0) : Type 0 where
-  pub words : List (List ℕ)
+  pub words : List Text
   pub out : O
   pub out_after : O
   pub err : E
@@ -44,7 +44,7 @@ room_after (stops room) = room
 room_after (cut turn room) = room
 
 -- One of these journals has this name, and so it was worked on.
-abbrev pub AreAmong : Journals → List ℕ → Journaled → Type 0
+abbrev pub AreAmong : Journals → Text → Journaled → Type 0
 AreAmong [] name did = ⊥
 AreAmong (journal ∷ rest) name did =
     ((journal.0 ≡ name) × (journal.1 ≡ did)) ⊎ AreAmong rest name did
@@ -57,25 +57,25 @@ module _ {R S D O E : Type 0} (h : HashFunction) (rooms : Rooms R S D) (disks : 
       turn.out turn.out_after turn.err turn.err_after turn.status
 
   -- It did this with the journal of this name.
-  abbrev pub DidWith : R → Turn R O E → List ℕ → Journaled → Type 0
+  abbrev pub DidWith : R → Turn R O E → Text → Journaled → Type 0
   DidWith old turn = AreAmong (journals h rooms disks outs errs turn.words old turn.room
       turn.out turn.out_after turn.err turn.err_after)
 
   -- what a crash may leave of the file of a name
-  abbrev pub images_in : R → List ℕ → List ℕ → Type 0
+  abbrev pub images_in : R → Text → Text → Type 0
   images_in room name = images_at disks (rooms.device room name)
 
   -- what a crash may have left of it at some moment since the room was so
-  abbrev pub images_from : R → R → List ℕ → List ℕ → Type 0
+  abbrev pub images_from : R → R → Text → Text → Type 0
   images_from old room name =
       images_since disks (rooms.device room name) (moment_at disks (rooms.device old name))
 
   -- A stop leaves of each file one of those that it may leave, and no other from then on.
-  pub record HasStopped (May : List ℕ → List ℕ → Type 0) (old new : R) : Type 0 where
+  pub record HasStopped (May : Text → Text → Type 0) (old new : R) : Type 0 where
     pub tells : rooms.tells old → rooms.tells new
-    pub image : List ℕ → List ℕ
-    pub may : (name : List ℕ) → May name (image name)
-    pub only : (name c : List ℕ) → images_in new name c → c ≡ image name
+    pub image : Text → Text
+    pub may : (name : Text) → May name (image name)
+    pub only : (name c : Text) → images_in new name c → c ≡ image name
 
   -- The link begins with this room.
   abbrev pub IsLink : R → Link R O E → Type 0
@@ -91,7 +91,7 @@ module _ {R S D O E : Type 0} (h : HashFunction) (rooms : Rooms R S D) (disks : 
 
   -- A run made this journal, and its first record is one with which such a node begins. It ended
   -- with status 0, or with 6: then standard output failed, and the journal is whole.
-  pub record WasMade (name : List ℕ) (start : NodeStart) (first : List ℕ) (made : R) : Type 0 where
+  pub record WasMade (name : Text) (start : NodeStart) (first : Text) (made : R) : Type 0 where
     pub old : R
     pub tells : rooms.tells old
     pub turn : Turn R O E
@@ -102,12 +102,12 @@ module _ {R S D O E : Type 0} (h : HashFunction) (rooms : Rooms R S D) (disks : 
     pub starts : StartsWith start first
 
   -- With these records the journal may be recovered: a crash may leave a file that stands for them.
-  abbrev pub IsRecovered : List ℕ → R → List (List ℕ) → Type 0
-  IsRecovered name room list = (c : List ℕ) × (images_in room name c × StandsFor c list)
+  abbrev pub IsRecovered : Text → R → List Text → Type 0
+  IsRecovered name room list = (c : Text) × (images_in room name c × StandsFor c list)
 
   -- The run opened or made the journal of this name, which then had these records, and ended
   -- without a failure of the room and without want of memory.
-  pub record HasHeld (name : List ℕ) (old : R) (turn : Turn R O E) (list : List (List ℕ))
+  pub record HasHeld (name : Text) (old : R) (turn : Turn R O E) (list : List Text)
       : Type 0 where
     pub did : Journaled
     pub among : DidWith old turn name did
@@ -116,7 +116,7 @@ module _ {R S D O E : Type 0} (h : HashFunction) (rooms : Rooms R S D) (disks : 
     pub no_want : turn.status ≢ 8
 
   -- A run of the course did so.
-  abbrev pub WasHeld : List ℕ → R → List (Link R O E) → List (List ℕ) → Type 0
+  abbrev pub WasHeld : Text → R → List (Link R O E) → List Text → Type 0
   WasHeld name old [] list = ⊥
   WasHeld name old (ran turn ∷ links) list =
       HasHeld name old turn list ⊎ WasHeld name turn.room links list
@@ -124,21 +124,21 @@ module _ {R S D O E : Type 0} (h : HashFunction) (rooms : Rooms R S D) (disks : 
   WasHeld name old (cut turn new ∷ links) list = WasHeld name new links list
 
   -- The run added this record behind those, and a byte went out.
-  abbrev pub HandsOut : List ℕ → R → Turn R O E → List (List ℕ) → List ℕ → Type 0
+  abbrev pub HandsOut : Text → R → Turn R O E → List Text → Text → Type 0
   HandsOut name old turn list body = DidWith old turn name (appended list body)
       × TookSome (outs.taken turn.out) (outs.taken turn.out_after)
 
   -- These records went out in a run, each by a byte behind it: one that it added, or none.
-  abbrev pub WentOutBy : List ℕ → R → Turn R O E → List (List ℕ) → Type 0
-  WentOutBy name old turn bodies = ((list : List (List ℕ)) × ((body : List ℕ)
+  abbrev pub WentOutBy : Text → R → Turn R O E → List Text → Type 0
+  WentOutBy name old turn bodies = ((list : List Text) × ((body : Text)
       × ((bodies ≡ body ∷ []) × HandsOut name old turn list body)))
       ⊎ ((bodies ≡ [])
-      × ((list : List (List ℕ)) (body : List ℕ) → HandsOut name old turn list body → ⊥))
+      × ((list : List Text) (body : Text) → HandsOut name old turn list body → ⊥))
 
   -- So they did in the runs of a course, in this order.
-  abbrev pub WentOut : List ℕ → R → List (Link R O E) → List (List ℕ) → Type 0
+  abbrev pub WentOut : Text → R → List (Link R O E) → List Text → Type 0
   WentOut name old [] bodies = bodies ≡ []
-  WentOut name old (ran turn ∷ links) bodies = (now : List (List ℕ)) × ((later : List (List ℕ))
+  WentOut name old (ran turn ∷ links) bodies = (now : List Text) × ((later : List Text)
       × ((bodies ≡ now ++ later) × WentOutBy name old turn now
       × WentOut name turn.room links later))
   WentOut name old (stops new ∷ links) bodies = WentOut name new links bodies
@@ -146,7 +146,7 @@ module _ {R S D O E : Type 0} (h : HashFunction) (rooms : Rooms R S D) (disks : 
 
   -- The journal of this name is that of a node at the end of a history, in which the records were
   -- handed out that went out in the course.
-  pub record IsReached (name : List ℕ) (start : NodeStart) (first : List ℕ) (made : R)
+  pub record IsReached (name : Text) (start : NodeStart) (first : Text) (made : R)
       (links : List (Link R O E)) (room : R) : Type 0 where
     pub steps : List NodeStep
     pub state : HistoryState
@@ -155,7 +155,7 @@ module _ {R S D O E : Type 0} (h : HashFunction) (rooms : Rooms R S D) (disks : 
     pub handed : WentOut name made links (handed_bodies state)
 
   -- A run of the course did so.
-  abbrev pub WasHandedOut : List ℕ → R → List (Link R O E) → List (List ℕ) → List ℕ → Type 0
+  abbrev pub WasHandedOut : Text → R → List (Link R O E) → List Text → Text → Type 0
   WasHandedOut name old [] list body = ⊥
   WasHandedOut name old (ran turn ∷ links) list body =
       HandsOut name old turn list body ⊎ WasHandedOut name turn.room links list body

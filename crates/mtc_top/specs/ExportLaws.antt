@@ -1,6 +1,6 @@
 -- What a run of `export` prints behind a course.
-use Rattle.std.specs.Prelude.{◌≡◌, ℕ, List, ◌∷◌, drop, Some, Ok, Contains}
-use Rattle.byte_forms.specs.Types.{HashFunction}
+use Rattle.std.specs.Prelude.{◌≡◌, List, ◌∷◌, drop, Some, Ok, Contains}
+use Rattle.byte_forms.specs.Types.{HashFunction, Text}
 use Rattle.disk_core.specs.declared.disk.Disk.{Ghosts as Disks}
 use Rattle.mtc_io.specs.declared.sink.Sink.{Ghosts as Sinks}
 use Rattle.mtc_room.specs.declared.room.Room.{Ghosts as Rooms}
@@ -23,11 +23,11 @@ module _ {R S D O E : Type 0} (h : HashFunction) (rooms : Rooms R S D) (disks : 
   -- The run printed the export of a list with which the journal might have been recovered then. It
   -- has the ids of the settings and this public key. It is read as the steps of these records, each
   -- of which is allowed, and each step that was handed out before is among them.
-  pub record HasExported (settings : CosignerSettings) (public name : List ℕ) (made : R)
+  pub record HasExported (settings : CosignerSettings) (public name : Text) (made : R)
       (links : List (Link R O E)) (old : R) (turn : Turn R O E) : Type 0 where
-    pub list : List (List ℕ)
+    pub list : List Text
     pub recovered : IsRecovered h rooms disks outs errs name old list
-    pub text : List ℕ
+    pub text : Text
     pub printed : Prints outs turn.out turn.out_after text
     pub export : Export
     pub read : export_in h text ≡ Ok (Some export)
@@ -37,14 +37,14 @@ module _ {R S D O E : Type 0} (h : HashFunction) (rooms : Rooms R S D) (disks : 
     pub progress : Progress
     pub allowed : export_progress h export ≡ Some progress
     pub steps : steps_in (drop 1 list) ≡ Some export.steps
-    pub signed : (first : List ℕ) (front : List (List ℕ)) (body : List ℕ) (step : Step)
+    pub signed : (first : Text) (front : List Text) (body : Text) (step : Step)
         → WasHandedOut h rooms disks outs errs name made links (first ∷ front) body
         → step_in body ≡ Some step → Contains export.steps step
 
   -- So it is of each run of `export` with status 0 behind a course of a cosigner's journal.
   abbrev pub ExportsHoldTheSteps : Type 0
   ExportsHoldTheSteps = OfCourses h rooms disks outs errs (λ name start first made links new.
-      (settings : CosignerSettings) (public : List ℕ) → start ≡ Cosigner settings public
+      (settings : CosignerSettings) (public : Text) → start ≡ Cosigner settings public
       → (turn : Turn R O E) → HasTurned h rooms disks outs errs new turn
       → command_of turn.words ≡ Ok (export name) → turn.status ≡ 0
       → HasExported settings public name made links new turn)

@@ -2,7 +2,7 @@
 -- it was.
 use Rattle.std.specs.Prelude.{◌≡◌, ◌≢◌, ◌⊎◌, ℕ, ◌<◌, Bool, List, [], ◌∷◌, ◌++◌, length, Option}
 use Rattle.std.specs.Prelude.{None, Some, IfSome}
-use Rattle.byte_forms.specs.Types.{HashFunction}
+use Rattle.byte_forms.specs.Types.{HashFunction, Text}
 use Rattle.journal_core.specs.Format.{StandsFor}
 use Rattle.mtc_answers.specs.Answers.{IsEarly}
 use Rattle.mtc_answers.specs.Made.{Images, Journaled, untouched, reads, appended, started}
@@ -14,21 +14,21 @@ use Rattle.node_history.specs.declared.step.NodeStep.{NodeStep}
 use Rattle.node_history.specs.declared.step.NodeStep.TheVariants.{Begin, Settle, Hand, Stop}
 
 -- The bytes stand for this first record and the settled ones, or for these and the pending one.
-abbrev pub StandsForNode : HistoryState → List ℕ → List ℕ → Type 0
+abbrev pub StandsForNode : HistoryState → Text → Text → Type 0
 StandsForNode n first c = StandsFor c (first ∷ n.settled)
     ⊎ StandsFor c (first ∷ with_pending n.settled n.pending)
 
-abbrev pub AllStandForNode : HistoryState → List ℕ → Images → Type 0
-AllStandForNode n first images = (c : List ℕ) → images c → StandsForNode n first c
+abbrev pub AllStandForNode : HistoryState → Text → Images → Type 0
+AllStandForNode n first images = (c : Text) → images c → StandsForNode n first c
 
 -- How a command may end: without a step, with a stop, and then with a record begun, settled and
 -- handed out.
 pub data End : Type 0 where
   same : End
   stopped : Bool → End
-  begun : Bool → List ℕ → End
-  has_settled : Bool → List ℕ → End
-  has_handed : Bool → List ℕ → End
+  begun : Bool → Text → End
+  has_settled : Bool → Text → End
+  has_handed : Bool → Text → End
 
 abbrev pub end_state : End → HistoryState → HistoryState
 end_state same n = n
@@ -49,19 +49,19 @@ steps_of place (has_handed kept body) =
 
 -- Each history that led to the state, of a node which began with this first record, goes on by the
 -- steps of the end.
-abbrev pub GoesOn : HashFunction → HistoryState → List ℕ → End → Type 0
+abbrev pub GoesOn : HashFunction → HistoryState → Text → End → Type 0
 GoesOn h n first end = StartsWith n.start first
     → (starts : List NodeStart) (steps : List NodeStep) (place : ℕ)
     → LeadsTo (may_follow h) starts steps place n
     → LeadsTo (may_follow h) starts (steps ++ steps_of place end) place (end_state end n)
 
 -- The command adds this record.
-abbrev pub IsRecord : Journaled → List ℕ → Type 0
-IsRecord did body = (list : List (List ℕ)) × (did ≡ appended list body)
+abbrev pub IsRecord : Journaled → Text → Type 0
+IsRecord did body = (list : List Text) × (did ≡ appended list body)
 
 -- No byte went out behind a record.
 abbrev pub NotHanded : Journaled → Type 0 → Type 0
-NotHanded did took = (body : List ℕ) → IsRecord did body → took → ⊥
+NotHanded did took = (body : Text) → IsRecord did body → took → ⊥
 
 -- The ends that a status allows. A record is handed out exactly where a byte went out behind it.
 abbrev pub MayEnd : Journaled → ℕ → Type 0 → End → Type 0
@@ -72,7 +72,7 @@ MayEnd did status took (has_settled kept body) = IsRecord did body × (took → 
 MayEnd did status took (has_handed kept body) = IsRecord did body × took
 
 -- The records that a command leaves in its journal, where it opens it.
-abbrev pub records_left : Journaled → Option (List (List ℕ))
+abbrev pub records_left : Journaled → Option (List Text)
 records_left untouched = None
 records_left (reads list) = Some list
 records_left (appended list body) = Some (list ++ body ∷ [])
@@ -89,14 +89,14 @@ IsUnsettled did (has_handed kept body) = ⊥
 -- What a crash may leave at a moment of the command stands for the state before, or for one with
 -- the command's record begun behind a stop.
 pub record IsNodeMoment (h : HashFunction) (did : Journaled) (n : HistoryState)
-    (first c : List ℕ) : Type 0 where
+    (first c : Text) : Type 0 where
   pub end : End
   pub may : IsUnsettled did end
   pub goes_on : GoesOn h n first end
   pub stands : StandsForNode (end_state end n) first c
 
 -- A byte went out, where the sink tells.
-abbrev pub TookSome : Option (List ℕ) → Option (List ℕ) → Type 0
+abbrev pub TookSome : Option Text → Option Text → Type 0
 TookSome None new = ⊥
 TookSome (Some old) None = ⊥
 TookSome (Some old) (Some new) = length old < length new
@@ -104,12 +104,12 @@ TookSome (Some old) (Some new) = length old < length new
 -- A command's end, over a state of the node for which each image before stands, with this first
 -- record.
 pub record EndsWell (h : HashFunction) (did : Journaled) (status : ℕ) (took : Type 0)
-    (n : HistoryState) (first : List ℕ) (now since : Images) : Type 0 where
+    (n : HistoryState) (first : Text) (now since : Images) : Type 0 where
   pub end : End
   pub may : MayEnd did status took end
   pub goes_on : GoesOn h n first end
   pub stands : AllStandForNode (end_state end n) first now
-  pub each : (c : List ℕ) → since c → IsNodeMoment h did n first c
+  pub each : (c : Text) → since c → IsNodeMoment h did n first c
   -- Where it answered, what it opened has the node's records.
   pub holds : status ≢ 5 → status ≢ 8
       → IfSome (records_left did) (λ list. list ≡ first ∷ (end_state end n).settled)

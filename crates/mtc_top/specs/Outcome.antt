@@ -1,7 +1,8 @@
 -- The outcome: what the program has to answer, as a function of the words and the room's files. One
 -- line for each command; each command's own outcome stands in a file of its own, in mtc_reads,
 -- mtc_logs, mtc_cosigner or mtc_monitor.
-use Rattle.std.specs.Prelude.{ℕ, List, [], ◌∷◌, Option, None, Some, Result, Ok, Err}
+use Rattle.std.specs.Prelude.{List, [], ◌∷◌, Option, None, Some, Result, Ok, Err}
+use Rattle.byte_forms.specs.Types.{HashFunction, Text}
 use Rattle.mtc_words.specs.declared.error.WordError.{WordError}
 use Rattle.mtc_words.specs.Commands.{CommandValue, member, show, verify, init_log, issue}
 use Rattle.mtc_words.specs.Commands.{checkpoint, entries, consist, subtree, keygen}
@@ -26,7 +27,7 @@ use Rattle.mtc_logs.specs.declared.work.Work.TheVariants.{Checkpoint, Entries, C
 use Rattle.mtc_logs.specs.declared.work.Work.TheVariants.{Landmark, Landmarks, LightCert}
 
 -- What a command answers over these files.
-abbrev pub command_outcome : (List ℕ → List ℕ) → CommandValue → Files → Outcome
+abbrev pub command_outcome : HashFunction → CommandValue → Files → Outcome
 command_outcome h (member file) files = member_outcome h file files
 command_outcome h (show file) files = show_outcome file files
 command_outcome h (verify certificate store moment) files =
@@ -60,7 +61,7 @@ command_outcome h (audit certificate store moment items kept) files =
     audit_outcome h certificate store moment items kept files
 
 -- The files that a command names.
-abbrev pub files_of : CommandValue → List (List ℕ)
+abbrev pub files_of : CommandValue → List Text
 files_of (member file) = file ∷ []
 files_of (show file) = file ∷ []
 files_of (verify certificate store moment) = certificate ∷ (store ∷ [])
@@ -84,7 +85,7 @@ files_of (audit certificate store moment items kept) =
     certificate ∷ (store ∷ (items ∷ (kept ∷ [])))
 
 -- The journals that it works on.
-abbrev pub journals_of : CommandValue → List (List ℕ)
+abbrev pub journals_of : CommandValue → List Text
 journals_of (member file) = []
 journals_of (show file) = []
 journals_of (verify certificate store moment) = []
@@ -107,7 +108,7 @@ journals_of (cert journal index start end file) = journal ∷ []
 journals_of (audit certificate store moment items kept) = []
 
 -- The journal that it makes.
-abbrev pub new_of : CommandValue → Option (List ℕ)
+abbrev pub new_of : CommandValue → Option Text
 new_of (member file) = None
 new_of (show file) = None
 new_of (verify certificate store moment) = None
@@ -130,7 +131,7 @@ new_of (cert journal index start end file) = None
 new_of (audit certificate store moment items kept) = None
 
 -- Which lists of records are a node's, of the kind that it works on.
-abbrev pub rules_of : (List ℕ → List ℕ) → CommandValue → List (List ℕ) → Type 0
+abbrev pub rules_of : HashFunction → CommandValue → List Text → Type 0
 rules_of h (member file) = IsLog h
 rules_of h (show file) = IsLog h
 rules_of h (verify certificate store moment) = IsLog h
@@ -153,23 +154,23 @@ rules_of h (cert journal index start end file) = IsLog h
 rules_of h (audit certificate store moment items kept) = IsLog h
 
 -- The same where the words say this.
-abbrev pub spoken_outcome : (List ℕ → List ℕ) → Result CommandValue WordError → Files → Outcome
+abbrev pub spoken_outcome : HashFunction → Result CommandValue WordError → Files → Outcome
 spoken_outcome h (Ok command) files = command_outcome h command files
 spoken_outcome h (Err why) files = words_say why
 
-abbrev pub spoken : (CommandValue → List (List ℕ)) → Result CommandValue WordError
-    → List (List ℕ)
+abbrev pub spoken : (CommandValue → List Text) → Result CommandValue WordError
+    → List Text
 spoken names (Ok command) = names command
 spoken names (Err why) = []
 
-abbrev pub spoken_new : Result CommandValue WordError → Option (List ℕ)
+abbrev pub spoken_new : Result CommandValue WordError → Option Text
 spoken_new (Ok command) = new_of command
 spoken_new (Err why) = None
 
-abbrev pub spoken_rules : (List ℕ → List ℕ) → Result CommandValue WordError → List (List ℕ)
+abbrev pub spoken_rules : HashFunction → Result CommandValue WordError → List Text
     → Type 0
 spoken_rules h (Ok command) = rules_of h command
 spoken_rules h (Err why) = λ list. ⊥
 
-abbrev pub outcome : (List ℕ → List ℕ) → List (List ℕ) → Files → Outcome
+abbrev pub outcome : HashFunction → List Text → Files → Outcome
 outcome h words files = spoken_outcome h (command_of words) files

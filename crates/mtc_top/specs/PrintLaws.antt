@@ -1,6 +1,6 @@
 -- What `issue` and `cosign` print, beside the record that they add.
-use Rattle.std.specs.Prelude.{◌≡◌, ℕ, List, length, Some, Ok}
-use Rattle.byte_forms.specs.Types.{HashFunction}
+use Rattle.std.specs.Prelude.{◌≡◌, List, length, Some, Ok}
+use Rattle.byte_forms.specs.Types.{HashFunction, Text}
 use Rattle.disk_core.specs.declared.disk.Disk.{Ghosts as Disks}
 use Rattle.mtc_io.specs.declared.sink.Sink.{Ghosts as Sinks}
 use Rattle.mtc_room.specs.declared.room.Room.{Ghosts as Rooms}
@@ -24,8 +24,8 @@ module _ {R S D O E : Type 0} (h : HashFunction) (rooms : Rooms R S D) (disks : 
     (outs : Sinks O) (errs : Sinks E) where
   -- The run added the record of a request to a log with these records, and printed the index of its
   -- entry, which counts those before it.
-  pub record HasIssued (name : List ℕ) (old : R) (turn : Turn R O E) : Type 0 where
-    pub list : List (List ℕ)
+  pub record HasIssued (name : Text) (old : R) (turn : Turn R O E) : Type 0 where
+    pub list : List Text
     pub state : LogState
     pub log_is : log_of h list ≡ Ok state
     pub request : RequestParts
@@ -36,11 +36,11 @@ module _ {R S D O E : Type 0} (h : HashFunction) (rooms : Rooms R S D) (disks : 
   -- The run added a Sign record to a cosigner with these records, which adds the number of the next
   -- one-time key to those that were used. It printed the signature by that key, over the same
   -- interval and hash.
-  pub record HasCosigned (name : List ℕ) (old : R) (turn : Turn R O E) : Type 0 where
-    pub list : List (List ℕ)
+  pub record HasCosigned (name : Text) (old : R) (turn : Turn R O E) : Type 0 where
+    pub list : List Text
     pub state : CosignerState
     pub cosigner_is : cosigner_of h list ≡ Ok state
-    pub body : List ℕ
+    pub body : Text
     pub did : DidWith h rooms disks outs errs old turn name (appended list body)
     pub uses : UsesKey list body state.key.next
     pub request : SubtreeParts
@@ -56,8 +56,8 @@ module _ {R S D O E : Type 0} (h : HashFunction) (rooms : Rooms R S D) (disks : 
 
   abbrev pub IndicesArePrinted : Type 0
   IndicesArePrinted =
-      (name request : List ℕ) → OfDone (issue name request) (HasIssued name)
+      (name request : Text) → OfDone (issue name request) (HasIssued name)
 
   abbrev pub SignaturesArePrinted : Type 0
   SignaturesArePrinted =
-      (name request : List ℕ) → OfDone (cosign name request) (HasCosigned name)
+      (name request : Text) → OfDone (cosign name request) (HasCosigned name)

@@ -1,5 +1,6 @@
 -- What a run of the program did, by these words, over a room and two sinks, each before and after.
 use Rattle.std.specs.Prelude.{◌≡◌, ◌≢◌, ◌⊎◌, ℕ, List, [], None, Some, codes, IfSome, IsErr}
+use Rattle.byte_forms.specs.Types.{HashFunction, Text}
 use Rattle.disk_core.specs.declared.disk.Disk.{Ghosts as Disks}
 use Rattle.mtc_io.specs.Counts.{Rose}
 use Rattle.mtc_io.specs.declared.sink.Sink.{Ghosts as Sinks}
@@ -20,14 +21,14 @@ use Rattle.mtc_top.specs.Concluded.{Prints, PrintsFront, Reports}
 use Rattle.mtc_top.specs.Outcome.{outcome, files_of, journals_of, spoken, spoken_new}
 use Rattle.mtc_top.specs.Outcome.{spoken_rules}
 
-module _ {R S D O E : Type 0} (h : List ℕ → List ℕ) (rooms : Rooms R S D) (disks : Disks D)
-    (outs : Sinks O) (errs : Sinks E) (words : List (List ℕ))
+module _ {R S D O E : Type 0} (h : HashFunction) (rooms : Rooms R S D) (disks : Disks D)
+    (outs : Sinks O) (errs : Sinks E) (words : List Text)
     (old new : R) (out out' : O) (err err' : E) where
   -- What the words and the files ask for, and the journals that it works on.
   abbrev pub asked : Outcome
   asked = outcome h words (rooms.file old)
 
-  abbrev pub names : List (List ℕ)
+  abbrev pub names : List Text
   names = spoken journals_of (command_of words)
 
   abbrev pub journals : Journals
@@ -63,7 +64,7 @@ module _ {R S D O E : Type 0} (h : List ℕ → List ℕ) (rooms : Rooms R S D) 
   pub record RoomFailed : Type 0 where
     pub cause : Rose (rooms.faults old) (rooms.faults new)
     pub text : Prints outs out out' []
-    pub file : List ℕ
+    pub file : Text
     pub named : IsNamed (spoken files_of (command_of words)) file
     pub line : Reports errs err err' (line_of (known_word words) (Some file) (codes "Failed"))
     pub made : Left MayHaveMade

@@ -1,5 +1,6 @@
 -- What follows of each run, and how it ends as steps of the nodes whose journals it works on.
 use Rattle.std.specs.Prelude.{◌≡◌, ◌≢◌, ◌≤◌, ◌⊎◌, ℕ, List, [], ◌∷◌, ◌++◌, IfSome}
+use Rattle.byte_forms.specs.Types.{HashFunction, Text}
 use Rattle.disk_core.specs.declared.disk.Disk.{Ghosts as Disks}
 use Rattle.journal_core.specs.Format.{StandsFor}
 use Rattle.mtc_io.specs.Counts.{Rose}
@@ -14,8 +15,8 @@ use Rattle.node_history.specs.declared.start.NodeStart.{NodeStart}
 use Rattle.mtc_top.specs.Nodes.{StandsForNode, AllStandForNode, EndsWell, TookSome}
 use Rattle.mtc_top.specs.Run.{journals, Answered, HasRun}
 
-module _ {R S D O E : Type 0} (h : List ℕ → List ℕ) (rooms : Rooms R S D) (disks : Disks D)
-    (outs : Sinks O) (errs : Sinks E) (words : List (List ℕ))
+module _ {R S D O E : Type 0} (h : HashFunction) (rooms : Rooms R S D) (disks : Disks D)
+    (outs : Sinks O) (errs : Sinks E) (words : List Text)
     (old new : R) (out out' : O) (err err' : E) where
   -- What follows of each run.
   pub record RunShows (status : ℕ) : Type 0 where
@@ -34,47 +35,47 @@ module _ {R S D O E : Type 0} (h : List ℕ → List ℕ) (rooms : Rooms R S D) 
   took = TookSome (outs.taken out) (outs.taken out')
 
   -- The images of a name's file: before the run, after it, and at any moment since it began.
-  abbrev pub images_before : List ℕ → Images
+  abbrev pub images_before : Text → Images
   images_before name = images_at disks (rooms.device old name)
 
-  abbrev pub images_after : List ℕ → Images
+  abbrev pub images_after : Text → Images
   images_after name = images_at disks (rooms.device new name)
 
-  abbrev pub images_between : List ℕ → Images
+  abbrev pub images_between : Text → Images
   images_between name =
       images_since disks (rooms.device new name) (moment_at disks (rooms.device old name))
 
   -- The run as steps of a node, whose journal has this name.
-  pub record RunSteps (status : ℕ) (name : List ℕ) (did : Journaled) : Type 0 where
+  pub record RunSteps (status : ℕ) (name : Text) (did : Journaled) : Type 0 where
     -- It ends in one of five ways, for each state and first record for which all images stood
     -- before.
-    pub ends : (n : HistoryState) (first : List ℕ) → AllStandForNode n first (images_before name)
+    pub ends : (n : HistoryState) (first : Text) → AllStandForNode n first (images_before name)
         → EndsWell h did status took n first (images_after name) (images_between name)
     -- What the room tells of the file stands for each state for which all images stand.
-    pub as_read : (n : HistoryState) (first : List ℕ) → AllStandForNode n first (images_after name)
+    pub as_read : (n : HistoryState) (first : Text) → AllStandForNode n first (images_after name)
         → IfSome (rooms.file new name) (StandsForNode n first)
     -- Time goes on.
     pub later : moment_at disks (rooms.device old name) ≤ moment_at disks (rooms.device new name)
     -- Where a byte went out each image holds the record.
-    pub recorded : (list : List (List ℕ)) (body : List ℕ) → did ≡ appended list body → took
-        → (c : List ℕ) → images_after name c → StandsFor c (list ++ body ∷ [])
+    pub recorded : (list : List Text) (body : Text) → did ≡ appended list body → took
+        → (c : Text) → images_after name c → StandsFor c (list ++ body ∷ [])
     -- A new journal that was made is that of a node that has begun with this record, and no more.
-    pub begins : (status ≡ 0) ⊎ (status ≡ 6) → (body : List ℕ) → did ≡ started body
+    pub begins : (status ≡ 0) ⊎ (status ≡ 6) → (body : Text) → did ≡ started body
         → (start : NodeStart) → AllStandForNode (fresh_node start) body (images_after name)
 
 -- So it is of each run.
-abbrev pub RunsShow : {R S D O E : Type 0} → (List ℕ → List ℕ) → Rooms R S D → Disks D
+abbrev pub RunsShow : {R S D O E : Type 0} → HashFunction → Rooms R S D → Disks D
     → Sinks O → Sinks E → Type 0
 RunsShow {R} {S} {D} {O} {E} h rooms disks outs errs =
-    (words : List (List ℕ)) (old new : R) (out out' : O) (err err' : E) (status : ℕ)
+    (words : List Text) (old new : R) (out out' : O) (err err' : E) (status : ℕ)
     → HasRun h rooms disks outs errs words old new out out' err err' status
     → RunShows h rooms disks outs errs words old new out out' err err' status
 
 -- And of each journal that a run works on, where the room tells its files.
-abbrev pub RunsAreSteps : {R S D O E : Type 0} → (List ℕ → List ℕ) → Rooms R S D → Disks D
+abbrev pub RunsAreSteps : {R S D O E : Type 0} → HashFunction → Rooms R S D → Disks D
     → Sinks O → Sinks E → Type 0
 RunsAreSteps {R} {S} {D} {O} {E} h rooms disks outs errs =
-    (words : List (List ℕ)) (old new : R) (out out' : O) (err err' : E) (status : ℕ)
+    (words : List Text) (old new : R) (out out' : O) (err err' : E) (status : ℕ)
     → HasRun h rooms disks outs errs words old new out out' err err' status → rooms.tells old
     → OfEach (RunSteps h rooms disks outs errs words old new out out' err err' status)
     (journals h rooms disks outs errs words old new out out' err err')

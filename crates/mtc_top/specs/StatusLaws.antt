@@ -1,6 +1,6 @@
 -- Status 2 behind a course: it is never about the journal.
-use Rattle.std.specs.Prelude.{◌≡◌, ℕ, List, drop, Some, Ok}
-use Rattle.byte_forms.specs.Types.{HashFunction}
+use Rattle.std.specs.Prelude.{◌≡◌, drop, Some, Ok}
+use Rattle.byte_forms.specs.Types.{HashFunction, Text}
 use Rattle.disk_core.specs.declared.disk.Disk.{Ghosts as Disks}
 use Rattle.mtc_io.specs.declared.sink.Sink.{Ghosts as Sinks}
 use Rattle.mtc_room.specs.declared.room.Room.{Ghosts as Rooms}
@@ -18,7 +18,7 @@ use Rattle.mtc_top.specs.Courses.{Turn, HasTurned}
 use Rattle.mtc_top.specs.Outcome.{files_of}
 
 -- The command opens the journal of this name, as that of such a node.
-abbrev pub Opens : NodeStart → List ℕ → CommandValue → Type 0
+abbrev pub Opens : NodeStart → Text → CommandValue → Type 0
 Opens (Log settings) name (issue journal request) = journal ≡ name
 Opens (Log settings) name (checkpoint journal) = journal ≡ name
 Opens (Log settings) name (entries journal size) = journal ≡ name
@@ -37,8 +37,8 @@ module _ {R S D O E : Type 0} (h : HashFunction) (rooms : Rooms R S D) (disks : 
     (outs : Sinks O) (errs : Sinks E) where
   -- The line on standard error is about an input of the command: a file behind its journal.
   pub record IsAboutInput (command : CommandValue) (turn : Turn R O E) : Type 0 where
-    pub file : List ℕ
-    pub reason : List ℕ
+    pub file : Text
+    pub reason : Text
     pub input : IsNamed (drop 1 (files_of command)) file
     pub line : Reports errs turn.err turn.err_after
         (line_of (known_word turn.words) (Some file) reason)

@@ -1,6 +1,7 @@
 -- What is answered where the words are no command.
-use Rattle.std.specs.Prelude.{ℕ, List, ◌++◌, codes}
+use Rattle.std.specs.Prelude.{◌++◌, codes}
 use Rattle.std.specs.Fmt.{decimal}
+use Rattle.byte_forms.specs.Types.{Text}
 use Rattle.mtc_words.specs.declared.error.WordError.{WordError}
 use Rattle.mtc_words.specs.declared.error.WordError.TheVariants.{NoCommand, UnknownCommand, BadWord}
 use Rattle.mtc_words.specs.declared.error.WordError.TheVariants.{WrongCount, BadNumber, BadId}
@@ -9,7 +10,7 @@ use Rattle.mtc_answers.specs.declared.answer.Stopped.TheVariants.{BadWords}
 use Rattle.mtc_answers.specs.Steps.{Outcome, stops}
 
 -- A fault of the words, with its numbers.
-abbrev pub word_fault_text : WordError → List ℕ
+abbrev pub word_fault_text : WordError → Text
 word_fault_text NoCommand = codes "NoCommand"
 word_fault_text UnknownCommand = codes "UnknownCommand"
 word_fault_text (BadWord place) = codes "BadWord " ++ decimal place

@@ -1,5 +1,6 @@
 -- What contracts see of a command.
 use Rattle.std.specs.Prelude.{◌≡◌, ℕ, ◌==◌, ◌&&◌, ◌||◌, Bool, true, nat_le, List, Result, Ok, Err}
+use Rattle.byte_forms.specs.Types.{Text}
 use Rattle.mtc_words.specs.declared.command.Command.{Command}
 use Rattle.mtc_words.specs.declared.command.Command.TheVariants.{Member, Show, Verify, InitLog}
 use Rattle.mtc_words.specs.declared.command.Command.TheVariants.{Issue, Checkpoint, Entries}
@@ -12,26 +13,26 @@ use Rattle.mtc_words.specs.declared.error.WordError.{WordError}
 
 -- A command with the values of its words: a text is the list of its bytes, and so is an id.
 pub data CommandValue : Type 0 where
-  member : List ℕ → CommandValue
-  show : List ℕ → CommandValue
-  verify : List ℕ → List ℕ → ℕ → CommandValue
-  init_log : List ℕ → List ℕ → ℕ → ℕ → CommandValue
-  issue : List ℕ → List ℕ → CommandValue
-  checkpoint : List ℕ → CommandValue
-  entries : List ℕ → ℕ → CommandValue
-  consist : List ℕ → ℕ → ℕ → CommandValue
-  subtree : List ℕ → ℕ → ℕ → ℕ → CommandValue
-  keygen : ℕ → ℕ → List ℕ → CommandValue
-  init_cosigner : List ℕ → List ℕ → List ℕ → ℕ → ℕ → List ℕ → CommandValue
-  advance : List ℕ → List ℕ → CommandValue
-  cosign : List ℕ → List ℕ → CommandValue
-  export : List ℕ → CommandValue
-  landmark : List ℕ → CommandValue
+  member : Text → CommandValue
+  show : Text → CommandValue
+  verify : Text → Text → ℕ → CommandValue
+  init_log : Text → Text → ℕ → ℕ → CommandValue
+  issue : Text → Text → CommandValue
+  checkpoint : Text → CommandValue
+  entries : Text → ℕ → CommandValue
+  consist : Text → ℕ → ℕ → CommandValue
+  subtree : Text → ℕ → ℕ → ℕ → CommandValue
+  keygen : ℕ → ℕ → Text → CommandValue
+  init_cosigner : Text → Text → Text → ℕ → ℕ → Text → CommandValue
+  advance : Text → Text → CommandValue
+  cosign : Text → Text → CommandValue
+  export : Text → CommandValue
+  landmark : Text → CommandValue
   landmarks : List ℕ → CommandValue
-  light_cert : List ℕ → ℕ → CommandValue
+  light_cert : Text → ℕ → CommandValue
   trust_landmarks : List ℕ → ℕ → List ℕ → CommandValue
-  cert : List ℕ → ℕ → ℕ → ℕ → List ℕ → CommandValue
-  audit : List ℕ → List ℕ → ℕ → List ℕ → List ℕ → CommandValue
+  cert : Text → ℕ → ℕ → ℕ → Text → CommandValue
+  audit : Text → Text → ℕ → Text → Text → CommandValue
 
 -- The values of a command's words.
 abbrev pub command_value : Command → CommandValue

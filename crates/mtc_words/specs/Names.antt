@@ -1,5 +1,6 @@
 -- The table of the commands: the name of each, and how many words it wants.
-use Rattle.std.specs.Prelude.{ℕ, List, Option, Some, None, codes, bytes_eq, if◌then◌else◌}
+use Rattle.std.specs.Prelude.{ℕ, Option, Some, None, codes, bytes_eq, if◌then◌else◌}
+use Rattle.byte_forms.specs.Types.{Text}
 use Rattle.mtc_words.specs.declared.name.Name.{Name}
 use Rattle.mtc_words.specs.declared.name.Name.TheVariants.{Member, Show, Verify, InitLog, Issue}
 use Rattle.mtc_words.specs.declared.name.Name.TheVariants.{Checkpoint, Entries, Consist, Subtree}
@@ -9,7 +10,7 @@ use Rattle.mtc_words.specs.declared.name.Name.TheVariants.{Landmark, Landmarks, 
 use Rattle.mtc_words.specs.declared.name.Name.TheVariants.{TrustLandmarks, Cert, Audit}
 
 -- The command that a word names.
-unfoldable pub named_command : List ℕ → Option Name
+unfoldable pub named_command : Text → Option Name
 named_command word =
     if bytes_eq word (codes "member") then Some Member
     else (if bytes_eq word (codes "show") then Some Show

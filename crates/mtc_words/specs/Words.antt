@@ -2,6 +2,7 @@
 -- command.
 use Rattle.std.specs.Prelude.{ℕ, ◌+◌, ◌==◌, Bool, true, List, [], ◌∷◌, length, Option, Some, None}
 use Rattle.std.specs.Prelude.{Result, Ok, Err, slice_index_or, is_some, if◌then◌else◌}
+use Rattle.byte_forms.specs.Types.{Text}
 use Rattle.byte_forms.specs.Readings.{◌>>=◌, blamed}
 use Rattle.tls_wire.specs.Anchors.{anchor_text}
 use Rattle.tls_wire.specs.Decimal.{number_of}
@@ -23,12 +24,12 @@ use Rattle.mtc_words.specs.Commands.{export, light_cert, trust_landmarks, cert, 
 use Rattle.mtc_words.specs.Names.{named_command, word_count}
 
 -- Empty, or begins with a hyphen.
-abbrev pub is_bad_word : List ℕ → Bool
+abbrev pub is_bad_word : Text → Bool
 is_bad_word [] = true
 is_bad_word (first ∷ rest) = first == 45
 
 -- The number of the first bad word, where k is that of the first one.
-abbrev pub bad_word : ℕ → List (List ℕ) → Option ℕ
+abbrev pub bad_word : ℕ → List Text → Option ℕ
 bad_word k [] = None
 bad_word k (w ∷ ws) = if is_bad_word w then Some k else bad_word (k + 1) ws
 
@@ -38,11 +39,11 @@ count_fault have want (Some k) = Some (BadWord k)
 count_fault have want None = if have == want then None else Some (WrongCount have want)
 
 -- The fault of the words behind a command that wants so many.
-unfoldable pub word_fault : ℕ → List (List ℕ) → Option WordError
+unfoldable pub word_fault : ℕ → List Text → Option WordError
 word_fault want ws = count_fault (length ws) want (bad_word 1 ws)
 
 -- The word at a place, counted from 0.
-abbrev pub word : List (List ℕ) → ℕ → List ℕ
+abbrev pub word : List Text → ℕ → Text
 word ws k = slice_index_or ws k []
 
 -- A number that passes a test; else the word of this number is a bad one.
@@ -51,15 +52,15 @@ ranged place test None = Err (BadNumber place)
 ranged place test (Some n) = if test n then Ok n else Err (BadNumber place)
 
 -- The number that a word is, where it passes a test.
-abbrev pub number_word : ℕ → (ℕ → Bool) → List ℕ → Result ℕ WordError
+abbrev pub number_word : ℕ → (ℕ → Bool) → Text → Result ℕ WordError
 number_word place test w = ranged place test (number_of w)
 
 -- The anchor id with this text; else the word of this number is a bad one.
-abbrev pub id_word : ℕ → List ℕ → Result (List ℕ) WordError
+abbrev pub id_word : ℕ → Text → Result Text WordError
 id_word place w = blamed (BadId place) (anchor_text w)
 
 -- The command of this name with its words, of which there are as many as it wants.
-abbrev pub command_from : Name → List (List ℕ) → Result CommandValue WordError
+abbrev pub command_from : Name → List Text → Result CommandValue WordError
 command_from Member ws = Ok (member (word ws 0))
 command_from Show ws = Ok (show (word ws 0))
 command_from Verify ws = do
@@ -120,16 +121,16 @@ unless_fault (Some fault) wanted = Err fault
 unless_fault None wanted = wanted
 
 -- What the words behind a name say.
-abbrev pub command_named : Option Name → List (List ℕ) → Result CommandValue WordError
+abbrev pub command_named : Option Name → List Text → Result CommandValue WordError
 command_named None ws = Err UnknownCommand
 command_named (Some name) ws = unless_fault (word_fault (word_count name) ws) (command_from name ws)
 
 -- What words say.
-unfoldable pub command_of : List (List ℕ) → Result CommandValue WordError
+unfoldable pub command_of : List Text → Result CommandValue WordError
 command_of [] = Err NoCommand
 command_of (w ∷ ws) = command_named (named_command w) ws
 
 -- The first word where it is a command, and else no bytes.
-abbrev pub known_word : List (List ℕ) → List ℕ
+abbrev pub known_word : List Text → Text
 known_word [] = []
 known_word (w ∷ ws) = if is_some (named_command w) then w else []
