@@ -40,7 +40,7 @@ use Rattle.authority_core.specs.Issuing.{common_name_id, subject_of, dns_names, 
 use Rattle.authority_core.specs.Issuing.{extensions_of, tbs_for, entry_for}
 use Rattle.authority_core.proofs.Identifiers.{common_name_oid, alt_name_oid, log_oid}
 use Rattle.authority_core.proofs.Labels.{host-short, host-ascii}
-use Rattle.authority_core.proofs.Sizes.{one_extension, names-short, contents-short, extension-short}
+use Rattle.authority_core.proofs.Sizes.{sole, names-short, contents-short, extension-short}
 
 -- ---- names of one attribute
 
@@ -170,7 +170,7 @@ extensions_are : (r : RequestParts) → CanBeIssued r → AreExtensions (alt_nam
 extensions_are r f = record {
   some = omega (
     arith,
-    ap length (one_extension (alt_name_of r)),
+    ap length (sole (alt_name_of r)),
     element-longer 48 (extension_contents (alt_name_of r)),
   );
   each = (alt_name_is r f, tt);
@@ -178,7 +178,7 @@ extensions_are r f = record {
 
 list-few : (r : RequestParts) → CanBeIssued r
     → length (flat_map extension (alt_name_of r ∷ [])) ≤ 26010
-list-few r f = omega (arith, ap length (one_extension (alt_name_of r)), extension-short r f)
+list-few r f = omega (arith, ap length (sole (alt_name_of r)), extension-short r f)
 
 sequence-few : (r : RequestParts) → CanBeIssued r
     → length (element 48 (flat_map extension (alt_name_of r ∷ []))) ≤ 26020

@@ -6,9 +6,9 @@ use Rattle.toml.specs.View.{items_view}
 use Rattle.toml.specs.declared.value.Value.{Value}
 use Rattle.authority_core.specs.Files.{item_count}
 
-pub item_count_of_view : (vs : List Value) → item_count (items_view vs) ≡ length vs
-item_count_of_view [] = refl
-item_count_of_view (v ∷ vs) = grind (arith, item_count_of_view vs)
+pub items_seen : (vs : List Value) → item_count (items_view vs) ≡ length vs
+items_seen [] = refl
+items_seen (v ∷ vs) = grind (arith, items_seen vs)
 
 pub AllByRecursion-push : {X : Type 0} (P : X → Type 0) (xs : List X) (x : X) → AllByRecursion P xs
     → P x → AllByRecursion P (xs ++ x ∷ [])

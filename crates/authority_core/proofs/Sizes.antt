@@ -13,8 +13,8 @@ use Rattle.authority_core.specs.Issuing.{dns_names, alt_name_of}
 use Rattle.authority_core.proofs.Labels.{host-short}
 
 -- One extension alone.
-pub one_extension : (x : ExtensionFields) → flat_map extension (x ∷ []) ≡ extension x
-one_extension x = append-nil (extension x)
+pub sole : (x : ExtensionFields) → flat_map extension (x ∷ []) ≡ extension x
+sole x = append-nil (extension x)
 
 pub names-size : (names : List (List ℕ)) → AllByRecursion IsHostName names
     → length (dns_names names) ≤ 258 * length names

@@ -15,12 +15,16 @@ use crate::reasons::cert_reason;
 use cert_fields::{Cert, DnsNames, MTC_PROOF, dns_names, parse};
 use cert_names::log_of;
 use cert_time::seconds_to_text;
+use der_core::tags::SEQUENCE;
 use mtc_answers::{Answer, INPUT_LIMIT, Said, Stop, Stopped, read_input, refuse_file};
 use mtc_io::{Bytes, Memory};
 use mtc_proof::{Proof, SigRef, Signatures, read_proof, signatures};
 use mtc_room::Room;
 use std::alloc::{AllocError, Global};
 use tls_wire::{AnchorBytesError, AnchorId};
+
+// A subject without a name: a SEQUENCE of nothing.
+const NO_NAME: [u8; 2] = [SEQUENCE, 0x00];
 
 // Puts pieces behind the bytes, one behind the other.
 fn append_all(out: &mut Bytes, pieces: &[&[u8]]) -> Result<(), Memory>
@@ -44,7 +48,7 @@ fn issuer(name: &[u8]) -> &[u8]
 fn subject_name(alloc: Global, subject: &[u8]) -> Result<String, AllocError>
     ensures { IfOk result (λ text. string_bytes text ≡ subject_text subject.now) }
 {
-    if subject == [0x30, 0x00].as_slice() {
+    if subject == NO_NAME.as_slice() {
         String::from_str(alloc, "empty")
     } else {
         hex::encode(alloc, subject)

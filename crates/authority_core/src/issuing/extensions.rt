@@ -63,7 +63,7 @@ fn alt_name(alloc: Global, request: &Request) -> Result<Bytes, Memory>
 }
 
 /// The extensions field, in which subjectAltName stands alone.
-#[tactic(auto, using(crate::proofs::Sizes::one_extension), unfolding(crate::specs::Issuing::extensions_of))]
+#[tactic(auto, using(crate::proofs::Sizes::sole), unfolding(crate::specs::Issuing::extensions_of))]
 pub fn extensions_of(alloc: Global, request: &Request) -> Result<Bytes, Memory>
     ensures { IfOk result (λ bytes. bytes ≡ extensions_of request.now) }
 {

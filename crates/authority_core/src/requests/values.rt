@@ -76,7 +76,7 @@ fn hosts_of(alloc: Global, values: &[Value]) -> Result<Option<Names>, Memory>
 }
 
 // An array of at most 100 host names.
-#[tactic(auto, using(crate::proofs::Items::item_count_of_view), unfolding(crate::specs::Files::names_data))]
+#[tactic(auto, using(crate::proofs::Items::items_seen), unfolding(crate::specs::Files::names_data))]
 fn names_of(alloc: Global, value: &Value) -> Result<Option<Names>, Memory>
     ensures { IfOk result (λ o. o ≡ names_data (view value.now)) }
 {
