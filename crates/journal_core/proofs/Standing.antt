@@ -15,7 +15,7 @@ use Rattle.disk_core.specs.Disk.{part}
 use Rattle.journal_core.specs.Folds.{Fold, Found, state_behind, closing, tested, walked, read_by}
 use Rattle.journal_core.specs.Format.{header, IsRecordAt, AreRecordsAt, behind, IsClosedAt}
 use Rattle.journal_core.specs.Format.{StandsFor, size_at, body_at}
-use Rattle.journal_core.specs.Walk.{FileEnd, at_gate, at_bad_length, at_cut, Walk, walk_from}
+use Rattle.journal_core.specs.Walk.{FileEnd, at_gate, at_bad_length, at_cut, FileWalk, walk_from}
 use Rattle.journal_core.specs.Walk.{walk_of}
 use Rattle.journal_core.specs.declared.error.OpenError.TheVariants.{NotJournal}
 
@@ -47,7 +47,7 @@ record_here bytes place are opened some few within =
       },
     )
 
-abbrev Closes : Walk → List (List ℕ) → Type 0
+abbrev Closes : FileWalk → List (List ℕ) → Type 0
 Closes walk list = (walk.records ≡ list) × (walk.end ≡ at_gate)
 
 abbrev Stand : List ℕ → ℕ → List (List ℕ) → Type 0

@@ -6,7 +6,7 @@ use Rattle.std.proofs.lemmas.Bool.{ne_eqb, lt-ltb, le-ltb, cases_lt}
 use Rattle.journal_core.specs.Format.{IsRecordAt, AreRecordsAt, behind, IsClosedAt, size_at}
 use Rattle.journal_core.specs.Format.{records_before, IsBadLengthAt, IsCutShortAt}
 use Rattle.journal_core.specs.Settled.{IsReading}
-use Rattle.journal_core.specs.Walk.{FileEnd, Walk, at_gate, at_bad_length, at_cut, ends_here}
+use Rattle.journal_core.specs.Walk.{FileEnd, FileWalk, at_gate, at_bad_length, at_cut, ends_here}
 use Rattle.journal_core.specs.Walk.{with_record, walk_from, walk_of}
 use Rattle.journal_core.proofs.Records.{size_is, body_found, behind_far}
 use Rattle.journal_core.proofs.ReadOn.{header_length, record_within, are_within}
@@ -156,7 +156,7 @@ walk_front zero bytes place (body ∷ read) are few = absurd (omega arith)
 walk_front (suc most) bytes place (body ∷ read) are few =
     let later = walk_front most bytes (place + 5 + length body) read are.1 (omega arith) in (
       later.0,
-      ap (λ (w : Walk). w.records) (walk_record most bytes place body are.0)
+      ap (λ (w : FileWalk). w.records) (walk_record most bytes place body are.0)
           ∙ ap (λ (list : List (List ℕ)). body ∷ list) later.1,
     )
 

@@ -8,7 +8,7 @@ use Rattle.byte_forms.specs.Readings.{◌>>=◌, lifted, some_or}
 use Rattle.mtc_io.specs.Counts.{Rose}
 use Rattle.disk_core.specs.declared.disk.Disk.{Ghosts}
 use Rattle.journal_core.specs.Format.{header}
-use Rattle.journal_core.specs.Walk.{FileEnd, at_gate, at_bad_length, at_cut, Walk, walk_of}
+use Rattle.journal_core.specs.Walk.{FileEnd, at_gate, at_bad_length, at_cut, FileWalk, walk_of}
 use Rattle.journal_core.specs.declared.error.OpenError.{OpenError}
 use Rattle.journal_core.specs.declared.error.OpenError.TheVariants.{NotJournal, BadLength, CutShort}
 use Rattle.journal_core.specs.declared.error.OpenError.TheVariants.{Failed, Memory}
@@ -55,7 +55,7 @@ tested fold (first ∷ bodies) end =
     lifted fold.bad_record (state_behind fold (first ∷ bodies)) >>= λ s. closing fold end (Ok s)
 
 -- a walk whose records are tested
-abbrev pub walked : {S E : Type 0} → Fold S E → Walk → Result (Found S) E
+abbrev pub walked : {S E : Type 0} → Fold S E → FileWalk → Result (Found S) E
 walked fold walk =
     tested fold walk.records walk.end
     >>= λ s. Ok (record { records = walk.records; state = s })

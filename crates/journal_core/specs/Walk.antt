@@ -11,20 +11,20 @@ pub data FileEnd : Type 0 where
   at_bad_length : ℕ → FileEnd
   at_cut : ℕ → FileEnd
 
-pub record Walk : Type 0 where
+pub record FileWalk : Type 0 where
   pub records : List Text
   pub end : FileEnd
 
 -- no record, and this end
-abbrev pub ends_here : FileEnd → Walk
+abbrev pub ends_here : FileEnd → FileWalk
 ends_here end = record { records = []; end = end }
 
 -- a record before those of a walk
-abbrev pub with_record : Text → Walk → Walk
+abbrev pub with_record : Text → FileWalk → FileWalk
 with_record body walk = record { records = body ∷ walk.records; end = walk.end }
 
 -- from a place on, at most so many steps
-abbrev pub walk_from : ℕ → Text → ℕ → Walk
+abbrev pub walk_from : ℕ → Text → ℕ → FileWalk
 walk_from zero bytes place = ends_here (at_cut place)
 walk_from (suc most) bytes place =
     if nat_lt place (length bytes)
@@ -38,5 +38,5 @@ walk_from (suc most) bytes place =
     else ends_here (at_cut place)
 
 -- behind the header
-unfoldable pub walk_of : Text → Walk
+unfoldable pub walk_of : Text → FileWalk
 walk_of bytes = walk_from (length bytes) bytes 16
