@@ -46,6 +46,11 @@ abbrev pub discarded : {X E : Type 0} → Result (X × At) E → Result At E
 discarded (Ok x) = Ok x.1
 discarded (Err e) = Err e
 
+-- What was read, where it is all there was.
+abbrev pub whole_of : {X E : Type 0} → Result (X × At) E → Option X
+whole_of (Ok x) = if length x.1.rest == 0 then Some x.0 else None
+whole_of (Err e) = None
+
 -- Whether an answer is a value.
 abbrev pub is_read : {X E : Type 0} → Result X E → Bool
 is_read (Ok x) = true

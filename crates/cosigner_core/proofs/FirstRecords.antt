@@ -9,6 +9,7 @@ use Rattle.byte_forms.specs.Types.{Text}
 use Rattle.byte_forms.specs.Places.{At, at, IsBytes}
 use Rattle.byte_forms.specs.Forms.{both, itself}
 use Rattle.byte_forms.proofs.Steps.{IsBytes-back, IsBytes-front}
+use Rattle.byte_forms.specs.Readings.{whole_of}
 use Rattle.lmots_core.specs.Parameters.{type_of_code, typecode}
 use Rattle.lmots_core.specs.declared.parameters.OtsType.{OtsType}
 use Rattle.lmots_core.specs.declared.parameters.OtsType.TheVariants.{W1, W2, W4, W8}
@@ -23,7 +24,7 @@ use Rattle.tls_wire.specs.declared.fault.AnchorBytesError.{AnchorBytesError}
 use Rattle.tls_wire.proofs.AnchorForm.{anchor_takes}
 use Rattle.cosigner_core.specs.Records.{FitsCosigner, cosigner_at, cosigner_in, cosigner_record}
 use Rattle.cosigner_core.specs.Records.{first_by_tag, founded, cosigner_settings_with, signing_type}
-use Rattle.cosigner_core.specs.Records.{whole_of, with_ids}
+use Rattle.cosigner_core.specs.Records.{with_ids}
 use Rattle.cosigner_core.specs.declared.settings.CosignerSettings.{CosignerSettings}
 use Rattle.cosigner_core.proofs.Spelled.{CosignerFields, FitCosigner, cosigner_fields}
 use Rattle.cosigner_core.proofs.Spelled.{cosigner_form}

@@ -8,7 +8,7 @@ use Rattle.std.specs.Int.{w8, w32, w64}
 use Rattle.byte_forms.specs.Types.{Hash, HashFunction, Text}
 use Rattle.byte_forms.specs.Places.{At, at, IsBytes}
 use Rattle.byte_forms.specs.Forms.{Anything, FitsBoth, IsForm, both, itself}
-use Rattle.byte_forms.specs.Readings.{both_at}
+use Rattle.byte_forms.specs.Readings.{both_at, whole_of}
 use Rattle.byte_forms.proofs.Forms.{both_form, lifted_form}
 use Rattle.journal_core.proofs.Folds.{state_begins, state_next}
 use Rattle.lmots_core.specs.Parameters.{type_of_code, typecode}
@@ -35,7 +35,7 @@ use Rattle.cosigner_core.specs.Records.{cosigner_in, cosigner_record, first_by_t
 use Rattle.cosigner_core.specs.Records.{cosigner_settings_with, sign_record, sign_step_at}
 use Rattle.cosigner_core.specs.Records.{signing_type}
 use Rattle.cosigner_core.specs.Records.{step_by_tag, step_in, step_record, advance_of, sign_of}
-use Rattle.cosigner_core.specs.Records.{index_at, whole_of}
+use Rattle.cosigner_core.specs.Records.{index_at}
 use Rattle.cosigner_core.specs.declared.settings.CosignerSettings.{CosignerSettings}
 use Rattle.cosigner_core.proofs.Forms.{IsRoot, IsWord, Root, root_text, sized_form, spanned_form}
 use Rattle.cosigner_core.proofs.Tagged.{some_value, tag_again, tag_takes, whole_again}

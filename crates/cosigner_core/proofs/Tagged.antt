@@ -8,10 +8,10 @@ use Rattle.std.specs.Int.{w8}
 use Rattle.byte_forms.specs.Types.{Text}
 use Rattle.byte_forms.specs.Places.{At, at, IsBytes}
 use Rattle.byte_forms.specs.Forms.{Anything, IsForm}
+use Rattle.byte_forms.specs.Readings.{whole_of}
 use Rattle.tls_wire.specs.Reading.{number_at}
 use Rattle.tls_wire.specs.Spelling.{number}
 use Rattle.tls_wire.proofs.Numbers.{number_form, wide8}
-use Rattle.cosigner_core.specs.Records.{whole_of}
 
 pub some_value : {X : Type 0} (y x : X) → Some y ≡ Some x → y ≡ x
 some_value {X} y x is = cc

@@ -5,7 +5,7 @@ use Rattle.std.specs.Prelude.{option_map, option_and_then, Result, Ok, Err, if�
 use Rattle.std.specs.Int.{w8, w32, w64}
 use Rattle.byte_forms.specs.Types.{Hash, Text}
 use Rattle.byte_forms.specs.Places.{At, at}
-use Rattle.byte_forms.specs.Readings.{Reading, both_at, lifted_at}
+use Rattle.byte_forms.specs.Readings.{Reading, both_at, lifted_at, whole_of}
 use Rattle.lmots_core.specs.Parameters.{typecode, type_of_code}
 use Rattle.lmots_core.specs.declared.parameters.OtsType.{OtsType}
 use Rattle.lms_core.specs.Heights.{height, lms_code}
@@ -66,11 +66,6 @@ index_at = lifted_at short_fault (number_at w32)
 -- what stands behind the tag of a Sign
 unfoldable pub sign_step_at : Reading (ℕ × (ℕ × (ℕ × (Hash × List Hash)))) FormError
 sign_step_at a = both_at index_at (both_at u64_at (both_at u64_at (both_at hash_at proof_at))) a
-
--- what was read, where it is all there was
-abbrev pub whole_of : {X E : Type 0} → Result (X × At) E → Option X
-whole_of (Ok x) = if length x.1.rest == 0 then Some x.0 else None
-whole_of (Err fault) = None
 
 -- the heights of a key that signs
 abbrev pub signing_type : ℕ → Option LmsType

@@ -9,7 +9,7 @@ use Rattle.std.proofs.lemmas.Bool.{eq-eqb, le-leb, lt-ltb, eqb-true}
 use Rattle.std.proofs.lemmas.List.{length-append, append-nil, nil_from_length}
 use Rattle.byte_forms.specs.Places.{At, at, IsBytes}
 use Rattle.byte_forms.specs.Forms.{Stands, IsForm, Anything, both, FitsBoth}
-use Rattle.byte_forms.specs.Readings.{both_at}
+use Rattle.byte_forms.specs.Readings.{both_at, whole_of}
 use Rattle.byte_forms.proofs.Forms.{both_form}
 use Rattle.byte_forms.proofs.Steps.{Stands-then}
 use Rattle.tls_wire.specs.Arcs.{IsAnchorId}
@@ -25,7 +25,7 @@ use Rattle.issuance_log.specs.Folds.{with_landmark, changed, begun_log, next_log
 use Rattle.issuance_log.specs.Marks.{last_mark}
 use Rattle.log_entry.specs.Matching.{matches}
 use Rattle.issuance_log.specs.Records.{log_tag, entry_tag, landmark_tag, settings_at, entry_at}
-use Rattle.issuance_log.specs.Records.{whole_of, with_id, log_settings_with, tagged, settings_in}
+use Rattle.issuance_log.specs.Records.{with_id, log_settings_with, tagged, settings_in}
 use Rattle.issuance_log.specs.Records.{item_in, mark_in, settings_record, IsShort, entry_record}
 use Rattle.issuance_log.specs.Records.{landmark_record}
 use Rattle.issuance_log.specs.Results.{LogFinds}

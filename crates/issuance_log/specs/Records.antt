@@ -5,7 +5,7 @@ use Rattle.std.specs.Prelude.{Result, Ok, Err, if◌then◌else◌}
 use Rattle.std.specs.Int.{w8, w16, w32, w64}
 use Rattle.byte_forms.specs.Types.{Text}
 use Rattle.byte_forms.specs.Places.{At, at}
-use Rattle.byte_forms.specs.Readings.{both_at}
+use Rattle.byte_forms.specs.Readings.{both_at, whole_of}
 use Rattle.tls_wire.specs.Anchors.{anchor_of}
 use Rattle.tls_wire.specs.Reading.{number_at, vector_at}
 use Rattle.tls_wire.specs.Spelling.{number, vector}
@@ -53,11 +53,6 @@ settings_at a = both_at (vector_at w8) (both_at (number_at w32) (number_at w32))
 -- what stands behind the tag of an Entry
 unfoldable pub entry_at : At → Result ((Text × Text) × At) Short
 entry_at a = both_at (vector_at w16) (vector_at w16) a
-
--- what was read, where it is all there was
-abbrev pub whole_of : {X : Type 0} → Result (X × At) Short → Option X
-whole_of (Ok x) = if length x.1.rest == 0 then Some x.0 else None
-whole_of (Err short) = None
 
 -- what stands behind this tag
 abbrev pub tagged : {X : Type 0} → ℕ → (At → Result (X × At) Short) → Result (ℕ × At) Short

@@ -10,12 +10,12 @@ use Rattle.byte_forms.proofs.Steps.{ok_is}
 use Rattle.tls_wire.specs.Reading.{number_at}
 use Rattle.tls_wire.specs.declared.cursor.Short.{Short}
 use Rattle.std.specs.Int.{w8}
+use Rattle.byte_forms.specs.Readings.{whole_of}
 use Rattle.journal_core.specs.Folds.{taken_from}
 use Rattle.journal_core.specs.Format.{StandsFor}
 use Rattle.journal_core.proofs.Found.{read_standing}
 use Rattle.issuance_log.specs.Folds.{LogState, log_fold, log_of}
 use Rattle.issuance_log.specs.Records.{settings_at, settings_in, log_settings_with, tagged}
-use Rattle.issuance_log.specs.Records.{whole_of}
 use Rattle.issuance_log.specs.Settings.{Settings}
 use Rattle.issuance_log.proofs.Behind as logs
 use Rattle.cosigner_core.specs.Counts.{AreCounted}
