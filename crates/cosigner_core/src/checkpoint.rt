@@ -1,4 +1,5 @@
 //! What a cosigner holds of its log.
+
 ghost use Rattle.std.specs.Prelude.{◌≡◌, ◌≤◌, true, length};
 ghost use Rattle.cosigner_core.specs.Checkpoints.{empty_checkpoint, has_subtree, is_front_of};
 

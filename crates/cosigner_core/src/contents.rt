@@ -1,4 +1,5 @@
 //! What the records of a journal make of a cosigner, while they are read.
+
 ghost use Rattle.std.specs.Prelude.{◌≡◌, IfOk};
 ghost use Rattle.cosigner_core.specs.Folds.{begun_cosigner, next_state};
 ghost use Rattle.cosigner_core.specs.Results.{CosignerFinds, CosignerTakes};

@@ -1,4 +1,5 @@
 //! A cosigner that is open for requests.
+
 ghost use Rattle.std.specs.Prelude.{◌≡◌, ◌<◌, ◌^◌, ◌++◌, ℕ, List, [], ◌∷◌, length, false, None, Some, option_map, Ok, IfSome, IfOk, IfErr, OnOk, OnErr};
 ghost use Rattle.std.proofs.Props.{props};
 ghost use Rattle.std.specs.Io.KnownBytes.{Appends};

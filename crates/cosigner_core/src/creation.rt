@@ -1,4 +1,5 @@
 //! The journal of a new cosigner.
+
 ghost use Rattle.std.specs.Prelude.{◌≡◌, ◌≢◌, ◌≤◌, [], ◌∷◌, Ok, IfSome, IfOk, IfErr};
 ghost use Rattle.byte_forms.specs.Types.{HashFunction};
 ghost use Rattle.disk_core.specs.Moments.{Looks};

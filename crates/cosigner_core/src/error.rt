@@ -1,4 +1,5 @@
 //! What the calls of a cosigner refuse.
+
 ghost use Rattle.std.specs.Prelude.{◌≡◌};
 ghost use Rattle.cosigner_core.specs.declared.error.CosignError.TheVariants.{Append as NotAppended};
 ghost use Rattle.cosigner_core.specs.declared.error.RecordError.TheVariants.{Unfit, Memory as RecordMemory};

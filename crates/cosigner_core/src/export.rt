@@ -1,5 +1,6 @@
 //! Writing what others may know of a cosigner: all but the first record of its journal, which holds
 //! the secret.
+
 ghost use Rattle.std.specs.Prelude.{◌≡◌, ◌≤◌, ◌<◌, ◌+◌, ◌-◌, ◌^◌, min, length, List, IfSome, IfOk, OnOk};
 ghost use Rattle.std.specs.Io.KnownBytes.{Appends};
 ghost use Rattle.byte_forms.specs.Types.{Text};

@@ -1,4 +1,5 @@
 //! Reading what others may know of a cosigner.
+
 ghost use Rattle.std.specs.Prelude.{◌≡◌, ◌<◌, ◌++◌, [], ◌∷◌, length, IfSome, IfOk, OnOk};
 ghost use Rattle.std.specs.Int.{w32};
 ghost use Rattle.byte_forms.specs.Readings.{Answers, Moves};

@@ -1,4 +1,5 @@
 //! Which records may stand behind the first one of a cosigner's journal.
+
 ghost use Rattle.std.specs.Prelude.{◌≡◌, ◌^◌, [], ◌∷◌, ◌++◌, option_and_then};
 ghost use Rattle.lms_core.specs.Heights.{height};
 ghost use Rattle.cosigner_core.specs.Progress.{may_follow_cosigner, progress_after};

@@ -1,4 +1,5 @@
 //! How far its steps bring a cosigner.
+
 ghost use Rattle.std.specs.Prelude.{◌≡◌};
 ghost use Rattle.cosigner_core.specs.Progress.{first_progress, progress_after};
 ghost use Rattle.cosigner_core.specs.Views.{step_said};

@@ -1,4 +1,5 @@
 //! Reading the bodies of a cosigner's records.
+
 ghost use Rattle.std.specs.Prelude.{◌≡◌, ◌≢◌, ◌≤◌, Err, option_map, option_and_then, IfSome, IfOk};
 ghost use Rattle.byte_forms.specs.Readings.{Moves, whole_of};
 ghost use Rattle.lms_core.specs.Heights.{height};

@@ -1,4 +1,5 @@
 //! What is settled when a cosigner begins.
+
 use hss_core::{LmsType, OtsType};
 use tls_wire::AnchorId;
 

@@ -1,4 +1,5 @@
 //! A cosigner without its journal.
+
 ghost use Rattle.std.specs.Prelude.{◌≡◌, ◌<◌, ◌≤◌, ◌^◌, length, IfErr, OnOk};
 ghost use Rattle.byte_forms.specs.Refusals.{answer_of};
 ghost use Rattle.hss_core.specs.Hss.{Verifies, one_level_public};

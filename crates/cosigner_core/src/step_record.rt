@@ -1,4 +1,5 @@
 //! The bodies of records, as they are written.
+
 ghost use Rattle.std.specs.Prelude.{◌≡◌, ◌+◌, ◌*◌, ◌≤◌, ◌++◌, [], length, IfOk};
 ghost use Rattle.lms_core.specs.Heights.{height};
 ghost use Rattle.tls_wire.specs.Spelling.{hashes};

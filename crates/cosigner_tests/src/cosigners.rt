@@ -1,4 +1,5 @@
 //! Cosigners over disks in memory, for the cases beside.
+
 use crate::known::{Known, LOG, NEW, NODE_4_TO_6, NODE_4_TO_8, NODE_6_TO_8, ROOT_OF_4, ROOT_OF_8};
 use cosigner_core::{
     AdvanceRequest, CosignError, Cosigner, CosignerOpenError, CosignerSettings, SubtreeRequest,

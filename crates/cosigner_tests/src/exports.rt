@@ -1,4 +1,5 @@
 //! Exports: what is written, what is read again, and what is refused.
+
 use crate::cosigners::{MemCosigner, disk, is_known, of_eight, open, sign_all, sign_two};
 use crate::known::{Known, LOG, PUBLIC};
 use cosigner_core::{

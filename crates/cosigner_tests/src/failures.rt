@@ -1,4 +1,5 @@
 //! Disks that fail, and machines that stop.
+
 use crate::cosigners::{MemCosigner, disk, index_of, of_eight, open, sign_all};
 use crate::known::{NEW, PUBLIC};
 use cosigner_core::{CosignError, CosignerOpenError};

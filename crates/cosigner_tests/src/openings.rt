@@ -1,4 +1,5 @@
 //! Files that are opened as cosigners', or refused.
+
 use crate::cosigners::{disk, of_eight, open, sign_all};
 use cosigner_core::CosignerOpenError;
 use hss_core::SigBuf;

@@ -1,4 +1,5 @@
 //! Requests that are refused, each at its place in the order of the tests.
+
 use crate::cosigners::{
     MemCosigner, advance_to_4, disk, is_known, of_eight, open, sign_all, sign_two,
 };

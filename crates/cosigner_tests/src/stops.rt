@@ -1,4 +1,5 @@
 //! Cosigners whose disk stops, as the machine does, at each call that changes it.
+
 use crate::cosigners::{
     FusedCosigner, advance_to_4, advance_to_8, begin, disk, index_of, of_eight, open, sign_all,
 };

@@ -1,4 +1,5 @@
 //! A cosigner from its first record to its last one-time key.
+
 use crate::cosigners::{
     MemCosigner, advance_to_4, advance_to_8, begin, disk, is_known, of_eight, open, sign_all,
     sign_two,

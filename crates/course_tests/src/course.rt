@@ -1,5 +1,6 @@
 //! A course: runs of the program over a room, and beside them the steps of the nodes that they
 //! were. Behind each run the room is compared with the states of the history of these steps.
+
 use crate::desk::{Desk, Outlet, Ran};
 use crate::difference::Difference;
 use crate::draws::Draws;

@@ -1,4 +1,5 @@
 //! Courses of a hundred turns.
+
 use crate::course::{Course, Tally};
 use crate::difference::Difference;
 use std::alloc::Global;

@@ -1,4 +1,5 @@
 //! A room in memory, runs of the program over it, and what a stop of the machine leaves of it.
+
 ghost use Rattle.std.specs.Prelude.{◌≡◌};
 
 use crate::difference::Difference;

@@ -1,4 +1,5 @@
 //! What a course and its history differ in.
+
 ghost use Rattle.std.specs.Prelude.{◌≡◌};
 ghost use Rattle.course_tests.specs.declared.difference.Difference.TheVariants.{Memory as NoMemory};
 

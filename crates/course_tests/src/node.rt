@@ -1,4 +1,5 @@
 //! The two nodes of a course: a log, and a cosigner of it.
+
 use crate::difference::Difference;
 use cosigner_core::CosignerSettings;
 use hss_core::{LmsType, OtsType};

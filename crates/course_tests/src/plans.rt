@@ -1,4 +1,5 @@
 //! Which command comes next, and the record that it asks for.
+
 use crate::course::Course;
 use crate::desk::Outlet;
 use crate::difference::Difference;

@@ -1,4 +1,5 @@
 //! The records of journals beside those of a node's state, and what is printed of them.
+
 use crate::difference::Difference;
 use crate::node::Node;
 use disk_core::MemDisk;

@@ -1,4 +1,5 @@
 //! Stops: what the journals hold behind one says which step it was, and the next run opens them.
+
 use crate::course::Course;
 use crate::difference::Difference;
 use crate::node::{NODES, Node};

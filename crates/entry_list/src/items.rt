@@ -1,4 +1,5 @@
 //! The items of a file of entries.
+
 ghost use Rattle.std.specs.Prelude.{◌≡◌, ◌<◌, [], length, slice_index_or, true};
 ghost use Rattle.cert_fields.specs.Views.{texts};
 ghost use Rattle.entry_list.specs.Items.{AreItems, is_key_of};

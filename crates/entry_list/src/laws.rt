@@ -1,4 +1,5 @@
 //! Laws of files of entries: the clauses are the laws, and the functions do nothing.
+
 ghost use Rattle.std.specs.Prelude.{◌≡◌, ℕ, ◌≤◌, length, Ok};
 ghost use Rattle.byte_forms.specs.Types.{HashFunction, Text};
 ghost use Rattle.byte_forms.specs.Places.{IsBytes};

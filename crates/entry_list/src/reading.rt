@@ -1,4 +1,5 @@
 //! Reading a file of entries.
+
 ghost use Rattle.std.specs.Prelude.{◌≡◌, ◌<◌, [], ◌∷◌, ◌++◌, length, OnOk};
 ghost use Rattle.byte_forms.specs.Readings.{Answers, Moves};
 ghost use Rattle.cert_fields.specs.Views.{texts};

@@ -1,4 +1,5 @@
 //! Keys and signatures made here, as their SHA-256.
+
 ghost use Rattle.std.specs.Prelude.{◌≤◌, IfSome, length};
 ghost use Rattle.lms_core.specs.Heights.{height};
 

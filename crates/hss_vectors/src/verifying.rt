@@ -1,4 +1,5 @@
 //! The words of a line as bytes, and what `verify` answers.
+
 use anyhow::{Context, Result};
 use hss_core::SigError;
 use std::alloc::Global;

@@ -1,4 +1,5 @@
 //! Disks in memory, and what a crash leaves of them.
+
 use disk_core::{Call, Disk, Fuse, Made, MemDisk, look_at, write_synced};
 use mtc_io::{Bytes, Failed};
 use std::alloc::Global;

@@ -1,4 +1,5 @@
 //! Open files as disks.
+
 use disk_core::{Disk, FileDisk, write_synced};
 use mtc_io::Failed;
 use std::cell::Cell;

@@ -1,4 +1,5 @@
 //! Journals over disks in memory and over a file.
+
 use crate::readings::{append, begun, empty, opened, read_all};
 use disk_core::{FileDisk, MemDisk};
 use journal_core::{AppendError, OpenError, Refused, StartError};

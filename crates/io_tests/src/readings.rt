@@ -1,4 +1,5 @@
 //! Journals that are begun and read, for the cases beside.
+
 use disk_core::{Disk, MemDisk};
 use journal_core::{
     AppendError, Journal, MAX_BODY, OpenError, Opening, Refused, StartError, start,

@@ -1,4 +1,5 @@
 //! Rooms in memory.
+
 ghost use Rattle.std.specs.Prelude.{◌≡◌, IfOk, IfSome};
 ghost use Rattle.mtc_room.specs.Memory.{state};
 

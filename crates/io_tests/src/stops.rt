@@ -1,4 +1,5 @@
 //! Journals whose disk stops at each call.
+
 use crate::readings::{add, append, begun, empty, opened, read_all};
 use disk_core::{Fuse, MemDisk};
 use journal_core::Refused;

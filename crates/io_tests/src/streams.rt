@@ -1,4 +1,5 @@
 //! The streams, and the loops over them.
+
 use mtc_io::{
     Bytes, Failed, MemSink, MemSource, Memory, ReadError, Sink, Source, StdSink, StdSource,
     read_all, write_all, write_pieces,

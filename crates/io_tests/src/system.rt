@@ -1,4 +1,5 @@
 //! The room of real files.
+
 use disk_core::Disk;
 use mtc_files::FileRoom;
 use mtc_io::read_all;

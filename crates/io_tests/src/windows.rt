@@ -1,4 +1,5 @@
 //! Journals that are read in windows of their disk.
+
 use disk_core::MemDisk;
 use journal_core::{OpenError, Opening};
 use mtc_io::{Bytes, Memory};

@@ -1,4 +1,5 @@
 //! What the calls of a log refuse.
+
 ghost use Rattle.std.specs.Prelude.{◌≡◌};
 ghost use Rattle.issuance_log.specs.declared.error.LogError.TheVariants.{Append as NotAppended, Memory as LogMemory};
 ghost use Rattle.issuance_log.specs.declared.error.RecordError.TheVariants.{Unfit, Memory as RecordMemory};

@@ -1,4 +1,5 @@
 //! Which records may stand behind the first one of a log's journal.
+
 ghost use Rattle.std.specs.Prelude.{◌≡◌, [], ◌∷◌, ◌++◌, IfOk};
 ghost use Rattle.issuance_log.specs.Folds.{may_follow_log, next_log};
 ghost use Rattle.issuance_log.specs.Results.{HasTried};

@@ -1,4 +1,5 @@
 //! Laws of a log's records: the clauses are the laws, and the functions do nothing.
+
 ghost use Rattle.std.specs.Prelude.{◌≡◌, ◌<◌, ◌^◌, ℕ, List, ◌∷◌, Some, Ok};
 ghost use Rattle.byte_forms.specs.Types.{Text, HashFunction};
 ghost use Rattle.byte_forms.specs.Places.{IsBytes};

@@ -1,4 +1,5 @@
 //! The tree over the entries of a log.
+
 ghost use Rattle.std.specs.Prelude.{◌≡◌, length, map};
 ghost use Rattle.issuance_log.specs.Words.{log_state};
 ghost use Rattle.tree_core.specs.Tree.{leaf_hash};

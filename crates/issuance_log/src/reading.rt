@@ -1,4 +1,5 @@
 //! The records of a file that is opened as a log.
+
 ghost use Rattle.std.specs.Prelude.{◌≡◌, ◌<◌, [], false, None, option_map, MatchBool, IfOk, IfErr, OnOk};
 ghost use Rattle.disk_core.specs.Moments.{Looks};
 ghost use Rattle.journal_core.specs.Openings.{opening_disk, read_list, is_ended, refusal, bytes_left};

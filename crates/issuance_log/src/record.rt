@@ -1,4 +1,5 @@
 //! The bodies of a log's records.
+
 ghost use Rattle.std.specs.Prelude.{◌≡◌, ◌+◌, ◌<◌, ◌≤◌, length, true, IfOk};
 ghost use Rattle.byte_forms.specs.Readings.{Moves};
 ghost use Rattle.issuance_log.specs.Records.{settings_at, entry_at, log_settings_with, settings_in, item_in, mark_in, settings_record, IsShort, entry_record, landmark_record};

@@ -1,4 +1,5 @@
 //! What is settled when a log begins.
+
 ghost use Rattle.std.specs.Prelude.{◌≡◌, IfOk};
 
 use mtc_io::Memory;

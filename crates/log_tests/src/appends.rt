@@ -1,4 +1,5 @@
 //! Entries that are added, or refused.
+
 use crate::journals::{
     ENTRY, KEY, MemLog, NEW_LOG, add, add_entry, begin, changed, disk, log_in, open, size_of,
     with_entry,

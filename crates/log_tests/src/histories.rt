@@ -1,4 +1,5 @@
 //! Histories of a log and a cosigner, step by step.
+
 use cosigner_core::CosignerSettings;
 use hss_core::{LmsType, OtsType};
 use issuance_log::LogSettings;

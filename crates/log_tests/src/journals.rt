@@ -1,4 +1,5 @@
 //! The journals of small logs, for the cases beside.
+
 ghost use Rattle.std.specs.Prelude.{◌≤◌};
 
 use disk_core::MemDisk;

@@ -1,4 +1,5 @@
 //! Landmarks that are set, read and refused.
+
 use crate::journals::{ENTRY, KEY, MemLog, NEW_LOG, add, disk, log_in, open, size_of, with_entry};
 use issuance_log::{LogError, LogOpenError, LogRefused};
 use journal_core::AppendError;

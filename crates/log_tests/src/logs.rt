@@ -1,4 +1,5 @@
 //! Logs that are begun, read and added to.
+
 use crate::journals::{ENTRY, KEY, MemLog, NEW_LOG, add, begin, log_in, open, with_entry};
 use disk_core::MemDisk;
 use issuance_log::LogError;

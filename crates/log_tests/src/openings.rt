@@ -1,4 +1,5 @@
 //! Files that are opened as logs, or refused.
+
 use crate::journals::{NEW_LOG, begin, changed, size_of, with_entry};
 use disk_core::MemDisk;
 use issuance_log::LogOpenError;

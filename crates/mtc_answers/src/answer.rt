@@ -1,4 +1,5 @@
 //! What a command answers, and why it is refused.
+
 ghost use Rattle.std.specs.Prelude.{◌≡◌, string_bytes};
 
 use mtc_io::{Bytes, Memory};

@@ -1,4 +1,5 @@
 //! The input files of a command.
+
 ghost use Rattle.std.specs.Prelude.{◌≡◌, ◌<◌, ◌≤◌, ◌^◌, List, [], Some, length, IfOk, IfErr};
 ghost use Rattle.byte_forms.specs.Types.{Text};
 ghost use Rattle.mtc_answers.specs.Answers.{stop_ending};

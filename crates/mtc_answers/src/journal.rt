@@ -1,4 +1,5 @@
 //! The journal of a command: one that is there is lent and given back, or a new one is made.
+
 ghost use Rattle.std.specs.Prelude.{◌≡◌, ◌⊎◌, ◌≤◌, ◌<◌, ◌^◌, List, [], IfOk, IfErr};
 ghost use Rattle.byte_forms.specs.Types.{Text};
 ghost use Rattle.journal_core.specs.Packed.{first_body};

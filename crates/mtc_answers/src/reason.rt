@@ -1,4 +1,5 @@
 //! The reasons of refusals.
+
 ghost use Rattle.std.specs.Prelude.{◌≡◌, ◌++◌, codes, None, Some};
 ghost use Rattle.std.specs.Fmt.{decimal};
 ghost use Rattle.mtc_answers.specs.Answers.{reason_text, stop_ending, replied, refused};

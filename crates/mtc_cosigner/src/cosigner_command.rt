@@ -1,5 +1,6 @@
 //! The commands on a cosigner that has a journal: the journal is lent, opened, worked on and given
 //! back.
+
 ghost use Rattle.std.specs.Prelude.{◌≡◌, ◌<◌, ◌^◌, [], ◌∷◌};
 ghost use Rattle.mtc_answers.specs.Answers.{stop_ending, ending_of};
 ghost use Rattle.mtc_answers.specs.Served.{HasServed};

@@ -1,4 +1,5 @@
 //! The command `export`: what others may know of a cosigner.
+
 ghost use Rattle.std.specs.Prelude.{◌≡◌, ◌<◌, ◌^◌, [], ◌∷◌, Some};
 ghost use Rattle.mtc_answers.specs.Answers.{ending_of};
 ghost use Rattle.mtc_cosigner.specs.CosignerOutcomes.{export_says};

@@ -1,4 +1,5 @@
 //! The command `init-cosigner`: a new cosigner.
+
 ghost use Rattle.std.specs.Prelude.{◌≡◌, ◌<◌, ◌≤◌, ◌^◌, true, [], ◌∷◌};
 ghost use Rattle.byte_forms.specs.Types.{HashFunction};
 ghost use Rattle.lms_core.specs.Heights.{height};

@@ -1,4 +1,5 @@
 //! The command `keygen`: the public key of a secret.
+
 ghost use Rattle.std.specs.Prelude.{◌≡◌, ◌<◌, ◌≤◌, ◌^◌, true, [], ◌∷◌, ◌++◌, IfOk, codes, nat_lt, if◌then◌else◌, string_bytes};
 ghost use Rattle.std.specs.Fmt.{decimal};
 ghost use Rattle.base64.specs.GeneralPurpose.{encode_of};

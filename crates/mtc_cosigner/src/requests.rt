@@ -1,4 +1,5 @@
 //! The commands `advance` and `cosign`: requests to a cosigner of a log.
+
 ghost use Rattle.std.specs.Prelude.{◌≡◌, ◌≢◌, ◌<◌, ◌≤◌, ◌+◌, ◌++◌, ◌^◌, [], ◌∷◌, length, IfOk, vec_len, vec_capacity};
 ghost use Rattle.std.specs.Int.{w8, w16};
 ghost use Rattle.tls_wire.specs.Spelling.{vector};

@@ -1,5 +1,6 @@
 //! The work of a command on a cosigner whose journal is open: its own refusals, its text, and at
 //! most one append, behind which nothing wants memory.
+
 ghost use Rattle.mtc_answers.specs.Answers.{ending_of};
 ghost use Rattle.mtc_cosigner.specs.Works.{HasWorkedOnCosigner, IsReadyCosigner, StaysCosigner, cosigner_work_says};
 

@@ -1,4 +1,5 @@
 //! The files of the system as a room.
+
 ghost use Rattle.std.specs.Prelude.{◌≡◌, ◌≤◌, ◌<◌, ◌^◌, None, IfOk, IfErr};
 ghost use Rattle.mtc_io.specs.Counts.{Rose};
 ghost use Rattle.mtc_room.specs.Room.{Lending};

@@ -1,4 +1,5 @@
 //! The file of a journal: how it is opened, made, locked and synced.
+
 use std::fs::{self, File};
 use std::io::{self, ErrorKind};
 use std::os::fd::AsRawFd;

@@ -54,7 +54,7 @@ impl From<Memory> for ReadError {
     }
 }
 
-/// So many bytes are asked for at a time.
+// So many bytes are asked for at a time.
 const CHUNK: usize = 4096;
 
 /// Reads to the end of input. Refuses with `TooLong` exactly where the source gives more than

@@ -1,4 +1,5 @@
 //! The commands `cert` and `light-cert`: the certificate of an entry.
+
 ghost use Rattle.std.specs.Prelude.{◌≡◌, ◌<◌, ◌^◌, [], ◌∷◌};
 ghost use Rattle.byte_forms.specs.Readings.{Gives};
 ghost use Rattle.issuance_log.specs.Words.{log_state};

@@ -1,4 +1,5 @@
 //! The commands `checkpoint` and `entries`: what a log holds.
+
 ghost use Rattle.std.specs.Prelude.{◌≡◌, ◌<◌, ◌≤◌, ◌++◌, length, IfOk, OnOk};
 ghost use Rattle.issuance_log.specs.Words.{log_state};
 ghost use Rattle.mtc_answers.specs.Answers.{stop_ending, ending_of, replied};

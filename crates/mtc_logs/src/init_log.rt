@@ -1,4 +1,5 @@
 //! The command `init-log`: a new log.
+
 ghost use Rattle.std.specs.Prelude.{◌≡◌, ◌<◌, ◌^◌, true, [], ◌∷◌, IfOk};
 ghost use Rattle.byte_forms.specs.Types.{HashFunction};
 ghost use Rattle.mtc_words.specs.Commands.{is_active, is_limit};

@@ -1,4 +1,5 @@
 //! The command `issue`: the entry of a request is added to a log.
+
 ghost use Rattle.std.specs.Prelude.{◌≡◌, ◌≢◌, ◌<◌, ◌^◌, [], ◌∷◌, IfOk};
 ghost use Rattle.mtc_answers.specs.Answers.{stop_ending, ending_of};
 ghost use Rattle.mtc_answers.specs.Served.{HasServed};

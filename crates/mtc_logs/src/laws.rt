@@ -1,4 +1,5 @@
 //! Laws of what is printed of a log: the clauses are the laws, and the functions do nothing.
+
 ghost use Rattle.std.specs.Prelude.{◌≡◌, ◌≤◌, ℕ, length, Ok};
 ghost use Rattle.byte_forms.specs.Types.{HashFunction};
 ghost use Rattle.entry_list.specs.Items.{file_text, first_items};

@@ -1,4 +1,5 @@
 //! The commands on a log that has a journal: the journal is lent, opened, worked on and put back.
+
 ghost use Rattle.std.specs.Prelude.{◌≡◌, ◌<◌, ◌^◌, [], ◌∷◌};
 ghost use Rattle.mtc_answers.specs.Answers.{stop_ending, ending_of};
 ghost use Rattle.mtc_answers.specs.Served.{HasServed};

@@ -1,4 +1,5 @@
 //! The commands `landmark` and `landmarks`: a landmark more, and the list of the active ones.
+
 ghost use Rattle.std.specs.Prelude.{◌≡◌, IfOk};
 ghost use Rattle.issuance_log.specs.Words.{log_state};
 ghost use Rattle.mtc_answers.specs.Answers.{ending_of, stop_ending};

@@ -1,4 +1,5 @@
 //! The commands `consist` and `subtree`: requests to a cosigner of a log.
+
 ghost use Rattle.std.specs.Prelude.{◌≡◌, ◌<◌, ◌≤◌, true, length, IfOk};
 ghost use Rattle.cosigner_core.specs.Requests.{advance_text, subtree_text};
 ghost use Rattle.issuance_log.specs.Words.{log_state};

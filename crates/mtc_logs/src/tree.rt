@@ -1,4 +1,5 @@
 //! Hashes and proofs over the first entries of a log.
+
 ghost use Rattle.std.specs.Prelude.{◌≡◌, ◌<◌, ◌≤◌, true, length, take};
 ghost use Rattle.issuance_log.specs.Words.{log_state};
 ghost use Rattle.tree_core.specs.Path.{part_of};

@@ -1,5 +1,6 @@
 //! The work of a command on a log whose journal is open: its own refusals, its text, and at most
 //! one append, which is its last step.
+
 ghost use Rattle.mtc_logs.specs.Works.{HasWorkedOnLog, IsReadyLog, StaysLog, log_work_says};
 ghost use Rattle.mtc_answers.specs.Answers.{ending_of};
 

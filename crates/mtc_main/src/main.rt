@@ -15,7 +15,7 @@ const BAD_WORDS: u8 = 1;
 
 const NO_MEMORY: u8 = 8;
 
-/// Collects the words behind the program's name.
+// Collects the words behind the program's name.
 fn words_behind_name(rt: &(impl Env + AllocGlobal)) -> io::Result<Vec<String>> {
     let mut words = Vec::new(rt.alloc());
     for word in env::args(rt)?.skip(1) {
@@ -24,7 +24,7 @@ fn words_behind_name(rt: &(impl Env + AllocGlobal)) -> io::Result<Vec<String>> {
     Ok(words)
 }
 
-/// Says that the words can't be had, and answers the status.
+// Says that the words can't be had, and answers the status.
 fn refuse(err: &mut impl Sink, why: &io::Error) -> u8 {
     if why.kind() == io::ErrorKind::OutOfMemory {
         let _ = write_all(err, b"mtc: Memory\n");

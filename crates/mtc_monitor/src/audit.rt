@@ -1,5 +1,6 @@
 //! The command `audit`: what is accepted of a certificate is held against the entries of a log and
 //! the export of a cosigner.
+
 ghost use Rattle.std.specs.Prelude.{◌≡◌, ◌<◌, ◌^◌, true, [], ◌∷◌, IfOk, IfSome, option_map};
 ghost use Rattle.byte_forms.specs.Readings.{Answers, Gives};
 ghost use Rattle.cert_fields.specs.Views.{parts};

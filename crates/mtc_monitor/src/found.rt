@@ -1,4 +1,5 @@
 //! What an audit finds, and what is told of it.
+
 ghost use Rattle.std.specs.Prelude.{◌≡◌, IfOk, IfSome, option_map};
 ghost use Rattle.cert_fields.specs.Views.{parts};
 ghost use Rattle.mtc_answers.specs.Answers.{said};

@@ -1,4 +1,5 @@
 //! The reasons why files of entries, of landmarks and of exports are refused.
+
 ghost use Rattle.std.specs.Prelude.{◌≡◌};
 ghost use Rattle.mtc_answers.specs.Answers.{reason_text};
 ghost use Rattle.mtc_monitor.specs.Reasons.{export_fault_text, items_fault_text, list_fault_text};

@@ -1,4 +1,5 @@
 //! The tables of a store that trusts the subtrees of landmarks.
+
 ghost use Rattle.std.specs.Prelude.{◌≡◌, ◌≤◌, ◌++◌, length, slice_index, string_bytes, IfOk, OnOk};
 ghost use Rattle.cert_fields.specs.Views.{texts};
 ghost use Rattle.landmarks.specs.Landmarks.{IsLandmarks};

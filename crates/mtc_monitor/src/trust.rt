@@ -1,5 +1,6 @@
 //! The command `trust-landmarks`: the tables of a store that trusts the subtrees of the active
 //! landmarks.
+
 ghost use Rattle.std.specs.Prelude.{◌≡◌, ◌<◌, ◌^◌, true, [], ◌∷◌};
 ghost use Rattle.mtc_words.specs.Commands.{is_active};
 ghost use Rattle.mtc_answers.specs.Answers.{ending_of};

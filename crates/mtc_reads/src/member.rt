@@ -1,4 +1,5 @@
 //! The command `member`: the inclusion path of a file, evaluated.
+
 ghost use Rattle.std.specs.Prelude.{◌≡◌, ◌<◌, ◌^◌, [], ◌∷◌};
 ghost use Rattle.mtc_answers.specs.Answers.{ending_of};
 ghost use Rattle.mtc_answers.specs.Endings.{Replies};

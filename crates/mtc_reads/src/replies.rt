@@ -1,4 +1,5 @@
 //! What goes to standard output.
+
 ghost use Rattle.std.specs.Prelude.{◌≡◌, string_bytes};
 ghost use Rattle.mtc_answers.specs.Answers.{reason_text, ending_of};
 ghost use Rattle.mtc_answers.specs.Endings.{Replies};

@@ -1,4 +1,5 @@
 //! The command `show`: what a certificate says.
+
 ghost use Rattle.std.specs.Prelude.{◌≡◌, ◌<◌, ◌^◌, [], ◌∷◌, ◌++◌, IfOk, OnOk, string_bytes};
 ghost use Rattle.std.specs.List.{list_all, flat_map};
 ghost use Rattle.cert_names.specs.LogNames.{log_in};

@@ -1,4 +1,5 @@
 //! The command `verify`: a certificate is judged by a store.
+
 ghost use Rattle.std.specs.Prelude.{◌≡◌, ◌<◌, ◌^◌, true, [], ◌∷◌};
 ghost use Rattle.mtc_words.specs.Commands.{is_time};
 ghost use Rattle.mtc_answers.specs.Answers.{ending_of};

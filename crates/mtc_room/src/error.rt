@@ -1,4 +1,5 @@
 //! Why a room does not lend.
+
 use thiserror::Error;
 
 /// Why a room doesn't lend.

@@ -1,4 +1,5 @@
 //! What the program asks of the files that it may reach.
+
 ghost use Rattle.std.specs.Prelude.{◌≡◌, ℕ, ◌+◌, ◌<◌, ◌^◌, [], Option, None, Some, IsSome, IfOk, OnOk, OnErr, IsErrOf};
 ghost use Rattle.std.specs.Option.{IsSomeAnd};
 ghost use Rattle.byte_forms.specs.Types.{Text};

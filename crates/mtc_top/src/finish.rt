@@ -1,4 +1,5 @@
 //! The last step: what was decided goes out.
+
 ghost use Rattle.std.specs.Prelude.{◌≡◌, ◌⊎◌, ◌++◌, codes, option_map};
 ghost use Rattle.mtc_io.specs.Counts.{Rose};
 ghost use Rattle.mtc_answers.specs.Answers.{said, said_code, stopped_code, ending_of, more_text, reason_text};

@@ -1,5 +1,6 @@
 //! Laws of runs, and of courses of runs and stops: the clauses are the laws, and the functions do
 //! nothing.
+
 ghost use Rattle.mtc_top.specs.AuditLaws.{AuditsStand};
 ghost use Rattle.mtc_top.specs.CourseLaws.{AddedEntriesStand, CoursesAreHistories, EntriesStand, HandedOutStand, JournalsAreRead, KeysSignOnce, KeysSignOneMessage, MadeOfNodes, RecoveredListsGrow};
 ghost use Rattle.mtc_top.specs.ExportLaws.{ExportsHoldTheSteps};

@@ -1,4 +1,5 @@
 //! The refusal of words that are no command.
+
 ghost use Rattle.std.specs.Prelude.{◌≡◌};
 ghost use Rattle.mtc_answers.specs.Answers.{reason_text};
 ghost use Rattle.mtc_top.specs.WordsOutcome.{word_fault_text};

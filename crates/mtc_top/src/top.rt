@@ -1,4 +1,5 @@
 //! The program's one call: the words, the work, and what goes out.
+
 ghost use Rattle.std.specs.Prelude.{◌≡◌, ◌<◌, ◌^◌, map, string_bytes, IfSome, IsErr};
 ghost use Rattle.mtc_words.specs.Commands.{command_value, IsInRange};
 ghost use Rattle.mtc_words.specs.Words.{command_of};

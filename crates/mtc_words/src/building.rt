@@ -1,4 +1,5 @@
 //! The command of a name, from the words behind it.
+
 ghost use Rattle.std.specs.Prelude.{◌≡◌, length, map, string_bytes, IfOk};
 ghost use Rattle.byte_forms.specs.Readings.{Answers};
 ghost use Rattle.mtc_words.specs.Commands.{command_value, said, is_height, is_width, is_time, is_active, is_limit, is_any, IsInRange};

@@ -1,4 +1,5 @@
 //! The commands and what their words say.
+
 use tls_wire::AnchorId;
 
 /// A command with its words, in their order: a file word is a text, a number a `u64`, and an id an

@@ -1,4 +1,5 @@
 //! Why words are no command.
+
 use thiserror::Error;
 
 /// Why words are no command. The tests are made in this order. A word's number is counted from 1

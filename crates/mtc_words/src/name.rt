@@ -1,4 +1,5 @@
 //! The names of the commands.
+
 ghost use Rattle.std.specs.Prelude.{◌≡◌};
 ghost use Rattle.mtc_words.specs.Names.{named_command, word_count};
 

@@ -1,4 +1,5 @@
 //! The command that words name and describe.
+
 ghost use Rattle.std.specs.Prelude.{◌≡◌, length, map, string_bytes, IfNone, IfOk};
 ghost use Rattle.byte_forms.specs.Readings.{Answers};
 ghost use Rattle.mtc_words.specs.Commands.{command_value, said, IsInRange};

@@ -1,4 +1,5 @@
 //! What a history refuses.
+
 use mtc_io::Memory;
 
 /// Why a list of steps has no states.

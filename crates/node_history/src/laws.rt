@@ -1,4 +1,5 @@
 //! Laws of histories: the clauses are the laws, and the functions do nothing.
+
 ghost use Rattle.std.specs.Prelude.{◌≡◌, ℕ, true, List, [], ◌∷◌, ◌++◌, length, slice_get, Some, IfSome, Contains, Ok};
 ghost use Rattle.byte_forms.specs.Types.{HashFunction, Text};
 ghost use Rattle.cosigner_core.specs.Counts.{AreCounted};

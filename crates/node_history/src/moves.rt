@@ -1,4 +1,5 @@
 //! The steps of one node.
+
 ghost use Rattle.std.specs.Prelude.{◌≡◌, is_some, IfOk, OnOk};
 ghost use Rattle.node_history.specs.Histories.{if_allowed, may_begin, moved};
 ghost use Rattle.node_history.specs.Nodes.{begin, hand, settle, stop};

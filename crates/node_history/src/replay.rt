@@ -1,4 +1,5 @@
 //! The states of nodes behind a list of steps.
+
 ghost use Rattle.std.specs.Prelude.{◌≡◌, map, IfOk};
 ghost use Rattle.node_history.specs.Histories.{history_of, states_after};
 ghost use Rattle.node_history.specs.Nodes.{fresh_node, node_of_step};

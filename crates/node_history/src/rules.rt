@@ -1,4 +1,5 @@
 //! The rules of a node's records.
+
 ghost use Rattle.std.specs.Prelude.{◌≡◌, [], ◌∷◌, ◌++◌, IfOk};
 ghost use Rattle.node_history.specs.Rules.{may_follow};
 

@@ -1,4 +1,5 @@
 //! What a node begins with.
+
 ghost use Rattle.std.specs.Prelude.{◌≡◌, IfOk};
 
 use cosigner_core::CosignerSettings;

@@ -1,4 +1,5 @@
 //! The state of a node.
+
 ghost use Rattle.std.specs.Prelude.{◌≡◌};
 ghost use Rattle.node_history.specs.Nodes.{fresh_node};
 

@@ -1,4 +1,5 @@
 //! The steps of a history.
+
 use mtc_io::Bytes;
 
 /// A step of one node, which is named by its place among the starts.

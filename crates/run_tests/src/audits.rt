@@ -1,4 +1,5 @@
 //! What audits find.
+
 use crate::scripts::{Outcome, outcome_of};
 use std::test::Fail;
 

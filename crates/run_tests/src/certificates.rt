@@ -1,5 +1,6 @@
 //! What `cert` writes, what `show` prints of a certificate, and what `verify` answers to one, a
 //! store and a moment.
+
 use crate::scripts::{Outcome, outcome_of};
 use std::test::Fail;
 

@@ -1,4 +1,5 @@
 //! What the commands of a cosigner answer, and what they leave of its journal.
+
 use crate::desk::Desk;
 use crate::scripts::{Outcome, desk_of, outcome_of, owned_words};
 use mtc_io::MemSink;

@@ -1,4 +1,5 @@
 //! A room in memory, and runs of the program over it.
+
 ghost use Rattle.std.specs.Prelude.{◌≡◌};
 
 use mtc_io::{Bytes, MemSink, Memory};

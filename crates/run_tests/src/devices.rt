@@ -1,4 +1,5 @@
 //! What the commands on the journal of a log answer where a call of its device fails.
+
 use crate::desk::Desk;
 use crate::scripts::{Outcome, desk_of, outcome_of, owned_words};
 use mtc_io::MemSink;

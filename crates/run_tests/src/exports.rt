@@ -1,4 +1,5 @@
 //! The command `export`, and `init-cosigner` over devices that fail.
+
 use crate::cosigners::NAMES;
 use crate::scripts::{Outcome, outcome_of};
 use std::test::Fail;

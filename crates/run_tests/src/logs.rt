@@ -1,4 +1,5 @@
 //! What the commands on the journal of a log answer, and what they leave of it.
+
 use crate::scripts::{Outcome, outcome_of};
 use std::test::Fail;
 

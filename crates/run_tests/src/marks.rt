@@ -1,5 +1,6 @@
 //! What the commands on landmarks answer: those that set and list them, and the one that writes
 //! certificates without signatures.
+
 use crate::scripts::{Outcome, outcome_of};
 use std::test::Fail;
 

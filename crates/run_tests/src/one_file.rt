@@ -1,4 +1,5 @@
 //! Words over one file, with streams that fail: what comes of each.
+
 use crate::desk::Desk;
 use crate::scripts::{Outcome, outcome_of, owned_words};
 use mtc_io::{Bytes, MemSink};

@@ -26,6 +26,7 @@
 //! BYTES are pairs of hexadecimal digits and names. They go on in lines that begin with a blank,
 //! and in lines `| TEXT`, each of which is a line of text. Those behind `$` are the output.
 //! `|= TEXT` and `!= TEXT` are text without the end of its line.
+
 use crate::desk::Desk;
 use mtc_io::{Bytes, MemSink};
 use std::alloc::Global;

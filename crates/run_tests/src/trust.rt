@@ -1,4 +1,5 @@
 //! The stores that trust the subtrees of landmarks.
+
 use crate::desk::Desk;
 use crate::scripts::{Outcome, outcome_of, owned_words};
 use mtc_io::{Bytes, MemSink};

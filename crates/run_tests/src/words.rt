@@ -1,4 +1,5 @@
 //! Words that are no command, by their first fault.
+
 use crate::scripts::owned_words;
 use mtc_words::{Command, WordError, read_words};
 use std::alloc::Global;

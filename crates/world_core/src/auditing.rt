@@ -1,4 +1,5 @@
 //! Audits of what a relying party has accepted.
+
 ghost use Rattle.std.specs.Prelude.{IfOk, IfSome, option_map};
 ghost use Rattle.cert_fields.specs.Views.{parts};
 ghost use Rattle.mtc_proof.specs.Views.{proof_parts};

@@ -1,4 +1,5 @@
 //! Audits of what was accepted by cosigners.
+
 ghost use Rattle.std.specs.Prelude.{◌≡◌, ◌<◌, length, Ok, Some, IfOk, slice_index_or, true};
 ghost use Rattle.cert_fields.specs.Grammar.{IsCertificate};
 ghost use Rattle.cert_fields.specs.Views.{parts};

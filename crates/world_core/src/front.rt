@@ -1,4 +1,5 @@
 //! What a cosigner has held, and whether a list begins with it.
+
 ghost use Rattle.std.specs.Prelude.{◌≡◌, ◌↔◌, IsTrue};
 ghost use Rattle.cert_fields.specs.Views.{texts};
 ghost use Rattle.world_core.specs.Walk.{HasFront, held_by};

@@ -1,4 +1,5 @@
 //! Laws of audits: the clauses are the laws, and the functions do nothing.
+
 ghost use Rattle.std.specs.Prelude.{◌≡◌, ℕ, ℤ, IfSome, List, Ok, Option, Some};
 ghost use Rattle.std.specs.List.{AllByRecursion};
 ghost use Rattle.byte_forms.specs.Places.{IsBytes};

@@ -1,4 +1,5 @@
 //! Whether a list has the entry of a certificate, where it has the accepted hash.
+
 ghost use Rattle.std.specs.Prelude.{◌≡◌, ◌<◌, length, Option, Ok, IfOk};
 ghost use Rattle.cert_fields.specs.Grammar.{IsCertificate};
 ghost use Rattle.cert_fields.specs.Views.{parts};

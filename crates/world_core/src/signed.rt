@@ -1,4 +1,5 @@
 //! The walk from a signature to the list of entries behind it.
+
 ghost use Rattle.std.specs.Prelude.{◌≡◌, ◌<◌, ◌+◌, ◌↔◌, IsTrue, IfOk, Some, length, slice_get, slice_index_or};
 ghost use Rattle.cert_fields.specs.Views.{texts};
 ghost use Rattle.cosigner_core.specs.declared.step.Step.{Step};

@@ -1,4 +1,5 @@
 //! Whether an export supports what was accepted.
+
 ghost use Rattle.std.specs.Prelude.{◌≡◌, ◌<◌, true, false, MatchOption, IfSome, Some};
 ghost use Rattle.std.specs.List.{position};
 ghost use Rattle.policy_core.specs.Counting.{is_in_set};

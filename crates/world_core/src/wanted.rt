@@ -1,4 +1,5 @@
 //! The hash that a list has to have.
+
 ghost use Rattle.std.specs.Prelude.{◌≡◌, ◌≤◌, IfSome, MatchOption, None, Some, option_map};
 ghost use Rattle.cert_fields.specs.Views.{texts};
 ghost use Rattle.world_core.specs.Audit.{IsForeign, foreign_in, hash_there, of_checkpoint, wanted_hash};

@@ -1,4 +1,5 @@
 //! The file of `member`.
+
 ghost use Rattle.byte_forms.specs.Readings.{Gives};
 ghost use Rattle.mtc_reads.specs.Member.{member_file, member_view};
 
