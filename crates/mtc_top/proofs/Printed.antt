@@ -45,6 +45,7 @@ use Rattle.mtc_logs.specs.IssueOutcome.{issued, issued_text, request_fault_text}
 use Rattle.mtc_logs.specs.Works.{log_outcome}
 use Rattle.mtc_logs.specs.Works.{log_open_text, log_work_says}
 use Rattle.node_history.proofs.Cosigners.{number_added, sign_read}
+use Rattle.node_history.proofs.Entries.{item_read}
 use Rattle.mtc_top.specs.Concluded.{Prints}
 use Rattle.mtc_top.specs.Courses.{Turn, HasTurned, DidWith, AreAmong}
 use Rattle.mtc_top.specs.Outcome.{command_outcome, journals_of, spoken, spoken_outcome}
@@ -189,8 +190,8 @@ module _ {R S D O E : Type 0} (h : HashFunction) (rooms : Rooms R S D) (disks : 
     issued_so : (r : RequestParts) (found : FoundLog) (why : Option LogError)
         → HasDone (issued h r found why)
         → HasAdded found.records (issued_record h found.state r)
-        (issued_text (length found.state.entries))
-    issued_so r found None done = added_so found.records _ _ done
+        (issued_text (length found.state.entries)) × (why ≡ None)
+    issued_so r found None done = (added_so found.records _ _ done, refl)
     issued_so r found (Some why) done = absurd (none_stopped _ _ _ _ done)
 
     of_request : (request : List ℕ) → rooms.tells old
@@ -210,11 +211,14 @@ module _ {R S D O E : Type 0} (h : HashFunction) (rooms : Rooms R S D) (disks : 
         (end_behind found.0.records) (issued_entry h state form.0) form.0.key) found.2 in
         record {
           list = found.0.records;
-          state = found.0.state;
+          state = state;
           log_is = stands.1;
+          body = issued_record h state form.0;
+          did = added.0.did;
           request = form.0;
-          did = added.did;
-          printed = added.printed;
+          item = item_read (view_in state) false (end_behind found.0.records)
+              (issued_entry h state form.0) form.0.key added.1;
+          printed = added.0.printed;
         }
 
   pub signatures_printed : SignaturesArePrinted h rooms disks outs errs

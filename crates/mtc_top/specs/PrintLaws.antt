@@ -6,13 +6,14 @@ use Rattle.mtc_io.specs.declared.sink.Sink.{Ghosts as Sinks}
 use Rattle.mtc_room.specs.declared.room.Room.{Ghosts as Rooms}
 use Rattle.mtc_words.specs.Commands.{CommandValue, cosign, issue}
 use Rattle.mtc_words.specs.Words.{command_of}
-use Rattle.authority_core.specs.Issues.{issued_record}
+use Rattle.authority_core.specs.Issues.{issued_entry}
 use Rattle.authority_core.specs.Requests.{RequestParts}
 use Rattle.cosigner_core.specs.Folds.{CosignerState, cosigner_of}
 use Rattle.cosigner_core.specs.Records.{step_in}
 use Rattle.cosigner_core.specs.Requests.{SubtreeParts}
 use Rattle.cosigner_core.specs.declared.step.Step.TheVariants.{Sign}
 use Rattle.issuance_log.specs.Folds.{LogState, log_of}
+use Rattle.issuance_log.specs.Records.{item_in}
 use Rattle.mtc_answers.specs.Made.{appended}
 use Rattle.mtc_cosigner.specs.CosignerOutcomes.{cosigned_text}
 use Rattle.mtc_logs.specs.IssueOutcome.{issued_text}
@@ -22,15 +23,16 @@ use Rattle.mtc_top.specs.Courses.{Turn, DidWith, HasTurned}
 
 module _ {R S D O E : Type 0} (h : HashFunction) (rooms : Rooms R S D) (disks : Disks D)
     (outs : Sinks O) (errs : Sinks E) where
-  -- The run added the record of a request to a log with these records, and printed the index of its
-  -- entry, which counts those before it.
+  -- The run added a record to a log with these records: the entry and the key of a request. It
+  -- printed the index of the entry, which counts those before it.
   pub record HasIssued (name : Text) (old : R) (turn : Turn R O E) : Type 0 where
     pub list : List Text
     pub state : LogState
     pub log_is : log_of h list ≡ Ok state
+    pub body : Text
+    pub did : DidWith h rooms disks outs errs old turn name (appended list body)
     pub request : RequestParts
-    pub did : DidWith h rooms disks outs errs old turn name
-        (appended list (issued_record h state request))
+    pub item : item_in body ≡ Some (issued_entry h state request, request.key)
     pub printed : Prints outs turn.out turn.out_after (issued_text (length state.entries))
 
   -- The run added a Sign record to a cosigner with these records, which adds the number of the next
