@@ -45,10 +45,10 @@ abbrev pub found_cosigner : CosignerState → List Text → FoundCosigner
 found_cosigner state list = record { records = list; state = state }
 
 -- What a command has to reply over a cosigner that was found.
-unfoldable pub cosigner_work_says : HashFunction → Work → FoundCosigner → Outcome
-cosigner_work_says h (Advance request) found = advance_says h (advance_parts request) found
-cosigner_work_says h (Cosign request) found = cosign_says h (subtree_parts request) found
-cosigner_work_says h Export found = export_says found
+unfoldable pub cosigner_says : HashFunction → Work → FoundCosigner → Outcome
+cosigner_says h (Advance request) found = advance_says h (advance_parts request) found
+cosigner_says h (Cosign request) found = cosign_says h (subtree_parts request) found
+cosigner_says h Export found = export_says found
 
 -- The outcome of a command on the cosigner of a journal with these bytes.
 abbrev pub cosigner_bytes_say : HashFunction → Text → (FoundCosigner → Outcome) → Text → Outcome

@@ -6,7 +6,7 @@ ghost use Rattle.mtc_answers.specs.Answers.{stop_ending, ending_of};
 ghost use Rattle.mtc_answers.specs.Served.{HasServed};
 ghost use Rattle.mtc_answers.specs.Valid.{KeepsValid, ServesValidly};
 ghost use Rattle.mtc_answers.specs.Works.{HasWorkedOn};
-ghost use Rattle.mtc_cosigner.specs.Works.{IsCosigner, cosigner_bytes_say, cosigner_outcome, cosigner_open_ending, cosigner_work_says};
+ghost use Rattle.mtc_cosigner.specs.Works.{IsCosigner, cosigner_bytes_say, cosigner_outcome, cosigner_open_ending, cosigner_says};
 
 use crate::work::{Work, carry_out};
 use cosigner_core::{Cosigner, CosignerOpenError};
@@ -48,9 +48,9 @@ fn on_device<'a, H: TreeHash, D: Disk>(
     work: &Work<'_>,
 ) -> (D, Result<Answer, Stop<'a>>)
     ensures serves { HasWorkedOn D.Disk journal.now (cosigner_bytes_say H.hash journal.now
-        (cosigner_work_says H.hash work.now)) disk result.0 (ending_of result.1) }
+        (cosigner_says H.hash work.now)) disk result.0 (ending_of result.1) }
     ensures valid { ServesValidly D.Disk (IsCosigner H.hash) (cosigner_bytes_say H.hash journal.now
-        (cosigner_work_says H.hash work.now)) disk result.0 }
+        (cosigner_says H.hash work.now)) disk result.0 }
 {
     match Cosigner::<H, D>::open(alloc, disk) {
         Ok(mut cosigner) => {
@@ -72,10 +72,10 @@ pub fn on_cosigner<'a, H: TreeHash, R: Room>(
     requires { R.lent room.old < 2 ^ 32 }
     ensures serves { HasServed R.Room R.Dsk.Disk (journal.now ∷ []) journal.now
         (cosigner_outcome H.hash journal.now (R.file room.old journal.now)
-        (cosigner_work_says H.hash work.now)) room.old room.new (ending_of result) }
+        (cosigner_says H.hash work.now)) room.old room.new (ending_of result) }
     ensures valid { KeepsValid R.Room R.Dsk.Disk (IsCosigner H.hash) (journal.now ∷ [])
         (cosigner_outcome H.hash journal.now (R.file room.old journal.now)
-        (cosigner_work_says H.hash work.now)) room.old room.new }
+        (cosigner_says H.hash work.now)) room.old room.new }
 {
     let disk = lend(room, journal)?;
     let (disk, answer) = on_device::<H, R::Dsk>(alloc, disk, journal, work);

@@ -75,7 +75,7 @@ pub(crate) fn export_on<'a, H: TreeHash, D: Disk>(
 }
 
 /// The command `export S`.
-#[tactic(auto, unfolding(crate::specs::Works::export_outcome, crate::specs::Works::work_says))]
+#[tactic(auto, unfolding(crate::specs::Works::export_outcome, crate::specs::Works::cosigner_says))]
 pub fn export<'a, H: TreeHash, R: Room>(
     alloc: Global,
     room: &mut R,

@@ -148,7 +148,7 @@ pub(crate) fn cosign_on<'a, H: TreeHash, D: Disk>(
 }
 
 /// The command `advance S REQUEST`.
-#[tactic(auto, unfolding(crate::specs::Works::advance_outcome, crate::specs::Works::work_says))]
+#[tactic(auto, unfolding(crate::specs::Works::advance_outcome, crate::specs::Works::cosigner_says))]
 pub fn advance<'a, H: TreeHash, R: Room>(
     alloc: Global,
     room: &mut R,
@@ -170,7 +170,7 @@ pub fn advance<'a, H: TreeHash, R: Room>(
 }
 
 /// The command `cosign S REQUEST`.
-#[tactic(auto, unfolding(crate::specs::Works::cosign_outcome, crate::specs::Works::work_says))]
+#[tactic(auto, unfolding(crate::specs::Works::cosign_outcome, crate::specs::Works::cosigner_says))]
 pub fn cosign<'a, H: TreeHash, R: Room>(
     alloc: Global,
     room: &mut R,

@@ -2,7 +2,7 @@
 //! most one append, behind which nothing wants memory.
 
 ghost use Rattle.mtc_answers.specs.Answers.{ending_of};
-ghost use Rattle.mtc_cosigner.specs.Works.{HasWorkedOnCosigner, IsReadyCosigner, StaysCosigner, cosigner_work_says};
+ghost use Rattle.mtc_cosigner.specs.Works.{HasWorkedOnCosigner, IsReadyCosigner, StaysCosigner, cosigner_says};
 
 use crate::export::export_on;
 use crate::requests::{advance_on, cosign_on};
@@ -25,7 +25,7 @@ pub enum Work<'r> {
 
 /// Carries out a command on the cosigner of a journal. A failure of its device is told by the
 /// journal's name.
-#[tactic(auto, unfolding(crate::specs::Works::cosigner_work_says))]
+#[tactic(auto, unfolding(crate::specs::Works::cosigner_says))]
 pub(crate) fn carry_out<'a, H: TreeHash, D: Disk>(
     alloc: Global,
     journal: &'a str,
@@ -33,10 +33,10 @@ pub(crate) fn carry_out<'a, H: TreeHash, D: Disk>(
     work: &Work<'_>,
 ) -> Result<Answer, Stop<'a>>
     requires { IsReadyCosigner cosigner.old }
-    ensures works { HasWorkedOnCosigner journal.now (cosigner_work_says H.hash work.now)
+    ensures works { HasWorkedOnCosigner journal.now (cosigner_says H.hash work.now)
         cosigner.old cosigner.new
         (ending_of result) }
-    ensures valid { StaysCosigner H.hash (cosigner_work_says H.hash work.now) cosigner.old
+    ensures valid { StaysCosigner H.hash (cosigner_says H.hash work.now) cosigner.old
         cosigner.new }
 {
     match work {

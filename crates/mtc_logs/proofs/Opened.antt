@@ -16,7 +16,7 @@ use Rattle.mtc_answers.specs.Works.{HasWorkedOn}
 use Rattle.mtc_answers.specs.declared.answer.Stopped.TheVariants.{BadForm}
 use Rattle.mtc_answers.proofs.Works.{not_opened}
 use Rattle.mtc_logs.specs.Works.{log_bytes_say, found_log, log_open_ending, log_open_text}
-use Rattle.mtc_logs.specs.Works.{log_work_says}
+use Rattle.mtc_logs.specs.Works.{log_says}
 use Rattle.mtc_logs.specs.declared.work.Work.{Work}
 
 module _ (h : HashFunction) (name : Text) (work : Work) where
@@ -24,9 +24,9 @@ module _ (h : HashFunction) (name : Text) (work : Work) where
   pub found_says : (told : Option Text) (list : Option (List Text)) (state : LogState)
       → IfSome told (λ b. IfSome list (λ l. log_read h b ≡ Ok (found_log state l)))
       → IfSome told (λ b. IfSome list (λ l.
-      log_bytes_say h name work b ≡ log_work_says h work (found_log state l)))
+      log_bytes_say h name work b ≡ log_says h work (found_log state l)))
   found_says told list state found = IfSome_then told found (λ b read. IfSome_then list read
-      (λ l is. ap (λ r. with_form log_open_text name r (log_work_says h work)) is))
+      (λ l is. ap (λ r. with_form log_open_text name r (log_says h work)) is))
 
   module _ {D : Type 0} (g : Ghosts D) (old new : D) (looks : Looks g old new) where
     -- a file that is no log
@@ -38,7 +38,7 @@ module _ (h : HashFunction) (name : Text) (work : Work) where
         (replied (refused BadForm (Some name) (log_open_text why)))
         (record { plain = λ e. absurd cc; later = looks.faults; fault = tt }) (inr (inl refl))
         (IfSome_then (g.told old) is
-        (λ b read. ap (λ r. with_form log_open_text name r (log_work_says h work)) read))
+        (λ b read. ap (λ r. with_form log_open_text name r (log_says h work)) read))
 
     -- a log that wasn't opened
     pub refused_says : (why : LogOpenError) → HasLogCause g h old new why

@@ -48,22 +48,22 @@ abbrev pub found_log : LogState → List Text → FoundLog
 found_log state list = record { records = list; state = state }
 
 -- What a command has to reply over a log that was found.
-unfoldable pub log_work_says : HashFunction → Work → FoundLog → Outcome
-log_work_says h Checkpoint found = checkpoint_says h found
-log_work_says h (Entries size) found = entries_says size found
-log_work_says h (Issue request) found = issue_says h request found
-log_work_says h (Consist old new) found = consist_says h old new found
-log_work_says h (Subtree start end size) found = subtree_says h start end size found
-log_work_says h Landmark found = landmark_says found
-log_work_says h Landmarks found = landmarks_says found
-log_work_says h (LightCert index) found = light_says h index found
-log_work_says h (Cert index start end signatures) found =
+unfoldable pub log_says : HashFunction → Work → FoundLog → Outcome
+log_says h Checkpoint found = checkpoint_says h found
+log_says h (Entries size) found = entries_says size found
+log_says h (Issue request) found = issue_says h request found
+log_says h (Consist old new) found = consist_says h old new found
+log_says h (Subtree start end size) found = subtree_says h start end size found
+log_says h Landmark found = landmark_says found
+log_says h Landmarks found = landmarks_says found
+log_says h (LightCert index) found = light_says h index found
+log_says h (Cert index start end signatures) found =
     cert_says h index start end signatures found
 
 -- The outcome of a command on the log of a journal with these bytes.
 abbrev pub log_bytes_say : HashFunction → Text → Work → Text → Outcome
 log_bytes_say h journal work bytes =
-    with_form log_open_text journal (log_read h bytes) (log_work_says h work)
+    with_form log_open_text journal (log_read h bytes) (log_says h work)
 
 -- The same over the file of its name, which may not be there.
 unfoldable pub log_outcome : HashFunction → Text → Option Text → Work → Outcome

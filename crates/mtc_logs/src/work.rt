@@ -1,7 +1,7 @@
 //! The work of a command on a log whose journal is open: its own refusals, its text, and at most
 //! one append, which is its last step.
 
-ghost use Rattle.mtc_logs.specs.Works.{HasWorkedOnLog, IsReadyLog, StaysLog, log_work_says};
+ghost use Rattle.mtc_logs.specs.Works.{HasWorkedOnLog, IsReadyLog, StaysLog, log_says};
 ghost use Rattle.mtc_answers.specs.Answers.{ending_of};
 
 use crate::cert::{Signatures, certificate, light_certificate};
@@ -44,7 +44,7 @@ pub enum Work {
 
 /// Carries out a command on the log of a journal. A failure of its device is told by the journal's
 /// name.
-#[tactic(auto, unfolding(crate::specs::Works::log_work_says))]
+#[tactic(auto, unfolding(crate::specs::Works::log_says))]
 pub fn carry_out<'a, H: TreeHash, D: Disk>(
     alloc: Global,
     journal: &'a str,
@@ -52,9 +52,9 @@ pub fn carry_out<'a, H: TreeHash, D: Disk>(
     work: Work,
 ) -> Result<Answer, Stop<'a>>
     requires { IsReadyLog log.old }
-    ensures works { HasWorkedOnLog journal.now (log_work_says H.hash work) log.old log.new
+    ensures works { HasWorkedOnLog journal.now (log_says H.hash work) log.old log.new
         (ending_of result) }
-    ensures valid { StaysLog H.hash (log_work_says H.hash work) log.old log.new }
+    ensures valid { StaysLog H.hash (log_says H.hash work) log.old log.new }
 {
     match work {
         Work::Checkpoint => checkpoint(alloc, log),

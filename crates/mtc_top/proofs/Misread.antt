@@ -58,7 +58,7 @@ use Rattle.mtc_logs.specs.LogOutcomes.{beyond, checkpoint_reply, entries_reply, 
 use Rattle.mtc_logs.specs.LogOutcomes.{not_allowed}
 use Rattle.mtc_logs.specs.RequestOutcomes.{advance_by_log, consist_reply, subtree_of, subtree_reply}
 use Rattle.mtc_logs.specs.Works.{log_outcome, log_open_text}
-use Rattle.mtc_logs.specs.Works.{log_work_says}
+use Rattle.mtc_logs.specs.Works.{log_says}
 use Rattle.mtc_logs.specs.declared.work.Work.{Work}
 use Rattle.mtc_logs.specs.declared.work.Work.TheVariants.{Cert, Checkpoint, Consist, Entries, Issue}
 use Rattle.mtc_logs.specs.declared.work.Work.TheVariants.{Landmark, Landmarks, LightCert, Subtree}
@@ -170,8 +170,8 @@ module _ (h : HashFunction) where
       (if_two short (beyond (length s.entries)) (if outside then beyond size else done) four_two
       (if_two outside (beyond size) done four_two zero_two))
 
-  work_two : (work : Work) (found : FoundLog) → NeverTwo (log_work_says h work found)
-  unfolding log_work_says
+  work_two : (work : Work) (found : FoundLog) → NeverTwo (log_says h work found)
+  unfolding log_says
   work_two Checkpoint found =
       λ reply. exact_two (checkpoint_reply h found.state.entries) reply zero_two
   work_two (Entries size) found =
@@ -242,7 +242,7 @@ module _ (h : HashFunction) where
   log_two name None work reads = λ reply. exact_two _ reply seven_two
   log_two name (Some c) work reads =
       let found = reads c refl in
-      subst (λ r. NeverTwo (with_form log_open_text name r (log_work_says h work))) (sym found.1)
+      subst (λ r. NeverTwo (with_form log_open_text name r (log_says h work))) (sym found.1)
       (work_two work found.0)
 
   cosigner_two : (name : List ℕ) (o : Option (List ℕ)) (says : FoundCosigner → Outcome)

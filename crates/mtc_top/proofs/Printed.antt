@@ -43,7 +43,7 @@ use Rattle.mtc_cosigner.specs.Works.{cosign_outcome, cosigner_open_text}
 use Rattle.mtc_logs.specs.IssueCommand.{issue_outcome}
 use Rattle.mtc_logs.specs.IssueOutcome.{issued, issued_text, request_fault_text}
 use Rattle.mtc_logs.specs.Works.{log_outcome}
-use Rattle.mtc_logs.specs.Works.{log_open_text, log_work_says}
+use Rattle.mtc_logs.specs.Works.{log_open_text, log_says}
 use Rattle.node_history.proofs.Cosigners.{number_added, sign_read}
 use Rattle.node_history.proofs.Entries.{item_read}
 use Rattle.mtc_top.specs.Concluded.{Prints}
@@ -197,7 +197,7 @@ module _ {R S D O E : Type 0} (h : HashFunction) (rooms : Rooms R S D) (disks : 
     of_request : (request : List ℕ) → rooms.tells old
         → HasDone (issue_outcome h name request (rooms.file old))
         → HasIssued h rooms disks outs errs name old turn
-    unfolding log_outcome log_work_says
+    unfolding log_outcome log_says
     of_request request tells done =
         let file = past_bytes 16777216 request (rooms.file old request) _ done in
         let form = past_form request_fault_text request (request_of file.0) _ file.2 in

@@ -4,7 +4,7 @@ use Rattle.mtc_answers.specs.Answers.{ending_of}
 use Rattle.mtc_answers.proofs.Works.{served}
 use Rattle.mtc_answers.proofs.Valid.{kept_valid, served_valid}
 use Rattle.mtc_cosigner.specs.Works.{IsCosigner, cosigner_bytes_say, cosigner_outcome}
-use Rattle.mtc_cosigner.specs.Works.{cosigner_work_says}
+use Rattle.mtc_cosigner.specs.Works.{cosigner_says}
 use Rattle.mtc_cosigner.proofs.cosigner_command.on_cosigner.Goals as goal
 
 pub returns-clause-serves : goal.returns-clause-serves
@@ -12,7 +12,7 @@ returns-clause-serves g c =
     let name = c.args.journal.now in
     served g.R.Room g.R.Dsk.Disk name (name ∷ [])
     (cosigner_bytes_say g.H.TreeHash.hash name
-    (cosigner_work_says g.H.TreeHash.hash c.args.work.now))
+    (cosigner_says g.H.TreeHash.hash c.args.work.now))
     c.args.room.now c.lend.new.room c.give_back.new.room c.in_ok-disk.disk
     c.on_device-disk.result.0 (ending_of c.on_device-disk.result.1) c.in_ok-disk.ensures.lent
     c.on_device-disk.ensures.serves c.give_back.ensures (inl refl)
@@ -23,14 +23,14 @@ returns-in_err-disk-clause-serves g c =
     let stopped = err_from_is_err_and c.from_residual.result c.from_residual.ensures.1 in
     rw (stopped.1, stopped.2) (c.in_err-disk.ensures.stops (name ∷ [])
     (cosigner_bytes_say g.H.TreeHash.hash name
-    (cosigner_work_says g.H.TreeHash.hash c.args.work.now)) (inl refl))
+    (cosigner_says g.H.TreeHash.hash c.args.work.now)) (inl refl))
 
 pub returns-clause-valid : goal.returns-clause-valid
 returns-clause-valid g c =
     let h = g.H.TreeHash.hash in
     let name = c.args.journal.now in
     served_valid g.R.Room g.R.Dsk.Disk (IsCosigner h) name
-    (cosigner_bytes_say h name (cosigner_work_says h c.args.work.now)) c.args.room.now
+    (cosigner_bytes_say h name (cosigner_says h c.args.work.now)) c.args.room.now
     c.lend.new.room
     c.give_back.new.room c.in_ok-disk.disk c.on_device-disk.result.0 c.in_ok-disk.ensures.lent
     c.on_device-disk.ensures.valid c.give_back.ensures
@@ -41,5 +41,5 @@ returns-in_err-disk-clause-valid g c =
     let name = c.args.journal.now in
     kept_valid g.R.Room g.R.Dsk.Disk (IsCosigner h) (name ∷ [])
     (cosigner_outcome h name (g.R.Room.file c.args.room.now name)
-    (cosigner_work_says h c.args.work.now))
+    (cosigner_says h c.args.work.now))
     c.args.room.now c.lend.new.room c.in_err-disk.ensures.refused g.met.R.Dsk.Disk.only_now

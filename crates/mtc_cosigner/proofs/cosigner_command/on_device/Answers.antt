@@ -8,7 +8,7 @@ use Rattle.mtc_answers.specs.Works.{HasWorked as HasWorkedWith, HasWorkedOn}
 use Rattle.mtc_answers.proofs.Works.{worked_on}
 use Rattle.mtc_answers.proofs.Valid.{valid_on}
 use Rattle.mtc_cosigner.specs.Works.{IsCosigner, cosigner_bytes_say, found_cosigner}
-use Rattle.mtc_cosigner.specs.Works.{cosigner_work_says}
+use Rattle.mtc_cosigner.specs.Works.{cosigner_says}
 use Rattle.mtc_cosigner.proofs.Opened.{IsFound, found_says, refused_says}
 use Rattle.mtc_cosigner.proofs.cosigner_command.on_device.Goals as goal
 
@@ -17,7 +17,7 @@ returns-in-Ok-clause-serves g c =
     let d = g.D.Disk in
     let h = g.H.TreeHash.hash in
     let name = c.args.journal.now in
-    let says = cosigner_work_says h c.args.work.now in
+    let says = cosigner_says h c.args.work.now in
     let it = c.in-Ok.cosigner in
     let opened = c.in-Ok.ensures in
     let next : List Text → Outcome = λ list. says (found_cosigner (cosigner_state it) list) in
@@ -42,7 +42,7 @@ returns-in-Err-clause-serves g c =
     let d = g.D.Disk in
     let h = g.H.TreeHash.hash in
     let name = c.args.journal.now in
-    let says = cosigner_work_says h c.args.work.now in
+    let says = cosigner_says h c.args.work.now in
     let disk = c.in-Err.field-0.disk in
     subst (λ (e : Ending). HasWorkedOn d name (cosigner_bytes_say h name says) c.args.disk disk e)
     (sym c.refuse_cosigner.ensures)
@@ -53,7 +53,7 @@ returns-in-Ok-clause-valid g c =
     let d = g.D.Disk in
     let h = g.H.TreeHash.hash in
     let name = c.args.journal.now in
-    let says = cosigner_work_says h c.args.work.now in
+    let says = cosigner_says h c.args.work.now in
     let it = c.in-Ok.cosigner in
     let opened = c.in-Ok.ensures in
     let next : List Text → Outcome = λ list. says (found_cosigner (cosigner_state it) list) in

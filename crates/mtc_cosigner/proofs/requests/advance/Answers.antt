@@ -10,7 +10,7 @@ use Rattle.mtc_answers.proofs.Served.{behind}
 use Rattle.mtc_answers.proofs.Valid.{behind_valid, kept_valid}
 use Rattle.mtc_cosigner.specs.CosignerOutcomes.{advance_says, form_fault_text}
 use Rattle.mtc_cosigner.specs.Works.{IsCosigner, advance_outcome, cosigner_outcome}
-use Rattle.mtc_cosigner.specs.Works.{cosigner_work_says}
+use Rattle.mtc_cosigner.specs.Works.{cosigner_says}
 use Rattle.mtc_cosigner.specs.declared.work.Work.TheVariants.{Advance}
 use Rattle.mtc_cosigner.proofs.Asked.{asked_so, no_request}
 use Rattle.mtc_cosigner.proofs.requests.advance.Goals as goal
@@ -29,7 +29,7 @@ returns-in_err-bytes-clause-serves g c =
 
 pub returns-in-Ok-clause-serves : goal.returns-in-Ok-clause-serves
 unfolding Rattle.mtc_cosigner.specs.Works.advance_outcome
-    Rattle.mtc_cosigner.specs.Works.cosigner_work_says
+    Rattle.mtc_cosigner.specs.Works.cosigner_says
 returns-in-Ok-clause-serves g c =
     let h = g.H.TreeHash.hash in
     let rooms = g.R.Room in
@@ -82,7 +82,7 @@ returns-in_err-bytes-clause-valid g c =
 
 pub returns-in-Ok-clause-valid : goal.returns-in-Ok-clause-valid
 unfolding Rattle.mtc_cosigner.specs.Works.advance_outcome
-    Rattle.mtc_cosigner.specs.Works.cosigner_work_says
+    Rattle.mtc_cosigner.specs.Works.cosigner_says
 returns-in-Ok-clause-valid g c =
     let h = g.H.TreeHash.hash in
     let rooms = g.R.Room in

@@ -4,7 +4,7 @@ use Rattle.mtc_answers.specs.Answers.{Ending, ending_of}
 use Rattle.mtc_answers.specs.Works.{HasWorkedOn}
 use Rattle.mtc_answers.proofs.Works.{worked_on}
 use Rattle.mtc_answers.proofs.Valid.{valid_on}
-use Rattle.mtc_logs.specs.Works.{IsLog, log_bytes_say, found_log, log_work_says}
+use Rattle.mtc_logs.specs.Works.{IsLog, log_bytes_say, found_log, log_says}
 use Rattle.mtc_logs.proofs.Opened.{found_says, refused_says}
 use Rattle.mtc_logs.proofs.log_command.on_device.Goals as goal
 
@@ -16,7 +16,7 @@ returns-in-Ok-clause-serves g c =
     let log = c.in-Ok.log in
     let opened = c.in-Ok.ensures in
     rw c.into_disk.ensures (worked_on d name (log_bytes_say h name c.args.work)
-    (λ list. log_work_says h c.args.work (found_log (log_state log) list)) c.args.disk
+    (λ list. log_says h c.args.work (found_log (log_state log) list)) c.args.disk
     (log_disk log)
     (log_disk c.carry_out-answer.new.log) (ending_of c.carry_out-answer.result)
     g.met.D.Disk.reads_image opened.looks opened.fine
@@ -42,7 +42,7 @@ returns-in-Ok-clause-valid g c =
     let log = c.in-Ok.log in
     let opened = c.in-Ok.ensures in
     rw c.into_disk.ensures (valid_on d (IsLog h) name (log_bytes_say h name c.args.work)
-    (λ list. log_work_says h c.args.work (found_log (log_state log) list)) c.args.disk
+    (λ list. log_says h c.args.work (found_log (log_state log) list)) c.args.disk
     (log_disk log)
     (log_disk c.carry_out-answer.new.log) opened.looks
     (found_says h name c.args.work (d.told c.args.disk) (log_records log) (log_state log)
