@@ -1,3 +1,5 @@
 pub mod Pairs
-pub mod Fulls
 pub mod Pushes
+pub mod Grows
+pub mod Fulls
+pub mod Forgets

@@ -1,171 +1,237 @@
--- Rows with one leaf more, and rows with more room.
-use Rattle.std.proofs.Common.{◌≡◌, ℕ, suc, ◌+◌, ◌-◌, ◌*◌, ◌/◌, ◌%◌, ◌^◌, ◌<◌, ◌≤◌, inl, ◌⊎◌}
-use Rattle.std.proofs.Common.{List, [], ◌∷◌, ◌++◌, length, take, drop}
-use Rattle.std.proofs.Common.{get_or, sym, ◌∙◌, ap, refl, subst, arith}
+-- Rows with one leaf more.
+use Rattle.std.proofs.Common.{◌≡◌, ℕ, zero, suc, ◌+◌, ◌-◌, ◌/◌, ◌%◌, ◌^◌, ◌<◌, ◌≤◌}
+use Rattle.std.proofs.Common.{◌⊎◌, List, [], ◌∷◌, ◌++◌, length, take, drop}
+use Rattle.std.proofs.Common.{get_or, sym, ◌∙◌, ap, subst, arith}
 use Rattle.std.proofs.Math.ListN.{get_or-append}
-use Rattle.std.proofs.Math.Nat.{pow-succ'}
 use Rattle.std.proofs.Math.Seq.{get_or-append_seam, take-append_seam}
-use Rattle.std.proofs.lemmas.List.{length_push}
+use Rattle.std.proofs.lemmas.List.{drop-append-le, get_or-drop, length-drop, length_push}
 use Rattle.tree_cache.proofs.Pairs.{length-paired, paired-alone, paired-joined}
-use Rattle.tree_cache.specs.Rows.{AreRowsOf, AreSound, HaveGrown, HaveLevels, HaveNone, HaveRoom}
-use Rattle.tree_cache.specs.Rows.{HoldUpTo, RowState, first_row, paired}
+use Rattle.tree_cache.specs.Rows.{AreAllOf, AreLong, AreRowsOf, AreSound, HaveCount}
+use Rattle.tree_cache.specs.Rows.{HaveRoom, HoldUpTo, IsLong, IsRowOf, RowState}
+use Rattle.tree_cache.specs.Rows.{count_of, first_row, gone_at, paired, row_count}
 use Rattle.tree_core.specs.Tree.{pair_hash}
 
--- a row of no rows at all has no room
-pub room-some : (h : List ℕ → List ℕ) (rows : List RowState) → HaveRoom h rows → length rows ≡ 0
-    → ⊥
-unfolding AreRowsOf HoldUpTo
-room-some h [] has none = let below = has.below in let room = has.holds in omega arith
-room-some h (row ∷ rows) has none = omega arith
+-- a row of some hashes is as long as these
+is-long : (hashes : List (List ℕ)) (row : RowState) → IsRowOf hashes row
+    → IsLong (length hashes) row
+is-long hashes row is =
+    let size : length row.kept ≡ length hashes - row.gone =
+    ap length is.kept ∙ length-drop row.gone hashes in
+    let within = is.within in
+    record { all = omega arith; even = is.even }
+
+pub long-of : (h : List ℕ → List ℕ) (leaves : List (List ℕ)) (rows : List RowState)
+    → AreRowsOf h leaves rows → AreLong (length leaves) rows
+unfolding AreRowsOf AreLong
+long-of h leaves [] are = ap length are
+long-of h leaves (row ∷ rows) are = (
+  is-long leaves row are.0,
+  subst (λ n. AreLong n rows) (length-paired h leaves) (long-of h (paired h leaves) rows are.1),
+)
+
+-- no rows at all have no room
+pub room-some : (rows : List RowState) → HaveRoom rows → length rows ≡ 0 → ⊥
+unfolding AreLong HoldUpTo
+room-some [] has none =
+    let below = has.below in
+    let count = has.long in
+    let room = has.holds in
+    omega arith
+room-some (row ∷ rows) has none = omega arith
 
 -- a row has room where the rows have
-pub room-spare : (h : List ℕ → List ℕ) (rows : List RowState) (row : RowState)
-    (above : List RowState) → rows ≡ row ∷ above → HaveRoom h rows → 0 < row.spare
-unfolding AreRowsOf HoldUpTo
-room-spare h rows row above is has =
-    let here : HaveRoom h (row ∷ above) = subst (HaveRoom h) is has in
+pub room-spare : (rows : List RowState) (row : RowState) (above : List RowState)
+    → rows ≡ row ∷ above → HaveRoom rows → 0 < row.spare
+unfolding AreLong HoldUpTo
+room-spare rows row above is has =
+    let here : HaveRoom (row ∷ above) = subst HaveRoom is has in
     let below = here.below in
-    let size : length row.hashes ≡ length here.leaves = ap length here.rows_of.0 in
-    let room = here.holds.0 in
+    let size : row.gone + length row.kept ≡ here.count = here.long.0.all in
+    let room : here.room ≤ row.gone + length row.kept + row.spare = here.holds.0 in
     omega arith
 
 -- the rows above have room for the parent of a pair
-pub room-above : (h : List ℕ → List ℕ) (rows : List RowState) (row : RowState)
-    (above : List RowState) (count : ℕ) → rows ≡ row ∷ above → HaveRoom h rows
-    → count ≡ length row.hashes + 1 → count % 2 ≡ 0 → HaveRoom h above
-unfolding AreRowsOf HoldUpTo
-room-above h rows row above count is has more even =
-    let here : HaveRoom h (row ∷ above) = subst (HaveRoom h) is has in
+pub room-above : (rows : List RowState) (row : RowState) (above : List RowState) (count : ℕ)
+    → rows ≡ row ∷ above → HaveRoom rows → count ≡ length row.kept + 1 → count % 2 ≡ 0
+    → HaveRoom above
+unfolding AreLong HoldUpTo
+room-above rows row above count is has more even =
+    let here : HaveRoom (row ∷ above) = subst HaveRoom is has in
     let below = here.below in
-    let size : length row.hashes ≡ length here.leaves = ap length here.rows_of.0 in
-    let pairs = length-paired h here.leaves in
+    let size : row.gone + length row.kept ≡ here.count = here.long.0.all in
+    let gone : row.gone % 2 ≡ 0 = here.long.0.even in
     record {
-      leaves = paired h here.leaves;
+      count = here.count / 2;
       room = here.room / 2;
-      rows_of = here.rows_of.1;
+      long = here.long.1;
       holds = here.holds.1;
       below = omega arith;
     }
 
+-- the number of a row, and the rows above it
+pub counted-row : (rows : List RowState) (row : RowState) (above : List RowState)
+    → rows ≡ row ∷ above → HaveCount rows → row_count row < 2 ^ 64
+unfolding AreLong
+counted-row rows row above is counted =
+    let here : HaveCount (row ∷ above) = subst HaveCount is counted in
+    let few = here.few in
+    let all = here.long.0.all in
+    omega arith
+
+pub counted-above : (rows : List RowState) (row : RowState) (above : List RowState)
+    → rows ≡ row ∷ above → HaveCount rows → HaveCount above
+unfolding AreLong
+counted-above rows row above is counted =
+    let here : HaveCount (row ∷ above) = subst HaveCount is counted in
+    let few = here.few in
+    record { count = here.count / 2; few = omega arith; long = here.long.1 }
+
+-- one hash more behind a row
+row-pushed : (hashes : List (List ℕ)) (hash : List ℕ) (row pushed : RowState)
+    → pushed.gone ≡ row.gone → pushed.kept ≡ row.kept ++ hash ∷ [] → IsRowOf hashes row
+    → IsRowOf (hashes ++ hash ∷ []) pushed
+row-pushed hashes hash row pushed gone more is =
+    let within = is.within in
+    let even = is.even in
+    let size = length_push hashes hash in
+    record {
+      kept = more ∙ ap (λ l. l ++ hash ∷ []) is.kept
+          ∙ sym (drop-append-le row.gone hashes (hash ∷ []) within)
+          ∙ ap (λ g. drop g (hashes ++ hash ∷ [])) (sym gone);
+      within = omega arith;
+      even = ap (λ g. g % 2) gone ∙ even;
+    }
+
 -- one hash more in a row that has no sibling yet
 pub rows-alone : (h : List ℕ → List ℕ) (rows : List RowState) (row pushed : RowState)
-    (above : List RowState) (hash : List ℕ) → rows ≡ row ∷ above
-    → pushed.hashes ≡ row.hashes ++ hash ∷ [] → length pushed.hashes % 2 ≡ 1
+    (above : List RowState) (hash : List ℕ) → rows ≡ row ∷ above → pushed.gone ≡ row.gone
+    → pushed.kept ≡ row.kept ++ hash ∷ [] → length pushed.kept % 2 ≡ 1
     → (leaves : List (List ℕ)) → AreRowsOf h leaves rows
     → AreRowsOf h (leaves ++ hash ∷ []) (pushed ∷ above)
 unfolding AreRowsOf
-rows-alone h rows row pushed above hash is more odd leaves are =
+rows-alone h rows row pushed above hash is gone more odd leaves are =
     let here : AreRowsOf h leaves (row ∷ above) = subst (AreRowsOf h leaves) is are in
-    let same : row.hashes ≡ leaves = here.0 in
-    let size : length row.hashes ≡ length leaves = ap length same in
-    let one : length pushed.hashes ≡ length row.hashes + 1 =
-    ap length more ∙ length_push row.hashes hash in (
-      more ∙ ap (λ l. l ++ hash ∷ []) same,
+    let long = is-long leaves row here.0 in
+    let size : row.gone + length row.kept ≡ length leaves = long.all in
+    let even : row.gone % 2 ≡ 0 = long.even in
+    let one : length pushed.kept ≡ length row.kept + 1 =
+    ap length more ∙ length_push row.kept hash in (
+      row-pushed leaves hash row pushed gone more here.0,
       subst (λ l. AreRowsOf h l above) (sym (paired-alone h leaves hash (omega arith))) here.1,
+    )
+
+-- the last two hashes of a row with one more are the last of it and the one more
+last-two : (leaves : List (List ℕ)) (hash : List ℕ) (row pushed : RowState) (last : ℕ)
+    → IsRowOf leaves row → pushed.kept ≡ row.kept ++ hash ∷ [] → 2 ≤ length pushed.kept
+    → last + 1 ≡ length leaves
+    → (get_or pushed.kept (length pushed.kept - 2) [] ≡ get_or leaves last [])
+    × (get_or pushed.kept (length pushed.kept - 1) [] ≡ hash)
+last-two leaves hash row pushed last is more two end =
+    let long = is-long leaves row is in
+    let size : row.gone + length row.kept ≡ length leaves = long.all in
+    let one : length pushed.kept ≡ length row.kept + 1 =
+    ap length more ∙ length_push row.kept hash in
+    let at : row.gone + (length pushed.kept - 2) ≡ last = omega arith in
+    let seam : length pushed.kept - 1 ≡ length row.kept = omega arith in (
+      ap (λ l. get_or l (length pushed.kept - 2) []) more
+          ∙ get_or-append row.kept (hash ∷ []) [] (length pushed.kept - 2) (omega arith)
+          ∙ ap (λ l. get_or l (length pushed.kept - 2) []) is.kept
+          ∙ get_or-drop row.gone leaves (length pushed.kept - 2) []
+          ∙ ap (λ i. get_or leaves i []) at,
+      ap (λ l. get_or l (length pushed.kept - 1) []) more
+          ∙ ap (λ i. get_or (row.kept ++ hash ∷ []) i []) seam
+          ∙ get_or-append_seam row.kept hash [] [],
     )
 
 -- one that is the sibling of the last one
 pub rows-joined : (h : List ℕ → List ℕ) (rows : List RowState) (row pushed : RowState)
     (above raised : List RowState) (hash parent : List ℕ) → rows ≡ row ∷ above
-    → pushed.hashes ≡ row.hashes ++ hash ∷ [] → length pushed.hashes % 2 ≡ 0
-    → parent ≡ pair_hash h (get_or pushed.hashes (length pushed.hashes - 2) [])
-    (get_or pushed.hashes (length pushed.hashes - 1) [])
+    → pushed.gone ≡ row.gone
+    → pushed.kept ≡ row.kept ++ hash ∷ [] → length pushed.kept % 2 ≡ 0
+    → parent ≡ pair_hash h (get_or pushed.kept (length pushed.kept - 2) [])
+    (get_or pushed.kept (length pushed.kept - 1) [])
     → ((leaves : List (List ℕ)) → AreRowsOf h leaves above
     → AreRowsOf h (leaves ++ parent ∷ []) raised)
     → (leaves : List (List ℕ)) → AreRowsOf h leaves rows
     → AreRowsOf h (leaves ++ hash ∷ []) (pushed ∷ raised)
 unfolding AreRowsOf
-rows-joined h rows row pushed above raised hash parent is more even parent_is up leaves
+rows-joined h rows row pushed above raised hash parent is gone more even parent_is up leaves
     are =
     let here : AreRowsOf h leaves (row ∷ above) = subst (AreRowsOf h leaves) is are in
-    let same : row.hashes ≡ leaves = here.0 in
-    let size : length row.hashes ≡ length leaves = ap length same in
-    let one : length pushed.hashes ≡ length row.hashes + 1 =
-    ap length more ∙ length_push row.hashes hash in
-    let all : pushed.hashes ≡ leaves ++ hash ∷ [] = more ∙ ap (λ l. l ++ hash ∷ []) same in
-    let last : length pushed.hashes - 1 ≡ length leaves = omega arith in
-    let before : (length pushed.hashes - 2) + 1 ≡ length leaves = omega arith in
-    let left : get_or pushed.hashes (length pushed.hashes - 2) []
-    ≡ get_or leaves (length pushed.hashes - 2) [] =
-    ap (λ l. get_or l (length pushed.hashes - 2) []) all
-    ∙ get_or-append leaves (hash ∷ []) [] (length pushed.hashes - 2) (omega arith) in
-    let right : get_or pushed.hashes (length pushed.hashes - 1) [] ≡ hash =
-    ap (λ l. get_or l (length pushed.hashes - 1) []) all
-    ∙ ap (λ i. get_or (leaves ++ hash ∷ []) i []) last
-    ∙ get_or-append_seam leaves hash [] [] in
-    let joined : parent ≡ pair_hash h (get_or leaves (length pushed.hashes - 2) []) hash =
-    parent_is ∙ ap (λ l. pair_hash h l (get_or pushed.hashes (length pushed.hashes - 1) [])) left
-    ∙ ap (pair_hash h (get_or leaves (length pushed.hashes - 2) [])) right in
+    let long = is-long leaves row here.0 in
+    let size : row.gone + length row.kept ≡ length leaves = long.all in
+    let whole : row.gone % 2 ≡ 0 = long.even in
+    let one : length pushed.kept ≡ length row.kept + 1 =
+    ap length more ∙ length_push row.kept hash in
+    let two = last-two leaves hash row pushed (length leaves - 1) here.0 more (omega arith)
+    (omega arith) in
+    let joined : parent ≡ pair_hash h (get_or leaves (length leaves - 1) []) hash =
+    parent_is ∙ ap (λ l. pair_hash h l (get_or pushed.kept (length pushed.kept - 1) [])) two.0
+    ∙ ap (pair_hash h (get_or leaves (length leaves - 1) [])) two.1 in
     let pairs : paired h (leaves ++ hash ∷ []) ≡ paired h leaves ++ parent ∷ [] =
-    paired-joined h leaves hash (length pushed.hashes - 2) (omega arith) before
-    ∙ ap (λ p. paired h leaves ++ p ∷ []) (sym joined) in
-    (all, subst (λ l. AreRowsOf h l raised) (sym pairs) (up (paired h leaves) here.1))
+    paired-joined h leaves hash (length leaves - 1) (omega arith) (omega arith)
+    ∙ ap (λ p. paired h leaves ++ p ∷ []) (sym joined) in (
+      row-pushed leaves hash row pushed gone more here.0,
+      subst (λ l. AreRowsOf h l raised) (sym pairs) (up (paired h leaves) here.1),
+    )
+
+-- the rows are longer by one leaf
+pub long-alone : (rows : List RowState) (row pushed : RowState) (above : List RowState)
+    (hash : List ℕ) → rows ≡ row ∷ above → pushed.gone ≡ row.gone
+    → pushed.kept ≡ row.kept ++ hash ∷ [] → length pushed.kept % 2 ≡ 1
+    → (count : ℕ) → AreLong count rows → AreLong (count + 1) (pushed ∷ above)
+unfolding AreLong
+long-alone rows row pushed above hash is gone more odd count long =
+    let here : AreLong count (row ∷ above) = subst (AreLong count) is long in
+    let size : row.gone + length row.kept ≡ count = here.0.all in
+    let even : row.gone % 2 ≡ 0 = here.0.even in
+    let one : length pushed.kept ≡ length row.kept + 1 =
+    ap length more ∙ length_push row.kept hash in
+    let half : count / 2 ≡ (count + 1) / 2 = omega arith in (
+      record { all = omega arith; even = ap (λ g. g % 2) gone ∙ even },
+      subst (λ n. AreLong n above) half here.1,
+    )
+
+pub long-joined : (rows : List RowState) (row pushed : RowState) (above raised : List RowState)
+    (hash : List ℕ) → rows ≡ row ∷ above → pushed.gone ≡ row.gone
+    → pushed.kept ≡ row.kept ++ hash ∷ [] → length pushed.kept % 2 ≡ 0
+    → ((count : ℕ) → AreLong count above → AreLong (count + 1) raised)
+    → (count : ℕ) → AreLong count rows → AreLong (count + 1) (pushed ∷ raised)
+unfolding AreLong
+long-joined rows row pushed above raised hash is gone more joined up count long =
+    let here : AreLong count (row ∷ above) = subst (AreLong count) is long in
+    let size : row.gone + length row.kept ≡ count = here.0.all in
+    let even : row.gone % 2 ≡ 0 = here.0.even in
+    let one : length pushed.kept ≡ length row.kept + 1 =
+    ap length more ∙ length_push row.kept hash in
+    let half : count / 2 + 1 ≡ (count + 1) / 2 = omega arith in (
+      record { all = omega arith; even = ap (λ g. g % 2) gone ∙ even },
+      subst (λ n. AreLong n raised) half (up (count / 2) here.1),
+    )
+
+-- what is gone stays gone
+pub gone-on : (rows : List RowState) (row pushed : RowState) (above raised : List RowState)
+    → rows ≡ row ∷ above → pushed.gone ≡ row.gone
+    → ((level : ℕ) → gone_at raised level ≡ gone_at above level)
+    → (level : ℕ) → gone_at (pushed ∷ raised) level ≡ gone_at rows level
+unfolding gone_at
+gone-on rows row pushed above raised is same up zero = same ∙ sym (ap (λ r. gone_at r 0) is)
+gone-on rows row pushed above raised is same up (suc level) =
+    up level ∙ sym (ap (λ r. gone_at r (suc level)) is)
 
 -- the room stays
 pub holds-on : (rows : List RowState) (row pushed : RowState) (above raised : List RowState)
-    (hash : List ℕ) → rows ≡ row ∷ above
-    → pushed.hashes ≡ row.hashes ++ hash ∷ [] → row.spare ≤ pushed.spare + 1
+    (hash : List ℕ) → rows ≡ row ∷ above → pushed.gone ≡ row.gone
+    → pushed.kept ≡ row.kept ++ hash ∷ [] → row.spare ≤ pushed.spare + 1
     → ((room : ℕ) → HoldUpTo room above → HoldUpTo room raised)
     → (room : ℕ) → HoldUpTo room rows → HoldUpTo room (pushed ∷ raised)
 unfolding HoldUpTo
-holds-on rows row pushed above raised hash is more spare up room holds =
+holds-on rows row pushed above raised hash is gone more spare up room holds =
     let here : HoldUpTo room (row ∷ above) = subst (HoldUpTo room) is holds in
-    let fits = here.0 in
-    let one : length pushed.hashes ≡ length row.hashes + 1 =
-    ap length more ∙ length_push row.hashes hash in
+    let fits : room ≤ row.gone + length row.kept + row.spare = here.0 in
+    let one : length pushed.kept ≡ length row.kept + 1 =
+    ap length more ∙ length_push row.kept hash in
     (omega arith, up (room / 2) here.1)
-
--- Rows that were given more room.
-
-pub grown-same : (rows : List RowState) → HaveGrown rows rows
-grown-same rows = record {
-  first = refl;
-  same = λ h leaves are. are;
-  kept = λ room holds. holds;
-}
-
-pub grown-row : (rows : List RowState) (row grown : RowState) (above raised : List RowState)
-    → rows ≡ row ∷ above → grown.hashes ≡ row.hashes → row.spare ≤ grown.spare
-    → HaveGrown above raised → HaveGrown rows (grown ∷ raised)
-unfolding AreRowsOf HoldUpTo
-grown-row rows row grown above raised is same spare up = record {
-  first = same ∙ sym (ap first_row is);
-  same = λ h leaves are.
-      let here : AreRowsOf h leaves (row ∷ above) = subst (AreRowsOf h leaves) is are in
-      (same ∙ here.0, up.same h (paired h leaves) here.1);
-  kept = λ room holds.
-      let here : HoldUpTo room (row ∷ above) = subst (HoldUpTo room) is holds in
-      let fits = here.0 in
-      let size : length grown.hashes ≡ length row.hashes = ap length same in
-      (omega arith, up.kept (room / 2) here.1);
-}
-
-pub grown-on : (a b c : List RowState) → HaveGrown a b → HaveGrown b c → HaveGrown a c
-grown-on a b c one two = record {
-  first = two.first ∙ one.first;
-  same = λ h leaves are. two.same h leaves (one.same h leaves are);
-  kept = λ room holds. two.kept room (one.kept room holds);
-}
-
-pub holds-more : (row : RowState) (above : List RowState) (room : ℕ)
-    → room ≤ length row.hashes + row.spare → HoldUpTo (room / 2) above
-    → HoldUpTo room (row ∷ above)
-unfolding HoldUpTo
-holds-more row above room fits up = (fits, up)
-
-pub holds-none : (rows : List RowState) (room : ℕ) → length rows ≡ 0 → room < 2 ^ length rows
-    → HoldUpTo room rows
-unfolding HoldUpTo
-holds-none [] room none small = omega arith
-holds-none (row ∷ rows) room none small = let no : ⊥ = omega arith in absurd no
-
-pub half-below : (room : ℕ) (rows : List RowState) (row : RowState) (above : List RowState)
-    → rows ≡ row ∷ above → room < 2 ^ length rows → room / 2 < 2 ^ length above
-half-below room rows row above is small =
-    let size : length rows ≡ suc (length above) = ap length is in
-    let double : 2 ^ length rows ≡ 2 * 2 ^ length above =
-    ap (λ n. 2 ^ n) size ∙ pow-succ' 2 (length above) in
-    omega arith
 
 -- a vector whose slice was written has what was written
 pub written-whole : (len : ℕ) (new items : List RowState) → len ≡ length items
@@ -174,88 +240,36 @@ written-whole len new items is same =
     ap (λ n. take n (new ++ drop (length new) items)) (is ∙ sym same)
     ∙ take-append_seam new (drop (length new) items)
 
--- Rows of no leaves.
-
-rows-none : (rows : List RowState) → HaveNone rows → (h : List ℕ → List ℕ) → AreRowsOf h [] rows
-unfolding AreRowsOf paired
-rows-none [] none h = refl
-rows-none (row ∷ rows) none h = (
-  none 0 row (omega arith),
-  rows-none rows (λ k d inside. none (suc k) d (omega arith)) h,
-)
-
-holds-zero : (rows : List RowState) → HoldUpTo 0 rows
-unfolding HoldUpTo
-holds-zero [] = refl
-holds-zero (row ∷ rows) = (omega arith, holds-zero rows)
-
-first-none : (rows : List RowState) → HaveNone rows → first_row rows ≡ []
-first-none [] none = refl
-first-none (row ∷ rows) none = none 0 row (omega arith)
-
-pub grown-none : (old rows : List RowState) → length old ≡ 0 → HaveNone rows → HaveGrown old rows
-unfolding AreRowsOf HoldUpTo
-grown-none (row ∷ old) rows is none = let no : ⊥ = omega arith in absurd no
-grown-none [] rows is none = record {
-  first = first-none rows none;
-  same = λ h leaves are. subst (λ l. AreRowsOf h l rows) (sym are) (rows-none rows none h);
-  kept = λ room holds. subst (λ n. HoldUpTo n rows) (sym holds) (holds-zero rows);
-}
-
-pub sound-none : (h : List ℕ → List ℕ) → AreSound h 0 []
-unfolding AreRowsOf HoldUpTo
-sound-none h = record {
-  levels = inl refl;
-  rows_of = refl;
-  holds = refl;
-  within = omega arith;
-}
-
 -- Sound rows.
 
--- with more room, or with as much
-pub sound-grown : (h : List ℕ → List ℕ) (old new : List RowState) (before room : ℕ)
-    → AreSound h before old → HaveGrown old new → HaveLevels new → HoldUpTo room new
-    → length (first_row old) ≤ room → AreSound h room new
-sound-grown h old new before room sound grown levels holds within = record {
-  levels = levels;
-  rows_of = subst (λ l. AreRowsOf h l new) (sym grown.first)
-      (grown.same h (first_row old) sound.rows_of);
-  holds = holds;
-  within = let size : length (first_row new) ≡ length (first_row old) = ap length grown.first in
-      omega arith;
-}
+pub count-long : (count : ℕ) (rows : List RowState) → AreLong count rows → count_of rows ≡ count
+unfolding AreLong
+count-long count [] long = sym long
+count-long count (row ∷ rows) long = long.0.all
 
-first-of : (h : List ℕ → List ℕ) (leaves : List (List ℕ)) (rows : List RowState)
-    → AreRowsOf h leaves rows → first_row rows ≡ leaves
-unfolding AreRowsOf
-first-of h leaves [] are = sym are
-first-of h leaves (row ∷ rows) are = are.0
+-- the rows of some leaves stand for so many
+pub count-rows : (h : List ℕ → List ℕ) (leaves : List (List ℕ)) (rows : List RowState)
+    → AreRowsOf h leaves rows → count_of rows ≡ length leaves
+count-rows h leaves rows are = count-long (length leaves) rows (long-of h leaves rows are)
 
-pub first-pushed : (h : List ℕ → List ℕ) (leaf : List ℕ) (old new : List RowState)
-    → AreRowsOf h (first_row old ++ leaf ∷ []) new → first_row new ≡ first_row old ++ leaf ∷ []
-first-pushed h leaf old new are = first-of h (first_row old ++ leaf ∷ []) new are
-
-pub sound-pushed : (h : List ℕ → List ℕ) (leaf : List ℕ) (old new : List RowState) (room : ℕ)
-    → AreSound h room old → length (first_row old) < room → length new ≡ length old
-    → AreRowsOf h (first_row old ++ leaf ∷ []) new → HoldUpTo room new → AreSound h room new
-sound-pushed h leaf old new room sound below count are holds =
-    let first : first_row new ≡ first_row old ++ leaf ∷ [] = first-pushed h leaf old new are in
-    let size : length (first_row new) ≡ length (first_row old) + 1 =
-    ap length first ∙ length_push (first_row old) leaf in
+pub sound-pushed : (old new : List RowState) (room : ℕ) → AreSound room old
+    → count_of old < room → length new ≡ length old → AreLong (count_of old + 1) new
+    → HoldUpTo room new → AreSound room new
+sound-pushed old new room sound below count long holds =
+    let all : count_of new ≡ count_of old + 1 = count-long (count_of old + 1) new long in
     record {
       levels = subst (λ n. (n ≡ 0) ⊎ (n ≡ 64)) (sym count) sound.levels;
-      rows_of = subst (λ l. AreRowsOf h l new) (sym first) are;
+      long = subst (λ n. AreLong n new) (sym all) long;
       holds = holds;
       within = omega arith;
     }
 
-pub has-room : (h : List ℕ → List ℕ) (rows : List RowState) (room : ℕ) → AreSound h room rows
-    → length (first_row rows) < room → HaveRoom h rows
-has-room h rows room sound below = record {
-  leaves = first_row rows;
+pub has-room : (rows : List RowState) (room : ℕ) → AreSound room rows
+    → count_of rows < room → HaveRoom rows
+has-room rows room sound below = record {
+  count = count_of rows;
   room = room;
-  rows_of = sound.rows_of;
+  long = sound.long;
   holds = sound.holds;
   below = below;
 }
@@ -263,22 +277,57 @@ has-room h rows room sound below = record {
 -- a leaf pushed into rows with room, through the slice of their vector
 pub record IsPushed (h : List ℕ → List ℕ) (leaf : List ℕ) (room : ℕ) (old new : List RowState)
     : Type 0 where
-  pub sound : AreSound h room new
-  pub first : first_row new ≡ first_row old ++ leaf ∷ []
+  pub sound : AreSound room new
+  pub rows_of : (leaves : List (List ℕ)) → AreRowsOf h leaves old
+      → AreRowsOf h (leaves ++ leaf ∷ []) new
+  pub count : count_of new ≡ count_of old + 1
+  pub gone : (level : ℕ) → gone_at new level ≡ gone_at old level
 
 pub pushed_whole : (h : List ℕ → List ℕ) (leaf : List ℕ) (old slice new : List RowState)
-    (len room : ℕ) → AreSound h room old → length (first_row old) < room → slice ≡ old
+    (len room : ℕ) → AreSound room old → count_of old < room → slice ≡ old
     → len ≡ length old → length new ≡ length slice
     → ((leaves : List (List ℕ)) → AreRowsOf h leaves slice
     → AreRowsOf h (leaves ++ leaf ∷ []) new)
+    → ((count : ℕ) → AreLong count slice → AreLong (count + 1) new)
+    → ((level : ℕ) → gone_at new level ≡ gone_at slice level)
     → ((before : ℕ) → HoldUpTo before slice → HoldUpTo before new)
     → IsPushed h leaf room old (take len (new ++ drop (length new) old))
-pushed_whole h leaf old slice new len room sound below is size count pushed holds =
+pushed_whole h leaf old slice new len room sound below is size count pushed long gone holds =
     let same : length new ≡ length old = count ∙ ap length is in
-    let rows : AreRowsOf h (first_row old ++ leaf ∷ []) new =
-    pushed (first_row old) (subst (AreRowsOf h (first_row old)) (sym is) sound.rows_of) in
+    let longer : AreLong (count_of old + 1) new =
+    long (count_of old) (subst (AreLong (count_of old)) (sym is) sound.long) in
     subst (IsPushed h leaf room old) (sym (written-whole len new old size same)) (record {
-      sound = sound-pushed h leaf old new room sound below same rows
+      sound = sound-pushed old new room sound below same longer
           (holds room (subst (HoldUpTo room) (sym is) sound.holds));
-      first = first-pushed h leaf old new rows;
+      rows_of = λ leaves are. pushed leaves (subst (AreRowsOf h leaves) (sym is) are);
+      count = count-long (count_of old + 1) new longer;
+      gone = λ level. gone level ∙ ap (λ r. gone_at r level) is;
     })
+
+-- All rows of some leaves.
+
+first-all : (h : List ℕ → List ℕ) (leaves : List (List ℕ)) (rows : List RowState)
+    → AreRowsOf h leaves rows → gone_at rows 0 ≡ 0 → first_row rows ≡ leaves
+unfolding AreRowsOf gone_at
+first-all h leaves [] are whole = sym are
+first-all h leaves (row ∷ rows) are whole = are.0.kept ∙ ap (λ g. drop g leaves) whole
+
+pub first-pushed : (h : List ℕ → List ℕ) (leaf : List ℕ) (old new : List RowState)
+    → AreAllOf h (first_row old) old
+    → ((leaves : List (List ℕ)) → AreRowsOf h leaves old → AreRowsOf h (leaves ++ leaf ∷ []) new)
+    → ((level : ℕ) → gone_at new level ≡ gone_at old level)
+    → first_row new ≡ first_row old ++ leaf ∷ []
+first-pushed h leaf old new all pushed gone =
+    first-all h (first_row old ++ leaf ∷ []) new (pushed (first_row old) all.rows_of)
+    (gone 0 ∙ all.whole 0)
+
+pub all-pushed : (h : List ℕ → List ℕ) (leaf : List ℕ) (old new : List RowState)
+    → AreAllOf h (first_row old) old
+    → ((leaves : List (List ℕ)) → AreRowsOf h leaves old → AreRowsOf h (leaves ++ leaf ∷ []) new)
+    → ((level : ℕ) → gone_at new level ≡ gone_at old level)
+    → AreAllOf h (first_row new) new
+all-pushed h leaf old new all pushed gone = record {
+  rows_of = subst (λ l. AreRowsOf h l new) (sym (first-pushed h leaf old new all pushed gone))
+      (pushed (first_row old) all.rows_of);
+  whole = λ level. gone level ∙ all.whole level;
+}

@@ -3,12 +3,11 @@
 ghost use Rattle.std.specs.Prelude.{◌≡◌, ◌+◌, ◌-◌, ◌*◌, ◌^◌, ◌<◌, ◌≤◌, [], ◌∷◌, ◌++◌, length, Some, refl, OnOk, OnErr};
 ghost use Rattle.std.proofs.Common.{◌∙◌};
 ghost use Rattle.tree_cache.specs.Cached.{AreFulls, CachedLeaves};
-ghost use Rattle.tree_cache.specs.Rows.{AreSound, first_row};
+ghost use Rattle.tree_cache.specs.Rows.{AreAllOf, first_row, spare_of};
 ghost use Rattle.tree_core.specs.Path.{part_of};
 ghost use Rattle.tree_core.specs.Tree.{root_of};
 
-use crate::row::Row;
-use crate::rows::{leaf_count, make_room, push_up};
+use crate::kept::Rows;
 use mtc_io::{Failed, Memory};
 use std::alloc::Global;
 use std::marker::{Model, PhantomData};
@@ -21,21 +20,16 @@ use tree_proofs::{Nodes, node_of};
 /// Contracts see the leaf hashes and a number of spare leaves: so many more need no memory.
 #[derive(Drop)]
 pub struct Cache<H: TreeHash> {
-    rows: Vec<Row>,
-    room: u64,
-    alloc: Global,
+    rows: Rows,
     function: PhantomData<H>,
 }
 
 impl<H: TreeHash> Model for Cache<H> {
     ghost Value = { CachedLeaves };
 
-    ghost view = { λ c. record {
-      leaves = first_row c.rows.items;
-      spare = c.room - length (first_row c.rows.items);
-    } };
+    ghost view = { λ c. record { leaves = first_row c.rows.rows; spare = spare_of c.rows } };
 
-    ghost invariant = { λ c. AreSound H.TreeHash.hash c.room c.rows.items };
+    ghost invariant = { λ c. AreAllOf H.TreeHash.hash (first_row c.rows.rows) c.rows.rows };
 }
 
 impl<H: TreeHash> Cache<H> {
@@ -44,11 +38,16 @@ impl<H: TreeHash> Cache<H> {
         ensures { result.leaves ≡ [] }
     {
         Cache {
-            rows: Vec::new(alloc),
-            room: 0,
-            alloc,
+            rows: Rows::new(alloc),
             function: PhantomData,
         }
+    }
+
+    /// How many leaves there are.
+    pub fn len(&self) -> u64
+        ensures { result ≡ length self.now.leaves }
+    {
+        self.rows.count()
     }
 
     /// Makes room for at least `count` more leaves. It is refused only where fewer are spare. The
@@ -59,15 +58,7 @@ impl<H: TreeHash> Cache<H> {
         ensures kept { self.old.spare ≤ self.new.spare }
         ensures full { OnErr result (self.old.spare < count) }
     {
-        let size = leaf_count(self.rows.as_slice());
-        if count as u64 <= self.room - size {
-            return Ok(());
-        }
-        // Growth by the size itself keeps the cost of many single leaves linear.
-        let room = size.checked_add(size.max(count as u64)).ok_or(Memory)?;
-        make_room(self.alloc, &mut self.rows, room)?;
-        self.room = room;
-        Ok(())
+        self.rows.reserve(count)
     }
 
     /// Puts a leaf hash behind the others. It is refused only where no spare leaf is left, and
@@ -79,7 +70,7 @@ impl<H: TreeHash> Cache<H> {
         ensures full { OnErr result (self.old.spare ≡ 0) }
     {
         self.reserve(1)?;
-        push_up::<H>(self.rows.as_mut_slice(), leaf);
+        self.rows.push::<H>(leaf);
         Ok(())
     }
 
@@ -88,10 +79,7 @@ impl<H: TreeHash> Cache<H> {
     pub fn row(&self, level: u32) -> &[[u8; 32]]
         ensures { AreFulls H.hash level self.now.leaves result.now }
     {
-        match self.rows.get(level as usize) {
-            Some(row) => row.as_slice(),
-            None => &[],
-        }
+        self.rows.row(level)
     }
 
     /// The hash of the `2^level` leaves from `place * 2^level` on. It hashes nothing.
@@ -137,7 +125,7 @@ impl<H: TreeHash> Nodes for Cache<H> {
     ghost stays_on = { λ _ _ _ first second. second ∙ first };
 
     fn size(&self) -> u64 {
-        leaf_count(self.rows.as_slice())
+        self.len()
     }
 
     fn node(&mut self, level: u32, place: u64) -> Result<[u8; 32], Failed> {
@@ -164,7 +152,7 @@ impl<H: TreeHash> Nodes for &Cache<H> {
     ghost stays_on = { λ _ _ _ first second. second ∙ first };
 
     fn size(&self) -> u64 {
-        leaf_count(self.rows.as_slice())
+        self.len()
     }
 
     fn node(&mut self, level: u32, place: u64) -> Result<[u8; 32], Failed> {

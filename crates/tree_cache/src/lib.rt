@@ -19,7 +19,9 @@
 #![tactic(auto)]
 
 mod cache;
+mod kept;
 mod row;
 mod rows;
 
 pub use cache::Cache;
+pub use kept::Rows;

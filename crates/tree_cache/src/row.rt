@@ -1,7 +1,8 @@
 //! The hashes of one level.
 
-ghost use Rattle.std.specs.Prelude.{◌≡◌, ◌+◌, ◌-◌, ◌%◌, ◌<◌, ◌≤◌, [], ◌∷◌, ◌++◌, length, slice_index_or, vec_len, vec_capacity, MatchOption, OnOk};
+ghost use Rattle.std.specs.Prelude.{◌≡◌, ◌+◌, ◌-◌, ◌%◌, ◌<◌, ◌≤◌, [], ◌∷◌, ◌++◌, length, take, drop, slice_index_or, vec_len, vec_capacity, MatchOption, OnOk};
 ghost use Rattle.tree_cache.specs.Rows.{RowState};
+ghost use Rattle.tree_cache.specs.Tiled.{CanForget, HasForgotten};
 ghost use Rattle.tree_core.specs.Tree.{pair_hash};
 
 use mtc_io::Memory;
@@ -9,37 +10,64 @@ use std::alloc::Global;
 use std::marker::Model;
 use tree_core::{TreeHash, pair};
 
-// The hashes of the full subtrees of one level, in their order.
+// The hashes of the full subtrees of one level, in their order, but for so many that are gone from
+// their front.
 #[derive(Drop)]
 pub(crate) struct Row {
+    gone: u64,
     hashes: Vec<[u8; 32]>,
 }
 
 impl Model for Row {
     ghost Value = { RowState };
 
-    ghost view = { λ r.
-        record { hashes = r.hashes.items; spare = vec_capacity r.hashes - vec_len r.hashes } };
+    ghost view = { λ r. record {
+      gone = r.gone;
+      kept = r.hashes.items;
+      spare = vec_capacity r.hashes - vec_len r.hashes;
+    } };
 }
 
 impl Row {
     pub(crate) fn new(alloc: Global) -> Row
-        ensures { result.hashes ≡ [] }
+        ensures kept { result.kept ≡ [] }
+        ensures gone { result.gone ≡ 0 }
     {
         Row {
+            gone: 0,
             hashes: Vec::new(alloc),
         }
     }
 
+    // How many hashes are gone.
+    pub(crate) fn gone(&self) -> u64
+        ensures { result ≡ self.now.gone }
+    {
+        self.gone
+    }
+
+    // The hashes behind them.
     pub(crate) fn as_slice(&self) -> &[[u8; 32]]
-        ensures { result.now ≡ self.now.hashes }
+        ensures { result.now ≡ self.now.kept }
     {
         self.hashes.as_slice()
     }
 
+    // So many of the hashes, from a place on that counts those that are gone.
+    pub(crate) fn part(&self, from: u64, count: usize) -> &[[u8; 32]]
+        requires gone { self.now.gone ≤ from }
+        requires within { from + count ≤ self.now.gone + length self.now.kept }
+        ensures { result.now ≡ take count (drop (from - self.now.gone) self.now.kept) }
+    {
+        let hashes = self.hashes.as_slice();
+        let first = (from - self.gone) as usize;
+        &hashes[first..first + count]
+    }
+
     // Makes room for at least `count` more hashes.
     pub(crate) fn reserve(&mut self, count: usize) -> Result<(), Memory>
-        ensures hashes { self.new.hashes ≡ self.old.hashes }
+        ensures gone { self.new.gone ≡ self.old.gone }
+        ensures hashes { self.new.kept ≡ self.old.kept }
         ensures spare { OnOk result (count ≤ self.new.spare) }
         ensures kept { self.old.spare ≤ self.new.spare }
     {
@@ -50,7 +78,8 @@ impl Row {
     // Puts a hash behind the others, in room that is there.
     pub(crate) fn push(&mut self, hash: &[u8; 32])
         requires { 0 < self.old.spare }
-        ensures hashes { self.new.hashes ≡ self.old.hashes ++ hash.now ∷ [] }
+        ensures gone { self.new.gone ≡ self.old.gone }
+        ensures hashes { self.new.kept ≡ self.old.kept ++ hash.now ∷ [] }
         ensures spare { self.old.spare ≤ self.new.spare + 1 }
     {
         if self.hashes.push(*hash).is_err() {
@@ -58,14 +87,24 @@ impl Row {
         }
     }
 
+    // Lets hashes go from the front until so many are gone.
+    pub(crate) fn let_go(&mut self, gone: u64)
+        requires { CanForget gone self.old }
+        ensures { HasForgotten gone self.old self.new }
+    {
+        let count = (gone - self.gone) as usize;
+        drop_front(&mut self.hashes, count);
+        self.gone = gone;
+    }
+
     // The hash over the last two, where each hash has a sibling.
     pub(crate) fn last_pair<H: TreeHash>(&self) -> Option<[u8; 32]>
-        requires { 0 < length self.now.hashes }
-        ensures { MatchOption result (length self.now.hashes % 2 ≡ 1) (λ parent.
-            (length self.now.hashes % 2 ≡ 0)
+        requires { 0 < length self.now.kept }
+        ensures { MatchOption result (length self.now.kept % 2 ≡ 1) (λ parent.
+            (length self.now.kept % 2 ≡ 0)
             × (parent ≡ pair_hash H.hash
-            (slice_index_or self.now.hashes (length self.now.hashes - 2) [])
-            (slice_index_or self.now.hashes (length self.now.hashes - 1) []))) }
+            (slice_index_or self.now.kept (length self.now.kept - 2) [])
+            (slice_index_or self.now.kept (length self.now.kept - 1) []))) }
     {
         let hashes = self.hashes.as_slice();
         if hashes.len() % 2 == 1 {
@@ -74,4 +113,13 @@ impl Row {
         let (left, right) = (&hashes[hashes.len() - 2], &hashes[hashes.len() - 1]);
         Some(pair::<H>(left, right))
     }
+}
+
+// Drops so many hashes from the front.
+fn drop_front(hashes: &mut Vec<[u8; 32]>, count: usize)
+    requires { count ≤ length hashes.old.items }
+    ensures items { hashes.new.items ≡ drop count hashes.old.items }
+    ensures capacity { vec_capacity hashes.new ≡ vec_capacity hashes.old }
+{
+    drop(hashes.drain(..count));
 }

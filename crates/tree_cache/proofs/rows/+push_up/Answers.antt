@@ -1,26 +1,26 @@
-use Rattle.std.proofs.Common.{length, ap, arith, rules}
+use Rattle.std.proofs.Common.{length, ap, refl, arith, rules}
 use Rattle.std.proofs.lemmas.List.{length_push}
 use Rattle.tree_cache.specs.Rows.{HaveRoom}
-use Rattle.tree_cache.proofs.Pushes.{holds-on, room-above, room-some, room-spare, rows-alone}
-use Rattle.tree_cache.proofs.Pushes.{rows-joined}
+use Rattle.tree_cache.proofs.Pushes.{gone-on, holds-on, long-alone, long-joined, room-above}
+use Rattle.tree_cache.proofs.Pushes.{room-some, room-spare, rows-alone, rows-joined}
 use Rattle.tree_cache.proofs.rows.+push_up.Goals as goal
 
 pub unreachable-requires : goal.unreachable-requires
 unreachable-requires g t c =
-    room-some g.H.TreeHash.hash c.args.rows.now c.requires.room c.in-None.ensures.cases
+    room-some c.args.rows.now c.requires.room c.in-None.ensures.cases
 
 pub push-requires : goal.push-requires
 push-requires g t c =
-    room-spare g.H.TreeHash.hash c.args.rows.now c.in-Some.row.now c.in-Some.above.now
+    room-spare c.args.rows.now c.in-Some.row.now c.in-Some.above.now
     c.in-Some.ensures.cases.0 c.requires.room
 
 pub push_up-requires : goal.push_up-requires
 push_up-requires g t c =
     let size = ap length c.push.ensures.hashes in
-    let one = length_push c.in-Some.row.now.hashes c.args.hash.now in
-    let room : HaveRoom g.H.TreeHash.hash c.in-Some.above.now =
-    room-above g.H.TreeHash.hash c.args.rows.now c.in-Some.row.now c.in-Some.above.now
-    (length c.push.new.self.hashes) c.in-Some.ensures.cases.0 c.requires.room (omega arith)
+    let one = length_push c.in-Some.row.now.kept c.args.hash.now in
+    let room : HaveRoom c.in-Some.above.now =
+    room-above c.args.rows.now c.in-Some.row.now c.in-Some.above.now
+    (length c.push.new.self.kept) c.in-Some.ensures.cases.0 c.requires.room (omega arith)
     c.in-Some-last_pair.ensures.0 in
     search rules
 
@@ -28,23 +28,45 @@ pub returns-in-Some-last_pair-clause-pushed : goal.returns-in-Some-last_pair-cla
 returns-in-Some-last_pair-clause-pushed g t c =
     rows-joined g.H.TreeHash.hash c.args.rows.now c.in-Some.row.now c.push.new.self
     c.in-Some.above.now c.push_up.new.rows c.args.hash.now c.in-Some-last_pair.parent
-    c.in-Some.ensures.cases.0 c.push.ensures.hashes
+    c.in-Some.ensures.cases.0 c.push.ensures.gone c.push.ensures.hashes
     c.in-Some-last_pair.ensures.0 c.in-Some-last_pair.ensures.1 c.push_up.ensures.pushed
+
+pub returns-in-Some-last_pair-clause-long : goal.returns-in-Some-last_pair-clause-long
+returns-in-Some-last_pair-clause-long g t c =
+    long-joined c.args.rows.now c.in-Some.row.now c.push.new.self c.in-Some.above.now
+    c.push_up.new.rows c.args.hash.now c.in-Some.ensures.cases.0 c.push.ensures.gone
+    c.push.ensures.hashes c.in-Some-last_pair.ensures.0 c.push_up.ensures.long
+
+pub returns-in-Some-last_pair-clause-gone : goal.returns-in-Some-last_pair-clause-gone
+returns-in-Some-last_pair-clause-gone g t c =
+    gone-on c.args.rows.now c.in-Some.row.now c.push.new.self c.in-Some.above.now
+    c.push_up.new.rows c.in-Some.ensures.cases.0 c.push.ensures.gone c.push_up.ensures.gone
 
 pub returns-in-Some-last_pair-clause-holds : goal.returns-in-Some-last_pair-clause-holds
 returns-in-Some-last_pair-clause-holds g t c =
     holds-on c.args.rows.now c.in-Some.row.now c.push.new.self c.in-Some.above.now
-    c.push_up.new.rows c.args.hash.now c.in-Some.ensures.cases.0 c.push.ensures.hashes
-    c.push.ensures.spare c.push_up.ensures.holds
+    c.push_up.new.rows c.args.hash.now c.in-Some.ensures.cases.0 c.push.ensures.gone
+    c.push.ensures.hashes c.push.ensures.spare c.push_up.ensures.holds
 
 pub returns-in_default-clause-pushed : goal.returns-in_default-clause-pushed
 returns-in_default-clause-pushed g t c =
     rows-alone g.H.TreeHash.hash c.args.rows.now c.in-Some.row.now c.push.new.self
-    c.in-Some.above.now c.args.hash.now c.in-Some.ensures.cases.0 c.push.ensures.hashes
+    c.in-Some.above.now c.args.hash.now c.in-Some.ensures.cases.0 c.push.ensures.gone
+    c.push.ensures.hashes c.in_default.ensures
+
+pub returns-in_default-clause-long : goal.returns-in_default-clause-long
+returns-in_default-clause-long g t c =
+    long-alone c.args.rows.now c.in-Some.row.now c.push.new.self c.in-Some.above.now
+    c.args.hash.now c.in-Some.ensures.cases.0 c.push.ensures.gone c.push.ensures.hashes
     c.in_default.ensures
+
+pub returns-in_default-clause-gone : goal.returns-in_default-clause-gone
+returns-in_default-clause-gone g t c =
+    gone-on c.args.rows.now c.in-Some.row.now c.push.new.self c.in-Some.above.now
+    c.in-Some.above.now c.in-Some.ensures.cases.0 c.push.ensures.gone (λ level. refl)
 
 pub returns-in_default-clause-holds : goal.returns-in_default-clause-holds
 returns-in_default-clause-holds g t c =
     holds-on c.args.rows.now c.in-Some.row.now c.push.new.self c.in-Some.above.now
-    c.in-Some.above.now c.args.hash.now c.in-Some.ensures.cases.0 c.push.ensures.hashes
-    c.push.ensures.spare (λ room holds. holds)
+    c.in-Some.above.now c.args.hash.now c.in-Some.ensures.cases.0 c.push.ensures.gone
+    c.push.ensures.hashes c.push.ensures.spare (λ room holds. holds)

@@ -1,6 +1,6 @@
 use Rattle.std.proofs.Common.{sym, arith}
 use Rattle.std.proofs.lemmas.Bool.{eqb-true}
-use Rattle.tree_cache.proofs.Pushes.{grown-none}
+use Rattle.tree_cache.proofs.Grows.{grown-none}
 use Rattle.tree_cache.proofs.rows.add_levels.Goals as goal
 
 pub returns-in_ok-rows-clause-grown : goal.returns-in_ok-rows-clause-grown
