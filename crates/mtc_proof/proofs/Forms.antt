@@ -1,11 +1,11 @@
 -- Signatures and proofs: what is read is spelled so, and what is spelled so is read again.
-use Rattle.std.proofs.Common.{◌≡◌, ℕ, ◌+◌, ◌-◌, ◌^◌, ◌<◌, ◌≤◌, true, List, [], ◌++◌, length, take}
-use Rattle.std.proofs.Common.{drop, Result, Ok, Err, IfOk, refl, sym, ap, subst, ◌∙◌, append_assoc}
-use Rattle.std.proofs.Common.{append-nil, arith, eqb-true}
+use Rattle.std.proofs.Common.{◌≡◌, ℕ, ◌+◌, ◌-◌, ◌^◌, ◌<◌, true, List, [], ◌++◌, length, Result, Ok}
+use Rattle.std.proofs.Common.{Err, IfOk, refl, sym, ap, subst, ◌∙◌, append_assoc, append-nil, arith}
+use Rattle.std.proofs.Common.{eqb-true}
 use Rattle.std.specs.Prelude.{if◌then◌else◌, ◌==◌, OnOk, IsOk}
 use Rattle.std.specs.List.{flat_map, AllByRecursion}
 use Rattle.std.specs.Int.{w8, w16, w64}
-use Rattle.std.proofs.lemmas.List.{length-append, nil_from_length, take_at, drop_at}
+use Rattle.std.proofs.lemmas.List.{length-append, nil_from_length}
 use Rattle.byte_forms.specs.Types.{Hash, Text}
 use Rattle.byte_forms.specs.Places.{At, IsBytes, at, has_bytes}
 use Rattle.byte_forms.specs.Readings.{◌>>=◌, discarded, both_at, mapped_at, tested_at, Gives}
@@ -172,41 +172,6 @@ front p = number w64 p.start ++ (number w64 p.end
 
 regrouped : (p : ProofParts) → proof_text p ≡ front p ++ p.signatures
 regrouped p = simp append_assoc
-
--- The signatures end at this offset of the proof.
-pub record EndsAt (bytes signatures : Text) (behind : ℕ) : Type 0 where
-  pub within : behind ≤ length bytes
-  pub fits : length signatures ≤ behind
-  pub ends : drop (behind - length signatures) (take behind bytes) ≡ signatures
-
-parts_end : (bytes : Text) (p : ProofParts) (b : At) → IsBytes bytes
-    → proof_parts_at (at bytes 0) ≡ Ok (p, b) → EndsAt bytes p.signatures b.place
-parts_end bytes p b h e =
-    let known = parts_form.takes (at bytes 0) p b h e in
-    let whole : bytes ≡ (front p ++ p.signatures) ++ b.rest = known.0.parts
-    ∙ ap (λ (t : Text). t ++ b.rest) (regrouped p) in
-    let far : b.place ≡ length (front p ++ p.signatures) =
-    omega (arith, known.0.place, ap length (regrouped p)) in
-    let size = length-append (front p) p.signatures in
-    let all = length-append (front p ++ p.signatures) b.rest in
-    let start : b.place - length p.signatures ≡ length (front p) = omega arith in
-    let cut : take b.place bytes ≡ front p ++ p.signatures =
-    ap (take b.place) whole ∙ take_at (front p ++ p.signatures) b.rest b.place (sym far) in
-    let rest : drop (b.place - length p.signatures) (take b.place bytes) ≡ p.signatures =
-    ap (drop (b.place - length p.signatures)) cut
-    ∙ drop_at (front p) p.signatures (b.place - length p.signatures) (sym start) in
-    record {
-      within = omega (arith, far, all, ap length whole);
-      fits = omega (arith, far, size);
-      ends = rest;
-    }
-
-pub list_end : (bytes : Text) (p : ProofParts) (behind : ℕ) → IsBytes bytes → (a b : At)
-    → a ≡ at bytes 0 → proof_parts_at a ≡ Ok (p, b) → behind ≡ b.place
-    → EndsAt bytes p.signatures behind
-list_end bytes p behind h a b start e far =
-    let P : ℕ → Type 0 = λ n. EndsAt bytes p.signatures n in
-    subst P (sym far) (parts_end bytes p b h (ap proof_parts_at (sym start) ∙ e))
 
 proof_to : (p : ProofParts) → AreFour (from_proof p) → AreSignatures p.signatures → IsProof p
 proof_to p f list = record {

@@ -1,6 +1,6 @@
 //! Lists of signatures.
 
-ghost use Rattle.std.specs.Prelude.{◌≡◌, ◌<◌, ◌≤◌, length, Ok, Err, OnOk, IfErr, IsOk};
+ghost use Rattle.std.specs.Prelude.{◌≡◌, ◌<◌, length, Ok, Err, OnOk, IfErr, IsOk};
 ghost use Rattle.byte_forms.specs.Places.{at};
 ghost use Rattle.byte_forms.specs.Readings.{Moves, Gives, discarded};
 ghost use Rattle.byte_forms.specs.Lists.{up_to_end};
@@ -43,12 +43,10 @@ fn all_signatures(cursor: &mut Cursor) -> Result<(), ProofError>
     Ok(())
 }
 
-// The bytes from this offset on are signatures. Offsets of faults count in the whole input.
-pub(crate) fn check_from(input: &[u8], place: usize) -> Result<(), ProofError>
-    requires { place ≤ length input.now }
-    ensures { Gives (λ x. x) result (checked_signatures (at input.now place)) }
+// What is left is signatures. Offsets of faults count in the whole input.
+pub(crate) fn check_rest(mut cursor: Cursor) -> Result<(), ProofError>
+    ensures { Gives (λ x. x) result (checked_signatures cursor.entry) }
 {
-    let mut cursor = Cursor::at(input, place);
     all_signatures(&mut cursor)
 }
 
@@ -60,7 +58,7 @@ pub fn check_signatures(bytes: &[u8]) -> Result<(), ProofError>
     ensures only { AreSignatures bytes.now → IsOk result }
     ensures exact { Gives (λ x. x) result (checked_signatures (at bytes.now 0)) }
 {
-    check_from(bytes, 0)
+    check_rest(Cursor::new(bytes))
 }
 
 /// The signatures of a proof in their order. Of a proof that wasn't read they are those up to the

@@ -1,43 +1,44 @@
 //! Reading a proof.
 
-ghost use Rattle.std.specs.Prelude.{◌≡◌, ◌-◌, ◌≤◌, length, take, drop, Ok, IfOk};
-ghost use Rattle.byte_forms.specs.Readings.{Moves, Gives};
+ghost use Rattle.std.specs.Prelude.{◌≡◌, ◌+◌, length, Ok, IfOk};
+ghost use Rattle.std.specs.Int.{w16};
+ghost use Rattle.byte_forms.specs.Readings.{Moves, Gives, Reads};
+ghost use Rattle.tls_wire.specs.Reading.{vector_at};
 ghost use Rattle.mtc_proof.specs.Proofs.{ProofParts, proof_text, IsProof};
-ghost use Rattle.mtc_proof.specs.Reading.{checked_signatures, proof_parts_at, proof_in};
+ghost use Rattle.mtc_proof.specs.Reading.{inside_list, proof_parts_at, proof_in};
 ghost use Rattle.mtc_proof.specs.Views.{proof_parts};
 
 use crate::fault::ProofError;
-use crate::list::check_from;
+use crate::list::check_rest;
 use crate::proof::Proof;
-use tls_wire::Cursor;
+use tls_wire::{Cursor, Short};
 
-// The parts of a proof, whose signatures aren't looked into.
+// A vector of signatures, as a cursor over them.
+fn list<'a>(cursor: &mut Cursor<'a>) -> Result<Cursor<'a>, Short>
+    ensures bytes { Reads (λ list. list.rest) (vector_at w16) cursor.old result cursor.new }
+    ensures place { IfOk result (λ list. cursor.new.place ≡ list.place + length list.rest) }
+{
+    cursor.inner16()
+}
+
+// The parts of a proof, and a cursor over its signatures, which aren't looked into.
 #[tactic(auto, unfolding(crate::specs::Reading::proof_parts_at))]
-fn parts<'a>(cursor: &mut Cursor<'a>) -> Result<Proof<'a>, ProofError>
-    ensures { Moves proof_parts proof_parts_at cursor.old result cursor.new }
+fn parts<'a>(cursor: &mut Cursor<'a>) -> Result<(Proof<'a>, Cursor<'a>), ProofError>
+    ensures parts { Moves (λ x. proof_parts x.0) proof_parts_at cursor.old result cursor.new }
+    ensures list { IfOk result (λ x. x.1 ≡ inside_list (proof_parts x.0, cursor.new)) }
 {
     let start = cursor.u64()?;
     let end = cursor.u64()?;
     let path = cursor.hashes()?;
-    let signatures = cursor.vec16()?;
-    Ok(Proof {
+    let list = list(cursor)?;
+    let signatures = list.rest();
+    let proof = Proof {
         start,
         end,
         path,
         signatures,
-    })
-}
-
-// The bytes of the proof that end at this offset are signatures.
-fn check_list(bytes: &[u8], behind: usize, signatures: &[u8]) -> Result<(), ProofError>
-    requires within { behind ≤ length bytes.now }
-    requires fits { length signatures.now ≤ behind }
-    requires ends { drop (behind - length signatures.now) (take behind bytes.now) ≡ signatures.now }
-    ensures { let place = behind - length signatures.now in
-        Gives (λ x. x) result
-        (checked_signatures (record { place = place; rest = signatures.now })) }
-{
-    check_from(&bytes[..behind], behind - signatures.len())
+    };
+    Ok((proof, list))
 }
 
 // All of the bytes.
@@ -46,8 +47,8 @@ fn whole(bytes: &[u8]) -> Result<Proof<'_>, ProofError>
     ensures { Gives proof_parts result (proof_in bytes.now) }
 {
     let mut cursor = Cursor::new(bytes);
-    let proof = parts(&mut cursor)?;
-    check_list(bytes, cursor.place(), proof.signatures)?;
+    let (proof, list) = parts(&mut cursor)?;
+    check_rest(list)?;
     if cursor.left() > 0 {
         return Err(ProofError::Trailing);
     }

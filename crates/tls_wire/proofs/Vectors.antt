@@ -1,17 +1,17 @@
 -- Vectors as forms.
-use Rattle.std.proofs.Common.{◌≡◌, ℕ, ◌+◌, ◌<◌, ◌≤◌, List, ◌++◌, length, take, Ok, refl, sym, ap}
-use Rattle.std.proofs.Common.{subst, ◌∙◌, append_assoc, arith, ltb-false}
+use Rattle.std.proofs.Common.{◌≡◌, ℕ, ◌+◌, ◌<◌, ◌≤◌, List, ◌++◌, length, take, Result, Ok, Err}
+use Rattle.std.proofs.Common.{IfOk, refl, sym, ap, subst, ◌∙◌, append_assoc, arith, ltb-false}
 use Rattle.std.specs.Prelude.{nat_lt}
 use Rattle.std.specs.Int.{Width, byte_len, from_be_bytes}
-use Rattle.std.proofs.lemmas.List.{length-append, length-drop}
+use Rattle.std.proofs.lemmas.List.{length-append, length-drop, length-take-le}
 use Rattle.byte_forms.specs.Types.{Text}
 use Rattle.byte_forms.specs.Places.{At, after}
-use Rattle.byte_forms.specs.Readings.{blamed}
+use Rattle.byte_forms.specs.Readings.{blamed, Reads}
 use Rattle.byte_forms.specs.Forms.{Stands, IsForm, Anything, itself}
 use Rattle.byte_forms.proofs.Steps.{bind_ok, blamed_ok, guard_ok, ok_is, Stands-then}
 use Rattle.byte_forms.proofs.Forms.{blamed_form}
 use Rattle.tls_wire.specs.declared.cursor.Short.{Short}
-use Rattle.tls_wire.specs.Reading.{short, bytes_at, number_at, vector_at}
+use Rattle.tls_wire.specs.Reading.{short, bytes_at, number_at, vector_at, inner_at}
 use Rattle.tls_wire.specs.Spelling.{number, vector}
 use Rattle.tls_wire.proofs.Numbers.{IsWide, bytes_form, number_form}
 
@@ -47,11 +47,15 @@ vector_form w limit wide = record {
       ∙ rw (one, two, far) refl;
 }
 
--- A vector takes at least the bytes of its length.
-pub vector_forward : (w : Width) (a : At) (bytes : Text) (b : At) → vector_at w a ≡ Ok (bytes, b)
-    → length b.rest + byte_len w ≤ length a.rest
+-- Where reading a vector ends: behind its length and its bytes. At least its length is gone.
+record Moved (w : Width) (a : At) (bytes : Text) (b : At) : Type 0 where
+  pub place : b.place ≡ a.place + byte_len w + length bytes
+  pub less : length b.rest + byte_len w ≤ length a.rest
+
+vector_moves : (w : Width) (a : At) (bytes : Text) (b : At) → vector_at w a ≡ Ok (bytes, b)
+    → Moved w a bytes b
 unfolding vector_at
-vector_forward w a bytes b e =
+vector_moves w a bytes b e =
     let s = bind_ok (number_at w a) (λ (count : ℕ
     × At). blamed (short a) (bytes_at count.0 count.1)) (bytes, b) e in
     let count : ℕ = s.0.0 in
@@ -63,16 +67,37 @@ vector_forward w a bytes b e =
       after count s.0.1,
     )) (bytes, b) t in
     let room : byte_len w ≤ length a.rest = ltb-false (length a.rest) (byte_len w) g.0 in
-    let One : ℕ × At → Type 0 = λ x. length x.1.rest + byte_len w ≤ length a.rest in
-    let one : length s.0.1.rest + byte_len w ≤ length a.rest =
+    let fits : count ≤ length s.0.1.rest = ltb-false (length s.0.1.rest) count u.0 in
+    let One : ℕ × At → Type 0 = λ x. (x.1.place ≡ a.place + byte_len w)
+    × (length x.1.rest + byte_len w ≤ length a.rest) in
+    let one : (s.0.1.place ≡ a.place + byte_len w)
+    × (length s.0.1.rest + byte_len w ≤ length a.rest) =
     subst One (ok_is Short (
       from_be_bytes w (take (byte_len w) a.rest),
       after (byte_len w) a,
-    ) s.0 g.1) (omega (arith, length-drop (byte_len w) a.rest)) in
-    let Two : Text × At → Type 0 = λ x. length x.1.rest ≤ length s.0.1.rest in
-    let two : length b.rest ≤ length s.0.1.rest =
-    subst Two (ok_is Short (take count s.0.1.rest, after count s.0.1) (bytes, b) u.1) (omega (
-      arith,
-      length-drop count s.0.1.rest,
-    )) in
-    omega arith
+    ) s.0 g.1) (refl, omega (arith, length-drop (byte_len w) a.rest)) in
+    let Two : Text × At → Type 0 = λ x. (x.1.place ≡ s.0.1.place + length x.0)
+    × (length x.1.rest ≤ length s.0.1.rest) in
+    let two : (b.place ≡ s.0.1.place + length bytes) × (length b.rest ≤ length s.0.1.rest) =
+    subst Two (ok_is Short (take count s.0.1.rest, after count s.0.1) (bytes, b) u.1) (
+      omega (arith, length-take-le count s.0.1.rest fits),
+      omega (arith, length-drop count s.0.1.rest),
+    ) in
+    record { place = omega (arith, one.0, two.0); less = omega (arith, one.1, two.1) }
+
+-- A vector takes at least the bytes of its length.
+pub vector_forward : (w : Width) (a : At) (bytes : Text) (b : At) → vector_at w a ≡ Ok (bytes, b)
+    → length b.rest + byte_len w ≤ length a.rest
+vector_forward w a bytes b e = (vector_moves w a bytes b e).less
+
+-- A vector's bytes, read as a place of their own, end where the vector does.
+pub inner_end : (w : Width) (a b : At) (r : Result At Short)
+    → Reads (λ (inner : At). inner) (inner_at w) a r b
+    → IfOk r (λ inner. b.place ≡ inner.place + length inner.rest)
+inner_end w a b (Ok inner) e =
+    let behind : Text × At → At × At =
+    λ v. (record { place = a.place + byte_len w; rest = v.0 }, v.1) in
+    let s = bind_ok (vector_at w a) (λ (v : Text × At). Ok (behind v)) (inner, b) e in
+    let P : At × At → Type 0 = λ x. x.1.place ≡ x.0.place + length x.0.rest in
+    subst P (ok_is Short (behind s.0) (inner, b) s.2) (vector_moves w a s.0.0 s.0.1 s.1).place
+inner_end w a b (Err why) e = tt
