@@ -40,7 +40,8 @@ fn forms_are_read_from_left_to_right(rt: HostRuntime) {
 
 // The cursor within the vector that begins at offset 10, and the cursor behind it.
 fn places_of_the_vector() -> Option<(usize, usize, usize)> {
-    let mut cursor = Cursor::at(&FORMS, 10);
+    let mut cursor = Cursor::new(&FORMS);
+    cursor.bytes(10).ok()?;
     match cursor.inner16() {
         Ok(inner) if inner.rest() == [7].as_slice() => {
             Some((inner.place(), inner.left(), cursor.place()))

@@ -1,6 +1,6 @@
 //! Reading from left to right.
 
-ghost use Rattle.std.specs.Prelude.{◌≡◌, ◌≤◌, length};
+ghost use Rattle.std.specs.Prelude.{◌≡◌, length};
 ghost use Rattle.std.specs.Int.{w8, w16, w32, w64};
 ghost use Rattle.byte_forms.specs.Places.{at};
 ghost use Rattle.byte_forms.specs.Readings.{Reads};
@@ -61,17 +61,6 @@ impl<'a> Cursor<'a> {
         Cursor {
             place: 0,
             rest: input,
-        }
-    }
-
-    /// This offset of the input, which may be its end.
-    pub fn at(input: &'a [u8], place: usize) -> Cursor<'a>
-        requires { place ≤ length input.now }
-        ensures { result ≡ at input.now place }
-    {
-        Cursor {
-            place,
-            rest: &input[place..],
         }
     }
 
