@@ -32,15 +32,15 @@ use Rattle.mtc_cosigner.specs.CosignerOutcomes.{cosigned_text, export_says, form
 use Rattle.mtc_cosigner.specs.CosignerOutcomes.{stepped}
 use Rattle.mtc_cosigner.specs.InitOutcome.{init_says, cosigner_settings_of}
 use Rattle.mtc_cosigner.specs.KeygenOutcome.{public_line, with_secret}
-use Rattle.mtc_cosigner.specs.Works.{advance_outcome, cosign_outcome, export_outcome}
-use Rattle.mtc_cosigner.specs.Works as cosigners
+use Rattle.mtc_cosigner.specs.Works.{advance_outcome, cosign_outcome, cosigner_bytes_say}
+use Rattle.mtc_cosigner.specs.Works.{cosigner_open_text, cosigner_outcome, export_outcome}
 use Rattle.mtc_logs.specs.CertCommand.{cert_outcome, signed_says}
 use Rattle.mtc_logs.specs.CertOutcome.{signatures_fault_text, signatures_in}
 use Rattle.mtc_logs.specs.IssueCommand.{issue_outcome, request_says}
 use Rattle.mtc_logs.specs.IssueOutcome.{issued, request_fault_text}
 use Rattle.mtc_logs.specs.LandmarkOutcomes.{marked}
 use Rattle.mtc_logs.specs.LogOutcomes.{log_line, log_settings_of}
-use Rattle.mtc_logs.specs.Works as logs
+use Rattle.mtc_logs.specs.Works.{log_bytes_say, log_open_text, log_outcome, log_says}
 use Rattle.mtc_logs.specs.declared.work.Work.{Work}
 use Rattle.mtc_logs.specs.declared.work.Work.TheVariants.{Checkpoint, Entries, Issue, Consist}
 use Rattle.mtc_logs.specs.declared.work.Work.TheVariants.{Subtree, Landmark, Landmarks, LightCert}
@@ -118,8 +118,8 @@ on_stepped : (found : FoundCosigner) (body text : List ℕ) (o : Option CosignEr
 on_stepped found body text None = tt
 on_stepped found body text (Some why) = tt
 
-on_work : (h : HashFunction) (work : Work) (found : FoundLog) → OnOld (logs.work_says h work found)
-unfolding logs.work_says
+on_work : (h : HashFunction) (work : Work) (found : FoundLog) → OnOld (log_says h work found)
+unfolding log_says
 on_work h Checkpoint found = tt
 on_work h (Entries size) found = tt
 on_work h (Issue request) found = on_issued h _ found _
@@ -131,17 +131,17 @@ on_work h (LightCert index) found = tt
 on_work h (Cert index start end signatures) found = tt
 
 on_log : (h : HashFunction) (journal : List ℕ) (file : Option (List ℕ)) (work : Work)
-    → OnOld (logs.journal_outcome h journal file work)
-unfolding logs.journal_outcome
-on_log h journal file work = on_file journal file (logs.bytes_say h journal work)
-    (λ bytes. on_form logs.open_fault_text journal (log_read h bytes) (logs.work_says h work)
+    → OnOld (log_outcome h journal file work)
+unfolding log_outcome
+on_log h journal file work = on_file journal file (log_bytes_say h journal work)
+    (λ bytes. on_form log_open_text journal (log_read h bytes) (log_says h work)
     (on_work h work))
 
 on_cosigner : (h : HashFunction) (journal : List ℕ) (file : Option (List ℕ))
     (says : FoundCosigner → Outcome) → ((found : FoundCosigner) → OnOld (says found))
-    → OnOld (cosigners.journal_outcome h journal file says)
-on_cosigner h journal file says on = on_file journal file (cosigners.bytes_say h journal says)
-    (λ bytes. on_form cosigners.open_fault_text journal (cosigner_read h bytes) says on)
+    → OnOld (cosigner_outcome h journal file says)
+on_cosigner h journal file says on = on_file journal file (cosigner_bytes_say h journal says)
+    (λ bytes. on_form cosigner_open_text journal (cosigner_read h bytes) says on)
 
 on_advance : (h : HashFunction) (r : AdvanceParts) (found : FoundCosigner)
     → OnOld (advance_says h r found)
@@ -160,7 +160,7 @@ on_issue_command : (h : HashFunction) (journal request : List ℕ) (files : File
 on_issue_command h journal request files =
     on_bytes 16777216 request (files request) (request_says h journal request (files journal))
     (λ bytes. on_form request_fault_text request (request_of bytes)
-    (λ r. logs.journal_outcome h journal (files journal) (Issue r))
+    (λ r. log_outcome h journal (files journal) (Issue r))
     (λ r. on_log h journal (files journal) (Issue r)))
 
 on_cert_command : (h : HashFunction) (journal : List ℕ) (index start end : ℕ) (file : List ℕ)
@@ -169,7 +169,7 @@ on_cert_command h journal index start end file files =
     on_bytes 16777216 file (files file)
     (signed_says h journal index start end file (files journal))
     (λ bytes. on_form signatures_fault_text file (signatures_in bytes)
-    (λ s. logs.journal_outcome h journal (files journal) (Cert index start end s))
+    (λ s. log_outcome h journal (files journal) (Cert index start end s))
     (λ s. on_log h journal (files journal) (Cert index start end s)))
 
 on_advance_command : (h : HashFunction) (journal request : List ℕ) (files : Files)
@@ -178,9 +178,9 @@ unfolding advance_outcome
 on_advance_command h journal request files =
     on_bytes 16777216 request (files request)
     (λ bytes. with_form form_fault_text request (advance_in bytes)
-    (λ r. cosigners.journal_outcome h journal (files journal) (advance_says h r)))
+    (λ r. cosigner_outcome h journal (files journal) (advance_says h r)))
     (λ bytes. on_form form_fault_text request (advance_in bytes)
-    (λ r. cosigners.journal_outcome h journal (files journal) (advance_says h r))
+    (λ r. cosigner_outcome h journal (files journal) (advance_says h r))
     (λ r. on_cosigner h journal (files journal) (advance_says h r) (on_advance h r)))
 
 on_cosign_command : (h : HashFunction) (journal request : List ℕ) (files : Files)
@@ -189,9 +189,9 @@ unfolding cosign_outcome
 on_cosign_command h journal request files =
     on_bytes 16777216 request (files request)
     (λ bytes. with_form form_fault_text request (subtree_in bytes)
-    (λ r. cosigners.journal_outcome h journal (files journal) (cosign_says h r)))
+    (λ r. cosigner_outcome h journal (files journal) (cosign_says h r)))
     (λ bytes. on_form form_fault_text request (subtree_in bytes)
-    (λ r. cosigners.journal_outcome h journal (files journal) (cosign_says h r))
+    (λ r. cosigner_outcome h journal (files journal) (cosign_says h r))
     (λ r. on_cosigner h journal (files journal) (cosign_says h r) (on_cosign h r)))
 
 on_export_command : (h : HashFunction) (journal : List ℕ) (files : Files)
