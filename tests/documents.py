@@ -23,7 +23,7 @@ def check_beliefs():
 
 CHECKS = [
     pages.check_sentences, pages.check_words, pages.check_links, pages.check_quotations, pages.check_examples,
-    citations.check_names, citations.check_promises, citations.check_definitions,
+    citations.check_names, citations.check_promises, citations.check_definitions, citations.check_meanings,
     citations.check_architecture, citations.check_commands, citations.check_refusals,
     citations.check_order, check_beliefs, house.check_lengths, house.check_errors,
     house.check_columns, house.check_imports, house.check_heads, pages.check_paths,

@@ -240,6 +240,18 @@ def check_definitions():
         yield f"docs/DEFINITIONS.md: {len(missing)} of {name} aren't named: {some}"
 
 
+
+def check_meanings():
+    """no two definitions of all crates share a name"""
+    places = {}
+    for crate in CRATES.values():
+        for one in crate.definitions:
+            places.setdefault(one.name, []).append(shown(one.path, one.line))
+    for word, found in sorted(places.items()):
+        if len(found) > 1:
+            yield f"`{word}`: {', '.join(found)}"
+
+
 # ---- ARCHITECTURE, COMMANDS, crates.txt
 
 
