@@ -65,8 +65,8 @@ fn counts(store: &Store, proof: &Proof, hash: &[u8; 32], place: u32, cosigner: &
     is_named(store.rules.as_slice(), place) && has_signed(cosigner, &store.log, proof, hash)
 }
 
-/// The cosigners that count for a proof that gives its interval this hash, as a set of bits. Each
-/// signature is verified once at most.
+/// The cosigners that count for a proof that gives its interval this hash, as a set of bits. By a
+/// valid store each signature is verified once at most.
 #[tactic(auto, unfolding(policy_core::specs::Counting::counted))]
 pub fn counted(store: &Store, proof: &Proof, hash: &[u8; 32]) -> u64
     ensures { result ≡ counted store.now (proof_parts proof.now) hash.now }

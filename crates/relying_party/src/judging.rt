@@ -25,7 +25,7 @@ use tree_core::{TreeHash, evaluate};
 /// interval isn't trusted, with the first rule that isn't met, counted from 1, or 0 where there is
 /// no rule. A rule is met where at least as many of its cosigners as it asks for have a signature
 /// in the proof that verifies (RFC 8554, section 6.3). Where the interval is trusted no signature
-/// is verified; else none that no rule names, and each once at most.
+/// is verified; else none that no rule names, and by a valid store each once at most.
 #[tactic(auto, unfolding(policy_core::specs::Judgement::judgement))]
 pub fn judge<H: TreeHash>(cert: &[u8], store: &Store, now: i64) -> Result<Accepted, Refusal>
     ensures { result ≡ judgement H.hash cert.now store.now now }

@@ -1,8 +1,9 @@
 //! A relying party's judgement of a certificate: whether its entry is in the log that the party
 //! trusts.
 //!
-//! A [`Store`](policy_core::Store) says what is trusted. A certificate whose proof names an
-//! interval that the store trusts is accepted exactly where the proof gives the hash that is
+//! A [`Store`](policy_core::Store) says what is trusted. First the fields of the certificate are
+//! tested, from its algorithm to its serial number, and then its proof is read. Where that names an
+//! interval that the store trusts, it is accepted exactly where the proof gives the hash that is
 //! trusted, whatever signatures it has. Else it is accepted exactly where the store has rules, and
 //! the cosigners that have signed meet each of them.
 #![tactic(auto)]
