@@ -76,9 +76,10 @@ claimed pool slot key = record {
   frames = pool.frames;
 }
 
--- The pool with this pin, and with no key, in a slot.
+-- The pool with this pin in a slot.
 abbrev pub with_pin : PoolState → ℕ → Bool → PoolState
 with_pin pool slot pin = record pool { pins = slice_set pool.pins slot pin }
 
+-- The pool with no key in a slot.
 abbrev pub released : PoolState → ℕ → PoolState
 released pool slot = record pool { keys = slice_set pool.keys slot None }
