@@ -33,6 +33,7 @@ signed_text cosigner log start end hash =
     input_text
     (record { cosigner = cosigner; log = log; start = start; end = end; hash = hash })
 
+-- What has such a text: ids whose lengths fit one byte, numbers that fit eight, a hash of 32 bytes.
 pub record IsInput (p : InputParts) : Type 0 where
   pub cosigner : length p.cosigner < 2 ^ 8
   pub log : length p.log < 2 ^ 8

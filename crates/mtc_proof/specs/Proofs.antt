@@ -15,6 +15,7 @@ pub record SigParts : Type 0 where
 abbrev pub signature_text : SigParts → Text
 signature_text s = vector w8 s.cosigner ++ vector w16 s.signature
 
+-- What has such a text: an id of 1 to 255 bytes, and a signature whose length fits two bytes.
 pub record IsMtcSignature (s : SigParts) : Type 0 where
   pub some : 0 < length s.cosigner
   pub cosigner : length s.cosigner < 2 ^ 8
@@ -38,6 +39,7 @@ abbrev pub proof_text : ProofParts → Text
 proof_text p =
     number w64 p.start ++ (number w64 p.end ++ (hashes p.path ++ vector w16 p.signatures))
 
+-- What has such a text: numbers that fit eight bytes, and a path and signatures that fit vectors.
 pub record IsProof (p : ProofParts) : Type 0 where
   pub start : p.start < 2 ^ 64
   pub end : p.end < 2 ^ 64
