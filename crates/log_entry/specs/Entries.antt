@@ -42,6 +42,7 @@ pub record IsTbs (p : TbsParts) : Type 0 where
   pub key_hash : length p.key_hash ≡ 32
   pub extensions : (p.extensions ≡ []) ⊎ IsExtensionsField p.extensions
 
+-- The null entry is one, and one of type 1 is where its parts are.
 abbrev pub IsEntry : Option TbsParts → Type 0
 IsEntry None = Unit {0}
 IsEntry (Some p) = IsTbs p
