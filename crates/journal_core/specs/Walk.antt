@@ -11,6 +11,7 @@ pub data FileEnd : Type 0 where
   at_bad_length : ℕ → FileEnd
   at_cut : ℕ → FileEnd
 
+-- the whole records of a file from the first one on, and how it ends behind them
 pub record FileWalk : Type 0 where
   pub records : List Text
   pub end : FileEnd
