@@ -24,7 +24,7 @@ pub record ExtensionFields : Type 0 where
   pub critical : Bool
   pub octets : Text
 
--- Whether these are the same bytes.
+-- These bytes are among those that were seen.
 abbrev pub is_among : Text → List Text → Bool
 is_among bytes seen = list_any (λ other. bytes_eq other bytes) seen
 

@@ -16,8 +16,8 @@ use std::alloc::Global;
 
 const VERSION_3: [u8; 5] = [0xA0, 0x03, 0x02, 0x01, 0x02];
 
-/// Writes a certificate (RFC 5280, section 4.1) whose algorithm is that of Merkle tree proofs. Want
-/// of memory is the only refusal.
+/// Writes a certificate (RFC 5280, section 4.1) whose algorithm is that of Merkle tree proofs. The
+/// parts have at most 16,000,000 bytes together. Want of memory is the only refusal.
 ///
 /// The parts are put together as they are. Where they are those of a certificate, which has a
 /// serial number from 1 on and elements in the grammar of their fields, [`parse`](crate::parse)
