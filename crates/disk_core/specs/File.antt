@@ -11,7 +11,7 @@ module _ {F : Type 0} where
   abbrev pub file_known : FileDisk F → ℕ
   file_known d = d.known
 
-  -- how many of its calls have failed
+  -- its count of faults
   abbrev pub file_faults : FileDisk F → ℕ
   file_faults d = d.faults
 

@@ -1,5 +1,5 @@
 -- What a `Fuse` shows: the disk inside, how many calls it still passes, whether it has failed one,
--- and how many.
+-- and its count of these.
 use Rattle.std.specs.Prelude.{◌≡◌, ℕ, ◌-◌, Bool, true, false, ◌&&◌, ◌||◌, ◌==◌, if◌then◌else◌}
 use Rattle.disk_core.specs.declared.disk.Disk.{Ghosts}
 use Rattle.disk_core.specs.declared.fuse.Fuse.{Fuse}
@@ -26,7 +26,7 @@ module _ {D : Type 0} where
   abbrev pub is_blown : Fuse D → Bool
   is_blown f = f.blown
 
-  -- how many calls it has failed itself
+  -- the count of the calls that it has failed itself
   abbrev pub refused_of : Fuse D → ℕ
   refused_of f = f.refused
 

@@ -33,11 +33,11 @@ made_of m = length (calls_of m)
 abbrev pub failing_of : MemDisk → List ℕ
 failing_of m = m.plan.failing.items
 
--- how many calls have failed
+-- its count of faults
 abbrev pub faults_of : MemDisk → ℕ
 faults_of m = m.plan.faults
 
--- how many of them found no memory
+-- the count of those that found no memory
 abbrev pub starved_of : MemDisk → ℕ
 starved_of m = m.plan.starved
 

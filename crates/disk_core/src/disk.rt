@@ -31,7 +31,7 @@ pub trait Disk {
     /// between two.
     ghost left_since: { Self → ℕ → Text → Type 0 };
 
-    /// How often the disk has failed.
+    /// The count of its faults, which rises with each call that fails.
     ghost faults: { Self → ℕ };
 
     /// What a type says beside the rest of one call: of the disk before it, what was asked, whether

@@ -39,7 +39,7 @@ impl<F: OpenFile + FileExt> FileDisk<F> {
         }
     }
 
-    /// How many calls have failed, up to the last value of the count.
+    /// The count of its faults, which rises with each call that fails up to its last value.
     pub fn faults(&self) -> u64
         ensures { result ≡ file_faults self.now }
     {

@@ -37,7 +37,7 @@ impl<D: Disk> Fuse<D> {
         }
     }
 
-    /// How many calls it has failed itself, up to the last value of the count.
+    /// The count of the calls that it has failed itself. It rises with each, up to its last value.
     pub fn refused(&self) -> u64
         ensures value { result ≡ refused_of self.now }
         ensures faults { ⟦<Fuse<D> as Disk>⟧.faults self.now

@@ -179,14 +179,14 @@ impl MemDisk {
         self.plan.failing.as_slice()
     }
 
-    /// How many calls have failed, up to the last value of the count.
+    /// The count of its faults, which rises with each call that fails up to its last value.
     pub fn faults(&self) -> u64
         ensures { result ≡ faults_of self.now }
     {
         self.plan.faults
     }
 
-    /// How many of them found no memory.
+    /// The count of those that found no memory, which rises with each.
     pub fn starved(&self) -> u64
         ensures { result ≡ starved_of self.now }
     {
