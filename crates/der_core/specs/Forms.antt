@@ -76,6 +76,7 @@ pub record IsOid (contents : Text) : Type 0 where
 abbrev pub bit_string : ℕ × Text → Text
 bit_string (unused, bytes) = unused ∷ bytes
 
+-- What has such contents: at most 7 unused bits, which are zero.
 pub record IsBitString (b : ℕ × Text) : Type 0 where
   pub few : b.0 ≤ 7
   pub zero : are_unused b.0 b.1 ≡ true
