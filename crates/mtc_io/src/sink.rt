@@ -12,7 +12,7 @@ pub trait Sink {
     /// The bytes taken, where it tells them.
     ghost taken: { Self → Option (List ℕ) };
 
-    /// How often it has failed. The count never falls.
+    /// The count of its faults, which rises with each call that fails and never falls.
     ghost faults: { Self → ℕ };
 
     /// Takes bytes from the front of a piece, and answers how many: at least 1 where the piece

@@ -15,7 +15,7 @@ pub trait Source {
     /// The bytes left, where it tells them.
     ghost left: { Self → Option (List ℕ) };
 
-    /// How often it has failed. The count never falls.
+    /// The count of its faults, which rises with each call that fails and never falls.
     ghost faults: { Self → ℕ };
 
     /// Puts the next bytes into the front of `into`, and answers how many. On an `into` that isn't

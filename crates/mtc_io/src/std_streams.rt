@@ -24,7 +24,7 @@ impl<R: Read> StdSource<R> {
         StdSource { reader, faults: 0 }
     }
 
-    /// How often it has failed.
+    /// The count of its faults, which rises with each call that fails.
     pub fn faults(&self) -> u64
         ensures { result ≡ ⟦<StdSource<R> as Source>⟧.faults self.now }
     {

@@ -49,7 +49,7 @@ impl MemSource {
         }
     }
 
-    /// How often it has failed.
+    /// The count of its faults, which rises with each call that fails.
     pub fn faults(&self) -> u64
         ensures { result ≡ self.now.faults }
     {
