@@ -7,7 +7,7 @@
 //! broken: nothing here counts them, and the caller uses each number once.
 //!
 //! Nothing here takes memory. A signature goes into a `SigBuf`, which holds the longest one of two
-//! levels of trees.
+//! levels of trees of height 10.
 #![tactic(auto)]
 
 mod chains;
