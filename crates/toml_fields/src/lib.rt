@@ -1,6 +1,6 @@
 //! Fields of a TOML file: the tree that a file's text is, the keys that a table may have, and
-//! values in the forms that files use. These forms are texts, numbers that aren't negative, bytes
-//! in base64 (RFC 4648, section 4) and hashes in hexadecimal.
+//! values in the forms that files use. These forms are numbers that aren't negative, bytes in
+//! base64 (RFC 4648, section 4) and hashes in hexadecimal (section 8).
 //!
 //! Contracts see a table as its members and a value as its data, in the words of `toml`. Only the
 //! tree counts: an inline table is as good as one with a header.
