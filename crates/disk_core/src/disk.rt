@@ -18,7 +18,7 @@ pub trait Disk {
     /// The bytes that a read gives, where the disk tells them.
     ghost told: { Self → Option Text };
 
-    /// The known length: nothing past it is read, and no write begins past it. It is 0 at first.
+    /// The known length: nothing past it is read, and no write begins past it.
     ghost known: { Self → ℕ };
 
     /// The clock, a number that never falls.
