@@ -1,5 +1,4 @@
--- Byte strings, cut and joined as RFC 8554 does (3.1). A byte string is a list of numbers below
--- 256.
+-- Byte strings, cut and joined as RFC 8554 does (3.1).
 use Rattle.std.specs.Prelude.{ℕ, zero, suc, [], ◌++◌, take, drop}
 use Rattle.std.specs.Int.{w32, from_be_bytes}
 use Rattle.byte_forms.specs.Types.{Text}
