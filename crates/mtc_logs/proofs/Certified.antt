@@ -12,13 +12,13 @@ use Rattle.mtc_answers.specs.Endings.{Replies}
 use Rattle.mtc_answers.specs.Steps.{Files, with_form}
 use Rattle.mtc_answers.specs.Wanted.{exactly}
 use Rattle.mtc_answers.specs.declared.answer.Said.TheVariants.{Done}
+use Rattle.mtc_answers.proofs.Inputs.{bytes_read}
 use Rattle.mtc_logs.specs.CertCommand.{cert_outcome, signed_says}
 use Rattle.mtc_logs.specs.CertOutcome.{certificate_in, certificate_with, cert_replies, cert_reply}
 use Rattle.mtc_logs.specs.CertOutcome.{light_reply, light_text, signatures_fault_text}
 use Rattle.mtc_logs.specs.CertOutcome.{signatures_in}
 use Rattle.mtc_logs.specs.Works.{log_outcome}
 use Rattle.mtc_logs.specs.declared.work.Work.TheVariants.{Cert}
-use Rattle.mtc_logs.proofs.Reading.{bytes_read}
 
 -- ---- the work
 
@@ -59,7 +59,7 @@ module _ (h : HashFunction) (journal : Text) (index start end : ℕ) (file : Tex
     (bytes : Text) (is : files file ≡ Some bytes) (few : length bytes ≤ 16777216) where
   read_so : cert_outcome h journal index start end file files
       ≡ signed_says h journal index start end file (files journal) bytes
-  read_so = bytes_read file (files file) bytes
+  read_so = bytes_read 16777216 file (files file) bytes
       (signed_says h journal index start end file (files journal)) is few
 
   -- the file holds signatures

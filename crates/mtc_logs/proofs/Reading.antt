@@ -1,7 +1,6 @@
 -- A command that reads a request first, and what any that reads a file does.
 use Rattle.std.proofs.Common.{◌≡◌, ◌≢◌, ◌≤◌, [], ◌∷◌, Option, Some, Ok, Err, length, inl, inr}
-use Rattle.std.proofs.Common.{Bool, codes, nat_lt, false, if◌then◌else◌, refl, sym, ap, ◌∙◌, arith}
-use Rattle.std.proofs.lemmas.Grind.{common_steps}
+use Rattle.std.proofs.Common.{refl, sym, ap, ◌∙◌}
 use Rattle.byte_forms.specs.Types.{HashFunction, Text}
 use Rattle.disk_core.specs.declared.disk.Disk.{Ghosts as Disks}
 use Rattle.mtc_room.specs.declared.room.Room.{Ghosts as Rooms}
@@ -16,8 +15,9 @@ use Rattle.authority_core.specs.declared.requests.error.RequestError.TheVariants
 use Rattle.authority_core.specs.declared.requests.error.RequestError.TheVariants.{NoNames}
 use Rattle.mtc_answers.specs.Answers.{no_memory, refused, replied}
 use Rattle.mtc_answers.specs.Served.{GivesBack, HasDone}
-use Rattle.mtc_answers.specs.Steps.{Outcome, Files, answers, stops_at, with_bytes, with_form}
-use Rattle.mtc_answers.specs.declared.answer.Stopped.TheVariants.{BadForm, Beyond}
+use Rattle.mtc_answers.specs.Steps.{Files, answers, with_form}
+use Rattle.mtc_answers.specs.declared.answer.Stopped.TheVariants.{BadForm}
+use Rattle.mtc_answers.proofs.Inputs.{bytes_read}
 use Rattle.mtc_answers.proofs.Made.{OnlyNow}
 use Rattle.mtc_answers.proofs.Served.{stopped}
 use Rattle.mtc_logs.specs.IssueCommand.{issue_outcome, request_says}
@@ -25,20 +25,11 @@ use Rattle.mtc_logs.specs.IssueOutcome.{request_ending, request_fault_text}
 use Rattle.mtc_logs.specs.Works.{log_outcome}
 use Rattle.mtc_logs.specs.declared.work.Work.TheVariants.{Issue}
 
--- a file is there and short enough
-pub bytes_read : (file : Text) (held : Option Text) (bytes : Text) (says : Text → Outcome)
-    → held ≡ Some bytes → length bytes ≤ 16777216
-    → with_bytes 16777216 file held says ≡ says bytes
-bytes_read file held bytes says is few =
-    let short : nat_lt 16777216 (length bytes) ≡ false = grind (arith, common_steps) in
-    ap (λ x. with_bytes 16777216 file x says) is
-    ∙ ap (λ (over : Bool). if over then stops_at Beyond file (codes "TooLong") else says bytes)
-    short
-
 module _ (h : HashFunction) (journal file : Text) (files : Files) (bytes : Text)
     (is : files file ≡ Some bytes) (few : length bytes ≤ 16777216) where
   read_so : issue_outcome h journal file files ≡ request_says h journal file (files journal) bytes
-  read_so = bytes_read file (files file) bytes (request_says h journal file (files journal)) is few
+  read_so = bytes_read 16777216 file (files file) bytes
+      (request_says h journal file (files journal)) is few
 
   -- and it is a request
   pub asked_so : (file' : Option Text) (r : RequestParts) → request_of bytes ≡ Ok r
