@@ -7,12 +7,7 @@ ghost use Rattle.collide.specs.Inputs.{leaf_input, pair_input};
 
 use mtc_io::Bytes;
 use std::alloc::Global;
-use tree_core::{TreeHash, leaf, pair};
-
-// The byte before an entry, and the one before the two hashes of a pair, where they are hashed.
-const LEAF: u8 = 0;
-
-const PAIR: u8 = 1;
+use tree_core::{LEAF, PAIR, TreeHash, leaf, pair};
 
 // The hashes of one node by two computations.
 #[derive(Clone, Copy)]

@@ -9,16 +9,13 @@ ghost use Rattle.log_entry.specs.Views.{tbs_parts};
 
 use crate::entry::TbsEntry;
 use cert_fields::Cert;
-use tree_core::TreeHash;
+use tree_core::{LEAF, TreeHash};
 
 /// The bytes before the issuer: type 1, and version 3 as an INTEGER of 2 in its tag.
 pub const HEAD: [u8; 7] = [0x00, 0x01, 0xA0, 0x03, 0x02, 0x01, 0x02];
 
 /// The bytes before the hash of the public key: an OCTET STRING of 32 bytes.
 pub const HASH_HEAD: [u8; 2] = [0x04, 0x20];
-
-// The byte before an entry, where it is hashed as a leaf of a tree (RFC 9162, section 2.1.1).
-const LEAF: u8 = 0;
 
 /// The hash of a key, as entries hold it: of the whole subjectPublicKeyInfo element.
 pub fn key_hash<H: TreeHash>(spki: &[u8]) -> [u8; 32]

@@ -4,11 +4,12 @@ ghost use Rattle.std.specs.Prelude.{◌≡◌, [], ◌++◌, length};
 ghost use Rattle.byte_forms.specs.Types.{HashFunction, Text};
 ghost use Rattle.tree_core.specs.Tree.{leaf_hash, pair_hash};
 
-// The byte before an entry, and the one before the two hashes of a pair, so that an entry and a
-// pair are never hashed as the same bytes.
-const LEAF: u8 = 0;
+/// The byte before an entry, where it is hashed as a leaf. It differs from [`PAIR`], so that an
+/// entry and a pair are never hashed as the same bytes (RFC 9162, section 2.1.1).
+pub const LEAF: u8 = 0;
 
-const PAIR: u8 = 1;
+/// The byte before the two hashes of a pair, where they are hashed (RFC 9162, section 2.1.1).
+pub const PAIR: u8 = 1;
 
 /// The hash function of a tree, as a running hash: a value stands for the bytes added so far.
 pub trait TreeHash: Sized {

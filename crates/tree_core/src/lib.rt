@@ -28,7 +28,7 @@ mod sum;
 
 pub use covering::cover;
 pub use error::EvalError;
-pub use hashing::{TreeHash, leaf, pair};
+pub use hashing::{LEAF, PAIR, TreeHash, leaf, pair};
 pub use inclusion::evaluate;
 pub use laws::{inclusion_paths_evaluate, subtrees_by_power, tree_hash_by_clauses};
 pub use sha256::Sha;
