@@ -1,6 +1,6 @@
 //! Extensions (RFC 5280, sections 4.1.2.9 and 4.2).
 
-ghost use Rattle.std.specs.Prelude.{◌≡◌, ◌^◌, ◌<◌, [], length, Ok, Err, OnOk, IfErr, if◌then◌else◌};
+ghost use Rattle.std.specs.Prelude.{◌≡◌, ◌^◌, ◌<◌, ◌≤◌, [], length, Ok, Err, OnOk, IfErr, IsTrue, if◌then◌else◌};
 ghost use Rattle.std.specs.List.{list_any};
 ghost use Rattle.byte_forms.specs.Readings.{Reads, Moves, Gives, discarded};
 ghost use Rattle.cert_fields.specs.Extensions.{is_among, new_identifier_at, critical_at, has_its_form, extension_at, extension_list_at, extension_sequence_at, extensions_at, identifiers, are_repeated, extensions_left, list_in, is_unknown_critical, has_unknown_critical, alt_name_octets, dns_names_in};
@@ -28,6 +28,7 @@ pub struct Extension<'a> {
 
 // One of the first `count` extensions in the list has this identifier.
 fn is_repeated(identifier: &[u8], list: &Reader, count: usize) -> bool
+    requires few { count ≤ 64 }
     ensures { result ≡ is_among identifier.now (identifiers count list.now) }
 {
     let mut reader = list.fork();
@@ -53,6 +54,7 @@ fn new_identifier<'a>(
     list: &Reader,
     count: usize,
 ) -> Result<&'a [u8], CertError>
+    requires few { count ≤ 64 }
     ensures { Moves (λ bytes. bytes.now) (new_identifier_at (identifiers count list.now))
         reader.old result reader.new }
 {
@@ -95,6 +97,7 @@ fn one_extension<'a>(
     list: &Reader,
     count: usize,
 ) -> Result<Extension<'a>, CertError>
+    requires few { count ≤ 64 }
     ensures exact { Moves extension_fields (extension_at (identifiers count list.now))
         reader.old result reader.new }
     ensures forward { OnOk result (length reader.new.rest < length reader.old.rest) }
@@ -118,7 +121,7 @@ fn one_extension<'a>(
 
 // A few extensions with different identifiers, up to the end: each is compared with all before it.
 fn few_extensions(reader: &mut Reader) -> Result<(), CertError>
-    requires { length reader.old.rest < 2 ^ 64 }
+    requires few { length (identifiers 65 reader.old) ≤ 64 }
     ensures ok { OnOk result (discarded (extension_list_at reader.old) ≡ Ok reader.new) }
     ensures err { IfErr result (λ e. discarded (extension_list_at reader.old) ≡ Err e) }
 {
@@ -179,15 +182,19 @@ fn extension_list(reader: &mut Reader) -> Result<(), CertError>
     }
 }
 
-// Whether fewer elements stand here than pay for a block. It is a matter of speed alone.
-fn are_few(list: &Reader) -> bool {
+// Whether fewer extensions stand here than pay for a block.
+fn are_few(list: &Reader) -> bool
+    ensures few { IsTrue result → length (identifiers 65 list.now) ≤ 64 }
+{
     let mut reader = list.fork();
-    for _ in 0..FEW {
-        if reader.element().is_err() {
-            return true;
+    let mut count = 0;
+    while count <= FEW {
+        match head(&mut reader) {
+            Ok(_) => count += 1,
+            Err(_) => return true,
         }
     }
-    reader.is_at_end()
+    false
 }
 
 // The list in its SEQUENCE. `BadExtension` where it is empty.

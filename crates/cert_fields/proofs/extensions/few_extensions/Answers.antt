@@ -1,4 +1,4 @@
-use Rattle.std.proofs.Common.{sym, ap, ◌∙◌, length, arith}
+use Rattle.std.proofs.Common.{sym, ◌∙◌, arith}
 use Rattle.std.proofs.lemmas.Result.{err_from_is_err_and}
 use Rattle.cert_fields.proofs.Walks.{passes_from, passes_more, passes_fails, passes_end}
 use Rattle.cert_fields.proofs.extensions.few_extensions.Goals as goal
@@ -6,21 +6,17 @@ use Rattle.cert_fields.proofs.extensions.few_extensions.Goals as goal
 pub loop-list-init : goal.loop-list-init
 loop-list-init c = passes_from _ _ c.fork-list.ensures
 
+pub one_extension-requires : goal.one_extension-requires
+one_extension-requires c = record { few = c.loop-list.invariant.few }
+
 pub overflow_add-count : goal.overflow_add-count
-overflow_add-count c =
-    omega (
-      arith,
-      c.loop-list.invariant.room,
-      c.in_ok-one_extension.ensures.forward,
-      c.requires,
-      ap (λ a. length a.rest) c.fork-list.ensures,
-    )
+overflow_add-count c = omega (arith, c.loop-list.invariant.few)
 
 pub loop-list-preserved : goal.loop-list-preserved
 loop-list-preserved c =
     passes_more _ _ c.loop-list.count c.loop-list.reader _ c.one_extension.new.reader
     c.in_ok-one_extension.ensures.exact c.in_ok-one_extension.ensures.forward
-    c.loop-list.invariant
+    (rw c.fork-list.ensures c.requires.few) c.loop-list.invariant
 
 pub returns-in_err-one_extension-clause-err : goal.returns-in_err-one_extension-clause-err
 returns-in_err-one_extension-clause-err c =
