@@ -19,10 +19,11 @@ pub struct Chain {
 }
 
 impl Model for Chain {
-    ghost use Rattle.std.specs.Prelude.{List, ℕ, take};
+    ghost use Rattle.std.specs.Prelude.{take};
+    ghost use Rattle.byte_forms.specs.Types.{Text};
 
     // What stays: the first 22 bytes.
-    ghost Value = { List ℕ };
+    ghost Value = { Text };
 
     ghost view = { λ c. take 22 c.bytes };
 }

@@ -16,9 +16,10 @@ pub struct SigBuf {
 }
 
 impl Model for SigBuf {
-    ghost use Rattle.std.specs.Prelude.{List, ℕ, take, ◌≤◌};
+    ghost use Rattle.std.specs.Prelude.{take, ◌≤◌};
+    ghost use Rattle.byte_forms.specs.Types.{Text};
 
-    ghost Value = { List ℕ };
+    ghost Value = { Text };
 
     ghost view = { λ s. take s.length s.bytes };
 
