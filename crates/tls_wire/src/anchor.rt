@@ -21,9 +21,9 @@ pub struct AnchorId {
 }
 
 impl Model for AnchorId {
-    ghost use Rattle.std.specs.Prelude.{ℕ, List};
+    ghost use Rattle.byte_forms.specs.Types.{Text};
 
-    ghost Value = { List ℕ };
+    ghost Value = { Text };
 
     ghost use Rattle.tls_wire.specs.Arcs.{IsAnchorId};
 
