@@ -17,17 +17,39 @@ PAGE = ROOT / "docs" / "BELIEFS.md"
 BEGIN, END = "<!-- counted by tests/beliefs.py -->", "<!-- end -->"
 TOP = ROOT / "crates" / "mtc_top" / "src"
 # Each statement: what its table is headed by, the functions whose contracts it is, and its page of definitions. First the
-# record that `run` ensures with the laws of each run, then the promise as a whole, then the laws of courses, and those of what is printed.
+# record that `run` ensures with the laws of each run, then the laws of courses, and those of what is printed.
 RUNS = ("The statement names", r"run|runs_\w+", ("mtc_top.specs.Run", "mtc_top.specs.RunLaws"))
 LAWS = "mtc_top.specs.{}Laws"
-WHOLE = ("The promise as a whole names", r"the_whole_\w+", ("mtc_top.specs.Courses", LAWS.format("Course"), LAWS.format("Audit")))
 PRINTED = tuple(map(LAWS.format, ("Export", "Audit", "Print", "Status")))
 PRINTS = ("The laws of what is printed name", r"(?:exports|audits|printed|misread)_\w+", PRINTED)
-COURSES = ("The laws of courses name", r"(?:courses|entries|made|no|recovered|what)_\w+", ("mtc_top.specs.Courses", LAWS.format("Course")))
-STATEMENTS = (RUNS, WHOLE, COURSES, PRINTS)
+LINKED = ("mtc_top.specs.Courses", LAWS.format("Course"), LAWS.format("Room"))
+COURSES = ("The laws of courses name", r"(?:courses|entries|made|no|recovered|what)_\w+", LINKED)
+STATEMENTS = (RUNS, COURSES, PRINTS)
+
+# The promise as a whole is one law. Its level are the crates of what a reader has to take in for it: the list of their definitions
+# on which it rests is closed, and has at most so many. It ends at what a run is, which has a table of its own, and at the words of
+# the crates below, which are those of these standards and formats.
+WHOLE = r"the_whole_\w+"
+LEVEL = ("node_history", "world_core", "mtc_top")
+ENDS = {("mtc_top.specs.Run", "HasRun"), ("mtc_top.specs.Run", "journals")}
+MOST = 60
+STANDARDS = {
+    "a run (the first table)": ("mtc_top",),
+    "the words for bytes, readings and forms": ("byte_forms",),
+    "files and streams ([OPERATIONS](OPERATIONS.md))": ("mtc_io", "disk_core", "mtc_room"),
+    "journals, records, lists and exports ([FORMATS](FORMATS.md))": ("journal_core", "issuance_log", "cosigner_core", "entry_list"),
+    "words and answers ([COMMANDS](COMMANDS.md))": ("mtc_words", "mtc_answers", "mtc_reads", "mtc_logs", "mtc_cosigner", "mtc_monitor"),
+    "the draft: proofs, stores and judgement, issuing": ("mtc_proof", "policy_core", "authority_core"),
+    "RFC 9162 and the draft: trees": ("tree_core", "tree_proofs", "landmarks", "collide"),
+    "RFC 5280: certificates and entries": ("cert_time", "cert_fields", "cert_names", "log_entry"),
+    "RFC 8554: HSS, LMS and LM-OTS": ("hss_core", "lms_core", "lmots_core"),
+    "RFC 8446, 3: TLS presentation": ("tls_wire",),
+    "X.690: DER": ("der_core",),
+    "TOML and RFC 4648": ("toml_fields",),
+}
 
 USE = re.compile(r"^\s*(?:pub |ghost )*(?:use|open) Rattle\.([\w.]+)\.\{([^}]*)\};?", re.M)
-HEAD = re.compile(r"^( *)(?:abbrev|unfoldable|opaque|pub record|pub data|record|data)(?: pub)? +([^\s:({]+)")
+HEAD = re.compile(r"^ *(abbrev|unfoldable|opaque|(?:pub )?(?:record|data))(?: pub)? +([^\s:({]+)")
 TOKEN = re.compile(r"[^\s(){}\[\].,;∷]+|∷")
 
 
@@ -54,6 +76,7 @@ class Module:
 
     def __init__(self, path):
         self.path = path
+        # the definitions, and the one to which each of their names and constructors belongs
         self.bodies, self.owners = {}, {}
         text = path.read_text()
         self.imports = {sign_of(name): origin for name, origin in imports_of(text).items()}
@@ -65,13 +88,13 @@ class Module:
                 continue
             match = HEAD.match(line)
             if match:
-                name = match.group(2)
+                kind, name = match.groups()
                 self.bodies[name] = []
                 self.owners[sign_of(name)] = name
             if name and line.strip():
                 self.bodies[name].append(line)
                 inner = re.match(r"^ +(?:pub )?([^\s:(){}=]+) *:", line)
-                if inner and not match:
+                if inner and not match and kind.endswith("data"):
                     self.owners.setdefault(inner.group(1), name)
 
     def names_in(self, text):
@@ -109,12 +132,15 @@ def declared(dotted):
     return crate, place.removesuffix(".TheVariants").split(".")[-1]
 
 
+def named_by(functions):
+    """What the contracts of these functions name, as (module, name)."""
+    return [imports[token] for contract, imports in contracts(functions) for token in set(TOKEN.findall(contract)) if token in imports]
+
+
 def named_first(statement):
     """What the contracts name, and what the definitions of the statement name, as (module, name)."""
     _, functions, pages = statement
-    found, waiting = set(), []
-    for contract, imports in contracts(functions):
-        waiting += [imports[token] for token in set(TOKEN.findall(contract)) if token in imports]
+    found, waiting = set(), named_by(functions)
     while waiting:
         dotted, name = waiting.pop()
         module = module_of(dotted)
@@ -127,8 +153,13 @@ def named_first(statement):
     return sorted(found)
 
 
-def reached(waiting):
-    """Definitions by (module, name); types of the code; modules of the kit with their words."""
+def is_end(dotted, name):
+    """Where the list of the promise ends: at a run, and at the words of the crates below its level."""
+    return (dotted, name) in ENDS or dotted.split(".")[0] not in LEVEL
+
+
+def reached(waiting, ends=lambda dotted, name: False, found=None):
+    """Definitions by (module, name); types of the code; modules of the kit with their words. Those at which it ends are put into `found`."""
     own, types, kit = {}, set(), {}
     waiting = list(waiting)
     while waiting:
@@ -143,6 +174,9 @@ def reached(waiting):
         whole = module.owners.get(sign_of(name), name)
         if (dotted, whole) in own or whole not in module.bodies:
             continue
+        if ends(dotted, whole):
+            found.add((dotted, whole))
+            continue
         own[dotted, whole] = module.bodies[whole]
         for inner, other in module.names_in("\n".join(module.bodies[whole])):
             waiting.append((inner or dotted, other))
@@ -156,7 +190,40 @@ def row(name, own, types):
 
 
 def all_named():
-    return [named for statement in STATEMENTS for named in named_first(statement)]
+    return [named for statement in STATEMENTS for named in named_first(statement)] + named_by(WHOLE)
+
+
+def standard_of(dotted):
+    crate = dotted.split(".")[0]
+    return next(standard for standard, those in STANDARDS.items() if crate in those)
+
+
+def promise():
+    """The definitions of the level of the promise, and those at which their list ends."""
+    ends = set()
+    own, _, _ = reached(named_by(WHOLE), is_end, ends)
+    return own, ends
+
+
+def file_of(dotted):
+    crate, _, place = dotted.partition(".")
+    return f"`{crate}/{place.replace('.', '/')}`"
+
+
+def promise_rows():
+    """The list of the promise, and where it ends, by what says these words."""
+    own, ends = promise()
+    rows = ["| The promise as a whole is | In | Lines |", "|---|---|---|"]
+    rows += [f"| `{name}` | {file_of(dotted)} | {len(body)} |" for (dotted, name), body in sorted(own.items())]
+    rows += [f"| {len(own)} definitions of its level, of at most {MOST} | | {sum(map(len, own.values()))} |", ""]
+    rows += ["| It ends at words of | Words | Definitions of these, and all behind them |", "|---|---|---|"]
+    for standard in STANDARDS:
+        mine = sorted((name, dotted) for dotted, name in ends if standard_of(dotted) == standard)
+        if mine:
+            behind, _, _ = reached((dotted, name) for name, dotted in mine)
+            rows.append(f"| {standard} | {', '.join(f'`{name}`' for name, _ in mine)} | {len(behind)} |")
+    whole, types, _ = reached(named_by(WHOLE))
+    return rows + [f"| all | {len(ends)} words | {len(whole) - len(own)}, and {len(types)} types of the code |", ""]
 
 
 def first_rows(statement):
@@ -168,9 +235,7 @@ def first_rows(statement):
         if module and whole in module.bodies:
             found[dotted, whole] = len(module.bodies[whole])
     rows = [f"| {statement[0]} | In | Lines |", "|---|---|---|"]
-    for (dotted, name), count in sorted(found.items()):
-        crate, _, place = dotted.partition(".")
-        rows.append(f"| `{name}` | `{crate}/{place.replace('.', '/')}` | {count} |")
+    rows += [f"| `{name}` | {file_of(dotted)} | {count} |" for (dotted, name), count in sorted(found.items())]
     named = named_first(statement)
     own, types, _ = reached(named)
     first_types = {declared(dotted) for dotted, _ in named if ".specs.declared." in dotted}
@@ -182,7 +247,8 @@ def table():
     own, types, kit = reached(all_named())
     order = [crate.name for crate in crates()]
     used = {dotted.split(".")[0] for dotted, _ in own} | {crate for crate, _ in types}
-    rows = [line for statement in STATEMENTS for line in first_rows(statement)]
+    runs, *others = map(first_rows, STATEMENTS)
+    rows = runs + promise_rows() + sum(others, [])
     rows += ["| Crate | Definitions | Lines | Files | Types of the code |", "|---|---|---|---|---|"]
     for name in sorted(used, key=order.index):
         mine = {key: body for key, body in own.items() if key[0].split(".")[0] == name}
@@ -202,6 +268,9 @@ def between():
 
 
 def differences():
+    own, _ = promise()
+    if len(own) > MOST:
+        yield f"the promise as a whole rests on {len(own)} definitions of its level, and may on {MOST}"
     if between()[1] != table():
         yield f"docs/{PAGE.name} has other counts (tests/beliefs.py --write)"
 

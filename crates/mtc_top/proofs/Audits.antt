@@ -191,9 +191,9 @@ module _ {R S D O E : Type 0} (h : HashFunction) (rooms : Rooms R S D) (disks : 
   signed x kept_text read by =
       let e = exports_hold h rooms disks outs errs image only told bytes by.name
       (Cosigner by.settings by.public) by.first by.made by.old by.links by.was by.course
-      by.settings by.public refl by.turn by.turned by.spoken by.done in
+      by.settings by.public refl by.turn by.turned by.spoken (inl by.done) in
       let same = printed_text (outs.taken by.turn.out) (outs.taken by.turn.out_after) by.before
-      kept_text e.text by.told by.printed e.printed in
+      kept_text e.text by.told by.printed (e.printed.whole by.done) in
       let kept : x.kept ≡ Some e.export = ok_is ReadExportError x.kept (Some e.export)
       (sym read ∙ ap (export_in h) same ∙ e.read) in
       let there = e.signed by.first by.front by.body

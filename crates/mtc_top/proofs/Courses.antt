@@ -35,7 +35,7 @@ use Rattle.mtc_top.specs.Courses.{WentOut, WentOutBy}
 use Rattle.mtc_top.specs.Nodes.{End, MayEnd, begun, has_handed, has_settled, same, stopped}
 use Rattle.mtc_top.proofs.Nodes.{took_dec}
 use Rattle.mtc_top.proofs.WentOut.{end_hands, find_added, moment_hands, other_none, out_by}
-use Rattle.mtc_top.proofs.Turns.{find_name, now_of, steps_with}
+use Rattle.mtc_top.proofs.Turns.{find_name, now_of, read_stands, steps_with}
 
 module _ {R S D O E : Type 0} (h : HashFunction) (rooms : Rooms R S D) (disks : Disks D)
     (outs : Sinks O) (errs : Sinks E) (image : ReadsImage disks) (only : OnlyNow disks)
@@ -437,14 +437,19 @@ module _ {R S D O E : Type 0} (h : HashFunction) (rooms : Rooms R S D) (disks : 
 
       -- ---- the run that made the journal
 
+      made_stands : (made : R) (was : WasMade h rooms disks outs errs name start first made)
+          → AllStandForNode (fresh_node start) first (Images was.turn.room name)
+      made_stands made was = elim was.did [
+        | inl new ↦ (steps_with h rooms disks outs errs image only told was.old was.turn name
+            (started first) was.turned was.tells new.1).begins new.0 first refl start
+        | inr found ↦ λ c at. inl (read_stands h rooms disks outs errs image only told was.old
+            was.turn name (first ∷ []) was.turned was.tells found.0 found.1 found.2 c at)
+      ]
+
       pub made_at : (made : R) → WasMade h rooms disks outs errs name start first made
           → IsAt [] (fresh_node start) made
-      made_at made was =
-          let ends = steps_with h rooms disks outs errs image only told was.old was.turn name
-          (started first) was.turned was.tells was.did
-          in
-          subst (IsAt [] (fresh_node start)) was.leaves (record {
-            tells = was.turned.back.tells was.tells;
-            leads = begins_fresh (may_follow h) (start ∷ []) 0 start refl;
-            stands = ends.begins was.done first refl start;
-          })
+      made_at made was = subst (IsAt [] (fresh_node start)) was.leaves (record {
+        tells = was.turned.back.tells was.tells;
+        leads = begins_fresh (may_follow h) (start ∷ []) 0 start refl;
+        stands = made_stands made was;
+      })

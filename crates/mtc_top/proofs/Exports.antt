@@ -25,7 +25,6 @@ use Rattle.cosigner_core.specs.declared.error.CosignerOpenError.{CosignerOpenErr
 use Rattle.cosigner_core.specs.declared.settings.CosignerSettings.{CosignerSettings}
 use Rattle.cosigner_core.specs.declared.step.Step.{Step}
 use Rattle.cosigner_core.proofs.ExportAgain.{export_again}
-use Rattle.mtc_answers.specs.Answers.{Reply, out_of, status_of}
 use Rattle.mtc_answers.specs.Made.{images_at}
 use Rattle.mtc_answers.specs.Steps.{Files, Outcome, stops_at, with_file, with_form}
 use Rattle.mtc_answers.specs.Wanted.{Meets}
@@ -39,12 +38,12 @@ use Rattle.node_history.specs.declared.start.NodeStart.TheVariants.{Cosigner}
 use Rattle.node_history.proofs.Chains.{map_some}
 use Rattle.node_history.proofs.Cosigners.{of_first}
 use Rattle.node_history.proofs.Steps.{some_is}
-use Rattle.mtc_top.specs.Concluded.{Prints}
-use Rattle.mtc_top.specs.Courses.{Link, Turn, HasTurned, IsCourse, IsRecovered}
-use Rattle.mtc_top.specs.Courses.{WasMade}
+use Rattle.mtc_top.specs.Courses.{Link, Turn, HasTurned, IsCourse, IsHeard, IsRecovered, WasMade}
 use Rattle.mtc_top.specs.ExportLaws.{ExportsHoldTheSteps, HasExported}
 use Rattle.mtc_top.specs.Outcome.{spoken_outcome}
+use Rattle.mtc_top.specs.RunLaws.{Heard}
 use Rattle.mtc_top.proofs.Recovered.{handed_stand, last, read_again}
+use Rattle.mtc_top.proofs.Turns.{heard_run, not_refused, printed_so}
 
 -- ---- the steps of records
 
@@ -128,34 +127,26 @@ module _ {R S D O E : Type 0} (h : HashFunction) (rooms : Rooms R S D) (disks : 
       (course : IsCourse h rooms disks outs errs made links new) (settings : CosignerSettings)
       (public : List ℕ) (is : start ≡ Cosigner settings public) (turn : Turn R O E)
       (run : HasTurned h rooms disks outs errs new turn)
-      (spoken : command_of turn.words ≡ Ok (export name)) (done : turn.status ≡ 0)
+      (spoken : command_of turn.words ≡ Ok (export name)) (heard : IsHeard outs turn)
       (tells : rooms.tells new) where
     -- the reply is the one that is asked for
-    record Replied (wanted : Outcome) : Type 0 where
-      pub reply : Reply
-      pub meets : Meets wanted.answer reply
-      pub code : status_of reply ≡ 0
-      pub text : Prints outs turn.out turn.out_after (out_of reply)
+    abbrev heard_so : Heard h rooms disks outs errs turn.words new turn.room turn.out
+        turn.out_after turn.err turn.err_after turn.status
+    heard_so = heard_run h rooms disks outs errs new turn run heard
 
-    replied : (wanted : Outcome) → export_outcome h name (rooms.file new) ≡ wanted → Replied wanted
+    replied : (wanted : Outcome) → export_outcome h name (rooms.file new) ≡ wanted
+        → Meets wanted.answer heard_so.reply
     replied wanted asked =
-        let a = run.answered (λ five. omega (arith, done, five)) (λ six. omega (arith, done, six))
-        (λ eight. omega (arith, done, eight)) in
-        record {
-          reply = a.reply;
-          meets = subst (λ (w : Outcome). Meets w.answer a.reply)
-              (spoken_export h (command_of turn.words) name (rooms.file new) spoken ∙ asked)
-              (a.is (inl tells));
-          code = sym a.code ∙ done;
-          text = a.text;
-        }
+        subst (λ (w : Outcome). Meets w.answer heard_so.reply)
+        (spoken_export h (command_of turn.words) name (rooms.file new) spoken ∙ asked)
+        (heard_so.is (inl tells))
 
     exported : (file : Option (List ℕ)) → rooms.file new name ≡ file
         → HasExported h rooms disks outs errs settings public name made links new turn
     exported None none =
-        let r = replied (stops_at Missing name (codes "Absent"))
-        (asked_absent h name (rooms.file new) none) in
-        let seven : 7 ≡ 0 = ap status_of (sym r.meets) ∙ r.code in absurd (omega (arith, seven))
+        absurd (not_refused h rooms disks outs errs new turn run heard Missing (Some name)
+        (codes "Absent") (replied (stops_at Missing name (codes "Absent"))
+        (asked_absent h name (rooms.file new) none)))
     exported (Some c) there =
         let node = read_again h rooms disks outs errs image only told name start first made new
         links was course c (inr there) in
@@ -169,7 +160,7 @@ module _ {R S D O E : Type 0} (h : HashFunction) (rooms : Rooms R S D) (disks : 
         let own = of_first h settings public first node.of_node.others opened.0
         (subst (λ (n : NodeStart). StartsWith n first) is was.starts)
         (subst (λ (l : List (List ℕ)). cosigner_of h l ≡ Ok opened.0) node.of_node.is stands.1) in
-        let r = replied (export_says found)
+        let meets = replied (export_says found)
         (asked_there h name (rooms.file new) c found there opened.1) in
         let text = export_text opened.0 node.records in
         let recovered : IsRecovered h rooms disks outs errs name new node.records
@@ -185,8 +176,7 @@ module _ {R S D O E : Type 0} (h : HashFunction) (rooms : Rooms R S D) (disks : 
           list = node.records;
           recovered = recovered;
           text = text;
-          printed = subst (λ (reply : Reply). Prints outs turn.out turn.out_after (out_of reply))
-              r.meets r.text;
+          printed = printed_so h rooms disks outs errs new turn run heard text meets;
           export = export_of opened.0 again.0;
           read = again.2;
           cosigner_is = own.0;
@@ -204,7 +194,7 @@ module _ {R S D O E : Type 0} (h : HashFunction) (rooms : Rooms R S D) (disks : 
         }
 
   pub exports_hold : ExportsHoldTheSteps h rooms disks outs errs
-  exports_hold name start first made new links was course settings public is turn run spoken done =
-      exported name start first made new links was course settings public is turn run spoken done
+  exports_hold name start first made new links was course settings public is turn run spoken heard =
+      exported name start first made new links was course settings public is turn run spoken heard
       (last h rooms disks outs errs image only told name start first made new links was
       course).at.tells (rooms.file new name) refl

@@ -1,6 +1,7 @@
--- What a run by a command prints, step by step of its outcome.
-use Rattle.std.proofs.Common.{◌≡◌, inl, ℕ, true, false, Bool, List, [], ◌∷◌, length, Option, None}
-use Rattle.std.proofs.Common.{Some, Result, Ok, Err, codes, refl, sym, subst, ap, ◌∙◌, arith}
+-- What goes out of a run by a command, step by step of its outcome.
+use Rattle.std.proofs.Common.{◌≡◌, ◌≤◌, inl, ℕ, true, false, Bool, List, [], ◌∷◌}
+use Rattle.std.proofs.Common.{length, Option, None, Some, Result, Ok, Err, codes, refl, sym, subst}
+use Rattle.std.proofs.Common.{ap, ◌∙◌, ltb-false}
 use Rattle.std.specs.Prelude.{if◌then◌else◌, nat_lt}
 use Rattle.byte_forms.specs.Places.{IsBytes}
 use Rattle.byte_forms.specs.Types.{HashFunction}
@@ -28,93 +29,78 @@ use Rattle.issuance_log.specs.Folds.{log_fold, view_in}
 use Rattle.issuance_log.specs.Openings.{FoundLog, log_read}
 use Rattle.issuance_log.specs.Refusals.{add_refusal}
 use Rattle.issuance_log.specs.declared.error.LogError.{LogError}
-use Rattle.mtc_answers.specs.Answers.{Reply, out_of, refused, status_of, stopped_code}
+use Rattle.mtc_answers.specs.Answers.{Reply, refused}
 use Rattle.mtc_answers.specs.Made.{Journaled, appended}
 use Rattle.mtc_answers.specs.Served.{Journals, done_with}
 use Rattle.mtc_answers.specs.Steps.{Outcome, appends, stops_at, with_bytes, with_file}
 use Rattle.mtc_answers.specs.Steps.{with_form}
 use Rattle.mtc_answers.specs.Wanted.{Meets, exactly}
 use Rattle.mtc_answers.specs.declared.answer.Stopped.{Stopped}
-use Rattle.mtc_answers.specs.declared.answer.Stopped.TheVariants.{BadForm, BadWords, Beyond}
-use Rattle.mtc_answers.specs.declared.answer.Stopped.TheVariants.{Missing, NotAllowed}
+use Rattle.mtc_answers.specs.declared.answer.Stopped.TheVariants.{BadForm, Beyond, Missing}
 use Rattle.mtc_cosigner.specs.CosignerOutcomes.{cosigned_text, form_fault_text}
 use Rattle.mtc_cosigner.specs.CosignerOutcomes.{stepped}
 use Rattle.mtc_cosigner.specs.Works.{cosign_outcome, cosigner_open_text}
 use Rattle.mtc_logs.specs.IssueCommand.{issue_outcome}
 use Rattle.mtc_logs.specs.IssueOutcome.{issued, issued_text, request_fault_text}
-use Rattle.mtc_logs.specs.Works.{log_outcome}
-use Rattle.mtc_logs.specs.Works.{log_open_text, log_says}
+use Rattle.mtc_logs.specs.Works.{log_open_text, log_outcome, log_says}
 use Rattle.node_history.proofs.Cosigners.{number_added, sign_read}
 use Rattle.node_history.proofs.Entries.{item_read}
-use Rattle.mtc_top.specs.Concluded.{Prints}
-use Rattle.mtc_top.specs.Courses.{Turn, HasTurned, DidWith, AreAmong}
+use Rattle.mtc_top.specs.Courses.{Turn, HasTurned, DidWith, AreAmong, HasPrinted, IsHeard}
 use Rattle.mtc_top.specs.Outcome.{command_outcome, journals_of, spoken, spoken_outcome}
 use Rattle.mtc_top.specs.PrintLaws.{HasCosigned, HasIssued, IndicesArePrinted}
 use Rattle.mtc_top.specs.PrintLaws.{SignaturesArePrinted}
 use Rattle.mtc_top.specs.Run.{journals}
 use Rattle.mtc_top.proofs.Exports.{file_bytes}
-
--- a refusal has another status than 0
-no_stop : (why : Stopped) → stopped_code why ≡ 0 → ⊥
-no_stop BadWords is = omega (arith, is)
-no_stop BadForm is = omega (arith, is)
-no_stop NotAllowed is = omega (arith, is)
-no_stop Missing is = omega (arith, is)
-no_stop Beyond is = omega (arith, is)
+use Rattle.mtc_top.proofs.Turns.{heard_run, not_refused, printed_so}
 
 module _ {R S D O E : Type 0} (h : HashFunction) (rooms : Rooms R S D) (disks : Disks D)
     (outs : Sinks O) (errs : Sinks E)
     (told : (room : R) (name : List ℕ) → rooms.tells room
     → TellsFile disks.told (rooms.file room name) (rooms.device room name))
     (bytes : (d : D) (b : List ℕ) → disks.told d ≡ Some b → IsBytes b) where
-  module _ (name : List ℕ) (old : R) (turn : Turn R O E) where
-    -- with status 0 the run answered what this outcome wants, and did so with the one journal
+  module _ (name : List ℕ) (old : R) (turn : Turn R O E)
+      (run : HasTurned h rooms disks outs errs old turn) (heard : IsHeard outs turn) where
+    abbrev reply : Reply
+    reply = (heard_run h rooms disks outs errs old turn run heard).reply
+
+    -- the run answered what this outcome wants, and did so with the one journal
     record HasDone (wanted : Outcome) : Type 0 where
-      pub reply : Reply
       pub meets : Meets wanted.answer reply
-      pub code : status_of reply ≡ 0
-      pub text : Prints outs turn.out turn.out_after (out_of reply)
       pub journals_are : journals h rooms disks outs errs turn.words old turn.room turn.out
           turn.out_after turn.err turn.err_after ≡ done_with (name ∷ []) wanted.journals
 
-    done_so : (command : CommandValue) → rooms.tells old
-        → HasTurned h rooms disks outs errs old turn → command_of turn.words ≡ Ok command
-        → turn.status ≡ 0 → journals_of command ≡ name ∷ []
+    done_so : (command : CommandValue) → rooms.tells old → command_of turn.words ≡ Ok command
+        → journals_of command ≡ name ∷ []
         → HasDone (command_outcome h command (rooms.file old))
-    done_so command tells run spoken_so done named =
-        let a = run.answered (λ five. omega (arith, done, five)) (λ six. omega (arith, done, six))
-        (λ eight. omega (arith, done, eight)) in
-        record {
-          reply = a.reply;
-          meets = subst (λ (r : Result CommandValue WordError).
-              Meets (spoken_outcome h r (rooms.file old)).answer a.reply) spoken_so
-              (a.is (inl tells));
-          code = sym a.code ∙ done;
-          text = a.text;
-          journals_are = ap (λ (r : Result CommandValue WordError).
-              done_with (spoken journals_of r) (spoken_outcome h r (rooms.file old)).journals)
-              spoken_so
-              ∙ ap (λ (names : List (List ℕ)). done_with names
-              (command_outcome h command (rooms.file old)).journals) named;
-        }
+    done_so command tells spoken_so named = record {
+      meets = subst (λ (r : Result CommandValue WordError).
+          Meets (spoken_outcome h r (rooms.file old)).answer reply) spoken_so
+          ((heard_run h rooms disks outs errs old turn run heard).is (inl tells));
+      journals_are = ap (λ (r : Result CommandValue WordError).
+          done_with (spoken journals_of r) (spoken_outcome h r (rooms.file old)).journals)
+          spoken_so
+          ∙ ap (λ (names : List (List ℕ)). done_with names
+          (command_outcome h command (rooms.file old)).journals) named;
+    }
 
     none_stopped : (why : Stopped) (file : Option (List ℕ)) (reason : List ℕ)
         (dids : List Journaled)
         → HasDone (record { answer = exactly (refused why file reason); journals = dids }) → ⊥
     none_stopped why file reason dids done =
-        no_stop why (ap status_of (sym done.meets) ∙ done.code)
+        not_refused h rooms disks outs errs old turn run heard why file reason done.meets
 
     past_bytes : (limit : ℕ) (file : List ℕ) (o : Option (List ℕ)) (next : List ℕ → Outcome)
         → HasDone (with_bytes limit file o next)
-        → (b : List ℕ) × (o ≡ Some b) × HasDone (next b)
+        → (b : List ℕ) × (o ≡ Some b) × (length b ≤ limit) × HasDone (next b)
     past_bytes limit file None next done =
         absurd (none_stopped Missing (Some file) (codes "Absent") [] done)
-    past_bytes limit file (Some b) next done = go (nat_lt limit (length b)) done
+    past_bytes limit file (Some b) next done = go (nat_lt limit (length b)) refl done
       where
-        go : (t : Bool) → HasDone (if t then stops_at Beyond file (codes "TooLong") else next b)
-            → (c : List ℕ) × (Some b ≡ Some c) × HasDone (next c)
-        go true done = absurd (none_stopped Beyond (Some file) (codes "TooLong") [] done)
-        go false done = (b, refl, done)
+        go : (t : Bool) → nat_lt limit (length b) ≡ t
+            → HasDone (if t then stops_at Beyond file (codes "TooLong") else next b)
+            → (c : List ℕ) × (Some b ≡ Some c) × (length c ≤ limit) × HasDone (next c)
+        go true is done = absurd (none_stopped Beyond (Some file) (codes "TooLong") [] done)
+        go false is done = (b, refl, ltb-false limit (length b) is, done)
 
     past_file : (file : List ℕ) (o : Option (List ℕ)) (next : List ℕ → Outcome)
         → HasDone (with_file file o next) → (b : List ℕ) × (o ≡ Some b) × HasDone (next b)
@@ -132,15 +118,14 @@ module _ {R S D O E : Type 0} (h : HashFunction) (rooms : Rooms R S D) (disks : 
     -- it added this record, and printed this
     record HasAdded (list : List (List ℕ)) (body text : List ℕ) : Type 0 where
       pub did : DidWith h rooms disks outs errs old turn name (appended list body)
-      pub printed : Prints outs turn.out turn.out_after text
+      pub printed : HasPrinted outs turn text
 
     added_so : (list : List (List ℕ)) (body text : List ℕ) → HasDone (appends list body text)
         → HasAdded list body text
     added_so list body text done = record {
       did = subst (λ (js : Journals). AreAmong js name (appended list body))
           (sym done.journals_are) (inl (refl, refl));
-      printed = subst (λ (r : Reply). Prints outs turn.out turn.out_after (out_of r))
-          done.meets done.text;
+      printed = printed_so h rooms disks outs errs old turn run heard text done.meets;
     }
 
     -- ---- `cosign`
@@ -153,11 +138,11 @@ module _ {R S D O E : Type 0} (h : HashFunction) (rooms : Rooms R S D) (disks : 
 
     cosigned_so : (request : List ℕ) → rooms.tells old
         → HasDone (cosign_outcome h name request (rooms.file old))
-        → HasCosigned h rooms disks outs errs name old turn
+        → HasCosigned h rooms disks outs errs name request old turn
     unfolding cosign_outcome
     cosigned_so request tells done =
         let file = past_bytes 16777216 request (rooms.file old request) _ done in
-        let form = past_form form_fault_text request (subtree_in file.0) _ file.2 in
+        let form = past_form form_fault_text request (subtree_in file.0) _ file.3 in
         let journal = past_file name (rooms.file old name) _ form.2 in
         let found = past_form cosigner_open_text name (cosigner_read h journal.0) _ journal.2 in
         let are = file_bytes disks (rooms.file old name) (rooms.device old name) journal.0 bytes
@@ -173,6 +158,10 @@ module _ {R S D O E : Type 0} (h : HashFunction) (rooms : Rooms R S D) (disks : 
         let signs = sign_read h state r false (end_behind found.0.records)
         (subtree_only file.0 r asked form.1).1 added.1 in
         record {
+          text = file.0;
+          has_text = record { there = file.1; few = file.2 };
+          request = r;
+          asked = form.1;
           list = found.0.records;
           state = state;
           cosigner_is = stands.1;
@@ -180,7 +169,6 @@ module _ {R S D O E : Type 0} (h : HashFunction) (rooms : Rooms R S D) (disks : 
           did = added.0.did;
           uses = number_added h found.0.records state body state.key.next r.start r.end r.hash
               r.proof stands.1 signs;
-          request = r;
           signs = signs;
           printed = added.0.printed;
         }
@@ -196,11 +184,11 @@ module _ {R S D O E : Type 0} (h : HashFunction) (rooms : Rooms R S D) (disks : 
 
     of_request : (request : List ℕ) → rooms.tells old
         → HasDone (issue_outcome h name request (rooms.file old))
-        → HasIssued h rooms disks outs errs name old turn
+        → HasIssued h rooms disks outs errs name request old turn
     unfolding log_outcome log_says
     of_request request tells done =
         let file = past_bytes 16777216 request (rooms.file old request) _ done in
-        let form = past_form request_fault_text request (request_of file.0) _ file.2 in
+        let form = past_form request_fault_text request (request_of file.0) _ file.3 in
         let journal = past_file name (rooms.file old name) _ form.2 in
         let found = past_form log_open_text name (log_read h journal.0) _ journal.2 in
         let are = file_bytes disks (rooms.file old name) (rooms.device old name) journal.0 bytes
@@ -210,23 +198,26 @@ module _ {R S D O E : Type 0} (h : HashFunction) (rooms : Rooms R S D) (disks : 
         let added = issued_so form.0 found.0 (add_refusal (view_in state) false
         (end_behind found.0.records) (issued_entry h state form.0) form.0.key) found.2 in
         record {
+          text = file.0;
+          has_text = record { there = file.1; few = file.2 };
+          request = form.0;
+          asked = form.1;
           list = found.0.records;
           state = state;
           log_is = stands.1;
           body = issued_record h state form.0;
           did = added.0.did;
-          request = form.0;
           item = item_read (view_in state) false (end_behind found.0.records)
               (issued_entry h state form.0) form.0.key added.1;
           printed = added.0.printed;
         }
 
   pub signatures_printed : SignaturesArePrinted h rooms disks outs errs
-  signatures_printed name request old turn tells run spoken_so done =
-      cosigned_so name old turn request tells
-      (done_so name old turn (cosign name request) tells run spoken_so done refl)
+  signatures_printed name request old turn tells run spoken_so heard =
+      cosigned_so name old turn run heard request tells
+      (done_so name old turn run heard (cosign name request) tells spoken_so refl)
 
   pub indices_printed : IndicesArePrinted h rooms disks outs errs
-  indices_printed name request old turn tells run spoken_so done =
-      of_request name old turn request tells
-      (done_so name old turn (issue name request) tells run spoken_so done refl)
+  indices_printed name request old turn tells run spoken_so heard =
+      of_request name old turn run heard request tells
+      (done_so name old turn run heard (issue name request) tells spoken_so refl)

@@ -282,9 +282,8 @@ module _ {R S D O E : Type 0} (h : HashFunction) (rooms : Rooms R S D) (disks : 
           tells = tells;
           turn = turn;
           turned = run;
-          done = done;
           leaves = refl;
-          did = did;
+          did = inl (done, did);
           starts = start.1;
         },
       )

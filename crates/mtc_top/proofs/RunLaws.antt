@@ -1,9 +1,14 @@
 -- What follows of each run, and how it ends as steps of a node.
 use Rattle.std.proofs.Common.{◌≡◌, ◌≢◌, ◌≤◌, ◌⊎◌, inl, inr, ℕ, List, [], ◌∷◌, ◌++◌, Option}
-use Rattle.std.proofs.Common.{None, Some, sym, subst, arith, rules}
-use Rattle.std.proofs.lemmas.Bool.Decides.{eqb_tells}
+use Rattle.std.proofs.Common.{None, Some, IsErr, codes, length, take, refl, sym, ap, subst, ◌∙◌}
+use Rattle.std.proofs.Common.{arith, rules, length-take, take_all}
+use Rattle.std.proofs.Math.Seq.{take-length}
+use Rattle.std.proofs.lemmas.Bool.Decides.{eqb_tells, leb_tells}
+use Rattle.std.proofs.lemmas.List.{append_cancel_left, take-take}
 use Rattle.std.specs.Io.KnownBytes.{Appends}
 use Rattle.disk_core.specs.declared.disk.Disk.{Ghosts as Disks}
+use Rattle.mtc_io.specs.Counts.{Rose}
+use Rattle.mtc_io.specs.Streams.{AppendsPrefix}
 use Rattle.mtc_io.specs.declared.sink.Sink.{Ghosts as Sinks}
 use Rattle.mtc_room.specs.Room.{TellsFile}
 use Rattle.mtc_room.specs.declared.room.Room.{Ghosts as Rooms}
@@ -17,15 +22,16 @@ use Rattle.mtc_answers.specs.Valid.{AddsValid}
 use Rattle.mtc_answers.specs.declared.answer.Said.TheVariants.{Done, Against, Collided}
 use Rattle.mtc_answers.proofs.Made.{ReadsImage}
 use Rattle.mtc_answers.proofs.Served.{each_so, both_so}
-use Rattle.mtc_top.specs.Concluded.{Prints}
-use Rattle.mtc_words.specs.Words.{command_of}
+use Rattle.mtc_answers.specs.Lines.{line_of}
+use Rattle.mtc_top.specs.Concluded.{Prints, PrintsFront, Reports}
+use Rattle.mtc_words.specs.Words.{command_of, known_word}
 use Rattle.node_history.specs.Nodes.{HistoryState, fresh_node}
 use Rattle.node_history.specs.Rules.{AreRecords}
 use Rattle.node_history.specs.declared.start.NodeStart.{NodeStart}
 use Rattle.mtc_top.specs.Nodes.{AllStandForNode, TookSome}
 use Rattle.mtc_top.specs.Outcome.{spoken_rules}
 use Rattle.mtc_top.specs.Run.{journals, HasRun}
-use Rattle.mtc_top.specs.RunLaws.{RunShows, RunSteps, took}
+use Rattle.mtc_top.specs.RunLaws.{FrontsAreRuns, Heard, RunShows, RunSteps, took}
 use Rattle.mtc_top.proofs.Runs.{reply_code}
 use Rattle.mtc_top.proofs.Commands.{IsNewAt, spoken_new, spoken_records}
 use Rattle.mtc_top.proofs.Nodes.{kept_ends, failed_ends, made_ends, took_dec, file_stands}
@@ -36,6 +42,34 @@ pub took_none : (old new : Option (List ℕ)) → Appends old new [] → TookSom
 took_none None new none took = took
 took_none (Some xs) None none took = took
 took_none (Some xs) (Some ys) none took = grind (rules, arith, none, took)
+
+pub front_none : (old new : Option (List ℕ)) → AppendsPrefix old new [] → TookSome old new → ⊥
+front_none old new front took =
+    took_none old new (subst (Appends old new) (take_all front.0 [] (omega arith)) front.1) took
+
+whole_front : (old new : Option (List ℕ)) (text : List ℕ) → Appends old new text
+    → AppendsPrefix old new text
+whole_front old new text whole =
+    (length text, subst (Appends old new) (sym (take-length text)) whole)
+
+-- a front of a front
+take_both : (j k : ℕ) (l : List ℕ) → (n : ℕ) × (take j (take k l) ≡ take n l)
+take_both j k l = elim (leb_tells j k) [
+  | inl less ↦ (j, take-take j k l less.1)
+  | inr more ↦ (k, take_all j (take k l) (omega (arith, more.1, length-take k l)))
+]
+
+-- a front of what went out of a text is one of the text
+front_on : (old new failed : Option (List ℕ)) (text whole : List ℕ) → TookSome old new
+    → Appends old new text → AppendsPrefix old new whole → AppendsPrefix old failed text
+    → AppendsPrefix old failed whole
+front_on None new failed text whole took is of front = absurd took
+front_on (Some xs) None failed text whole took is of front = absurd took
+front_on (Some xs) (Some ys) failed text whole took is of front =
+    let same : text ≡ take of.0 whole = append_cancel_left xs text (take of.0 whole)
+    (sym is ∙ of.1) in
+    let both = take_both front.0 of.0 whole in
+    (both.0, subst (Appends (Some xs) failed) (ap (take front.0) same ∙ both.1) front.1)
 
 -- a reply with another status than 0, 3 and 10 prints nothing
 silent_reply : (P : List ℕ → Type 0) (reply : Reply) (status : ℕ) → status ≡ status_of reply
@@ -71,6 +105,38 @@ module _ {R S D O E : Type 0} (h : List ℕ → List ℕ) (rooms : Rooms R S D) 
     (outs : Sinks O) (errs : Sinks E) (words : List (List ℕ))
     (old new : R) (out out' : O) (err err' : E) (status : ℕ)
     (run : HasRun h rooms disks outs errs words old new out out' err err' status) where
+  -- where a byte went out neither the room nor memory ended it
+  pub not_failed : TookSome (outs.taken out) (outs.taken out') → status ≢ 5
+  not_failed some is = took_none _ _ (run.room_failed is).text some
+
+  pub not_wanting : TookSome (outs.taken out) (outs.taken out') → status ≢ 8
+  not_wanting some is = took_none _ _ (run.no_memory is).text some
+
+  pub run_heard : status ≢ 5 → status ≢ 8
+      → Heard h rooms disks outs errs words old new out out' err err' status
+  run_heard not5 not8 = elim (eqb_tells status 6) [
+    | inl is6 ↦
+        (let o = run.out_failed is6.1 in
+        record {
+          reply = o.reply;
+          is = o.is;
+          front = o.text;
+          whole = λ not6. absurd (not6 is6.1);
+          made = o.made;
+          began = o.began;
+        })
+    | inr not6 ↦
+        (let a = run.answered not5 not6.1 not8 in
+        record {
+          reply = a.reply;
+          is = a.is;
+          front = whole_front _ _ _ a.text;
+          whole = λ other. (a.code, a.text);
+          made = a.made;
+          began = a.began;
+        })
+  ]
+
   pub run_shows : RunShows h rooms disks outs errs words old new out out' err err' status
   run_shows = record {
     known = elim (eqb_tells status 5) [
@@ -97,7 +163,78 @@ module _ {R S D O E : Type 0} (h : List ℕ → List ℕ) (rooms : Rooms R S D) 
             a.reply status a.code not0 not3 not10 a.text)
       ]
     ];
+    heard = λ some. run_heard (not_failed some) (not_wanting some);
   }
+
+  -- ---- a front of what went out
+
+  module _ (some : TookSome (outs.taken out) (outs.taken out')) where
+    abbrev heard_all : Heard h rooms disks outs errs words old new out out' err err' status
+    heard_all = run_heard (not_failed some) (not_wanting some)
+
+    silent_none : status ≢ 0 → status ≢ 3 → status ≢ 6 → status ≢ 10 → ⊥
+    silent_none not0 not3 not6 not10 =
+        took_none _ _ (run_shows.silent not0 not3 not6 not10) some
+
+    spoken_words : IsErr (command_of words) → ⊥
+    spoken_words bad =
+        let one = run.read.first bad (not_wanting some) in
+        silent_none (λ is. omega (arith, one, is)) (λ is. omega (arith, one, is))
+        (λ is. omega (arith, one, is)) (λ is. omega (arith, one, is))
+
+    other_code : (n : ℕ) → status ≡ n → n ≢ 0 → n ≢ 3 → n ≢ 6 → n ≢ 10 → ⊥
+    other_code n is not0 not3 not6 not10 = silent_none (λ z. not0 (sym is ∙ z))
+        (λ z. not3 (sym is ∙ z)) (λ z. not6 (sym is ∙ z)) (λ z. not10 (sym is ∙ z))
+
+    not_early : IsEarly status → ⊥
+    not_early early = elim early [
+      | inl is1 ↦ other_code 1 is1 (λ z. omega (arith, z)) (λ z. omega (arith, z))
+          (λ z. omega (arith, z)) (λ z. omega (arith, z))
+      | inr rest ↦ elim rest [
+        | inl is2 ↦ other_code 2 is2 (λ z. omega (arith, z)) (λ z. omega (arith, z))
+            (λ z. omega (arith, z)) (λ z. omega (arith, z))
+        | inr rest' ↦ elim rest' [
+          | inl is5 ↦ absurd (not_failed some is5)
+          | inr rest'' ↦ elim rest'' [
+            | inl is7 ↦ other_code 7 is7 (λ z. omega (arith, z)) (λ z. omega (arith, z))
+                (λ z. omega (arith, z)) (λ z. omega (arith, z))
+            | inr last ↦ elim last [
+              | inl is8 ↦ absurd (not_wanting some is8)
+              | inr is9 ↦ other_code 9 is9 (λ z. omega (arith, z)) (λ z. omega (arith, z))
+                  (λ z. omega (arith, z)) (λ z. omega (arith, z))
+            ]
+          ]
+        ]
+      ]
+    ]
+
+    front_is_run : (failed : O) (told : E) (text : List ℕ) → Prints outs out out' text
+        → PrintsFront outs out failed text → Rose (outs.faults out) (outs.faults failed)
+        → Reports errs err told (line_of (known_word words) None (codes "OutputFailed"))
+        → HasRun h rooms disks outs errs words old new out failed err told 6
+    front_is_run failed told text is front cause line = record {
+      read = record {
+        only = λ one. absurd (omega (arith, one));
+        first = λ bad not8. absurd (spoken_words bad);
+      };
+      answered = λ not5 not6 not8. absurd (not6 refl);
+      room_failed = λ five. absurd (omega (arith, five));
+      out_failed = λ six. record {
+        cause = cause;
+        reply = heard_all.reply;
+        is = heard_all.is;
+        text = front_on _ _ _ _ _ some is heard_all.front front;
+        line = line;
+        made = heard_all.made;
+        began = heard_all.began;
+      };
+      no_memory = λ eight. absurd (omega (arith, eight));
+      back = run.back;
+      no_file = run.no_file;
+      early = λ tells. each_so _ _ (λ name did early is. absurd (not_early (early is)))
+          (journals h rooms disks outs errs words old new out out' err err') (run.early tells);
+      valid = run.valid;
+    }
 
   abbrev pub TellsFiles : R → Type 0
   TellsFiles room =
@@ -220,3 +357,10 @@ module _ {R S D O E : Type 0} (h : List ℕ → List ℕ) (rooms : Rooms R S D) 
         ]
       ]
     ]
+
+pub fronts_are_runs : {R S D O E : Type 0} (h : List ℕ → List ℕ) (rooms : Rooms R S D)
+    (disks : Disks D) (outs : Sinks O) (errs : Sinks E) → FrontsAreRuns h rooms disks outs errs
+fronts_are_runs {R} {S} {D} {O} {E} h rooms disks outs errs words old new out out' failed err err'
+    told status text run some is front cause line =
+    front_is_run h rooms disks outs errs words old new out out' err err' status run some failed
+    told text is front cause line

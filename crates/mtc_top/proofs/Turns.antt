@@ -1,17 +1,24 @@
 -- What is known of one run of a course.
-use Rattle.std.proofs.Common.{◌≡◌, ◌⊎◌, inl, inr, ℕ, true, false, Bool, List, [], ◌∷◌, ◌++◌}
-use Rattle.std.proofs.Common.{Option, None, Some, refl, sym, subst, ◌∙◌}
-use Rattle.std.proofs.Common.{arith}
+use Rattle.std.proofs.Common.{◌≡◌, ◌≢◌, ◌⊎◌, inl, inr, ℕ, true, false, Bool, List, [], ◌∷◌}
+use Rattle.std.proofs.Common.{◌++◌, Option, None, Some, refl, sym, subst, ap, ◌∙◌, arith}
 use Rattle.std.proofs.Common.{true≢false}
+use Rattle.std.proofs.lemmas.Bool.Decides.{eqb_tells}
 use Rattle.std.proofs.lemmas.Slice.Eq.{bytes_eq-Decides}
 use Rattle.std.specs.Str.{bytes_eq}
 use Rattle.byte_forms.specs.Types.{HashFunction}
 use Rattle.disk_core.specs.declared.disk.Disk.{Ghosts as Disks}
 use Rattle.mtc_io.specs.declared.sink.Sink.{Ghosts as Sinks}
+use Rattle.journal_core.specs.Format.{StandsFor}
 use Rattle.mtc_room.specs.Room.{TellsFile}
 use Rattle.mtc_room.specs.declared.room.Room.{Ghosts as Rooms}
 use Rattle.mtc_words.specs.Words.{command_of}
-use Rattle.mtc_answers.specs.Made.{Journaled, appended, started, images_at, images_since, moment_at}
+use Rattle.mtc_answers.specs.Answers.{Reply, out_of, refused, said, status_of, stopped_code}
+use Rattle.mtc_answers.specs.declared.answer.Said.TheVariants.{Done}
+use Rattle.mtc_answers.specs.declared.answer.Stopped.{Stopped}
+use Rattle.mtc_answers.specs.declared.answer.Stopped.TheVariants.{BadForm, BadWords, Beyond}
+use Rattle.mtc_answers.specs.declared.answer.Stopped.TheVariants.{Missing, NotAllowed}
+use Rattle.mtc_answers.specs.Made.{Journaled, appended, reads, started, images_at, images_since}
+use Rattle.mtc_answers.specs.Made.{moment_at}
 use Rattle.mtc_answers.specs.Served.{Journals, IsOther, OfEach, done_with, first_journaled}
 use Rattle.mtc_answers.specs.Served.{LeavesEach, rest_journaled}
 use Rattle.mtc_answers.specs.Made.{HasMade, Leaves}
@@ -19,14 +26,15 @@ use Rattle.mtc_answers.specs.Valid.{LeavesValid}
 use Rattle.mtc_answers.proofs.Made.{OnlyNow, ReadsImage}
 use Rattle.node_history.specs.Rules.{AreRecords}
 use Rattle.mtc_top.specs.Courses.{Turn, Link, ran, stops, cut, AreAmong, HasTurned, DidWith}
-use Rattle.mtc_top.specs.Courses.{images_in, images_from, IsCourse, HasHeld}
-use Rattle.mtc_top.specs.Courses.{WasHeld, HandsOut, WasHandedOut}
+use Rattle.mtc_top.specs.Concluded.{Prints, PrintsFront}
+use Rattle.mtc_top.specs.Courses.{images_in, images_from, IsCourse, HasHeld, HasPrinted, IsHeard}
+use Rattle.mtc_top.specs.Courses.{OfEachTurn, WasHeld, HandsOut, WasHandedOut}
 use Rattle.mtc_top.specs.Run.{journals}
-use Rattle.mtc_top.specs.RunLaws.{RunSteps}
+use Rattle.mtc_top.specs.RunLaws.{Heard, RunSteps}
 use Rattle.mtc_top.specs.Outcome.{spoken_rules}
 use Rattle.mtc_top.proofs.Commands.{IsNewAt, spoken_new, spoken_records}
 use Rattle.mtc_top.proofs.Nodes.{no_file_stands, some_image}
-use Rattle.mtc_top.proofs.RunLaws.{run_steps, took_none}
+use Rattle.mtc_top.proofs.RunLaws.{front_none, run_heard, run_steps, took_none}
 
 -- ---- the journals of a run
 
@@ -66,6 +74,71 @@ pub now_of : {D : Type 0} (g : Disks D) → OnlyNow g → (x : Option D) (c : Li
 now_of g only None c is = is
 now_of g only (Some d) c is = only d c is
 
+-- ---- a run that did its work, or of which a byte went out
+
+-- a refusal has another status than 0
+no_stop : (why : Stopped) → stopped_code why ≡ 0 → ⊥
+no_stop BadWords is = omega (arith, is)
+no_stop BadForm is = omega (arith, is)
+no_stop NotAllowed is = omega (arith, is)
+no_stop Missing is = omega (arith, is)
+no_stop Beyond is = omega (arith, is)
+
+module _ {R S D O E : Type 0} (h : HashFunction) (rooms : Rooms R S D) (disks : Disks D)
+    (outs : Sinks O) (errs : Sinks E) (old : R) (turn : Turn R O E)
+    (run : HasTurned h rooms disks outs errs old turn) (heard : IsHeard outs turn) where
+  heard_not5 : turn.status ≢ 5
+  heard_not5 five = elim heard [
+    | inl zero_ ↦ omega (arith, zero_, five)
+    | inr took ↦ took_none _ _ (run.room_failed five).text took
+  ]
+
+  heard_not8 : turn.status ≢ 8
+  heard_not8 eight = elim heard [
+    | inl zero_ ↦ omega (arith, zero_, eight)
+    | inr took ↦ took_none _ _ (run.no_memory eight).text took
+  ]
+
+  pub heard_run : Heard h rooms disks outs errs turn.words old turn.room turn.out turn.out_after
+      turn.err turn.err_after turn.status
+  heard_run = run_heard h rooms disks outs errs turn.words old turn.room turn.out turn.out_after
+      turn.err turn.err_after turn.status run heard_not5 heard_not8
+
+  -- a text that was asked for went out, or a front of it
+  pub printed_so : (text : List ℕ) → heard_run.reply ≡ said Done text → HasPrinted outs turn text
+  printed_so text is = record {
+    ends = elim (eqb_tells turn.status 6) [
+      | inl is6 ↦ inr is6.1
+      | inr not6 ↦ inl ((heard_run.whole not6.1).0 ∙ ap status_of is)
+    ];
+    front = subst (λ (r : Reply). PrintsFront outs turn.out turn.out_after (out_of r)) is
+        heard_run.front;
+    whole = λ zero_. subst (λ (r : Reply). Prints outs turn.out turn.out_after (out_of r)) is
+        (heard_run.whole (λ six. omega (arith, zero_, six))).1;
+  }
+
+  -- no refusal was asked for
+  pub not_refused : (why : Stopped) (file : Option (List ℕ)) (reason : List ℕ)
+      → heard_run.reply ≡ refused why file reason → ⊥
+  not_refused why file reason is = elim heard [
+    | inl zero_ ↦ no_stop why (ap status_of (sym is)
+        ∙ sym (heard_run.whole (λ six. omega (arith, zero_, six))).0 ∙ zero_)
+    | inr took ↦ front_none _ _ (subst (λ (r : Reply).
+        PrintsFront outs turn.out turn.out_after (out_of r)) is heard_run.front) took
+  ]
+
+  -- the run has held its records with the one that it added
+  pub heard_held : (name : List ℕ) (list : List (List ℕ)) (body : List ℕ)
+      → DidWith h rooms disks outs errs old turn name (appended list body)
+      → HasHeld h rooms disks outs errs name old turn (list ++ body ∷ [])
+  heard_held name list body did = record {
+    did = appended list body;
+    among = did;
+    held = refl;
+    no_failure = heard_not5;
+    no_want = heard_not8;
+  }
+
 module _ {R S D O E : Type 0} (h : HashFunction) (rooms : Rooms R S D) (disks : Disks D)
     (outs : Sinks O) (errs : Sinks E) (image : ReadsImage disks) (only : OnlyNow disks)
     (told : (room : R) (name : List ℕ) → rooms.tells room
@@ -95,6 +168,18 @@ module _ {R S D O E : Type 0} (h : HashFunction) (rooms : Rooms R S D) (disks : 
       (run_steps h rooms disks outs errs turn.words old turn.room turn.out turn.out_after
       turn.err turn.err_after turn.status run image (λ n. told old n tells)
       (λ n. told turn.room n (run.back.tells tells)) tells) among
+
+  -- the records of a journal that was found are all that is left of it
+  pub read_stands : (old : R) (turn : Turn R O E) (name : List ℕ) (list : List (List ℕ))
+      → Turned old turn → rooms.tells old → turn.status ≢ 5 → turn.status ≢ 8
+      → Did old turn name (reads list) → (c : List ℕ) → Images turn.room name c
+      → StandsFor c list
+  read_stands old turn name list run tells not5 not8 did =
+      let made = (run_heard h rooms disks outs errs turn.words old turn.room turn.out
+      turn.out_after turn.err turn.err_after turn.status run not5 not8).made tells in
+      (of_each (λ n d. Leaves disks (HasMade d) (rooms.device old n) (rooms.device turn.room n))
+      (journals h rooms disks outs errs turn.words old turn.room turn.out turn.out_after
+      turn.err turn.err_after) name (reads list) made did).images.now_is
 
   -- a journal that was made has the records of a log or a cosigner
   pub made_records : (name first : List ℕ) (old : R) (turn : Turn R O E) → rooms.tells old
@@ -132,13 +217,8 @@ module _ {R S D O E : Type 0} (h : HashFunction) (rooms : Rooms R S D) (disks : 
   handed_held : (name : List ℕ) (old : R) (turn : Turn R O E) (list : List (List ℕ))
       (body : List ℕ) → Turned old turn → HandsOut h rooms disks outs errs name old turn list body
       → HasHeld h rooms disks outs errs name old turn (list ++ body ∷ [])
-  handed_held name old turn list body run hands = record {
-    did = appended list body;
-    among = hands.0;
-    held = refl;
-    no_failure = λ is. took_none _ _ (run.room_failed is).text hands.1;
-    no_want = λ is. took_none _ _ (run.no_memory is).text hands.1;
-  }
+  handed_held name old turn list body run hands =
+      heard_held h rooms disks outs errs old turn run (inr hands.1) name list body hands.0
 
   pub all_held : (name : List ℕ) (old new : R) (links : List (Link R O E))
       (list : List (List ℕ)) (body : List ℕ) → IsCourse h rooms disks outs errs old links new
@@ -153,3 +233,24 @@ module _ {R S D O E : Type 0} (h : HashFunction) (rooms : Rooms R S D) (disks : 
       all_held name room new links list body course.1 was
   all_held name old new (cut turn room ∷ links) list body course was =
       all_held name room new links list body course.1 was
+
+  -- what holds of each run of a course, and of the records that it held
+  pub each_held : (name : List ℕ) (Held : List (List ℕ) → Type 0) (P : R → Turn R O E → Type 0)
+      (old new : R) (links : List (Link R O E)) → rooms.tells old
+      → IsCourse h rooms disks outs errs old links new
+      → ((list : List (List ℕ)) → WasHeld h rooms disks outs errs name old links list → Held list)
+      → ((room : R) (turn : Turn R O E) → rooms.tells room → Turned room turn
+      → ((list : List (List ℕ)) → HasHeld h rooms disks outs errs name room turn list → Held list)
+      → P room turn)
+      → OfEachTurn h rooms disks outs errs P old links
+  each_held name Held P old new [] tells course held each = tt
+  each_held name Held P old new (ran turn ∷ links) tells course held each = (
+    each old turn tells course.0 (λ list is. held list (inl is)),
+    each_held name Held P turn.room new links (course.0.back.tells tells) course.1
+        (λ list is. held list (inr is)) each,
+  )
+  each_held name Held P old new (stops room ∷ links) tells course held each =
+      each_held name Held P room new links (course.0.tells tells) course.1 held each
+  each_held name Held P old new (cut turn room ∷ links) tells course held each =
+      each_held name Held P room new links (course.0.1.tells (course.0.0.back.tells tells))
+      course.1 held each

@@ -1,4 +1,4 @@
--- What holds of each course behind the run that made a journal.
+-- What holds of each course behind the run that made a journal, or found it new.
 use Rattle.std.specs.Prelude.{◌≡◌, ◌⊎◌, ℕ, true, List, [], ◌∷◌, ◌++◌, length, Some, Ok}
 use Rattle.byte_forms.specs.Types.{HashFunction, Text}
 use Rattle.disk_core.specs.declared.disk.Disk.{Ghosts as Disks}
@@ -36,7 +36,7 @@ UsesKey list body number = indices_of (list ++ body ∷ []) ≡ indices_of list 
 
 module _ {R S D O E : Type 0} (h : HashFunction) (rooms : Rooms R S D) (disks : Disks D)
     (outs : Sinks O) (errs : Sinks E) where
-  -- So it is of each course behind a run that made the journal.
+  -- So it is of each course behind a run that made the journal, or found it new.
   abbrev pub OfCourses : (Text → NodeStart → Text → R → List (Link R O E) → R → Type 0)
       → Type 0
   OfCourses P = (name : Text) (start : NodeStart) (first : Text) (made new : R)

@@ -6,13 +6,15 @@ use Rattle.disk_core.specs.declared.disk.Disk.{Ghosts as Disks}
 use Rattle.journal_core.specs.Format.{StandsFor}
 use Rattle.mtc_io.specs.declared.sink.Sink.{Ghosts as Sinks}
 use Rattle.mtc_room.specs.declared.room.Room.{Ghosts as Rooms}
-use Rattle.mtc_answers.specs.Made.{Journaled, appended, started, images_at, images_since, moment_at}
+use Rattle.mtc_answers.specs.Made.{Journaled, appended, reads, started, images_at, images_since}
+use Rattle.mtc_answers.specs.Made.{moment_at}
 use Rattle.mtc_answers.specs.Served.{Journals}
 use Rattle.node_history.specs.Laws.{LeadsTo, handed_bodies}
 use Rattle.node_history.specs.Nodes.{HistoryState}
 use Rattle.node_history.specs.Rules.{StartsWith, may_follow}
 use Rattle.node_history.specs.declared.start.NodeStart.{NodeStart}
 use Rattle.node_history.specs.declared.step.NodeStep.{NodeStep}
+use Rattle.mtc_top.specs.Concluded.{Prints, PrintsFront}
 use Rattle.mtc_top.specs.Nodes.{AllStandForNode, TookSome, records_left}
 use Rattle.mtc_top.specs.Run.{HasRun, journals}
 
@@ -48,6 +50,18 @@ abbrev pub AreAmong : Journals → Text → Journaled → Type 0
 AreAmong [] name did = ⊥
 AreAmong (journal ∷ rest) name did =
     ((journal.0 ≡ name) × (journal.1 ≡ did)) ⊎ AreAmong rest name did
+
+module _ {R O E : Type 0} (outs : Sinks O) (turn : Turn R O E) where
+  -- The run did its work, or a byte of it went out.
+  abbrev pub IsHeard : Type 0
+  IsHeard = (turn.status ≡ 0) ⊎ TookSome (outs.taken turn.out) (outs.taken turn.out_after)
+
+  -- A front of this text went out: the whole with status 0, and with 6 what came before standard
+  -- output failed.
+  pub record HasPrinted (text : Text) : Type 0 where
+    pub ends : (turn.status ≡ 0) ⊎ (turn.status ≡ 6)
+    pub front : PrintsFront outs turn.out turn.out_after text
+    pub whole : turn.status ≡ 0 → Prints outs turn.out turn.out_after text
 
 module _ {R S D O E : Type 0} (h : HashFunction) (rooms : Rooms R S D) (disks : Disks D)
     (outs : Sinks O) (errs : Sinks E) where
@@ -89,17 +103,26 @@ module _ {R S D O E : Type 0} (h : HashFunction) (rooms : Rooms R S D) (disks : 
   IsCourse old [] new = new ≡ old
   IsCourse old (link ∷ links) new = IsLink old link × IsCourse (room_after link) links new
 
-  -- A run made this journal, and its first record is one with which such a node begins. It ended
-  -- with status 0, or with 6: then standard output failed, and the journal is whole.
+  -- This journal is there, and its one record is one with which such a node begins. A run made it,
+  -- and ended with status 0, or with 6: then standard output failed, and the journal is whole. Or a
+  -- run found it so, and ended without a failure of the room and with memory: the one that had made
+  -- it may have failed.
   pub record WasMade (name : Text) (start : NodeStart) (first : Text) (made : R) : Type 0 where
     pub old : R
     pub tells : rooms.tells old
     pub turn : Turn R O E
     pub turned : HasTurned old turn
-    pub done : (turn.status ≡ 0) ⊎ (turn.status ≡ 6)
     pub leaves : turn.room ≡ made
-    pub did : DidWith old turn name (started first)
+    pub did : (((turn.status ≡ 0) ⊎ (turn.status ≡ 6)) × DidWith old turn name (started first))
+        ⊎ ((turn.status ≢ 5) × (turn.status ≢ 8) × DidWith old turn name (reads (first ∷ [])))
     pub starts : StartsWith start first
+
+  -- It is so of each run of the course, with the room in which it began.
+  abbrev pub OfEachTurn : (R → Turn R O E → Type 0) → R → List (Link R O E) → Type 0
+  OfEachTurn P old [] = Unit {0}
+  OfEachTurn P old (ran turn ∷ links) = P old turn × OfEachTurn P turn.room links
+  OfEachTurn P old (stops new ∷ links) = OfEachTurn P new links
+  OfEachTurn P old (cut turn new ∷ links) = OfEachTurn P new links
 
   -- With these records the journal may be recovered: a crash may leave a file that stands for them.
   abbrev pub IsRecovered : Text → R → List Text → Type 0

@@ -14,13 +14,13 @@ use Rattle.cosigner_core.specs.declared.progress.Progress.{Progress}
 use Rattle.cosigner_core.specs.declared.settings.CosignerSettings.{CosignerSettings}
 use Rattle.cosigner_core.specs.declared.step.Step.{Step}
 use Rattle.node_history.specs.declared.start.NodeStart.TheVariants.{Cosigner}
-use Rattle.mtc_top.specs.Concluded.{Prints}
 use Rattle.mtc_top.specs.CourseLaws.{OfCourses}
-use Rattle.mtc_top.specs.Courses.{Link, Turn, HasTurned, IsRecovered, WasHandedOut}
+use Rattle.mtc_top.specs.Courses.{Link, Turn, HasPrinted, HasTurned, IsHeard, IsRecovered}
+use Rattle.mtc_top.specs.Courses.{WasHandedOut}
 
 module _ {R S D O E : Type 0} (h : HashFunction) (rooms : Rooms R S D) (disks : Disks D)
     (outs : Sinks O) (errs : Sinks E) where
-  -- The run printed the export of a list with which the journal might have been recovered then. It
+  -- What went out is the export of a list with which the journal might have been recovered then. It
   -- has the ids of the settings and this public key. It is read as the steps of these records, each
   -- of which is allowed, and each step that was handed out before is among them.
   pub record HasExported (settings : CosignerSettings) (public name : Text) (made : R)
@@ -28,7 +28,7 @@ module _ {R S D O E : Type 0} (h : HashFunction) (rooms : Rooms R S D) (disks : 
     pub list : List Text
     pub recovered : IsRecovered h rooms disks outs errs name old list
     pub text : Text
-    pub printed : Prints outs turn.out turn.out_after text
+    pub printed : HasPrinted outs turn text
     pub export : Export
     pub read : export_in h text ≡ Ok (Some export)
     pub cosigner_is : export.cosigner ≡ settings.id
@@ -41,10 +41,11 @@ module _ {R S D O E : Type 0} (h : HashFunction) (rooms : Rooms R S D) (disks : 
         → WasHandedOut h rooms disks outs errs name made links (first ∷ front) body
         → step_in body ≡ Some step → Contains export.steps step
 
-  -- So it is of each run of `export` with status 0 behind a course of a cosigner's journal.
+  -- So it is of each run of `export` behind a course of a cosigner's journal that did its work, or
+  -- of which a byte went out.
   abbrev pub ExportsHoldTheSteps : Type 0
   ExportsHoldTheSteps = OfCourses h rooms disks outs errs (λ name start first made links new.
       (settings : CosignerSettings) (public : Text) → start ≡ Cosigner settings public
       → (turn : Turn R O E) → HasTurned h rooms disks outs errs new turn
-      → command_of turn.words ≡ Ok (export name) → turn.status ≡ 0
+      → command_of turn.words ≡ Ok (export name) → IsHeard outs turn
       → HasExported settings public name made links new turn)

@@ -5,6 +5,7 @@ pub mod Run
 pub mod RunLaws
 pub mod Courses
 pub mod CourseLaws
+pub mod RoomLaws
 pub mod ExportLaws
 pub mod AuditLaws
 pub mod PrintLaws

@@ -1,65 +1,107 @@
--- What `issue` and `cosign` print, beside the record that they add.
-use Rattle.std.specs.Prelude.{◌≡◌, List, length, Some, Ok}
+-- What goes out of `issue` and `cosign`, beside the request that they read and the record that they
+-- add, and what becomes of that record.
+use Rattle.std.specs.Prelude.{◌≡◌, List, [], ◌∷◌, ◌++◌, length, Some, Ok}
 use Rattle.byte_forms.specs.Types.{HashFunction, Text}
 use Rattle.disk_core.specs.declared.disk.Disk.{Ghosts as Disks}
 use Rattle.mtc_io.specs.declared.sink.Sink.{Ghosts as Sinks}
 use Rattle.mtc_room.specs.declared.room.Room.{Ghosts as Rooms}
 use Rattle.mtc_words.specs.Commands.{CommandValue, cosign, issue}
 use Rattle.mtc_words.specs.Words.{command_of}
+use Rattle.authority_core.specs.Files.{request_of}
 use Rattle.authority_core.specs.Issues.{issued_entry}
 use Rattle.authority_core.specs.Requests.{RequestParts}
 use Rattle.cosigner_core.specs.Folds.{CosignerState, cosigner_of}
+use Rattle.cosigner_core.specs.Reading.{subtree_in}
 use Rattle.cosigner_core.specs.Records.{step_in}
 use Rattle.cosigner_core.specs.Requests.{SubtreeParts}
 use Rattle.cosigner_core.specs.declared.step.Step.TheVariants.{Sign}
 use Rattle.issuance_log.specs.Folds.{LogState, log_of}
 use Rattle.issuance_log.specs.Records.{item_in}
+use Rattle.issuance_log.specs.Settings.{Settings}
 use Rattle.mtc_answers.specs.Made.{appended}
 use Rattle.mtc_cosigner.specs.CosignerOutcomes.{cosigned_text}
 use Rattle.mtc_logs.specs.IssueOutcome.{issued_text}
-use Rattle.mtc_top.specs.Concluded.{Prints}
-use Rattle.mtc_top.specs.CourseLaws.{UsesKey}
-use Rattle.mtc_top.specs.Courses.{Turn, DidWith, HasTurned}
+use Rattle.node_history.specs.Laws.{Begins, HasItemAt}
+use Rattle.node_history.specs.declared.start.NodeStart.TheVariants.{Log}
+use Rattle.mtc_top.specs.AuditLaws.{HoldsText}
+use Rattle.mtc_top.specs.CourseLaws.{OfCourses, UsesKey}
+use Rattle.mtc_top.specs.Courses.{Turn, DidWith, HasPrinted, HasTurned, IsHeard, IsRecovered}
+use Rattle.mtc_top.specs.Courses.{OfEachTurn}
 
 module _ {R S D O E : Type 0} (h : HashFunction) (rooms : Rooms R S D) (disks : Disks D)
     (outs : Sinks O) (errs : Sinks E) where
-  -- The run added a record to a log with these records: the entry and the key of a request. It
-  -- printed the index of the entry, which counts those before it.
-  pub record HasIssued (name : Text) (old : R) (turn : Turn R O E) : Type 0 where
+  -- The run read a request from this file, and added a record to a log with these records: the
+  -- entry and the key of the request. What went out is the index of the entry, which counts those
+  -- before it.
+  pub record HasIssued (name file : Text) (old : R) (turn : Turn R O E) : Type 0 where
+    pub text : Text
+    pub has_text : HoldsText (rooms.file old) file 16777216 text
+    pub request : RequestParts
+    pub asked : request_of text ≡ Ok request
     pub list : List Text
     pub state : LogState
     pub log_is : log_of h list ≡ Ok state
     pub body : Text
     pub did : DidWith h rooms disks outs errs old turn name (appended list body)
-    pub request : RequestParts
     pub item : item_in body ≡ Some (issued_entry h state request, request.key)
-    pub printed : Prints outs turn.out turn.out_after (issued_text (length state.entries))
+    pub printed : HasPrinted outs turn (issued_text (length state.entries))
 
-  -- The run added a Sign record to a cosigner with these records, which adds the number of the next
-  -- one-time key to those that were used. It printed the signature by that key, over the same
-  -- interval and hash.
-  pub record HasCosigned (name : Text) (old : R) (turn : Turn R O E) : Type 0 where
+  -- The run read a request from this file, and added a Sign record to a cosigner with these
+  -- records. It adds the number of the next one-time key to those that were used. What went out is
+  -- the signature by that key, over the interval and the hash of the request.
+  pub record HasCosigned (name file : Text) (old : R) (turn : Turn R O E) : Type 0 where
+    pub text : Text
+    pub has_text : HoldsText (rooms.file old) file 16777216 text
+    pub request : SubtreeParts
+    pub asked : subtree_in text ≡ Ok request
     pub list : List Text
     pub state : CosignerState
     pub cosigner_is : cosigner_of h list ≡ Ok state
     pub body : Text
     pub did : DidWith h rooms disks outs errs old turn name (appended list body)
     pub uses : UsesKey list body state.key.next
-    pub request : SubtreeParts
     pub signs : step_in body
         ≡ Some (Sign state.key.next request.start request.end request.hash request.proof)
-    pub printed : Prints outs turn.out turn.out_after (cosigned_text state request)
+    pub printed : HasPrinted outs turn (cosigned_text state request)
 
-  -- So it is of each run by this command with status 0.
-  abbrev pub OfDone : CommandValue → (R → Turn R O E → Type 0) → Type 0
-  OfDone command P = (old : R) (turn : Turn R O E) → rooms.tells old
-      → HasTurned h rooms disks outs errs old turn → command_of turn.words ≡ Ok command
-      → turn.status ≡ 0 → P old turn
+  -- So it is of each run by this command that did its work, or of which a byte went out.
+  abbrev pub OfHeard : CommandValue → (R → Turn R O E → Type 0) → R → Turn R O E → Type 0
+  OfHeard command P old turn = command_of turn.words ≡ Ok command → IsHeard outs turn → P old turn
+
+  abbrev pub OfEachRun : (R → Turn R O E → Type 0) → Type 0
+  OfEachRun P = (old : R) (turn : Turn R O E) → rooms.tells old
+      → HasTurned h rooms disks outs errs old turn → P old turn
 
   abbrev pub IndicesArePrinted : Type 0
-  IndicesArePrinted =
-      (name request : Text) → OfDone (issue name request) (HasIssued name)
+  IndicesArePrinted = (name file : Text)
+      → OfEachRun (OfHeard (issue name file) (HasIssued name file))
 
   abbrev pub SignaturesArePrinted : Type 0
-  SignaturesArePrinted =
-      (name request : Text) → OfDone (cosign name request) (HasCosigned name)
+  SignaturesArePrinted = (name file : Text)
+      → OfEachRun (OfHeard (cosign name file) (HasCosigned name file))
+
+  -- The entry is at its index, with its key, in the log of these records.
+  pub record IsInLog (name file : Text) (old : R) (turn : Turn R O E) (found : List Text)
+      : Type 0 where
+    pub issued : HasIssued name file old turn
+    pub log : LogState
+    pub log_is : log_of h found ≡ Ok log
+    pub at_index : HasItemAt (length issued.state.entries)
+        (issued_entry h issued.state issued.request) issued.request.key log
+
+  -- Of each run of a course: so it is of each log with which the journal may be recovered.
+  abbrev pub IssuedEntriesStand : Type 0
+  IssuedEntriesStand = OfCourses h rooms disks outs errs (λ name start first made links new.
+      (settings : Settings) (file : Text) (found : List Text) → start ≡ Log settings
+      → IsRecovered h rooms disks outs errs name new found
+      → OfEachTurn h rooms disks outs errs (OfHeard (issue name file) (λ old turn.
+      IsInLog name file old turn found)) made links)
+
+  -- Of each run of a course: the record of the signature, behind those that were there, begins each
+  -- list with which the journal may be recovered.
+  abbrev pub SignaturesStand : Type 0
+  SignaturesStand = OfCourses h rooms disks outs errs (λ name start first made links new.
+      (file : Text) (found : List Text) → IsRecovered h rooms disks outs errs name new found
+      → OfEachTurn h rooms disks outs errs (OfHeard (cosign name file) (λ old turn.
+      (signed : HasCosigned name file old turn)
+      × Begins (signed.list ++ signed.body ∷ []) found)) made links)

@@ -1,23 +1,40 @@
 -- What follows of each run, and how it ends as steps of the nodes whose journals it works on.
-use Rattle.std.specs.Prelude.{◌≡◌, ◌≢◌, ◌≤◌, ◌⊎◌, ℕ, List, [], ◌∷◌, ◌++◌, IfSome}
+use Rattle.std.specs.Prelude.{◌≡◌, ◌≢◌, ◌≤◌, ◌⊎◌, ℕ, List, [], ◌∷◌, ◌++◌, None, codes, IfSome}
 use Rattle.byte_forms.specs.Types.{HashFunction, Text}
 use Rattle.disk_core.specs.declared.disk.Disk.{Ghosts as Disks}
 use Rattle.journal_core.specs.Format.{StandsFor}
 use Rattle.mtc_io.specs.Counts.{Rose}
 use Rattle.mtc_io.specs.declared.sink.Sink.{Ghosts as Sinks}
 use Rattle.mtc_room.specs.declared.room.Room.{Ghosts as Rooms}
-use Rattle.mtc_answers.specs.Made.{Journaled, appended, started, Images, images_at, moment_at}
-use Rattle.mtc_answers.specs.Made.{images_since}
+use Rattle.mtc_words.specs.Words.{known_word}
+use Rattle.mtc_answers.specs.Answers.{Reply, out_of, replied, status_of}
+use Rattle.mtc_answers.specs.Lines.{line_of}
+use Rattle.mtc_answers.specs.Made.{HasMade, Journaled, appended, started, Images, images_at}
+use Rattle.mtc_answers.specs.Made.{images_since, moment_at}
 use Rattle.mtc_answers.specs.Served.{OfEach}
-use Rattle.mtc_top.specs.Concluded.{Prints}
+use Rattle.mtc_top.specs.Concluded.{Prints, PrintsFront, Reports}
 use Rattle.node_history.specs.Nodes.{HistoryState, fresh_node}
 use Rattle.node_history.specs.declared.start.NodeStart.{NodeStart}
 use Rattle.mtc_top.specs.Nodes.{StandsForNode, AllStandForNode, EndsWell, TookSome}
-use Rattle.mtc_top.specs.Run.{journals, Answered, HasRun}
+use Rattle.mtc_top.specs.Run.{journals, Answered, Began, HasRun, IsAsked, Left}
 
 module _ {R S D O E : Type 0} (h : HashFunction) (rooms : Rooms R S D) (disks : Disks D)
     (outs : Sinks O) (errs : Sinks E) (words : List Text)
     (old new : R) (out out' : O) (err err' : E) where
+  -- A byte went out.
+  abbrev pub took : Type 0
+  took = TookSome (outs.taken out) (outs.taken out')
+
+  -- What went out is a front of the text of a reply that is asked for, and the whole of it with
+  -- another status than 6, which is the reply's. With each journal the run did what was asked.
+  pub record Heard (status : ℕ) : Type 0 where
+    pub reply : Reply
+    pub is : IsAsked h rooms disks outs errs words old new out out' err err' reply
+    pub front : PrintsFront outs out out' (out_of reply)
+    pub whole : status ≢ 6 → (status ≡ status_of reply) × Prints outs out out' (out_of reply)
+    pub made : Left h rooms disks outs errs words old new out out' err err' HasMade
+    pub began : Began h rooms disks outs errs words old new out out' err err' (replied reply)
+
   -- What follows of each run.
   pub record RunShows (status : ℕ) : Type 0 where
     -- The status is one of the eleven.
@@ -29,10 +46,8 @@ module _ {R S D O E : Type 0} (h : HashFunction) (rooms : Rooms R S D) (disks : 
     -- A refusal, a failure of the room and want of memory print nothing.
     pub silent : status ≢ 0 → status ≢ 3 → status ≢ 6 → status ≢ 10
         → Prints outs out out' []
-
-  -- A byte went out.
-  abbrev pub took : Type 0
-  took = TookSome (outs.taken out) (outs.taken out')
+    -- Of what goes out something is known from its first byte on.
+    pub heard : took → Heard status
 
   -- The images of a name's file: before the run, after it, and at any moment since it began.
   abbrev pub images_before : Text → Images
@@ -79,3 +94,15 @@ RunsAreSteps {R} {S} {D} {O} {E} h rooms disks outs errs =
     → HasRun h rooms disks outs errs words old new out out' err err' status → rooms.tells old
     → OfEach (RunSteps h rooms disks outs errs words old new out out' err err' status)
     (journals h rooms disks outs errs words old new out out' err err')
+
+-- A run of which a byte went out might have had a standard output that failed there: where only a
+-- front of what it wrote came through, it is a run with status 6, which leaves the same room.
+abbrev pub FrontsAreRuns : {R S D O E : Type 0} → HashFunction → Rooms R S D → Disks D
+    → Sinks O → Sinks E → Type 0
+FrontsAreRuns {R} {S} {D} {O} {E} h rooms disks outs errs =
+    (words : List Text) (old new : R) (out out' failed : O) (err err' told : E) (status : ℕ)
+    (text : Text) → HasRun h rooms disks outs errs words old new out out' err err' status
+    → TookSome (outs.taken out) (outs.taken out') → Prints outs out out' text
+    → PrintsFront outs out failed text → Rose (outs.faults out) (outs.faults failed)
+    → Reports errs err told (line_of (known_word words) None (codes "OutputFailed"))
+    → HasRun h rooms disks outs errs words old new out failed err told 6

@@ -4,8 +4,9 @@
 ghost use Rattle.mtc_top.specs.AuditLaws.{AuditsStand};
 ghost use Rattle.mtc_top.specs.CourseLaws.{AddedEntriesStand, CoursesAreHistories, EntriesStand, HandedOutStand, JournalsAreRead, KeysSignOnce, KeysSignOneMessage, MadeOfNodes, RecoveredListsGrow};
 ghost use Rattle.mtc_top.specs.ExportLaws.{ExportsHoldTheSteps};
-ghost use Rattle.mtc_top.specs.PrintLaws.{IndicesArePrinted, SignaturesArePrinted};
-ghost use Rattle.mtc_top.specs.RunLaws.{RunsShow, RunsAreSteps};
+ghost use Rattle.mtc_top.specs.PrintLaws.{IndicesArePrinted, IssuedEntriesStand, SignaturesArePrinted, SignaturesStand};
+ghost use Rattle.mtc_top.specs.RoomLaws.{JournalsAreOneHistory};
+ghost use Rattle.mtc_top.specs.RunLaws.{FrontsAreRuns, RunsShow, RunsAreSteps};
 ghost use Rattle.mtc_top.specs.StatusLaws.{MisreadFilesAreInputs};
 
 use mtc_io::Sink;
@@ -19,11 +20,25 @@ pub fn runs_are_steps<H: TreeHash, R: Room, O: Sink, E: Sink>()
     ensures steps { RunsAreSteps H.hash R.Room R.Dsk.Disk O.Sink E.Sink }
 {}
 
-/// Behind the run that made a journal, whatever runs there are by any words, wherever they fail,
-/// and wherever the machine stops between two runs or in the middle of one: what became of the
-/// journal is a history of its node.
+/// Of a run of which a byte went out it doesn't matter to the room how much of its text came
+/// through. Over a standard output that failed behind a front of it, it is a run with status 6 that
+/// leaves the same room. So a stop of the machine while the text goes out is such a run, and then a
+/// stop.
+pub fn runs_may_lose_their_text<H: TreeHash, R: Room, O: Sink, E: Sink>()
+    ensures { FrontsAreRuns H.hash R.Room R.Dsk.Disk O.Sink E.Sink }
+{}
+
+/// Behind the run that made a journal, or found it new, whatever runs there are by any words,
+/// wherever they fail, and wherever the machine stops between two runs or in the middle of one:
+/// what became of the journal is a history of its node.
 pub fn courses_are_histories<H: TreeHash, R: Room, O: Sink, E: Sink>()
     ensures { CoursesAreHistories H.hash R.Room R.Dsk.Disk O.Sink E.Sink }
+{}
+
+/// Whatever journals a room has, each behind the run that made it: what became of all of them is
+/// one history of their nodes.
+pub fn courses_make_one_history<H: TreeHash, R: Room, O: Sink, E: Sink>()
+    ensures { JournalsAreOneHistory H.hash R.Room R.Dsk.Disk O.Sink E.Sink }
 {}
 
 /// In no course two records of a cosigner's journal have the number of the same one-time key: the
@@ -73,10 +88,10 @@ pub fn misread_files_are_inputs<H: TreeHash, R: Room, O: Sink, E: Sink>()
     ensures { MisreadFilesAreInputs H.hash R.Room R.Dsk.Disk O.Sink E.Sink }
 {}
 
-/// A run of `export` with status 0 behind a course of a cosigner's journal prints the export of a
-/// list with which the journal might have been recovered then. It has the ids and the public key
-/// with which the journal began. It is read as the steps of these records: each of them is allowed,
-/// and each step that was handed out before is one.
+/// What goes out of a run of `export` behind a course of a cosigner's journal is the export of a
+/// list with which the journal might have been recovered then, or with status 6 a front of it. It
+/// has the ids and the public key with which the journal began. It is read as the steps of these
+/// records: each of them is allowed, and each step that was handed out before is one.
 pub fn exports_hold_what_went_out<H: TreeHash, R: Room, O: Sink, E: Sink>()
     ensures { ExportsHoldTheSteps H.hash R.Room R.Dsk.Disk O.Sink E.Sink }
 {}
@@ -91,23 +106,36 @@ pub fn audits_stand<H: TreeHash, R: Room, O: Sink, E: Sink>()
     ensures { AuditsStand H.hash R.Room R.Dsk.Disk O.Sink E.Sink }
 {}
 
-/// A run of `issue` with status 0 added an entry, and printed its index, which counts the entries
-/// before it. A run of `cosign` with status 0 added a Sign record that uses the next one-time key,
-/// and printed the signature by that key, over the same interval and hash.
+/// From the first byte on that goes out of `issue` or `cosign`, and with status 0, its record was
+/// added, and its request is what the file says that its words name. What goes out of `issue` is
+/// the index of the entry, which counts those before it. What goes out of `cosign` is the signature
+/// by the one-time key whose number the record has, over the interval and the hash of the request.
+/// It is the whole with status 0; with 6, the one other status, it is a front.
 pub fn printed_texts_are_of_their_records<H: TreeHash, R: Room, O: Sink, E: Sink>()
     ensures indices { IndicesArePrinted H.hash R.Room R.Dsk.Disk O.Sink E.Sink }
     ensures signatures { SignaturesArePrinted H.hash R.Room R.Dsk.Disk O.Sink E.Sink }
 {}
 
-/// The promise as a whole. In no course a one-time key of a journal signs two messages, and each
-/// record behind which a byte went out is in each list with which its journal may be recovered.
-/// Where a store accepts a certificate by a signature that was handed out so, or by a landmark, a
-/// run of `audit` over the wanted list, and over an export that was printed behind the signature,
-/// prints that the entry stands, or two different strings with one hash. Or it ends with status 5,
-/// 6 or 8.
+/// So it is in each course of a journal, and what is said of the record stays so. Each entry of
+/// which a byte of the index went out is in each log that may be recovered at the end of the
+/// course, at that index and with its key. Where a byte of a signature went out, its record is in
+/// each list that may be recovered, behind those that were there.
+pub fn printed_texts_stand<H: TreeHash, R: Room, O: Sink, E: Sink>()
+    ensures entries { IssuedEntriesStand H.hash R.Room R.Dsk.Disk O.Sink E.Sink }
+    ensures signatures { SignaturesStand H.hash R.Room R.Dsk.Disk O.Sink E.Sink }
+{}
+
+/// The promise as a whole. In no course a one-time key of a journal signs two messages. Each byte
+/// that goes out of `cosign` is of the signature by the key whose number its record has, over what
+/// the request file asks for. That record, as each behind which a byte went out, is in each list
+/// with which its journal may be recovered. Where a store accepts a certificate by a signature that
+/// was handed out so, or by a landmark, a run of `audit` over the wanted list, and over an export
+/// that was printed behind the signature, prints that the entry stands, or two different strings
+/// with one hash. Or it ends with status 5, 6 or 8.
 pub fn the_whole_promise<H: TreeHash, R: Room, O: Sink, E: Sink>()
     ensures once { KeysSignOnce H.hash R.Room R.Dsk.Disk O.Sink E.Sink }
     ensures messages { KeysSignOneMessage H.hash R.Room R.Dsk.Disk O.Sink E.Sink }
     ensures stand { HandedOutStand H.hash R.Room R.Dsk.Disk O.Sink E.Sink }
+    ensures signatures { SignaturesStand H.hash R.Room R.Dsk.Disk O.Sink E.Sink }
     ensures audits { AuditsStand H.hash R.Room R.Dsk.Disk O.Sink E.Sink }
 {}

@@ -1,4 +1,5 @@
 use Rattle.mtc_top.proofs.Audits.{audits_stand}
+use Rattle.mtc_top.proofs.PrintedStands.{signatures_stand}
 use Rattle.mtc_top.proofs.Recovered.{handed_stand, keys_once, one_message}
 use Rattle.mtc_top.proofs.laws.the_whole_promise.Goals as goal
 
@@ -13,6 +14,11 @@ returns-clause-messages g c = one_message g.H.TreeHash.hash g.R.Room g.R.Dsk.Dis
 pub returns-clause-stand : goal.returns-clause-stand
 returns-clause-stand g c = handed_stand g.H.TreeHash.hash g.R.Room g.R.Dsk.Disk g.O.Sink g.E.Sink
     g.met.R.Dsk.Disk.reads_image g.met.R.Dsk.Disk.only_now g.met.R.Room.told_file
+
+pub returns-clause-signatures : goal.returns-clause-signatures
+returns-clause-signatures g c = signatures_stand g.H.TreeHash.hash g.R.Room g.R.Dsk.Disk g.O.Sink
+    g.E.Sink g.met.R.Dsk.Disk.reads_image g.met.R.Dsk.Disk.only_now g.met.R.Room.told_file
+    g.met.R.Dsk.Disk.told_bytes
 
 pub returns-clause-audits : goal.returns-clause-audits
 returns-clause-audits g c = audits_stand g.H.TreeHash.hash g.R.Room g.R.Dsk.Disk g.O.Sink g.E.Sink

@@ -1,0 +1,55 @@
+-- All journals of a room at once: what became of them is one history.
+use Rattle.std.specs.Prelude.{◌≡◌, List, [], ◌∷◌, map, Ok}
+use Rattle.byte_forms.specs.Types.{HashFunction, Text}
+use Rattle.disk_core.specs.declared.disk.Disk.{Ghosts as Disks}
+use Rattle.mtc_io.specs.declared.sink.Sink.{Ghosts as Sinks}
+use Rattle.mtc_room.specs.declared.room.Room.{Ghosts as Rooms}
+use Rattle.node_history.specs.Histories.{history_of}
+use Rattle.node_history.specs.Laws.{handed_bodies}
+use Rattle.node_history.specs.Nodes.{HistoryState}
+use Rattle.node_history.specs.Rules.{may_follow}
+use Rattle.node_history.specs.declared.start.NodeStart.{NodeStart}
+use Rattle.node_history.specs.declared.step.NodeStep.{NodeStep}
+use Rattle.mtc_top.specs.Courses.{Link, IsCourse, WasMade, WentOut, images_in}
+use Rattle.mtc_top.specs.Nodes.{AllStandForNode}
+
+module _ {R S D O E : Type 0} (h : HashFunction) (rooms : Rooms R S D) (disks : Disks D)
+    (outs : Sinks O) (errs : Sinks E) (room : R) where
+  -- A run made this journal, and a course behind it led to the room.
+  pub record IsJournalOf : Type 0 where
+    pub name : Text
+    pub start : NodeStart
+    pub first : Text
+    pub made : R
+    pub links : List (Link R O E)
+    pub was : WasMade h rooms disks outs errs name start first made
+    pub course : IsCourse h rooms disks outs errs made links room
+
+  -- Each image of the journal stands for the state, which handed out what went out.
+  pub record StandsSo (journal : IsJournalOf) (state : HistoryState) : Type 0 where
+    pub stands : AllStandForNode state journal.first
+        (images_in h rooms disks outs errs room journal.name)
+    pub handed : WentOut h rooms disks outs errs journal.name journal.made journal.links
+        (handed_bodies state)
+
+  -- So it is of each journal and its state.
+  abbrev pub EachStandsSo : List IsJournalOf → List HistoryState → Type 0
+  EachStandsSo [] [] = Unit {0}
+  EachStandsSo (journal ∷ journals) (state ∷ states) =
+      StandsSo journal state × EachStandsSo journals states
+  EachStandsSo journals states = ⊥
+
+  -- One history of all nodes leads to the states of the journals.
+  pub record AreOneHistory (journals : List IsJournalOf) : Type 0 where
+    pub steps : List NodeStep
+    pub states : List HistoryState
+    pub allowed : history_of (may_follow h)
+        (map (λ (journal : IsJournalOf). journal.start) journals) steps ≡ Ok states
+    pub each : EachStandsSo journals states
+
+-- So it is of any journals of any room.
+abbrev pub JournalsAreOneHistory : {R S D O E : Type 0} → HashFunction → Rooms R S D → Disks D
+    → Sinks O → Sinks E → Type 0
+JournalsAreOneHistory {R} {S} {D} {O} {E} h rooms disks outs errs =
+    (room : R) (journals : List (IsJournalOf h rooms disks outs errs room))
+    → AreOneHistory h rooms disks outs errs room journals
