@@ -5,6 +5,7 @@ use mtc_io::{
     read_all, write_all, write_pieces,
 };
 use std::alloc::Global;
+use std::io::{self, ErrorKind, Read};
 use std::test::Fail;
 
 // Whether a source of these bytes is read whole, or refused so, by a limit.
@@ -19,7 +20,10 @@ fn reads(
     let mut source = MemSource::new(Bytes::copy_of(alloc, bytes)?, failing);
     match read_all(alloc, &mut source, limit) {
         Ok(read) => Ok(refusal.is_none() && read.as_slice() == bytes && source.faults() == 0),
-        Err(why) => Ok(Some(why) == refusal),
+        Err(why) => {
+            let faults = if why == ReadError::Failed { 1 } else { 0 };
+            Ok(Some(why) == refusal && source.faults() == faults)
+        }
     }
 }
 
@@ -94,6 +98,24 @@ fn reader_is_read() -> bool {
     first == Ok(5) && given && reader.read(&mut into) == Ok(0) && reader.faults() == 0
 }
 
+// A reader that gives nothing but errors.
+#[derive(Drop)]
+struct Broken;
+
+impl Read for Broken {
+    fn read(&mut self, _into: &mut [u8]) -> io::Result<usize> {
+        Err(io::Error::from(ErrorKind::Other))
+    }
+}
+
+// Whether each call of a reader that fails is counted once.
+fn failed_reads_are_counted() -> bool {
+    let mut reader = StdSource::new(Broken);
+    let mut into = [0; 8];
+    let first = reader.read(&mut into) == Err(Failed) && reader.faults() == 1;
+    first && reader.read(&mut into) == Err(Failed) && reader.faults() == 2
+}
+
 // A writer with room for two bytes takes no more, which is a fault for a piece that isn't empty.
 fn full_writer_fails() -> bool {
     let mut room = [0; 2];
@@ -104,6 +126,7 @@ fn full_writer_fails() -> bool {
 #[test]
 fn readers_and_writers_are_adapted(rt: HostRuntime) -> Result<(), Fail> {
     assert!(rt; reader_is_read());
+    assert!(rt; failed_reads_are_counted());
     let mut writer = StdSink::new(Vec::new(rt.alloc()));
     assert!(rt; writer.write(b"root") == Ok(4));
     assert!(rt; full_writer_fails());

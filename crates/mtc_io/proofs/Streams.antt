@@ -7,25 +7,26 @@ use Rattle.std.proofs.Math.Nat.{min-le_right}
 use Rattle.std.proofs.Math.Seq.{take-add, take-append-add, take-length}
 use Rattle.std.proofs.lemmas.Grind.{flat_map-append}
 use Rattle.std.proofs.lemmas.List.{take_rest, take-append-le, take-append-drop, take_min, drop_more}
+use Rattle.byte_forms.specs.Types.{Text}
 use Rattle.mtc_io.specs.Streams.{AppendsPrefix, joined}
 
 -- the first n of a list, and then the first k of the rest, as a slice gives it
-pub take-more : (n k : ℕ) (xs : List ℕ)
+pub take-more : (n k : ℕ) (xs : Text)
     → take (n + k) xs ≡ take n xs ++ take k (take (length xs - n) (drop n xs))
 take-more n k xs = take-add n k xs ∙ ap (λ rest. take n xs ++ take k rest) (sym (take_rest xs n))
 
 -- the first n bytes of a piece were taken, and then k more
-pub taken_more : (a b c : Option (List ℕ)) (n k : ℕ) (xs : List ℕ) → Appends a b (take n xs)
+pub taken_more : (a b c : Option Text) (n k : ℕ) (xs : Text) → Appends a b (take n xs)
     → Appends b c (take k (take (length xs - n) (drop n xs))) → Appends a c (take (n + k) xs)
 taken_more a b c n k xs first second =
     subst (Appends a c) (sym (take-more n k xs)) (Appends-trans a b c _ _ first second)
 
 -- what was taken whole was taken as a prefix
-pub prefix_whole : (a b : Option (List ℕ)) (xs : List ℕ) → Appends a b xs → AppendsPrefix a b xs
+pub prefix_whole : (a b : Option Text) (xs : Text) → Appends a b xs → AppendsPrefix a b xs
 prefix_whole a b xs whole = (length xs, subst (Appends a b) (sym (take-length xs)) whole)
 
 -- a piece was taken whole, and then a prefix of the next one
-pub prefix_more : (a b c : Option (List ℕ)) (xs ys zs : List ℕ) → Appends a b xs
+pub prefix_more : (a b c : Option Text) (xs ys zs : Text) → Appends a b xs
     → AppendsPrefix b c ys → AppendsPrefix a c (xs ++ (ys ++ zs))
 prefix_more a b c xs ys zs first second =
     let k = min second.0 (length ys) in
@@ -36,7 +37,7 @@ prefix_more a b c xs ys zs first second =
     (length xs + k, subst (Appends a c) (sym all) (Appends-trans a b c _ _ first second.1))
 
 -- pieces: those before one, that one, and the others
-pub joined_at : (pieces : List (Bor (List ℕ))) (i : ℕ) (d : Bor (List ℕ)) → i < length pieces
+pub joined_at : (pieces : List (Bor Text)) (i : ℕ) (d : Bor (List ℕ)) → i < length pieces
     → joined pieces ≡ joined (take i pieces) ++ ((slice_index_or pieces i d).now
     ++ joined (drop (i + 1) pieces))
 joined_at pieces i d below =
@@ -45,7 +46,7 @@ joined_at pieces i d below =
     ∙ ap (λ rest. joined (take i pieces) ++ joined rest) (drop_more pieces i d below)
 
 -- a prefix of the pieces was taken, where those before one were and a prefix of that one
-pub pieces_prefix : (a b c : Option (List ℕ)) (pieces : List (Bor (List ℕ))) (i : ℕ)
+pub pieces_prefix : (a b c : Option Text) (pieces : List (Bor Text)) (i : ℕ)
     (d : Bor (List ℕ)) → i < length pieces
     → Appends a b (joined (take i pieces)) → AppendsPrefix b c (slice_index_or pieces i d).now
     → AppendsPrefix a c (joined pieces)

@@ -1,10 +1,11 @@
 -- What contracts see of the streams in memory.
 use Rattle.std.specs.Prelude.{ℕ, List}
+use Rattle.byte_forms.specs.Types.{Text}
 
 -- a source in memory: the bytes left, the number of calls so far, the numbers of the calls that
 -- fail, the faults so far
 pub record SourceState : Type 0 where
-  pub left : List ℕ
+  pub left : Text
   pub calls : ℕ
   pub failing : List ℕ
   pub faults : ℕ
@@ -12,7 +13,7 @@ pub record SourceState : Type 0 where
 -- a sink in memory: the bytes taken, how many it takes at a time, and as above; `starved` counts
 -- the faults that came from want of memory
 pub record SinkState : Type 0 where
-  pub taken : List ℕ
+  pub taken : Text
   pub per_call : ℕ
   pub calls : ℕ
   pub failing : List ℕ

@@ -4,15 +4,16 @@ use Rattle.std.specs.Prelude.{ℕ, List, Option, take}
 use Rattle.std.specs.Borrow.{Bor}
 use Rattle.std.specs.List.{flat_map}
 use Rattle.std.specs.Io.KnownBytes.{Consumes, Appends}
+use Rattle.byte_forms.specs.Types.{Text}
 
 -- the bytes left lose some bytes from their front
-abbrev pub ConsumesSome : Option (List ℕ) → Option (List ℕ) → Type 0
-ConsumesSome old new = (bs : List ℕ) × Consumes old new bs
+abbrev pub ConsumesSome : Option Text → Option Text → Type 0
+ConsumesSome old new = (bs : Text) × Consumes old new bs
 
 -- the bytes taken grow by a prefix of bs
-abbrev pub AppendsPrefix : Option (List ℕ) → Option (List ℕ) → List ℕ → Type 0
+abbrev pub AppendsPrefix : Option Text → Option Text → Text → Type 0
 AppendsPrefix old new bs = (k : ℕ) × Appends old new (take k bs)
 
 -- pieces, one behind the other
-abbrev pub joined : List (Bor (List ℕ)) → List ℕ
+abbrev pub joined : List (Bor Text) → Text
 joined pieces = flat_map (λ piece. piece.now) pieces

@@ -1,6 +1,7 @@
 //! A byte string that owns its memory.
 
-ghost use Rattle.std.specs.Prelude.{◌≡◌, ℕ, List, [], ◌++◌, ◌==◌, length, take, IfOk, OnOk, OnErr};
+ghost use Rattle.std.specs.Prelude.{◌≡◌, [], ◌++◌, ◌==◌, length, take, IfOk, OnOk, OnErr};
+ghost use Rattle.byte_forms.specs.Types.{Text};
 
 use crate::fault::Memory;
 use std::alloc::Global;
@@ -13,7 +14,7 @@ pub struct Bytes {
 }
 
 impl Model for Bytes {
-    ghost Value = { List ℕ };
+    ghost Value = { Text };
 
     ghost view = { λ b. b.items.items };
 }

@@ -1,7 +1,8 @@
 //! Where bytes go.
 
-ghost use Rattle.std.specs.Prelude.{ℕ, List, Option, ◌≤◌, ◌<◌, length, IfOk, OnOk};
+ghost use Rattle.std.specs.Prelude.{ℕ, Option, ◌≤◌, ◌<◌, length, IfOk, OnOk};
 ghost use Rattle.std.specs.Io.KnownBytes.{WriteAppends, Appends};
+ghost use Rattle.byte_forms.specs.Types.{Text};
 ghost use Rattle.mtc_io.specs.Counts.{HasCause};
 ghost use Rattle.mtc_io.specs.Streams.{AppendsPrefix, joined};
 
@@ -10,7 +11,7 @@ use crate::fault::Failed;
 /// Something that takes bytes, one after the other, and may fail.
 pub trait Sink {
     /// The bytes taken, where it tells them.
-    ghost taken: { Self → Option (List ℕ) };
+    ghost taken: { Self → Option Text };
 
     /// The count of its faults, which rises with each call that fails and never falls.
     ghost faults: { Self → ℕ };

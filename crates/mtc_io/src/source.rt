@@ -1,7 +1,8 @@
 //! Where bytes come from.
 
-ghost use Rattle.std.specs.Prelude.{◌≡◌, ◌≢◌, ℕ, List, Option, ◌≤◌, ◌<◌, length, IfOk, OnOk, IfSome, IsErrOf, MatchResult};
+ghost use Rattle.std.specs.Prelude.{◌≡◌, ◌≢◌, ℕ, Option, ◌≤◌, ◌<◌, length, IfOk, OnOk, IfSome, IsErrOf, MatchResult};
 ghost use Rattle.std.specs.Io.KnownBytes.{ReadConsumes, Consumes, IsAtEnd};
+ghost use Rattle.byte_forms.specs.Types.{Text};
 ghost use Rattle.mtc_io.specs.Counts.{Rose, HasCause};
 ghost use Rattle.mtc_io.specs.Streams.{ConsumesSome};
 ghost use Rattle.mtc_io.specs.declared.source.ReadError.TheVariants.{Failed as ReadFailed, Memory as ReadMemory};
@@ -13,7 +14,7 @@ use std::alloc::Global;
 /// Something that gives bytes, one after the other, and may fail.
 pub trait Source {
     /// The bytes left, where it tells them.
-    ghost left: { Self → Option (List ℕ) };
+    ghost left: { Self → Option Text };
 
     /// The count of its faults, which rises with each call that fails and never falls.
     ghost faults: { Self → ℕ };

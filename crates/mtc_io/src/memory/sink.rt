@@ -88,6 +88,8 @@ impl Sink for MemSink {
         ensures some { IfOk result (λ count. 0 < length piece.now → 0 < count) }
         ensures bytes { WriteAppends (Some self.old.taken) (Some self.new.taken) result piece.now }
         ensures cause { HasCause self.old.faults self.new.faults result }
+        ensures counted { self.new.faults ≡ (if is_err result then with_count self.old.faults 1
+            else self.old.faults) }
         ensures most { IfOk result (λ count. count ≡ min self.old.per_call (length piece.now)) }
         ensures listed { IsTrue (list_any (λ k. k == self.old.calls) self.old.failing)
             → IsTrue (is_err result) }

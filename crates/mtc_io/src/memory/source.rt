@@ -1,6 +1,6 @@
 //! A source in memory.
 
-ghost use Rattle.std.specs.Prelude.{◌≡◌, Some, ◌+◌, ◌==◌, ◌≤◌, ◌<◌, length, take, min, drop, IfOk, is_err};
+ghost use Rattle.std.specs.Prelude.{◌≡◌, Some, ◌+◌, ◌==◌, ◌≤◌, ◌<◌, if◌then◌else◌, length, take, min, drop, IfOk, is_err};
 ghost use Rattle.std.specs.List.{list_any};
 ghost use Rattle.std.specs.Io.KnownBytes.{ReadConsumes};
 ghost use Rattle.mtc_io.specs.Counts.{HasCause, with_count};
@@ -49,7 +49,7 @@ impl MemSource {
         }
     }
 
-    /// The count of its faults, which rises with each call that fails.
+    /// The count of its faults: each call that fails adds one, up to the last value.
     pub fn faults(&self) -> u64
         ensures { result ≡ self.now.faults }
     {
@@ -66,6 +66,8 @@ impl Source for MemSource {
         ensures bound { IfOk result (λ count. count ≤ length into.new) }
         ensures bytes { ReadConsumes (Some self.old.left) (Some self.new.left) result into.new }
         ensures cause { HasCause self.old.faults self.new.faults result }
+        ensures counted { self.new.faults ≡ (if is_err result then with_count self.old.faults 1
+            else self.old.faults) }
         ensures most { IfOk result (λ count. count ≡ min (length self.old.left) (length into.new)) }
         ensures listed { is_err result ≡ list_any (λ k. k == self.old.calls) self.old.failing }
         ensures calls { self.new.calls ≡ with_count self.old.calls 1 }
