@@ -1,4 +1,4 @@
-//! What the records of a journal make of a log, with the leaf hashes of its entries.
+//! What the records of a journal make of a log, with the nodes of the tree over its entries.
 
 ghost use Rattle.std.specs.Prelude.{◌≡◌, ◌<◌, ◌≤◌, [], ◌∷◌, ◌++◌, length, map, nat_lt, not, option_and_then, vec_len, vec_capacity, IfOk, OnOk};
 ghost use Rattle.issuance_log.specs.Folds.{begun_log, new_log, next_log, with_entry, with_item, with_landmark, with_mark};
@@ -17,8 +17,8 @@ use log_entry::key_matches;
 use mtc_io::{Bytes, Memory};
 use std::alloc::Global;
 use std::marker::Model;
+use tree_cache::Cache;
 use tree_core::{TreeHash, leaf};
-use tree_proofs::Listed;
 
 /// An entry and its key, for which there is room in a log.
 #[derive(Drop)]
@@ -27,7 +27,7 @@ pub(crate) struct Item {
     key: Bytes,
 }
 
-/// The settings, the items and the landmarks of a log, and the leaf hashes of its entries.
+/// The settings, the items and the landmarks of a log, and the nodes of the tree over its entries.
 /// Contracts see the log, and how many items and landmarks more need no memory.
 #[derive(Drop)]
 pub(crate) struct Contents<H: TreeHash> {
@@ -35,8 +35,8 @@ pub(crate) struct Contents<H: TreeHash> {
     settings: LogSettings,
     items: Items,
     marks: Vec<u64>,
-    leaves: Listed<H>,
-    ghost hashed: { leaves.leaves ≡ map (leaf_hash H.TreeHash.hash) items.entries.items },
+    nodes: Cache<H>,
+    ghost hashed: { nodes.leaves ≡ map (leaf_hash H.TreeHash.hash) items.entries.items },
 }
 
 impl<H: TreeHash> Model for Contents<H> {
@@ -53,7 +53,7 @@ impl<H: TreeHash> Model for Contents<H> {
         keys = c.items.keys.items;
         marks = c.marks.items;
       };
-      spare = min c.leaves.spare
+      spare = min c.nodes.spare
           (min (vec_capacity c.items.entries - vec_len c.items.entries)
           (vec_capacity c.items.keys - vec_len c.items.keys));
       mark_spare = vec_capacity c.marks - vec_len c.marks;
@@ -94,14 +94,14 @@ impl<H: TreeHash> Contents<H> {
         ensures { IfOk result (λ c. c.state ≡ new_log settings) }
     {
         let items = Items::begin(alloc)?;
-        let mut leaves = Listed::new(alloc);
-        leaves.push(&leaf::<H>(&NULL_ENTRY))?;
+        let mut nodes = Cache::new(alloc);
+        nodes.push(&leaf::<H>(&NULL_ENTRY))?;
         Ok(Contents {
             alloc,
             settings,
             items,
             marks: Vec::new(alloc),
-            leaves,
+            nodes,
         })
     }
 
@@ -206,11 +206,11 @@ impl<H: TreeHash> Contents<H> {
         self.items.keys()
     }
 
-    /// The leaf hashes of the entries, each at its index.
-    pub(crate) fn leaves(&self) -> &Listed<H>
+    /// The nodes over the leaf hashes of the entries, each at its index.
+    pub(crate) fn nodes(&self) -> &Cache<H>
         ensures { result.now.leaves ≡ map (leaf_hash H.hash) self.now.state.entries }
     {
-        &self.leaves
+        &self.nodes
     }
 
     /// A copy of an item, and room for it. The log stays as it was.
@@ -225,7 +225,7 @@ impl<H: TreeHash> Contents<H> {
             key: Bytes::copy_of(self.alloc, key)?,
         };
         self.items.reserve()?;
-        self.leaves.reserve(1)?;
+        self.nodes.reserve(1)?;
         Ok(item)
     }
 
@@ -236,7 +236,7 @@ impl<H: TreeHash> Contents<H> {
         requires item { IsItem H.hash item.entry item.key }
         ensures { self.new.state ≡ with_item item.entry item.key self.old.state }
     {
-        match self.leaves.push(&leaf::<H>(item.entry.as_slice())) {
+        match self.nodes.push(&leaf::<H>(item.entry.as_slice())) {
             Ok(()) => {}
             Err(Memory) => unreachable!(),
         }

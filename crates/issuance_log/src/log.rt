@@ -24,16 +24,16 @@ use disk_core::Disk;
 use journal_core::{Journal, Opening, Refused};
 use mtc_io::{Bytes, Memory};
 use std::alloc::Global;
+use tree_cache::Cache;
 use tree_core::TreeHash;
-use tree_proofs::Listed;
 
 // An entry and its key have at most so many bytes together.
 const MAX_ITEM: usize = 65_535;
 
-/// The entries of a log, each with the key to it, their leaf hashes, and the sizes at its
-/// landmarks, over the journal of their records. Unless an append has failed, they are what the
-/// records on the disk make. `H` is the hash function by which a key belongs to an entry: it does
-/// so for each entry but the first, the null entry, whatever the disk tells.
+/// The entries of a log, each with the key to it, the nodes of the tree over them, and the sizes at
+/// its landmarks, over the journal of their records. Unless an append has failed, they are what the
+/// records on the disk make. `H` is the hash function of the tree, and that by which a key belongs
+/// to an entry: it does so for each entry but the first, the null entry, whatever the disk tells.
 #[derive(Drop)]
 pub struct Log<H: TreeHash, D: Disk> {
     journal: Journal<D>,
@@ -195,11 +195,11 @@ impl<H: TreeHash, D: Disk> Log<H, D> {
         self.contents.marks()
     }
 
-    // The leaf hashes of the entries, each at its index.
-    pub(crate) fn leaves(&self) -> &Listed<H>
+    // The nodes over the leaf hashes of the entries, each at its index.
+    pub(crate) fn nodes(&self) -> &Cache<H>
         ensures { result.now.leaves ≡ map (leaf_hash H.hash) (log_state self.now).entries }
     {
-        self.contents.leaves()
+        self.contents.nodes()
     }
 
     /// The entry at an index and its key, in the place of what the two byte strings held.

@@ -10,9 +10,8 @@ use mtc_io::Failed;
 use tree_core::TreeHash;
 use tree_proofs::Nodes;
 
-/// A log is the nodes of the tree over its entries. It keeps the leaf hashes, makes the hash of a
-/// full subtree from them each time it is asked for, in the time of its size, and never fails. All
-/// of the log stays as it was.
+/// A log is the nodes of the tree over its entries. It keeps the hash of each full subtree, looks
+/// it up each time it is asked for, and never fails. All of the log stays as it was.
 impl<H: TreeHash, D: Disk> Nodes for Log<H, D> {
     ghost use Rattle.std.specs.Prelude.{Some, refl};
     ghost use Rattle.std.proofs.Common.{sym, ◌∙◌};
@@ -39,6 +38,6 @@ impl<H: TreeHash, D: Disk> Nodes for Log<H, D> {
     }
 
     fn node(&mut self, level: u32, place: u64) -> Result<[u8; 32], Failed> {
-        Ok(self.leaves().node_at(level, place))
+        Ok(self.nodes().node_at(level, place))
     }
 }
