@@ -192,6 +192,42 @@ each_again key spell Fits read some form (suc n) seen (x ∷ xs) p f le =
     ≡ p + length (spell x ++ flat_map spell xs) = omega arith in
     rw (ne_eqb (length (spell x ++ flat_map spell xs)) 0 long, one, others, far) refl
 
+-- Values read with the keys of those before them in view take all of what is left.
+pub each_drains : {X K E : Type 0} (key : X → K) (spell : X → List ℕ) (Fits : List K → X
+    → Type 0) (read : List K → At → Result (X × At) E)
+    → ((seen : List K) (x : X) → Fits seen x → 0 < length (spell x))
+    → ((seen : List K) → IsForm spell (Fits seen) Anything (read seen))
+    → (n : ℕ) (seen : List K) (a : At) (xs : List X) (b : At) → IsBytes a.rest → length a.rest ≤ n
+    → each_at key read n seen a ≡ Ok (xs, b) → b.rest ≡ []
+unfolding each_at
+each_drains {X} {K} {E} key spell Fits read some form zero seen a xs b h le e =
+    let same = ok_is E ([], a) (xs, b) e in
+    ap (λ (v : List X × At). v.1.rest) (sym same) ∙ nil_from_length a.rest (omega arith)
+each_drains {X} {K} {E} key spell Fits read some form (suc n) seen a xs b h le e =
+    let more : Result (List X × At) E =
+    read seen a >>= λ (x : X × At). each_at key read n (seen
+    ++ key x.0 ∷ []) x.1 >>= λ (ys : List X × At). Ok (x.0 ∷ ys.0, ys.1) in
+    elim (chosen (length a.rest == 0) (Ok ([], a)) more (Ok (xs, b)) e) [
+      | inl c ↦
+          let same = ok_is E ([], a) (xs, b) c.1 in
+          ap (λ (v : List X × At). v.1.rest) (sym same)
+          ∙ nil_from_length a.rest (eqb-true (length a.rest) 0 c.0)
+      | inr c ↦
+          let s = bind_ok (read seen a) (λ (x : X
+          × At). each_at key read n (seen ++ key x.0 ∷ []) x.1 >>= λ (ys : List X
+          × At). Ok (x.0 ∷ ys.0, ys.1)) (xs, b) c.1 in
+          let t = bind_ok (each_at key read n (seen ++ key s.0.0 ∷ []) s.0.1) (λ (ys : List X
+          × At). Ok (s.0.0 ∷ ys.0, ys.1)) (xs, b) s.2 in
+          let one = (form seen).takes a s.0.0 s.0.1 h s.1 in
+          let all : length a.rest ≡ length (spell s.0.0) + length s.0.1.rest = ap length one.0.parts
+          ∙ length-append (spell s.0.0) s.0.1.rest in
+          let less : length s.0.1.rest ≤ n = omega (arith, all, some seen s.0.0 one.1) in
+          let others = each_drains key spell Fits read some form n (seen
+          ++ key s.0.0 ∷ []) s.0.1 t.0.0 t.0.1 one.0.bytes less t.1 in
+          ap (λ (v : List X × At). v.1.rest) (sym (ok_is E (s.0.0 ∷ t.0.0, t.0.1) (xs, b) t.2))
+          ∙ others
+    ]
+
 -- Values up to the end, each read with the keys of those before it in view.
 pub each_form : {X K E : Type 0} (key : X → K) (spell : X → List ℕ) (Fits : List K → X
     → Type 0) (read : List K → At → Result (X × At) E) (seen : List K)

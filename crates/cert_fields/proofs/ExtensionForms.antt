@@ -15,7 +15,7 @@ use Rattle.byte_forms.specs.Lists.{up_to_end}
 use Rattle.byte_forms.proofs.Steps.{bind_ok, pass_ok, ok_is, read_ok, IsBytes-front, IsBytes-back}
 use Rattle.byte_forms.proofs.Forms.{said_form, spelled_form, ended_form, both_form, mapped_form}
 use Rattle.byte_forms.proofs.Forms.{tested_form, optional_form, or_nothing_form, some_form}
-use Rattle.byte_forms.proofs.Lists.{many_form, up_to_end_drains, each_form}
+use Rattle.byte_forms.proofs.Lists.{many_form, up_to_end_drains, each_form, each_drains}
 use Rattle.der_core.specs.Elements.{element, length_octets}
 use Rattle.der_core.specs.Items.{Item}
 use Rattle.der_core.specs.Reading.{element_at}
@@ -38,7 +38,7 @@ use Rattle.cert_fields.specs.Extensions.{extensions_at}
 use Rattle.cert_fields.specs.Grammar.{IsIdentifier, IsGeneralName, IsGeneralNames, mark}
 use Rattle.cert_fields.specs.Grammar.{extension_contents, IsExtension, extension, AreExtensions}
 use Rattle.cert_fields.specs.Grammar.{IsExtensionSequence, IsExtensionsField}
-use Rattle.cert_fields.proofs.FieldForms.{identifier_form, each_drains}
+use Rattle.cert_fields.proofs.FieldForms.{identifier_form}
 
 -- ---- general names
 

@@ -12,6 +12,7 @@ use Rattle.std.proofs.lemmas.Slice.Eq.{bytes_eq-Decides}
 use Rattle.byte_forms.specs.Types.{Text}
 use Rattle.byte_forms.specs.Places.{At}
 use Rattle.byte_forms.specs.Forms.{itself, FitsEach}
+use Rattle.byte_forms.specs.Lists.{value_then}
 use Rattle.der_core.specs.Elements.{element, FitsElement}
 use Rattle.der_core.specs.Reading.{wanted_at}
 use Rattle.der_core.specs.Forms.{element_item}
@@ -20,7 +21,7 @@ use Rattle.der_core.proofs.Elements.{element_again, wanted_again, element-longer
 use Rattle.der_core.proofs.Fields.{tag_of}
 use Rattle.cert_fields.specs.AltNames.{dns_name, names_from, names_left, names_inside, names_in}
 use Rattle.cert_fields.specs.Extensions.{ExtensionFields, is_among, is_alt_name, identifier_of}
-use Rattle.cert_fields.specs.Extensions.{extension_at, value_then, extensions_from, list_in}
+use Rattle.cert_fields.specs.Extensions.{extension_at, extensions_from, list_in}
 use Rattle.cert_fields.specs.Extensions.{extensions_behind, extensions_in, is_unknown_critical}
 use Rattle.cert_fields.specs.Extensions.{has_unknown_critical, alt_name_octets, dns_names_in}
 use Rattle.cert_fields.specs.Identifiers.{subject_alt_name}

@@ -10,6 +10,7 @@ use Rattle.byte_forms.specs.Types.{Text}
 use Rattle.cert_fields.specs.Views.{texts}
 use Rattle.byte_forms.specs.Places.{At}
 use Rattle.byte_forms.specs.Readings.{discarded, both_at, mapped_at, tested_at, Reading}
+use Rattle.byte_forms.specs.Lists.{value_then}
 use Rattle.byte_forms.proofs.Loops.{WalksEach, each_from, each_more, each_fails, each_end}
 use Rattle.byte_forms.proofs.Steps.{guard_ok, pass_ok, ok_is}
 use Rattle.der_core.specs.Items.{Item, inside}
@@ -23,7 +24,7 @@ use Rattle.der_core.specs.declared.fault.CertError.TheVariants.{BadExtension, Re
 use Rattle.cert_fields.specs.AltNames.{dns_name, name_then, names_from, names_left}
 use Rattle.cert_fields.specs.Extensions.{ExtensionFields, is_among, new_identifier_at, critical_at}
 use Rattle.cert_fields.specs.Extensions.{to_extension, has_its_form, identifier_of, extension_at}
-use Rattle.cert_fields.specs.Extensions.{extension_list_at, head_at, identifiers, value_then}
+use Rattle.cert_fields.specs.Extensions.{extension_list_at, head_at, identifiers}
 use Rattle.cert_fields.specs.Extensions.{extensions_from, extensions_left}
 use Rattle.cert_fields.proofs.Forward.{element_forward}
 use Rattle.cert_fields.proofs.Steps.{inside_ok, first_ok, mapped_ok, tested_ok, decoded_ok}

@@ -7,7 +7,7 @@ use Rattle.byte_forms.specs.Types.{Text}
 use Rattle.byte_forms.specs.Places.{At, at}
 use Rattle.byte_forms.specs.Readings.{◌>>=◌, both_at, mapped_at, tested_at, optional_at}
 use Rattle.byte_forms.specs.Readings.{or_nothing_at, some_at, Reading}
-use Rattle.byte_forms.specs.Lists.{each_at}
+use Rattle.byte_forms.specs.Lists.{each_at, value_then}
 use Rattle.der_core.specs.Items.{inside}
 use Rattle.der_core.specs.Reading.{wanted_at}
 use Rattle.der_core.specs.Contents.{boolean_of, oid_of}
@@ -80,11 +80,6 @@ unfoldable pub head_at : Reading Text DerError
 head_at a =
     wanted_at 0x30 a >>= λ e.
     wanted_at 0x06 (inside e.0) >>= λ identifier. Ok (identifier.0.contents, e.1)
-
--- A value, and those behind it.
-abbrev pub value_then : {X E : Type 0} → Result (X × At) E → (At → List X) → List X
-value_then (Ok x) behind = x.0 ∷ behind x.1
-value_then (Err fault) behind = []
 
 -- The identifiers of the first n extensions.
 unfoldable pub identifiers : ℕ → At → List Text

@@ -8,11 +8,12 @@ use Rattle.std.proofs.lemmas.List.{length-append}
 use Rattle.byte_forms.specs.Types.{Text}
 use Rattle.byte_forms.specs.Places.{At, at, has_bytes}
 use Rattle.byte_forms.specs.Readings.{◌>>=◌, both_at}
+use Rattle.byte_forms.specs.Lists.{value_then}
 use Rattle.byte_forms.proofs.Steps.{bind_ok, lifted_ok, pass_ok, ok_is}
 use Rattle.tls_wire.specs.Reading.{vector_at}
 use Rattle.mtc_proof.specs.Proofs.{SigParts, signature_text, IsMtcSignature}
 use Rattle.mtc_proof.specs.Reading.{of_short, text_at, id_at, to_signature, mtc_signature_at}
-use Rattle.mtc_proof.specs.Reading.{signature_then, signatures_from, signatures_left}
+use Rattle.mtc_proof.specs.Reading.{signatures_from, signatures_left}
 use Rattle.mtc_proof.specs.declared.fault.ProofError.{ProofError}
 use Rattle.mtc_proof.specs.declared.fault.ProofError.TheVariants.{EmptyId}
 use Rattle.tls_wire.proofs.Vectors.{vector_forward}
@@ -54,7 +55,7 @@ unfolding signatures_from
 signatures_one zero a le = go (mtc_signature_at a) refl
   where
     go : (r : Result (SigParts × At) ProofError) → mtc_signature_at a ≡ r
-        → signature_then r (λ (b : At). signatures_from zero b) ≡ []
+        → value_then r (λ (b : At). signatures_from zero b) ≡ []
     go (Ok x) e = let less : length x.1.rest < length a.rest =
         signature_forward a x e in absurd (omega arith)
     go (Err fault) e = refl
@@ -62,8 +63,8 @@ signatures_one (suc n) a le = go (mtc_signature_at a) refl (λ b le'. signatures
   where
     go : (r : Result (SigParts × At) ProofError) → mtc_signature_at a ≡ r
         → ((b : At) → length b.rest ≤ n → signatures_from (suc n) b ≡ signatures_from n b)
-        → signature_then r (λ (b : At). signatures_from (suc n) b)
-        ≡ signature_then r (λ (b : At). signatures_from n b)
+        → value_then r (λ (b : At). signatures_from (suc n) b)
+        ≡ value_then r (λ (b : At). signatures_from n b)
     go (Ok x) e next =
         let less : length x.1.rest < length a.rest = signature_forward a x e in
         ap (λ (xs : List SigParts). x.0 ∷ xs) (next x.1 (omega arith))
@@ -91,8 +92,8 @@ signatures_next a x b step =
     let more : signatures_left a ≡ signatures_from (suc (length a.rest)) a =
     sym (signatures_one (length a.rest) a (omega arith)) in
     let read : signatures_from (suc (length a.rest)) a
-    ≡ signature_then (Ok (x, b)) (λ (c : At). signatures_from (length a.rest) c) =
-    ap (λ (r : Result (SigParts × At) ProofError). signature_then r
+    ≡ value_then {E = ProofError} (Ok (x, b)) (λ (c : At). signatures_from (length a.rest) c) =
+    ap (λ (r : Result (SigParts × At) ProofError). value_then r
     (λ (c : At). signatures_from (length a.rest) c)) step in
     more ∙ read ∙ ap (λ (xs : List SigParts). x ∷ xs) (signatures_enough (length a.rest) b
     (omega arith))
@@ -104,7 +105,7 @@ unfolding signatures_from
 signatures_end a fault step =
     let more : signatures_left a ≡ signatures_from (suc (length a.rest)) a =
     sym (signatures_one (length a.rest) a (omega arith)) in
-    more ∙ ap (λ (r : Result (SigParts × At) ProofError). signature_then r
+    more ∙ ap (λ (r : Result (SigParts × At) ProofError). value_then r
     (λ (c : At). signatures_from (length a.rest) c)) step
 
 pub signatures_none : (a : At) → a ≡ at [] 0 → signatures_left a ≡ []

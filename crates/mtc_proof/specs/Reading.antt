@@ -1,12 +1,12 @@
 -- Reading a proof, with its faults in their order.
-use Rattle.std.specs.Prelude.{ℕ, zero, suc, ◌-◌, ◌==◌, List, [], ◌∷◌, length, Result, Ok, Err}
+use Rattle.std.specs.Prelude.{ℕ, zero, suc, ◌-◌, ◌==◌, List, [], length, Result, Ok, Err}
 use Rattle.std.specs.Prelude.{if◌then◌else◌}
 use Rattle.std.specs.Int.{Width, w8, w16, w64}
 use Rattle.byte_forms.specs.Types.{Hash, Text}
 use Rattle.byte_forms.specs.Places.{At, at, has_bytes}
 use Rattle.byte_forms.specs.Readings.{Reading, ◌>>=◌, lifted_at, discarded, both_at, mapped_at}
 use Rattle.byte_forms.specs.Readings.{tested_at}
-use Rattle.byte_forms.specs.Lists.{up_to_end}
+use Rattle.byte_forms.specs.Lists.{up_to_end, value_then}
 use Rattle.tls_wire.specs.Reading.{number_at, vector_at, hashes_at}
 use Rattle.tls_wire.specs.declared.cursor.HashesError.{HashesError}
 use Rattle.tls_wire.specs.declared.cursor.HashesError.TheVariants.{Short as NotFitting}
@@ -54,16 +54,11 @@ mtc_signature_at = mapped_at to_signature (both_at id_at (text_at w16))
 abbrev pub checked_signatures : At → Result (Unit {0}) ProofError
 checked_signatures a = discarded (up_to_end mtc_signature_at a) >>= λ end. Ok tt
 
--- A value, and those behind it.
-abbrev pub signature_then : Result (SigParts × At) ProofError → (At → List SigParts) → List SigParts
-signature_then (Ok x) behind = x.0 ∷ behind x.1
-signature_then (Err fault) behind = []
-
 -- The signatures from here on, up to the first that doesn't read. The number is at least that of
 -- the bytes that are left.
 unfoldable pub signatures_from : ℕ → At → List SigParts
 signatures_from zero a = []
-signatures_from (suc n) a = signature_then (mtc_signature_at a) (λ b. signatures_from n b)
+signatures_from (suc n) a = value_then (mtc_signature_at a) (λ b. signatures_from n b)
 
 abbrev pub signatures_left : At → List SigParts
 signatures_left a = signatures_from (length a.rest) a
