@@ -1,5 +1,6 @@
 -- What a `FileDisk` shows.
-use Rattle.std.specs.Prelude.{ℕ}
+use Rattle.std.specs.Prelude.{◌≡◌, ℕ, Bool, if◌then◌else◌}
+use Rattle.mtc_io.specs.Counts.{with_count}
 use Rattle.disk_core.specs.declared.file.FileDisk.{FileDisk}
 
 module _ {F : Type 0} where
@@ -18,3 +19,7 @@ module _ {F : Type 0} where
   -- its clock
   abbrev pub file_moment : FileDisk F → ℕ
   file_moment d = d.clock
+
+  -- one call: it fails with one fault more, or counts none
+  abbrev pub FileTurn : FileDisk F → Bool → FileDisk F → Type 0
+  FileTurn old ok new = new.faults ≡ (if ok then old.faults else with_count old.faults 1)

@@ -1,6 +1,7 @@
 -- What a `Fuse` shows: the disk inside, how many calls it still passes, whether it has failed one,
 -- and its count of these.
 use Rattle.std.specs.Prelude.{◌≡◌, ℕ, ◌-◌, Bool, true, false, ◌&&◌, ◌||◌, ◌==◌, if◌then◌else◌}
+use Rattle.mtc_io.specs.Counts.{with_count}
 use Rattle.disk_core.specs.declared.disk.Disk.{Ghosts}
 use Rattle.disk_core.specs.declared.fuse.Fuse.{Fuse}
 use Rattle.disk_core.specs.declared.memory.call.Call.{Call}
@@ -34,8 +35,9 @@ module _ {D : Type 0} where
   abbrev pub will_fail : Fuse D → Call → Bool
   will_fail f call = f.blown || (is_change call && f.passes == 0)
 
-  -- A call that it fails leaves the disk inside alone, and it fails each one after. A call that it
-  -- passes takes one of the passes where it is one of the two that change a file.
+  -- A call that it fails leaves the disk inside alone and is counted once, and it fails each one
+  -- after. A call that it passes takes one of the passes where it is one of the two that change a
+  -- file, and isn't counted here.
   pub record FuseTurn (g : Ghosts D) (old : Fuse D) (call : Call) (ok : Bool)
       (new : Fuse D) : Type 0 where
     pub failed : will_fail old call ≡ true
@@ -43,3 +45,5 @@ module _ {D : Type 0} where
     pub passed : will_fail old call ≡ false
         → (new.blown ≡ false) × (new.passes ≡ old.passes - (if is_change call then 1 else 0))
         × g.turn old.disk call ok new.disk
+    pub refused : new.refused
+        ≡ (if will_fail old call then with_count old.refused 1 else old.refused)

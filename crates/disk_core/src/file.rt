@@ -1,9 +1,9 @@
 //! An open file as a disk.
 
-ghost use Rattle.std.specs.Prelude.{◌≡◌, ◌≤◌, None, IfOk, OnOk};
+ghost use Rattle.std.specs.Prelude.{◌≡◌, ◌≤◌, None, if◌then◌else◌, is_err, IfOk, OnOk};
 ghost use Rattle.byte_forms.specs.Places.{IsBytes};
-ghost use Rattle.mtc_io.specs.Counts.{Rose, HasCause};
-ghost use Rattle.disk_core.specs.File.{open_file, file_faults, file_known, file_moment};
+ghost use Rattle.mtc_io.specs.Counts.{Rose, HasCause, with_count};
+ghost use Rattle.disk_core.specs.File.{open_file, file_faults, file_known, file_moment, FileTurn};
 
 use crate::disk::Disk;
 use mtc_io::Failed;
@@ -39,7 +39,7 @@ impl<F: OpenFile + FileExt> FileDisk<F> {
         }
     }
 
-    /// The count of its faults, which rises with each call that fails up to its last value.
+    /// The count of its faults: each call that fails adds one, up to the last value.
     pub fn faults(&self) -> u64
         ensures { result ≡ file_faults self.now }
     {
@@ -60,6 +60,7 @@ fn count<T: Drop>(clock: &mut u64, faults: &mut u64, answer: io::Result<T>) -> R
     ensures later { clock.old ≤ clock.new }
     ensures rose { OnOk result (Rose clock.old clock.new) }
     ensures cause { HasCause faults.old faults.new result }
+    ensures counted { faults.new ≡ (if is_err result then with_count faults.old 1 else faults.old) }
 {
     match answer {
         Ok(value) => {
@@ -89,6 +90,8 @@ impl<F: OpenFile + FileExt> Disk for FileDisk<F> {
     ghost left_since = { λ _ _ c. IsBytes c };
 
     ghost faults = { λ d. d.faults };
+
+    ghost turn = { λ d _ ok e. FileTurn d ok e };
 
     fn len(&mut self) -> Result<u64, Failed> {
         let length = count(&mut self.clock, &mut self.faults, measure(&self.file))?;

@@ -1,7 +1,7 @@
 //! A disk that stops at some call, as the machine does.
 
-ghost use Rattle.std.specs.Prelude.{◌≡◌, ◌↔◌, ◌+◌, ◌-◌, ◌==◌, ◌||◌, true, false, OnOk, OnErr, IsErr, IsTrue};
-ghost use Rattle.mtc_io.specs.Counts.{HasCause};
+ghost use Rattle.std.specs.Prelude.{◌≡◌, ◌↔◌, ◌+◌, ◌-◌, ◌==◌, ◌||◌, true, false, if◌then◌else◌, is_err, OnOk, OnErr, IsErr, IsTrue};
+ghost use Rattle.mtc_io.specs.Counts.{HasCause, with_count};
 
 use crate::disk::Disk;
 use mtc_io::Failed;
@@ -37,7 +37,7 @@ impl<D: Disk> Fuse<D> {
         }
     }
 
-    /// The count of the calls that it has failed itself. It rises with each, up to its last value.
+    /// The count of the calls that it has failed itself: each adds one, up to the last value.
     pub fn refused(&self) -> u64
         ensures value { result ≡ refused_of self.now }
         ensures faults { ⟦<Fuse<D> as Disk>⟧.faults self.now
@@ -59,6 +59,8 @@ fn look(blown: bool, refused: &mut u64) -> Result<(), Failed>
     ensures burnt { IsErr result ↔ IsTrue blown }
     ensures ok { OnOk result (refused.new ≡ refused.old) }
     ensures cause { HasCause refused.old refused.new result }
+    ensures counted { refused.new
+        ≡ (if is_err result then with_count refused.old 1 else refused.old) }
 {
     if blown {
         *refused = refused.saturating_add(1);
@@ -74,6 +76,8 @@ fn spend(passes: &mut u64, blown: &mut bool, refused: &mut u64) -> Result<(), Fa
     ensures whole { OnOk result (blown.new ≡ false) }
     ensures spent { OnOk result (passes.new ≡ passes.old - 1) }
     ensures cause { HasCause refused.old refused.new result }
+    ensures counted { refused.new
+        ≡ (if is_err result then with_count refused.old 1 else refused.old) }
     ensures blown { OnErr result (blown.new ≡ true) }
     ensures kept { OnErr result (passes.new ≡ passes.old) }
 {

@@ -179,14 +179,14 @@ impl MemDisk {
         self.plan.failing.as_slice()
     }
 
-    /// The count of its faults, which rises with each call that fails up to its last value.
+    /// The count of its faults: each call that fails adds one, up to the last value.
     pub fn faults(&self) -> u64
         ensures { result ≡ faults_of self.now }
     {
         self.plan.faults
     }
 
-    /// The count of those that found no memory, which rises with each.
+    /// The count of those that found no memory: each adds one, up to the last value.
     pub fn starved(&self) -> u64
         ensures { result ≡ starved_of self.now }
     {

@@ -1,7 +1,7 @@
 //! Which calls of a disk in memory fail, and how many have.
 
 ghost use Rattle.std.specs.Prelude.{◌≡◌, ◌≤◌, ◌↔◌, Contains, IsTrue};
-ghost use Rattle.mtc_io.specs.Counts.{Rose};
+ghost use Rattle.mtc_io.specs.Counts.{Rose, with_count};
 
 use mtc_io::Failed;
 
@@ -37,6 +37,7 @@ impl Plan {
         ensures failing { self.new.failing ≡ self.old.failing }
         ensures later { self.old.faults ≤ self.new.faults }
         ensures failed { Rose self.old.faults self.new.faults }
+        ensures faults { self.new.faults ≡ with_count self.old.faults 1 }
         ensures starved { self.new.starved ≡ self.old.starved }
     {
         self.faults = self.faults.saturating_add(1);
@@ -48,7 +49,8 @@ impl Plan {
         ensures failing { self.new.failing ≡ self.old.failing }
         ensures later { self.old.faults ≤ self.new.faults }
         ensures failed { Rose self.old.faults self.new.faults }
-        ensures starved { Rose self.old.starved self.new.starved }
+        ensures faults { self.new.faults ≡ with_count self.old.faults 1 }
+        ensures starved { self.new.starved ≡ with_count self.old.starved 1 }
     {
         self.faults = self.faults.saturating_add(1);
         self.starved = self.starved.saturating_add(1);
