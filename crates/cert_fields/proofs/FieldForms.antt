@@ -1,20 +1,19 @@
 -- The fields of a certificate but its extensions: what is read is spelled so, and what is spelled
 -- so is read again.
-use Rattle.std.proofs.Common.{◌≡◌, ◌≢◌, ℕ, zero, suc, ◌+◌, ◌-◌, ◌%◌, ◌^◌, ◌<◌, ◌≤◌, true, false}
+use Rattle.std.proofs.Common.{◌≡◌, ◌≢◌, ℕ, ◌+◌, ◌-◌, ◌%◌, ◌^◌, ◌<◌, ◌≤◌, true, false}
 use Rattle.std.proofs.Common.{List, [], ◌∷◌, ◌++◌, length, slice_index, Result, Ok, Err, refl, sym}
 use Rattle.std.proofs.Common.{ap, subst, ◌∙◌, append-nil, arith, inl, inr, ◌⊎◌, lit<, lit≤}
 use Rattle.std.proofs.Common.{eqb-true, ne_eqb, lt-ltb}
 use Rattle.std.specs.Prelude.{if◌then◌else◌, ◌==◌, ℤ}
 use Rattle.std.specs.List.{flat_map, AllByRecursion}
-use Rattle.std.proofs.lemmas.List.{length-append, nil_from_length}
+use Rattle.std.proofs.lemmas.List.{length-append}
 use Rattle.byte_forms.specs.Types.{Text}
 use Rattle.byte_forms.specs.Places.{At, IsBytes}
 use Rattle.byte_forms.specs.Readings.{◌>>=◌, some_or, discarded, both_at, mapped_at, last_at}
-use Rattle.byte_forms.specs.Readings.{Reading}
 use Rattle.byte_forms.specs.Forms.{Stands, IsForm, Anything, Nothing, itself, both, FitsBoth}
 use Rattle.byte_forms.specs.Forms.{FitsEach}
-use Rattle.byte_forms.specs.Lists.{up_to_end, each_at}
-use Rattle.byte_forms.proofs.Steps.{bind_ok, chosen, guard_ok, pass_ok, ok_is, discarded_ok}
+use Rattle.byte_forms.specs.Lists.{up_to_end}
+use Rattle.byte_forms.proofs.Steps.{bind_ok, guard_ok, pass_ok, ok_is, discarded_ok}
 use Rattle.byte_forms.proofs.Steps.{some_or_ok}
 use Rattle.byte_forms.proofs.Forms.{said_form, ended_form, both_form, mapped_form, last_form}
 use Rattle.byte_forms.proofs.Forms.{one_value}
