@@ -195,15 +195,14 @@ def check_streams(folder, _kills):
 
 
 def traced(folder, words, *more):
-    """The calls on files that a command makes, each with its file, and the command's status. Advice on a whole file is
-    named by what it is."""
+    """The calls on files that a command makes, each with its file, and the command's status."""
     trace = folder.path / "trace"
     trace.write_bytes(b"")
     folder.own(trace)
-    calls = "trace=flock,fsync,fdatasync,fadvise64,pread64,pwrite64"
+    calls = "trace=flock,fsync,fdatasync,pwrite64"
     status, _, _ = folder.run(words, before=["strace", "-y", "-qq", "-o", trace, "-e", calls, *more])
-    lines = re.findall(r"^(\w+)\((\d+)<([^>]*)>(?:, 0, 0, POSIX_FADV_(\w+)\))?", trace.read_text(), re.M)
-    return status, [(advice or call, Path(file).name, int(number)) for call, number, file, advice in lines]
+    lines = re.findall(r"^(\w+)\((\d+)<([^>]*)>", trace.read_text(), re.M)
+    return status, [(call, Path(file).name, int(number)) for call, number, file in lines]
 
 
 def can_trace(folder):
@@ -211,19 +210,12 @@ def can_trace(folder):
     return shutil.which("strace") and subprocess.run(probe, **folder.owner).returncode == 0
 
 
-READ = "pread64 j"
-OPENING = ["flock j", "fsync j", "DONTNEED j", "fsync d"]
+OPENING = ["flock j", "fsync j", "fsync d"]
 RECORD = ["pwrite64 j", "fsync j", "pwrite64 j", "fsync j"]
 
 
-def steps(calls):
-    """The calls, each with its file. Of reads those of the journal `j` count, and as one where they follow one another."""
-    told = [f"{call} {file}" for call, file, _ in calls if call != "pread64" or file == "j"]
-    return [step for last, step in zip(["", *told], told) if (last, step) != (READ, READ)]
-
-
 def check_order(folder, _kills):
-    """A journal is locked, synced, let go from memory, its folder is synced, and only then it is read or written"""
+    """A journal is locked, it and its folder are synced, and only then it is read or written"""
     if not can_trace(folder):
         folder.notes.append("left out: strace isn't here, or may not trace")
         return
@@ -232,10 +224,10 @@ def check_order(folder, _kills):
     folder.own(inner)
     for words, wanted in (
             (["init-log", "d/j", *NEW_LOG[2:]], [*OPENING, *RECORD]),
-            (["issue", "d/j", "r"], [*OPENING, "fsync j", READ, *RECORD]),
-            (["checkpoint", "d/j"], [*OPENING, "fsync j", READ])):
+            (["issue", "d/j", "r"], [*OPENING, "fsync j", *RECORD]),
+            (["checkpoint", "d/j"], [*OPENING, "fsync j"])):
         status, calls = traced(folder, words)
-        yield from unlike(words[0], (status, steps(calls)), (0, wanted))
+        yield from unlike(words[0], (status, [f"{call} {file}" for call, file, _ in calls]), (0, wanted))
     shell = ["sh", "-c", 'exec "$0" "$@" <&- >&- 2>&-']
     status, calls = traced(folder, ["issue", "d/j", "r"], *shell)
     numbers = {number > 2 for _, file, number in calls if file == "j"}
@@ -247,8 +239,7 @@ def check_faults(folder, _kills):
     if not can_trace(folder):
         folder.notes.append("left out: strace isn't here, or may not trace")
         return
-    faults = ["flock:error=EAGAIN", "flock:error=ENOLCK", "fsync:error=EIO:when=1", "fsync:error=EIO:when=2",
-              "fadvise64:error=EINVAL"]
+    faults = ["flock:error=EAGAIN", "flock:error=ENOLCK", "fsync:error=EIO:when=1", "fsync:error=EIO:when=2"]
     names = sorted({*folder.names(), "trace", "j"})
     for fault in faults:
         (folder.path / "j").unlink(missing_ok=True)

@@ -28,16 +28,16 @@ pub fn make<R: Files>(files: &R, name: &str) -> io::Result<R::File> {
         .open(files, name)
 }
 
-/// Locks an open file for this process alone, without waiting, syncs it and the folder of its name,
-/// and asks the system to read it from the disk anew. The name has to lead to the file that was
-/// locked. The lock is held until the file is closed.
+/// Locks an open file for this process alone, without waiting, and syncs it and the folder of its
+/// name. The name has to lead to the file that was locked. The lock is held until the file is
+/// closed.
 pub fn hold<R: Files<File = File>>(files: &R, file: File, name: &str) -> io::Result<File> {
     let file = move_off_streams(file)?;
     file.try_lock()?;
     if !leads_to(files, name, &file)? {
         return Err(io::Error::from(ErrorKind::NotFound));
     }
-    settle(&file)?;
+    file.sync_all()?;
     sync_folder(files, name)?;
     Ok(file)
 }
@@ -56,18 +56,6 @@ fn move_off_streams(file: File) -> io::Result<File> {
 fn leads_to<R: Files>(files: &R, name: &str, file: &File) -> io::Result<bool> {
     let (named, open) = (fs::metadata(files, name)?, file.metadata()?);
     Ok(named.dev() == open.dev() && named.ino() == open.ino())
-}
-
-// Syncs the file, and asks the system to let go of what it holds of it in memory. Where a sync of
-// an earlier process failed, that may be other than what the disk has, and a later sync may answer
-// Ok without having written it.
-fn settle(file: &File) -> io::Result<()> {
-    file.sync_all()?;
-    // From 0 on, 0 bytes: the whole file. The answer is 0 or the number of an error.
-    match libc::posix_fadvise(file.as_raw_fd(), 0, 0, libc::POSIX_FADV_DONTNEED) {
-        0 => Ok(()),
-        error => Err(io::Error::from_raw_os_error(error)),
-    }
 }
 
 // Syncs the folder in which the name stands.
