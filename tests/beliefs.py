@@ -222,8 +222,10 @@ def promise_rows():
         if mine:
             behind, _, _ = reached((dotted, name) for name, dotted in mine)
             rows.append(f"| {standard} | {', '.join(f'`{name}`' for name, _ in mine)} | {len(behind)} |")
-    whole, types, _ = reached(named_by(WHOLE))
-    return rows + [f"| all | {len(ends)} words | {len(whole) - len(own)}, and {len(types)} types of the code |", ""]
+    for those, title in ((ends - ENDS, "all but a run, each counted once"), (ends, "all, each counted once")):
+        behind, types, _ = reached(those)
+        rows.append(f"| {title} | {len(those)} words | {len(behind.keys() - own.keys())}, and {len(types)} types of the code |")
+    return rows + [""]
 
 
 def first_rows(statement):
