@@ -21,9 +21,9 @@ use Rattle.node_history.specs.declared.step.NodeStep.{NodeStep}
 use Rattle.node_history.proofs.GoesOn.{begins_fresh}
 use Rattle.node_history.proofs.Sound.{began_so, grown}
 use Rattle.node_history.proofs.Steps.{some_is}
-use Rattle.mtc_top.specs.Courses.{Turn, Link, ran, stops, cut, HasTurned, DidWith}
-use Rattle.mtc_top.specs.Courses.{images_in, images_from, HasStopped, IsCourse, WasMade, HasHeld}
-use Rattle.mtc_top.specs.Courses.{WasHeld, HandsOut}
+use Rattle.mtc_top.specs.Courses.{Turn, Link, ran, stops, cut, writes, HasTurned, DidWith}
+use Rattle.mtc_top.specs.Courses.{images_in, images_from, HasStopped, HasWritten, IsCourse}
+use Rattle.mtc_top.specs.Courses.{WasMade, HasHeld, WasHeld, HandsOut}
 use Rattle.mtc_top.specs.Nodes.{AllStandForNode, EndsWell, StandsForNode, TookSome}
 use Rattle.mtc_top.specs.Nodes.{end_state, steps_of}
 use Rattle.mtc_top.specs.Outcome.{journals_of, outcome, spoken}
@@ -335,6 +335,17 @@ module _ {R S D O E : Type 0} (h : HashFunction) (rooms : Rooms R S D) (disks : 
             handed = may.handed;
           }
 
+      -- ---- other files that change
+
+      written_stands : (steps : List NodeStep) (s : HistoryState) (old new : R) → IsAt steps s old
+          → HasWritten h rooms disks outs errs name old new → IsAt steps s new
+      written_stands steps s old new at wrote = record {
+        tells = wrote.tells at.tells;
+        leads = at.leads;
+        stands = subst (λ (x : Option D). AllStandForNode s first (images_at disks x))
+            (sym wrote.stays.disk) at.stands;
+      }
+
       -- ---- a course
 
       pub record Goes (steps : List NodeStep) (s : HistoryState) (old new : R)
@@ -346,7 +357,7 @@ module _ {R S D O E : Type 0} (h : HashFunction) (rooms : Rooms R S D) (disks : 
 
       pub course_goes : (steps : List NodeStep) (s : HistoryState) (old new : R)
           (links : List (Link R O E)) → IsAt steps s old
-          → IsCourse h rooms disks outs errs old links new → Goes steps s old new links
+          → IsCourse h rooms disks outs errs name old links new → Goes steps s old new links
       course_goes steps s old new [] at course = record {
         later = later_same steps s new (subst (IsAt steps s) (sym course) at);
         out = [];
@@ -367,6 +378,10 @@ module _ {R S D O E : Type 0} (h : HashFunction) (rooms : Rooms R S D) (disks : 
       course_goes steps s old new (stops room ∷ links) at course =
           let rest = course_goes steps s room new links (stop_stands steps s old room at course.0)
           course.1 in
+          record { later = rest.later; out = rest.out; went = rest.went; handed = rest.handed }
+      course_goes steps s old new (writes room ∷ links) at course =
+          let at' = written_stands steps s old room at course.0 in
+          let rest = course_goes steps s room new links at' course.1 in
           record { later = rest.later; out = rest.out; went = rest.went; handed = rest.handed }
       course_goes steps s old new (cut turn room ∷ links) at course =
           let mid = cut_goes steps s old room turn at course.0.0 course.0.1 in
@@ -391,7 +406,7 @@ module _ {R S D O E : Type 0} (h : HashFunction) (rooms : Rooms R S D) (disks : 
 
       held_here : (steps : List NodeStep) (s : HistoryState) (old new : R) (turn : Turn R O E)
           (links : List (Link R O E)) (list : List (List ℕ)) → IsAt steps s old
-          → Turned old turn → IsCourse h rooms disks outs errs turn.room links new
+          → Turned old turn → IsCourse h rooms disks outs errs name turn.room links new
           → HasHeld h rooms disks outs errs name old turn list → Fronts steps new list
       held_here steps s old new turn links list at run course held =
           let mid = end_later steps s old turn held.did at run held.among in
@@ -417,7 +432,7 @@ module _ {R S D O E : Type 0} (h : HashFunction) (rooms : Rooms R S D) (disks : 
 
       pub course_held : (steps : List NodeStep) (s : HistoryState) (old new : R)
           (links : List (Link R O E)) (list : List (List ℕ)) → IsAt steps s old
-          → IsCourse h rooms disks outs errs old links new
+          → IsCourse h rooms disks outs errs name old links new
           → WasHeld h rooms disks outs errs name old links list → Fronts steps new list
       course_held steps s old new [] list at course was = absurd was
       course_held steps s old new (ran turn ∷ links) list at course was = elim was [
@@ -429,6 +444,9 @@ module _ {R S D O E : Type 0} (h : HashFunction) (rooms : Rooms R S D) (disks : 
       ]
       course_held steps s old new (stops room ∷ links) list at course was =
           course_held steps s room new links list (stop_stands steps s old room at course.0)
+          course.1 was
+      course_held steps s old new (writes room ∷ links) list at course was =
+          course_held steps s room new links list (written_stands steps s old room at course.0)
           course.1 was
       course_held steps s old new (cut turn room ∷ links) list at course was =
           let mid = (cut_goes steps s old room turn at course.0.0 course.0.1).later in

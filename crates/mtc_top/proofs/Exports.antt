@@ -124,7 +124,7 @@ module _ {R S D O E : Type 0} (h : HashFunction) (rooms : Rooms R S D) (disks : 
     (bytes : (d : D) (b : List ℕ) → disks.told d ≡ Some b → IsBytes b) where
   module _ (name : List ℕ) (start : NodeStart) (first : List ℕ) (made new : R)
       (links : List (Link R O E)) (was : WasMade h rooms disks outs errs name start first made)
-      (course : IsCourse h rooms disks outs errs made links new) (settings : CosignerSettings)
+      (course : IsCourse h rooms disks outs errs name made links new) (settings : CosignerSettings)
       (public : List ℕ) (is : start ≡ Cosigner settings public) (turn : Turn R O E)
       (run : HasTurned h rooms disks outs errs new turn)
       (spoken : command_of turn.words ≡ Ok (export name)) (heard : IsHeard outs turn)

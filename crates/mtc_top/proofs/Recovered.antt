@@ -138,7 +138,7 @@ module _ {R S D O E : Type 0} (h : HashFunction) (rooms : Rooms R S D) (disks : 
 
   module _ (name : List ℕ) (start : NodeStart) (first : List ℕ) (made new : R)
       (links : List (Link R O E)) (was : WasMade h rooms disks outs errs name start first made)
-      (course : IsCourse h rooms disks outs errs made links new) where
+      (course : IsCourse h rooms disks outs errs name made links new) where
     abbrev goes : Goes h rooms disks outs errs image only told name start first was.starts []
         (fresh_node start) made new links
     goes = course_goes h rooms disks outs errs image only told name start first was.starts []

@@ -25,7 +25,7 @@ use Rattle.mtc_answers.specs.Made.{HasMade, Leaves}
 use Rattle.mtc_answers.specs.Valid.{LeavesValid}
 use Rattle.mtc_answers.proofs.Made.{OnlyNow, ReadsImage}
 use Rattle.node_history.specs.Rules.{AreRecords}
-use Rattle.mtc_top.specs.Courses.{Turn, Link, ran, stops, cut, AreAmong, HasTurned, DidWith}
+use Rattle.mtc_top.specs.Courses.{Turn, Link, ran, stops, cut, writes, AreAmong, HasTurned, DidWith}
 use Rattle.mtc_top.specs.Concluded.{Prints, PrintsFront}
 use Rattle.mtc_top.specs.Courses.{images_in, images_from, IsCourse, HasHeld, HasPrinted, IsHeard}
 use Rattle.mtc_top.specs.Courses.{OfEachTurn, WasHeld, HandsOut, WasHandedOut}
@@ -221,7 +221,7 @@ module _ {R S D O E : Type 0} (h : HashFunction) (rooms : Rooms R S D) (disks : 
       heard_held h rooms disks outs errs old turn run (inr hands.1) name list body hands.0
 
   pub all_held : (name : List ℕ) (old new : R) (links : List (Link R O E))
-      (list : List (List ℕ)) (body : List ℕ) → IsCourse h rooms disks outs errs old links new
+      (list : List (List ℕ)) (body : List ℕ) → IsCourse h rooms disks outs errs name old links new
       → WasHandedOut h rooms disks outs errs name old links list body
       → WasHeld h rooms disks outs errs name old links (list ++ body ∷ [])
   all_held name old new [] list body course was = absurd was
@@ -233,11 +233,13 @@ module _ {R S D O E : Type 0} (h : HashFunction) (rooms : Rooms R S D) (disks : 
       all_held name room new links list body course.1 was
   all_held name old new (cut turn room ∷ links) list body course was =
       all_held name room new links list body course.1 was
+  all_held name old new (writes room ∷ links) list body course was =
+      all_held name room new links list body course.1 was
 
   -- what holds of each run of a course, and of the records that it held
   pub each_held : (name : List ℕ) (Held : List (List ℕ) → Type 0) (P : R → Turn R O E → Type 0)
       (old new : R) (links : List (Link R O E)) → rooms.tells old
-      → IsCourse h rooms disks outs errs old links new
+      → IsCourse h rooms disks outs errs name old links new
       → ((list : List (List ℕ)) → WasHeld h rooms disks outs errs name old links list → Held list)
       → ((room : R) (turn : Turn R O E) → rooms.tells room → Turned room turn
       → ((list : List (List ℕ)) → HasHeld h rooms disks outs errs name room turn list → Held list)
@@ -254,3 +256,5 @@ module _ {R S D O E : Type 0} (h : HashFunction) (rooms : Rooms R S D) (disks : 
   each_held name Held P old new (cut turn room ∷ links) tells course held each =
       each_held name Held P room new links (course.0.1.tells (course.0.0.back.tells tells))
       course.1 held each
+  each_held name Held P old new (writes room ∷ links) tells course held each =
+      each_held name Held P room new links (course.0.tells tells) course.1 held each

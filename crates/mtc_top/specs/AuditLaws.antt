@@ -73,7 +73,7 @@ module _ {R S D O E : Type 0} (h : HashFunction) (rooms : Rooms R S D) (disks : 
     -- the course
     pub links : List (Link R O E)
     pub old : R
-    pub course : IsCourse h rooms disks outs errs made links old
+    pub course : IsCourse h rooms disks outs errs name made links old
     -- a record that it handed out
     pub front : List Text
     pub body : Text

@@ -41,7 +41,7 @@ module _ {R S D O E : Type 0} (h : HashFunction) (rooms : Rooms R S D) (disks : 
       → Type 0
   OfCourses P = (name : Text) (start : NodeStart) (first : Text) (made new : R)
       (links : List (Link R O E)) → WasMade h rooms disks outs errs name start first made
-      → IsCourse h rooms disks outs errs made links new → P name start first made links new
+      → IsCourse h rooms disks outs errs name made links new → P name start first made links new
 
   -- It is a history of the node.
   abbrev pub CoursesAreHistories : Type 0

@@ -1,10 +1,11 @@
 -- Courses: what happens to a room, one run after the other, with stops of the machine between the
--- runs and in the middle of one.
+-- runs and in the middle of one, and with other files that change between them.
 use Rattle.std.specs.Prelude.{◌≡◌, ◌≢◌, ◌⊎◌, ℕ, List, [], ◌∷◌, ◌++◌, Some}
 use Rattle.byte_forms.specs.Types.{HashFunction, Text}
 use Rattle.disk_core.specs.declared.disk.Disk.{Ghosts as Disks}
 use Rattle.journal_core.specs.Format.{StandsFor}
 use Rattle.mtc_io.specs.declared.sink.Sink.{Ghosts as Sinks}
+use Rattle.mtc_room.specs.Room.{Stays}
 use Rattle.mtc_room.specs.declared.room.Room.{Ghosts as Rooms}
 use Rattle.mtc_answers.specs.Made.{Journaled, appended, reads, started, images_at, images_since}
 use Rattle.mtc_answers.specs.Made.{moment_at}
@@ -39,11 +40,14 @@ pub data Link (R O E : Type 0) : Type 0 where
   -- A stop behind the first byte is `ran`, with a standard output that failed there, and then
   -- `stops`: the run has worked on the room before its first byte.
   cut : Turn R O E → R → Link R O E
+  -- Other files are made, changed or taken away, as a request is between two runs.
+  writes : R → Link R O E
 
 abbrev pub room_after : {R O E : Type 0} → Link R O E → R
 room_after (ran turn) = turn.room
 room_after (stops room) = room
 room_after (cut turn room) = room
+room_after (writes room) = room
 
 -- One of these journals has this name, and so it was worked on.
 abbrev pub AreAmong : Journals → Text → Journaled → Type 0
@@ -91,17 +95,24 @@ module _ {R S D O E : Type 0} (h : HashFunction) (rooms : Rooms R S D) (disks : 
     pub may : (name : Text) → May name (image name)
     pub only : (name c : Text) → images_in new name c → c ≡ image name
 
-  -- The link begins with this room.
-  abbrev pub IsLink : R → Link R O E → Type 0
-  IsLink old (ran turn) = HasTurned old turn
-  IsLink old (stops new) = HasStopped (images_in old) old new
-  IsLink old (cut turn new) =
+  -- Files were written, but not that of this name.
+  pub record HasWritten (name : Text) (old new : R) : Type 0 where
+    pub tells : rooms.tells old → rooms.tells new
+    pub stays : Stays (rooms.file old) (rooms.file new) (rooms.device old) (rooms.device new) name
+
+  -- The link begins with this room, and is one of a course of the journal of this name.
+  abbrev pub IsLink : Text → R → Link R O E → Type 0
+  IsLink name old (ran turn) = HasTurned old turn
+  IsLink name old (stops new) = HasStopped (images_in old) old new
+  IsLink name old (cut turn new) =
       HasTurned old turn × HasStopped (images_from old turn.room) turn.room new
+  IsLink name old (writes new) = HasWritten name old new
 
   -- The links lead from one room to the other.
-  abbrev pub IsCourse : R → List (Link R O E) → R → Type 0
-  IsCourse old [] new = new ≡ old
-  IsCourse old (link ∷ links) new = IsLink old link × IsCourse (room_after link) links new
+  abbrev pub IsCourse : Text → R → List (Link R O E) → R → Type 0
+  IsCourse name old [] new = new ≡ old
+  IsCourse name old (link ∷ links) new =
+      IsLink name old link × IsCourse name (room_after link) links new
 
   -- This journal is there, and its one record is one with which such a node begins. A run made it,
   -- and ended with status 0, or with 6: then standard output failed, and the journal is whole. Or a
@@ -123,6 +134,7 @@ module _ {R S D O E : Type 0} (h : HashFunction) (rooms : Rooms R S D) (disks : 
   OfEachTurn P old (ran turn ∷ links) = P old turn × OfEachTurn P turn.room links
   OfEachTurn P old (stops new ∷ links) = OfEachTurn P new links
   OfEachTurn P old (cut turn new ∷ links) = OfEachTurn P new links
+  OfEachTurn P old (writes new ∷ links) = OfEachTurn P new links
 
   -- With these records the journal may be recovered: a crash may leave a file that stands for them.
   abbrev pub IsRecovered : Text → R → List Text → Type 0
@@ -145,6 +157,7 @@ module _ {R S D O E : Type 0} (h : HashFunction) (rooms : Rooms R S D) (disks : 
       HasHeld name old turn list ⊎ WasHeld name turn.room links list
   WasHeld name old (stops new ∷ links) list = WasHeld name new links list
   WasHeld name old (cut turn new ∷ links) list = WasHeld name new links list
+  WasHeld name old (writes new ∷ links) list = WasHeld name new links list
 
   -- The run added this record behind those, and a byte went out.
   abbrev pub HandsOut : Text → R → Turn R O E → List Text → Text → Type 0
@@ -166,6 +179,7 @@ module _ {R S D O E : Type 0} (h : HashFunction) (rooms : Rooms R S D) (disks : 
       × WentOut name turn.room links later))
   WentOut name old (stops new ∷ links) bodies = WentOut name new links bodies
   WentOut name old (cut turn new ∷ links) bodies = WentOut name new links bodies
+  WentOut name old (writes new ∷ links) bodies = WentOut name new links bodies
 
   -- The journal of this name is that of a node at the end of a history, in which the records were
   -- handed out that went out in the course.
@@ -184,3 +198,4 @@ module _ {R S D O E : Type 0} (h : HashFunction) (rooms : Rooms R S D) (disks : 
       HandsOut name old turn list body ⊎ WasHandedOut name turn.room links list body
   WasHandedOut name old (stops new ∷ links) list body = WasHandedOut name new links list body
   WasHandedOut name old (cut turn new ∷ links) list body = WasHandedOut name new links list body
+  WasHandedOut name old (writes new ∷ links) list body = WasHandedOut name new links list body

@@ -23,7 +23,7 @@ module _ {R S D O E : Type 0} (h : HashFunction) (rooms : Rooms R S D) (disks : 
     pub made : R
     pub links : List (Link R O E)
     pub was : WasMade h rooms disks outs errs name start first made
-    pub course : IsCourse h rooms disks outs errs made links room
+    pub course : IsCourse h rooms disks outs errs name made links room
 
   -- Each image of the journal stands for the state, which handed out what went out.
   pub record StandsSo (journal : IsJournalOf) (state : HistoryState) : Type 0 where

@@ -34,8 +34,7 @@ module _ {R S D O E : Type 0} (h : HashFunction) (rooms : Rooms R S D) (disks : 
   abbrev pub journals : Journals
   journals = done_with names asked.journals
 
-  -- The reply is one that is asked for, by the words and the files that the room tells, or by the
-  -- words alone where they are no command.
+  -- The reply is asked for, where the room tells its files or where the words are no command.
   abbrev pub IsAsked : Reply → Type 0
   IsAsked reply = rooms.tells old ⊎ IsErr (command_of words) → Meets asked.answer reply
 
