@@ -1,0 +1,58 @@
+-- Parts of bytes.
+use Rattle.std.proofs.Common.{◌≡◌, ℕ, ◌+◌, ◌-◌, ◌*◌, ◌<◌, ◌≤◌, List, length, take, drop, sym, ◌∙◌}
+use Rattle.std.proofs.Common.{ap, arith}
+use Rattle.std.proofs.lemmas.List.{drop-drop, drop-take, length-drop, length-take, take-take}
+use Rattle.disk_core.specs.Disk.{part}
+use Rattle.tile_store.specs.Contents.{hash_in}
+
+pub part-take : (place count front : ℕ) (bytes : List ℕ) → place + count ≤ front
+    → part place count (take front bytes) ≡ part place count bytes
+part-take place count front bytes within =
+    let size : front ≡ place + (front - place) = omega arith in
+    ap (λ n. take count (drop place (take n bytes))) size
+    ∙ ap (take count) (drop-take place (front - place) bytes)
+    ∙ take-take count (front - place) (drop place bytes) (omega arith)
+
+pub part-drop : (place count front : ℕ) (bytes : List ℕ)
+    → part place count (drop front bytes) ≡ part (front + place) count bytes
+part-drop place count front bytes = ap (take count) (drop-drop place front bytes)
+
+-- a part of a part
+pub part-part : (place count inner width : ℕ) (bytes : List ℕ) → inner + width ≤ count
+    → part inner width (part place count bytes) ≡ part (place + inner) width bytes
+part-part place count inner width bytes within =
+    part-take inner width count (drop place bytes) within ∙ part-drop inner width place bytes
+
+pub length-part : (place count : ℕ) (bytes : List ℕ) → place + count ≤ length bytes
+    → length (part place count bytes) ≡ count
+length-part place count bytes within =
+    let dropped = length-drop place bytes in
+    let taken = length-take count (drop place bytes) in
+    omega arith
+
+-- bytes with the same front have the same parts there
+pub part-front : (place count front : ℕ) (a b : List ℕ) → place + count ≤ front
+    → take front a ≡ take front b → part place count a ≡ part place count b
+part-front place count front a b within same =
+    sym (part-take place count front a within) ∙ ap (part place count) same
+    ∙ part-take place count front b within
+
+-- the hashes of the first bytes, and those behind so many hashes
+pub hash-left : (i half : ℕ) (bytes : List ℕ) → i + 1 ≤ half
+    → hash_in i (take (32 * half) bytes) ≡ hash_in i bytes
+hash-left i half bytes within = part-take (32 * i) 32 (32 * half) bytes (omega arith)
+
+pub hash-right : (i half : ℕ) (bytes : List ℕ)
+    → hash_in i (drop (32 * half) bytes) ≡ hash_in (half + i) bytes
+hash-right i half bytes =
+    let sum : 32 * half + 32 * i ≡ 32 * (half + i) = omega arith in
+    part-drop (32 * i) 32 (32 * half) bytes ∙ ap (λ p. part p 32 bytes) sum
+
+-- some of the hashes
+pub hash-part : (i first count : ℕ) (bytes : List ℕ) → i < count
+    → hash_in i (take (32 * (first + count) - 32 * first) (drop (32 * first) bytes))
+    ≡ hash_in (first + i) bytes
+hash-part i first count bytes within =
+    let size : 32 * (first + count) - 32 * first ≡ 32 * count = omega arith in
+    ap (λ n. hash_in i (take n (drop (32 * first) bytes))) size
+    ∙ hash-left i count (drop (32 * first) bytes) (omega arith) ∙ hash-right i first bytes

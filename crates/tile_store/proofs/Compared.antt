@@ -1,0 +1,236 @@
+-- Tiles read back and compared.
+use Rattle.std.proofs.Common.{◌≡◌, ℕ, zero, suc, ◌+◌, ◌*◌, ◌/◌, ◌<◌, ◌≤◌, ◌⊎◌, inl, inr}
+use Rattle.std.proofs.Common.{⊎_elim}
+use Rattle.std.proofs.Common.{max, List, length, take, ◌++◌, Some, None, refl, sym}
+use Rattle.std.proofs.Common.{◌∙◌, ap}
+use Rattle.std.proofs.Common.{subst, arith}
+use Rattle.std.specs.Prelude.{IfSome}
+use Rattle.std.proofs.Math.ListN.{length-set}
+use Rattle.std.proofs.Math.Seq.{take-add}
+use Rattle.std.proofs.lemmas.Bool.{cases_lt}
+use Rattle.std.proofs.lemmas.List.{take_all}
+use Rattle.disk_core.proofs.Moments.{looked_on}
+use Rattle.disk_core.specs.Disk.{part}
+use Rattle.disk_core.specs.Moments.{Looks}
+use Rattle.disk_core.specs.declared.disk.Disk.{Ghosts}
+use Rattle.frame_pool.specs.Frames.{HoldsKey, IsUnheld, PoolState, released}
+use Rattle.frame_pool.specs.Sound.{IsSoundPool}
+use Rattle.frame_pool.specs.declared.key.TileKey.{TileKey}
+use Rattle.tile_store.proofs.Loads.{holds-released}
+use Rattle.tile_store.proofs.Numbers.{same-number}
+use Rattle.mtc_io.specs.Counts.{Rose}
+use Rattle.tile_store.specs.Comparing.{HasTileReason, HaveCompared, HaveMatched, IsFirstOther}
+use Rattle.tile_store.specs.Comparing.{OverEach}
+use Rattle.tile_store.specs.declared.error.TileError.{TileError}
+use Rattle.tile_store.specs.declared.error.TileError.TheVariants.{BadTile, Failed}
+use Rattle.tile_store.specs.Contents.{IsTile, hash_in}
+use Rattle.tile_store.specs.Frames.{FramesHold, HasNoPins}
+use Rattle.tile_store.specs.Layout.{tile_at, tile_number}
+use Rattle.tree_cache.specs.Rows.{RowsState}
+use Rattle.byte_forms.specs.Types.{HashFunction}
+
+-- bytes with the same hashes are the same
+same-front : (a b : List ℕ) (n : ℕ) → ((i : ℕ) → i < n → hash_in i a ≡ hash_in i b)
+    → take (32 * n) a ≡ take (32 * n) b
+same-front a b zero same = refl
+same-front a b (suc n) same =
+    let more : 32 * suc n ≡ 32 * n + 32 = omega arith in
+    ap (λ k. take k a) more ∙ take-add (32 * n) 32 a
+    ∙ ap (λ x. x ++ hash_in n a) (same-front a b n (λ i inside. same i (omega arith)))
+    ∙ ap (λ x. take (32 * n) b ++ x) (same n (omega arith))
+    ∙ sym (take-add (32 * n) 32 b) ∙ sym (ap (λ k. take k b) more)
+
+pub same-tile : (h : List ℕ → List ℕ) (leaves : List (List ℕ)) (level place : ℕ)
+    (a b : List ℕ) → IsTile h leaves level place a → IsTile h leaves level place b → a ≡ b
+same-tile h leaves level place a b one two =
+    let first = one.size in
+    let second = two.size in
+    sym (take_all (32 * 256) a (omega arith))
+    ∙ same-front a b 256 (λ i inside. one.hashes i inside ∙ sym (two.hashes i inside))
+    ∙ take_all (32 * 256) b (omega arith)
+
+-- one tile more was found
+pub matched-more : (h : List ℕ → List ℕ) (leaves : List (List ℕ)) (from number l p : ℕ)
+    (b : List ℕ) → l ≤ 2 → tile_number l p ≡ number
+    → IsTile h leaves l p (part (tile_at l p) 8192 b)
+    → ((level place : ℕ) → level ≤ 2 → from ≤ tile_number level place
+    → tile_number level place < number
+    → IsTile h leaves level place (part (tile_at level place) 8192 b))
+    → (level place : ℕ) → level ≤ 2 → from ≤ tile_number level place
+    → tile_number level place < number + 1
+    → IsTile h leaves level place (part (tile_at level place) 8192 b)
+matched-more h leaves from number l p b low is tile sofar level place less behind below =
+    ⊎_elim
+    (λ (earlier : tile_number level place < number). sofar level place less behind earlier)
+    (λ (last : number ≤ tile_number level place).
+    let same : tile_number l p ≡ tile_number level place = omega arith in
+    let one = same-number l p level place low less same in
+    subst (λ k. IsTile h leaves k place (part (tile_at k place) 8192 b)) one.0
+    (subst (λ k. IsTile h leaves l k (part (tile_at l k) 8192 b)) one.1 tile))
+    (cases_lt (tile_number level place) number)
+
+module _ {T : Type 0} (g : Ghosts T) where
+  -- no tile was read
+  pub compared-looked : (old new : T) (pool : PoolState) → Looks g old new → HasNoPins pool
+      → HaveCompared g old new pool pool
+  compared-looked old new pool looks free = record {
+    looks = looks;
+    frames = λ b told holds. holds;
+    keys = λ slot key holds. holds;
+    free = free;
+    count = refl;
+  }
+
+  -- a tile was read into a frame, which is empty again
+  pub compared-one : (old new : T) (before mid : PoolState) (slot : ℕ) (key : TileKey)
+      → Looks g old new
+      → ((b : List ℕ) → g.told old ≡ Some b → FramesHold b before → FramesHold b mid)
+      → ((s : ℕ) (k : TileKey) → HoldsKey mid s k → (k ≡ key) ⊎ HoldsKey before s k)
+      → HasNoPins mid → length mid.keys ≡ length before.keys → IsSoundPool mid
+      → HoldsKey mid slot key → HaveCompared g old new before (released mid slot)
+  compared-one old new before mid slot key looks frames keys free count sound held =
+      let set = length-set mid.keys slot None in
+      record {
+        looks = looks;
+        frames = λ b told holds s k was.
+            let is = holds-released mid slot s k held.there was in
+            frames b told holds s k is.1;
+        keys = λ s k was.
+            let is = holds-released mid slot s k held.there was in
+            ⊎_elim
+            (λ (same : k ≡ key).
+            let here : HoldsKey mid s key = subst (HoldsKey mid s) same is.1 in
+            absurd (is.0 (sound.distinct s slot key here.there held.there here.held held.held)))
+            (λ (old_one : HoldsKey before s k). old_one)
+            (keys s k is.1);
+        free = free;
+        count = omega arith;
+      }
+
+  -- one comparison behind another
+  pub compared-on : (old mid new : T) (a b c : PoolState) → HaveCompared g old mid a b
+      → HaveCompared g mid new b c → HaveCompared g old new a c
+  compared-on old mid new a b c first second = record {
+    looks = looked_on g old mid new first.looks second.looks;
+    frames = λ bytes told holds.
+        second.frames bytes (first.looks.told ∙ told) (first.frames bytes told holds);
+    keys = λ slot key holds. first.keys slot key (second.keys slot key holds);
+    free = second.free;
+    count = second.count ∙ first.count;
+  }
+
+  -- a key that no frame held
+  pub unheld-still : (old new : T) (before after : PoolState) (key : TileKey)
+      → HaveCompared g old new before after → IsUnheld before key → IsUnheld after key
+  unheld-still old new before after key compared unheld = λ slot there held.
+      let was = compared.keys slot key (record { there = there; held = held }) in
+      unheld slot was.there was.held
+
+  -- the tiles so far, from one number on up to another
+  pub record HaveFound (h : HashFunction) (rows : RowsState) (from number : ℕ) (old now : T)
+      (before after : PoolState) : Type 0 where
+    pub compared : HaveCompared g old now before after
+    pub faults : g.faults now ≡ g.faults old
+    pub matched : HaveMatched g h rows from number old before
+
+  pub found-none : (h : List ℕ → List ℕ) (rows : RowsState) (from : ℕ) (old : T)
+      (pool : PoolState) → Looks g old old → HasNoPins pool
+      → HaveFound h rows from from old old pool pool
+  found-none h rows from old pool looks free = record {
+    compared = compared-looked old old pool looks free;
+    faults = refl;
+    matched = λ b told frames leaves are level place low behind below.
+        let no : ⊥ = omega arith in absurd no;
+  }
+
+  pub found-more : (h : List ℕ → List ℕ) (rows : RowsState) (from number l p : ℕ)
+      (old mid new : T) (a b c : PoolState) → l ≤ 2 → tile_number l p ≡ number
+      → HaveFound h rows from number old mid a b → HaveCompared g mid new b c
+      → g.faults new ≡ g.faults mid
+      → OverEach g h rows mid b (λ bytes leaves.
+      IsTile h leaves l p (part (tile_at l p) 8192 bytes))
+      → HaveFound h rows from (number + 1) old new a c
+  found-more h rows from number l p old mid new a b c low is sofar step fine tile = record {
+    compared = compared-on old mid new a b c sofar.compared step;
+    faults = fine ∙ sofar.faults;
+    matched = λ bytes told frames leaves are.
+        matched-more h leaves from number l p bytes low is
+        (tile bytes (sofar.compared.looks.told ∙ told)
+        (sofar.compared.frames bytes told frames) leaves are)
+        (sofar.matched bytes told frames leaves are);
+  }
+
+  -- the first tile that has other hashes
+  pub first-other : (h : List ℕ → List ℕ) (rows : RowsState) (from number to l p : ℕ)
+      (old mid : T) (a b : PoolState) → l ≤ 2 → tile_number l p ≡ number → from ≤ number
+      → number < to → HaveFound h rows from number old mid a b
+      → OverEach g h rows mid b (λ bytes leaves.
+      IsTile h leaves l p (part (tile_at l p) 8192 bytes) → ⊥)
+      → IsFirstOther g h rows from to old a l p
+  first-other h rows from number to l p old mid a b low is order less sofar other = record {
+    low = low;
+    behind = omega arith;
+    below = omega arith;
+    before = λ bytes told frames leaves are level place lower behind below.
+        sofar.matched bytes told frames leaves are level place lower behind (omega arith);
+    other = λ bytes told frames leaves are.
+        inr (other bytes (sofar.compared.looks.told ∙ told)
+        (sofar.compared.frames bytes told frames) leaves are);
+  }
+
+  -- behind a look
+  pub looked-compared : (old mid new : T) (before after : PoolState) → Looks g old mid
+      → HaveCompared g mid new before after → HaveCompared g old new before after
+  looked-compared old mid new before after looks compared = record {
+    looks = looked_on g old mid new looks compared.looks;
+    frames = λ b told. compared.frames b (looks.told ∙ told);
+    keys = compared.keys;
+    free = compared.free;
+    count = compared.count;
+  }
+
+  other-looked : (h : List ℕ → List ℕ) (rows : RowsState) (from near to l p : ℕ) (old mid : T)
+      (pool : PoolState) → Looks g old mid → near ≤ to
+      → IsFirstOther g h rows from near mid pool l p → IsFirstOther g h rows from to old pool l p
+  other-looked h rows from near to l p old mid pool looks within is =
+      let below = is.below in
+      record {
+        low = is.low;
+        behind = is.behind;
+        below = omega arith;
+        before = λ b told. is.before b (looks.told ∙ told);
+        other = λ b told. is.other b (looks.told ∙ told);
+      }
+
+  pub reason-looked : (h : List ℕ → List ℕ) (rows : RowsState) (from near to : ℕ)
+      (old mid new : T) (pool : PoolState) (e : TileError) → Looks g old mid
+      → g.faults mid ≡ g.faults old → near ≤ to
+      → HasTileReason g h rows from near mid new pool e
+      → HasTileReason g h rows from to old new pool e
+  reason-looked h rows from near to old mid new pool Failed looks fine within reason =
+      subst (λ n. Rose n (g.faults new)) fine reason
+  reason-looked h rows from near to old mid new pool (BadTile level place) looks fine within
+      reason = (
+        reason.0 ∙ fine,
+        other-looked h rows from near to level place old mid pool looks within reason.1,
+      )
+
+  -- the first tile that ends past the end of the file
+  pub first-short : (h : List ℕ → List ℕ) (rows : RowsState) (from to length_is whole l p : ℕ)
+      (old mid : T) (pool : PoolState) → Looks g old mid
+      → IfSome (g.told old) (λ b. length_is ≡ length b) → whole ≡ length_is / 8192
+      → whole < to → from < to → l ≤ 2 → tile_number l p ≡ max whole from
+      → HaveMatched g h rows from whole mid pool → IsFirstOther g h rows from to old pool l p
+  first-short h rows from to length_is whole l p old mid pool looks long is short order low
+      number matched = record {
+        low = low;
+        behind = omega arith;
+        below = omega arith;
+        before = λ b told frames leaves are level place lower behind below.
+            matched b (looks.told ∙ told) frames leaves are level place lower behind
+            (omega arith);
+        other = λ b told frames leaves are.
+            let size : length_is ≡ length b =
+            subst (λ t. IfSome t (λ bytes. length_is ≡ length bytes)) told long in
+            inl (omega arith);
+      }

@@ -1,0 +1,54 @@
+-- What writing behind a place leaves.
+use Rattle.std.proofs.Common.{ℕ, ◌≤◌, min, List, length, take, sym, ◌∙◌, ap}
+use Rattle.std.proofs.Common.{arith}
+use Rattle.std.proofs.lemmas.List.{take_min, take-take}
+use Rattle.disk_core.specs.Disk.{Torn}
+use Rattle.disk_core.specs.declared.disk.Disk.{Ghosts}
+use Rattle.tile_store.specs.Writing.{IsImageBehind, KeepsFront}
+
+pub front-same : (place : ℕ) (bytes : List ℕ) → KeepsFront place bytes bytes
+front-same place bytes = record { no_shorter = omega arith; front = take_min place bytes }
+
+pub front-torn : (place count : ℕ) (old new : List ℕ) → Torn place count old new
+    → KeepsFront place old new
+front-torn place count old new torn = record {
+  no_shorter = torn.no_shorter;
+  front = torn.before;
+}
+
+-- a place further on, and one step behind another
+pub front-less : (less place : ℕ) (old new : List ℕ) → less ≤ place → KeepsFront place old new
+    → KeepsFront less old new
+front-less less place old new within keeps = record {
+  no_shorter = keeps.no_shorter;
+  front =
+      let size : min less (length old) ≤ min place (length old) = omega arith in
+      sym (take-take (min less (length old)) (min place (length old)) new size)
+      ∙ ap (take (min less (length old))) keeps.front
+      ∙ take-take (min less (length old)) place old (omega arith) ∙ take_min less old;
+}
+
+pub front-on : (place : ℕ) (old mid new : List ℕ) → KeepsFront place old mid
+    → KeepsFront place mid new → KeepsFront place old new
+front-on place old mid new first second =
+    let longer = first.no_shorter in
+    let more = second.no_shorter in
+    record {
+      no_shorter = omega arith;
+      front =
+          let size : min place (length old) ≤ min place (length mid) = omega arith in
+          sym (take-take (min place (length old)) (min place (length mid)) new size)
+          ∙ ap (take (min place (length old))) second.front
+          ∙ take-take (min place (length old)) place mid (omega arith)
+          ∙ first.front;
+    }
+
+module _ {T : Type 0} (g : Ghosts T) where
+  -- nothing was written yet
+  pub behind-now : (old : T) (place : ℕ) (image : List ℕ) → g.may_leave old image
+      → IsImageBehind g old place image
+  behind-now old place image left = record {
+    before = image;
+    left = left;
+    keeps = front-same place image;
+  }

@@ -1,0 +1,12 @@
+pub mod Numbers
+pub mod Bytes
+pub mod Halves
+pub mod TileNodes
+pub mod Loads
+pub mod Grown
+pub mod Flats
+pub mod Fronts
+pub mod Steps
+pub mod Kept
+pub mod Compared
+pub mod Adopted

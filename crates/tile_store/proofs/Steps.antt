@@ -1,0 +1,173 @@
+-- Tiles written one behind the other.
+use Rattle.std.proofs.Common.{◌≡◌, ℕ, ◌+◌, ◌*◌, ◌<◌, ◌≤◌, inl, inr, ⊎_elim, max, List}
+use Rattle.std.proofs.Common.{length}
+use Rattle.std.proofs.Common.{take, drop, ◌++◌, append_assoc, Some, None, refl, sym, ◌∙◌, ap, subst}
+use Rattle.std.proofs.Common.{arith}
+use Rattle.std.specs.Prelude.{IfSome, Option, is_some, option_map}
+use Rattle.std.proofs.Math.Seq.{drop-append_seam, take-append_seam}
+use Rattle.std.proofs.lemmas.Bool.{cases_lt}
+use Rattle.std.proofs.lemmas.List.{length-take}
+use Rattle.disk_core.proofs.Moments.{joined, left_now, weaker}
+use Rattle.disk_core.specs.Disk.{Only, overwritten, part}
+use Rattle.disk_core.specs.Moments.{LeavesOnly}
+use Rattle.disk_core.specs.declared.disk.Disk.{Ghosts}
+use Rattle.tile_store.proofs.Bytes.{part-front}
+use Rattle.tile_store.proofs.Fronts.{behind-now, front-less, front-on}
+use Rattle.tile_store.proofs.Numbers.{same-number}
+use Rattle.tile_store.specs.Contents.{IsTile}
+use Rattle.tile_store.specs.Layout.{tile_at, tile_number}
+use Rattle.tile_store.specs.Writing.{HoldsFirst, IsImageBehind, IsTileWritten, KeepsFront}
+use Rattle.tree_cache.specs.Rows.{AreRowsOf, RowsState}
+use Rattle.byte_forms.specs.Types.{Hash, HashFunction, Text}
+
+-- bytes that were written at a place, and those before it
+over-is : (place : ℕ) (piece old : List ℕ) → overwritten place piece old
+    ≡ take place old ++ (piece ++ drop (place + length piece) old)
+over-is place piece old = append_assoc (take place old) piece (drop (place + length piece) old)
+
+over-front : (place : ℕ) (piece old : List ℕ) → place ≤ length old
+    → take place (overwritten place piece old) ≡ take place old
+over-front place piece old within =
+    let size : length (take place old) ≡ place = length-take place old ∙ omega arith in
+    ap (take place) (over-is place piece old)
+    ∙ ap (λ n. take n (take place old ++ (piece ++ drop (place + length piece) old))) (sym size)
+    ∙ take-append_seam (take place old) (piece ++ drop (place + length piece) old)
+
+over-part : (place : ℕ) (piece old : List ℕ) → place ≤ length old
+    → part place (length piece) (overwritten place piece old) ≡ piece
+over-part place piece old within =
+    let size : length (take place old) ≡ place = length-take place old ∙ omega arith in
+    ap (part place (length piece)) (over-is place piece old)
+    ∙ ap (take (length piece))
+    (ap (λ n. drop n (take place old ++ (piece ++ drop (place + length piece) old))) (sym size)
+    ∙ drop-append_seam (take place old) (piece ++ drop (place + length piece) old))
+    ∙ take-append_seam piece (drop (place + length piece) old)
+
+-- one tile more
+pub holds-more : (h : List ℕ → List ℕ) (leaves : List (List ℕ)) (number l p : ℕ)
+    (tile before : List ℕ) → l ≤ 2 → tile_number l p ≡ number → tile_at l p ≤ length before
+    → IsTile h leaves l p tile → HoldsFirst h leaves number before
+    → HoldsFirst h leaves (number + 1) (overwritten (tile_at l p) tile before)
+holds-more h leaves number l p tile before low is within tile_is first = λ level place less below
+    full.
+    ⊎_elim
+    (λ (earlier : tile_number level place < number).
+    subst (IsTile h leaves level place)
+    (part-front (tile_at level place) 8192 (tile_at l p) before
+    (overwritten (tile_at l p) tile before) (omega arith)
+    (sym (over-front (tile_at l p) tile before within)))
+    (first level place less earlier full))
+    (λ (same : tile_number level place ≡ number).
+    let one = same-number l p level place low less (is ∙ sym same) in
+    let here : part (tile_at l p) 8192 (overwritten (tile_at l p) tile before) ≡ tile =
+    ap (λ n. part (tile_at l p) n (overwritten (tile_at l p) tile before)) (sym tile_is.size)
+    ∙ over-part (tile_at l p) tile before within in
+    subst (λ k. IsTile h leaves k place
+    (part (tile_at k place) 8192 (overwritten (tile_at l p) tile before))) one.0
+    (subst (λ k. IsTile h leaves l k
+    (part (tile_at l k) 8192 (overwritten (tile_at l p) tile before))) one.1
+    (subst (IsTile h leaves l p) (sym here) tile_is)))
+    (⊎_elim (λ (less : tile_number level place < number). inl less)
+    (λ (more : number ≤ tile_number level place). inr (omega arith))
+    (cases_lt (tile_number level place) number))
+
+-- what an option holds that was made of another
+mapped-some : {A B : Type 0} (f : A → B) (o : Option A) (y : B) → Some y ≡ option_map f o
+    → (x : A) × ((o ≡ Some x) × (y ≡ f x))
+mapped-some f None y is = let no : ⊥ = cc in absurd no
+mapped-some f (Some x) y is = (x, (refl, cc))
+
+module _ {T : Type 0} (g : Ghosts T) where
+  -- what was written so far, from one number on up to another
+  pub record HavePut (h : HashFunction) (rows : RowsState) (from number : ℕ) (old now : T)
+      : Type 0 where
+    pub moments : LeavesOnly g old now (IsImageBehind g old (8192 * from))
+    pub told : is_some (g.told now) ≡ is_some (g.told old)
+    pub known : g.known old ≤ g.known now
+    pub reach : 8192 * number ≤ g.known now
+    pub faults : g.faults now ≡ g.faults old
+    pub holds : (before after : Text) → g.told old ≡ Some before → g.told now ≡ Some after
+        → (leaves : List Hash) → AreRowsOf h leaves rows.rows → HoldsFirst h leaves from before
+        → HoldsFirst h leaves number after
+
+  -- images behind one place and then behind a later one
+  behind-on : (old mid : T) (low high : ℕ) (image : List ℕ) → low ≤ high
+      → ((c : List ℕ) → g.may_leave mid c → IsImageBehind g old low c)
+      → IsImageBehind g mid high image → IsImageBehind g old low image
+  behind-on old mid low high image within earlier is =
+      let first = earlier is.before is.left in
+      record {
+        before = first.before;
+        left = first.left;
+        keeps = front-on low first.before is.before image first.keeps
+            (front-less low high is.before image within is.keeps);
+      }
+
+  pub moments-on : (old mid new : T) (low high : ℕ)
+      → ((t : ℕ) (c : List ℕ) → t ≤ g.moment mid → g.may_leave mid c → g.left_since mid t c)
+      → low ≤ high → LeavesOnly g old mid (IsImageBehind g old low)
+      → LeavesOnly g mid new (IsImageBehind g mid high)
+      → LeavesOnly g old new (IsImageBehind g old low)
+  moments-on old mid new low high counts_now within first second =
+      joined g old mid new (IsImageBehind g old low) first
+      (weaker g mid new (IsImageBehind g mid high) (IsImageBehind g old low)
+      (λ c. behind-on old mid low high c within
+      (left_now g old mid (IsImageBehind g old low) counts_now first)) second)
+
+  pub put-on : (h : List ℕ → List ℕ) (rows : RowsState) (from number l p : ℕ) (old mid new : T)
+      → ((t : ℕ) (c : List ℕ) → t ≤ g.moment mid → g.may_leave mid c → g.left_since mid t c)
+      → ((b : List ℕ) → g.told mid ≡ Some b → g.known mid ≤ length b)
+      → from ≤ number → l ≤ 2 → tile_number l p ≡ number → HavePut h rows from number old mid
+      → LeavesOnly g mid new (IsImageBehind g mid (tile_at l p))
+      → is_some (g.told new) ≡ is_some (g.told mid)
+      → g.known new ≡ max (tile_at l p + 8192) (g.known mid) → g.faults new ≡ g.faults mid
+      → IsTileWritten h rows l p (g.told mid) (g.told new)
+      → HavePut h rows from (number + 1) old new
+  put-on h rows from number l p old mid new counts_now there order low is sofar moments told known
+      faults written =
+      let before = sofar.known in
+      let reach = sofar.reach in
+      record {
+        moments = moments-on old mid new (8192 * from) (tile_at l p) counts_now (omega arith)
+            sofar.moments moments;
+        told = told ∙ sofar.told;
+        known = omega arith;
+        reach = omega arith;
+        faults = faults ∙ sofar.faults;
+        holds = λ first after told_old told_new leaves are held.
+            let at = mapped-some (overwritten (tile_at l p) written.tile) (g.told mid) after
+            (sym told_new ∙ written.told) in
+            let within = there at.0 at.1.0 in
+            subst (HoldsFirst h leaves (number + 1)) (sym at.1.1)
+            (holds-more h leaves number l p written.tile at.0 low is (omega arith)
+            (written.is leaves are) (sofar.holds first at.0 told_old at.1.0 leaves are held));
+      }
+
+  -- a look, before writing and behind it
+  pub looked-behind : (old new : T) (place : ℕ) → LeavesOnly g old new (g.may_leave old)
+      → LeavesOnly g old new (IsImageBehind g old place)
+  looked-behind old new place looks =
+      weaker g old new (g.may_leave old) (IsImageBehind g old place) (behind-now g old place) looks
+
+  pub behind-looked : (old mid new : T) (place : ℕ)
+      → ((t : ℕ) (c : List ℕ) → t ≤ g.moment mid → g.may_leave mid c → g.left_since mid t c)
+      → LeavesOnly g old mid (IsImageBehind g old place) → LeavesOnly g mid new (g.may_leave mid)
+      → LeavesOnly g old new (IsImageBehind g old place)
+  behind-looked old mid new place counts_now first looks =
+      joined g old mid new (IsImageBehind g old place) first
+      (weaker g mid new (g.may_leave mid) (IsImageBehind g old place)
+      (left_now g old mid (IsImageBehind g old place) counts_now first) looks)
+
+  -- over certain bytes, those that are told after writing have the same front
+  pub front-told : (old new : T) (place : ℕ) (before after : List ℕ)
+      → ((t : ℕ) (c : List ℕ) → t ≤ g.moment new → g.may_leave new c → g.left_since new t c)
+      → ((b : List ℕ) → g.told new ≡ Some b → g.may_leave new b)
+      → IfSome (g.told old) (λ b. Only b (g.may_leave old)) → g.told old ≡ Some before
+      → g.told new ≡ Some after → LeavesOnly g old new (IsImageBehind g old place)
+      → KeepsFront place before after
+  front-told old new place before after counts_now reads certain told_old told_new moments =
+      let is = left_now g old new (IsImageBehind g old place) counts_now moments after
+      (reads after told_new) in
+      let only : Only before (g.may_leave old) =
+      subst (λ t. IfSome t (λ b. Only b (g.may_leave old))) told_old certain in
+      subst (λ b. KeepsFront place b after) (only is.before is.left) is.keeps

@@ -1,0 +1,87 @@
+use Rattle.std.proofs.Common.{◌≡◌, ◌<◌, ◌≤◌, ⊎_elim, max, sym, ◌∙◌, ap, subst}
+use Rattle.std.proofs.Common.{arith}
+use Rattle.std.proofs.Common.{rules}
+use Rattle.std.proofs.lemmas.Bool.{cases_lt}
+use Rattle.tile_store.proofs.Adopted.{found-tiles, gone-more, list-stays, same-leaves}
+use Rattle.tile_store.proofs.Adopted.{sound-adopted, told-each}
+use Rattle.tile_store.proofs.Numbers.{full-more}
+use Rattle.tile_store.specs.Layout.{tiles_end}
+use Rattle.tile_store.specs.Sound.{leaves_with}
+use Rattle.tree_cache.proofs.Pushes.{count-rows}
+use Rattle.tree_cache.specs.Rows.{count_of}
+use Rattle.tree_cache.specs.Tiled.{gone_of}
+use Rattle.tile_store.proofs.store.Tiles.adopt.Goals as goal
+
+pub forget-requires-clause-before : goal.forget-requires-clause-before
+forget-requires-clause-before g c = λ level.
+    let tiles = c.compare.new.self in
+    let same = c.compare.ensures.stays.adopted in
+    subst (λ n. n ≤ gone_of c.args.size level) (sym (tiles.gone level))
+    (gone-more tiles.adopted c.args.size level (omega arith))
+
+pub invariant_of-self : goal.invariant_of-self
+invariant_of-self g c =
+    let old = c.args.self.now in
+    let tiles = c.compare.new.self in
+    let h = g.H.TreeHash.hash in
+    let stays = c.compare.ensures.stays in
+    let same = stays.adopted in
+    let rows : count_of tiles.rows.rows ≡ count_of old.rows.rows =
+    ap (λ r. count_of r.rows) stays.rows in
+    let most : c.max-self.result ≡ max tiles.stored c.args.size = search rules in
+    let count = c.forget.ensures.count in
+    let size = c.requires.within in
+    let within = tiles.within in
+    let few = tiles.few in
+    record {
+      few = omega arith;
+      whole = c.requires.multiple;
+      written = omega arith;
+      within = omega arith;
+      reach = let before = tiles.reach in
+          let after : tiles_end c.args.size ≤ g.T.Disk.known tiles.disk =
+          c.in_ok-compare.ensures.reach in
+          ⊎_elim
+          (λ (more : tiles.stored < c.args.size).
+          let is : c.max-self.result ≡ c.args.size = omega arith in
+          subst (λ n. tiles_end n ≤ g.T.Disk.known tiles.disk) (sym is) after)
+          (λ (less : c.args.size ≤ tiles.stored).
+          let is : c.max-self.result ≡ tiles.stored = omega arith in
+          subst (λ n. tiles_end n ≤ g.T.Disk.known tiles.disk) (sym is) before)
+          (cases_lt tiles.stored c.args.size);
+      gone = c.forget.ensures.gone;
+      some = tiles.some;
+      free = tiles.free;
+      keys = λ slot key holds.
+          full-more tiles.adopted c.args.size key.level key.place (omega arith)
+          (tiles.keys slot key holds);
+      told = λ b told.
+          sound-adopted h tiles.adopted tiles.stored c.args.size c.max-self.result tiles.rows
+          c.forget.new.self tiles.pool b c.requires.multiple most (omega arith)
+          (c.forget.ensures.same h) (c.forget.ensures.gone 0)
+          (found-tiles old tiles c.args.size b stays c.in_ok-compare.ensures.stands told)
+          (tiles.told b told);
+    }
+
+pub returns-clause-list : goal.returns-clause-list
+returns-clause-list g c =
+    let old = c.args.self.now in
+    let tiles = c.compare.new.self in
+    let h = g.H.TreeHash.hash in
+    let stays = c.compare.ensures.stays in
+    let rows : count_of tiles.rows.rows ≡ count_of old.rows.rows =
+    ap (λ r. count_of r.rows) stays.rows in
+    let size = c.requires.within in
+    told-each (g.T.Disk.told old.disk) (g.T.Disk.told tiles.disk)
+    (leaves_with old.adopted old.rows) (leaves_with c.args.size c.forget.new.self)
+    stays.looks.told
+    (λ b told.
+    let sound = tiles.told b told in
+    let leaves = leaves_with tiles.adopted tiles.rows b in
+    let count = count-rows h (leaves_with tiles.adopted tiles.rows b) tiles.rows.rows
+    sound.stands in
+    list-stays h leaves c.args.size c.forget.new.self b
+    (found-tiles old tiles c.args.size b stays c.in_ok-compare.ensures.stands told)
+    c.requires.multiple (omega arith) (c.forget.ensures.same h leaves sound.stands)
+    (c.forget.ensures.gone 0)
+    ∙ same-leaves old tiles b stays)

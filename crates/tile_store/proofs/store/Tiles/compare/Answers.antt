@@ -1,0 +1,89 @@
+use Rattle.std.proofs.Common.{ℕ, sym, ◌∙◌, subst, arith}
+use Rattle.tile_store.proofs.Adopted.{both-told, cause-from, if-err-map, on-ok-map, stand-in}
+use Rattle.tile_store.proofs.Numbers.{full-low, full-number}
+use Rattle.tile_store.specs.Causes.{IsNewTile, StandsIn}
+use Rattle.tile_store.specs.Comparing.{HasTileReason, HaveMatched}
+use Rattle.tile_store.specs.Layout.{tiles_in}
+use Rattle.tile_store.specs.Sound.{leaves_with}
+use Rattle.tile_store.proofs.store.Tiles.compare.Goals as goal
+
+pub check-requires-clause-gone : goal.check-requires-clause-gone
+check-requires-clause-gone g c =
+    let tiles = c.args.self.now in
+    let from = c.count_tiles-from.ensures in
+    (tiles.adopted, omega arith, tiles.gone)
+
+pub check-requires-clause-unheld : goal.check-requires-clause-unheld
+check-requires-clause-unheld g c = λ key behind slot there held.
+    let tiles = c.args.self.now in
+    let few = tiles.few in
+    let within = tiles.within in
+    let written = tiles.written in
+    let from = c.count_tiles-from.ensures in
+    let full = tiles.keys slot key (record { there = there; held = held }) in
+    let low = full-low tiles.adopted key.level key.place (omega arith) full in
+    let before = full-number tiles.adopted key.level key.place (omega arith) full in
+    omega arith
+
+pub invariant_of-self : goal.invariant_of-self
+invariant_of-self g c =
+    let tiles = c.args.self.now in
+    let compared = c.check.ensures.compared in
+    record {
+      few = tiles.few;
+      whole = tiles.whole;
+      written = tiles.written;
+      within = tiles.within;
+      reach = let known = compared.looks.known in
+          let reach = tiles.reach in
+          omega arith;
+      gone = tiles.gone;
+      some = let count = compared.count in
+          let some = tiles.some in
+          omega arith;
+      free = compared.free;
+      keys = λ slot key holds. tiles.keys slot key (compared.keys slot key holds);
+      told = λ b told.
+          let old = tiles.told b (sym compared.looks.told ∙ told) in
+          record {
+            stands = old.stands;
+            tiles = old.tiles;
+            frames = compared.frames b (sym compared.looks.told ∙ told) old.frames;
+          };
+    }
+
+pub returns-clause-stands : goal.returns-clause-stands
+returns-clause-stands g c =
+    let tiles = c.args.self.now in
+    let h = g.H.TreeHash.hash in
+    on-ok-map c.check.result c.check.ensures.ok (λ matched.
+    both-told (g.T.Disk.told tiles.disk) (leaves_with tiles.adopted tiles.rows)
+    (λ bytes leaves. (level place : ℕ) → IsNewTile tiles.adopted c.args.size level place
+    → StandsIn h leaves bytes level place)
+    (λ b told.
+    let sound = tiles.told b told in
+    let few = tiles.few in
+    let size = c.requires.within in
+    stand-in g.T.Disk h tiles.rows tiles.adopted c.args.size tiles.disk tiles.pool b
+    (leaves_with tiles.adopted tiles.rows b) (omega arith)
+    (subst (λ n. HaveMatched g.T.Disk h tiles.rows n (tiles_in c.args.size) tiles.disk
+    tiles.pool) c.count_tiles-from.ensures
+    (subst (λ n. HaveMatched g.T.Disk h tiles.rows c.count_tiles-from.result n tiles.disk
+    tiles.pool) c.count_tiles-to.ensures matched))
+    told sound.frames sound.stands))
+
+pub returns-clause-cause : goal.returns-clause-cause
+returns-clause-cause g c =
+    let tiles = c.args.self.now in
+    let h = g.H.TreeHash.hash in
+    let few = tiles.few in
+    let size = c.requires.within in
+    if-err-map
+    (HasTileReason g.T.Disk h tiles.rows c.count_tiles-from.result c.count_tiles-to.result
+    tiles.disk c.check.new.disk tiles.pool)
+    _ c.check.result c.check.ensures.err (λ e reason.
+    cause-from tiles c.check.new.disk c.args.size e (omega arith)
+    (subst (λ n. HasTileReason g.T.Disk h tiles.rows n (tiles_in c.args.size) tiles.disk
+    c.check.new.disk tiles.pool e) c.count_tiles-from.ensures
+    (subst (λ n. HasTileReason g.T.Disk h tiles.rows c.count_tiles-from.result n tiles.disk
+    c.check.new.disk tiles.pool e) c.count_tiles-to.ensures reason)))

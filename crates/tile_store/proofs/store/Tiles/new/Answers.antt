@@ -1,0 +1,28 @@
+use Rattle.std.proofs.Common.{◌≡◌, [], refl, ap, arith}
+use Rattle.tile_store.proofs.Grown.{gone-none, leaves-none, no-pins, sound-new}
+use Rattle.tile_store.proofs.TileNodes.{when-told}
+use Rattle.tile_store.specs.Sound.{leaves_with}
+use Rattle.tree_cache.specs.Rows.{count_of}
+use Rattle.tile_store.proofs.store.Tiles.new.Goals as goal
+
+pub invariant_of-result : goal.invariant_of-result
+invariant_of-result g c =
+    let none : count_of c.new.result.rows ≡ 0 = ap count_of c.new.ensures.rows in
+    record {
+      few = omega arith;
+      whole = refl;
+      written = omega arith;
+      within = omega arith;
+      reach = omega arith;
+      gone = λ level. gone-none c.new.result.rows level c.new.ensures.rows;
+      some = c.sound.ensures.some;
+      free = no-pins c.args.pool c.sound.ensures c.requires;
+      keys = λ slot key holds. absurd (c.requires slot key holds);
+      told = λ b told.
+          sound-new g.H.TreeHash.hash c.new.result c.args.pool b c.new.ensures.rows c.requires;
+    }
+
+pub returns-clause-leaves : goal.returns-clause-leaves
+returns-clause-leaves g c =
+    when-told (g.T.Disk.told c.args.disk) (leaves_with 0 c.new.result) (λ leaves. leaves ≡ [])
+    (λ b told. leaves-none c.new.result b c.new.ensures.rows)

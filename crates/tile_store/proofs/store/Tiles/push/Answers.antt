@@ -1,0 +1,38 @@
+use Rattle.std.proofs.Common.{[], ◌∷◌, ◌++◌, ◌∙◌, ap, arith}
+use Rattle.std.specs.Prelude.{option_map}
+use Rattle.tile_store.proofs.Grown.{leaves-pushed, sound-pushed, told-same}
+use Rattle.tile_store.specs.Sound.{leaves_with}
+use Rattle.tile_store.proofs.store.Tiles.push.Goals as goal
+
+pub invariant_of-self : goal.invariant_of-self
+invariant_of-self g c =
+    let tiles = c.reserve.new.self in
+    let count = c.push.ensures.count in
+    let same = c.reserve.ensures.count in
+    let within = tiles.within in
+    record {
+      few = let few = c.requires in omega arith;
+      whole = tiles.whole;
+      written = tiles.written;
+      within = omega arith;
+      reach = tiles.reach;
+      gone = λ level. c.push.ensures.gone level ∙ tiles.gone level;
+      some = tiles.some;
+      free = tiles.free;
+      keys = tiles.keys;
+      told = λ b told.
+          sound-pushed g.H.TreeHash.hash tiles.adopted tiles.stored tiles.rows c.push.new.self
+          tiles.pool b c.args.leaf.now c.push.ensures.pushed c.push.ensures.gone within
+          (tiles.told b told);
+    }
+
+pub returns-clause-ok : goal.returns-clause-ok
+returns-clause-ok g c =
+    let tiles = c.reserve.new.self in
+    told-same (g.T.Disk.told tiles.disk) (leaves_with tiles.adopted c.push.new.self)
+    (λ list. list ++ c.args.leaf.now ∷ []) (leaves_with tiles.adopted tiles.rows)
+    (λ b told.
+    let sound = tiles.told b told in
+    leaves-pushed g.H.TreeHash.hash tiles.adopted tiles.rows c.push.new.self b c.args.leaf.now
+    c.push.ensures.pushed c.push.ensures.gone sound.stands)
+    ∙ ap (option_map (λ list. list ++ c.args.leaf.now ∷ [])) c.reserve.ensures.list

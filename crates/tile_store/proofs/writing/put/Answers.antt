@@ -1,0 +1,42 @@
+use Rattle.std.proofs.Common.{length, subst, arith}
+use Rattle.disk_core.specs.Disk.{Torn}
+use Rattle.disk_core.proofs.Moments.{goes_on, started}
+use Rattle.tile_store.proofs.Fronts.{behind-now, front-torn}
+use Rattle.tile_store.proofs.Numbers.{full-number, full-small}
+use Rattle.tile_store.specs.Layout.{tile_at}
+use Rattle.tile_store.specs.Writing.{IsImageBehind}
+use Rattle.tree_cache.specs.Rows.{count_of}
+use Rattle.tile_store.proofs.writing.put.Goals as goal
+
+pub place_of-requires-clause-few : goal.place_of-requires-clause-few
+place_of-requires-clause-few g c =
+    full-small (count_of c.args.rows.now.rows) c.args.key.level c.args.key.place c.requires.few
+    c.requires.full
+
+pub write_at-requires-clause-end : goal.write_at-requires-clause-end
+write_at-requires-clause-end g c =
+    let number = full-number (count_of c.args.rows.now.rows) c.args.key.level c.args.key.place
+    c.requires.low c.requires.full in
+    let few = c.requires.few in
+    let here = c.place_of.ensures in
+    let size = c.tile_bytes.ensures.size in
+    omega arith
+
+pub returns-clause-any_moment : goal.returns-clause-any_moment
+returns-clause-any_moment g c =
+    let disk = g.T.Disk in
+    let place = tile_at c.args.key.level c.args.key.place in
+    goes_on disk c.args.disk.now c.args.disk.now c.write_at.new.self
+    (IsImageBehind disk c.args.disk.now place)
+    (started disk c.args.disk.now (IsImageBehind disk c.args.disk.now place)
+    (g.met.T.Disk.only_now c.args.disk.now) (behind-now disk c.args.disk.now place))
+    c.write_at.ensures.time
+    (λ image left.
+    let step = c.write_at.ensures.crash image left in
+    record {
+      before = step.0;
+      left = step.1;
+      keeps = front-torn place (length c.tile_bytes.result.now) step.0 image
+          (subst (λ p. Torn p (length c.tile_bytes.result.now) step.0 image)
+          c.place_of.ensures step.2);
+    })

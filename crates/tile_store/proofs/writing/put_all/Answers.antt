@@ -1,0 +1,53 @@
+use Rattle.std.proofs.Common.{◌*◌, ◌≤◌, sym, subst, arith}
+use Rattle.tile_store.proofs.Numbers.{full-number, gone-kept, number-full}
+use Rattle.tile_store.proofs.Steps.{moments-on, put-on}
+use Rattle.tile_store.specs.Layout.{tile_at}
+use Rattle.tree_cache.specs.Rows.{count_of}
+use Rattle.tile_store.proofs.writing.put_all.Goals as goal
+
+pub put-requires-clause-full : goal.put-requires-clause-full
+put-requires-clause-full g c =
+    let number = c.tile_with.ensures.number in
+    let full = c.requires.full in
+    number-full (count_of c.args.rows.now.rows) c.tile_with.result.level c.tile_with.result.place
+    c.tile_with.ensures.low (omega arith)
+
+pub put-requires-clause-kept : goal.put-requires-clause-kept
+put-requires-clause-kept g c =
+    let key = c.tile_with.result in
+    let gone = c.requires.gone in
+    let number = c.tile_with.ensures.number in
+    let order = c.loop-number.auto.number in
+    let adopted = gone.1 in
+    subst (λ n. n ≤ 256 * key.place) (sym (gone.2 (8 * key.level)))
+    (gone-kept gone.0 key.level key.place
+    (λ full.
+    let before = full-number gone.0 key.level key.place c.tile_with.ensures.low full in
+    let no : ⊥ = omega arith in
+    absurd no))
+
+pub returns-in_err-put-clause-any_moment : goal.returns-in_err-put-clause-any_moment
+returns-in_err-put-clause-any_moment g c =
+    let number = c.tile_with.ensures.number in
+    let order = c.loop-number.auto.number in
+    moments-on g.T.Disk c.args.disk.now c.loop-number.disk c.put.new.disk (8192 * c.args.from)
+    (tile_at c.tile_with.result.level c.tile_with.result.place)
+    (g.met.T.Disk.counts_now c.loop-number.disk) (omega arith) c.loop-number.invariant.moments
+    c.put.ensures.any_moment
+
+pub loop-number-preserved : goal.loop-number-preserved
+loop-number-preserved g c =
+    put-on g.T.Disk g.H.TreeHash.hash c.args.rows.now c.args.from c.loop-number.number
+    c.tile_with.result.level c.tile_with.result.place c.args.disk.now c.loop-number.disk
+    c.put.new.disk (g.met.T.Disk.counts_now c.loop-number.disk)
+    (g.met.T.Disk.known_there c.loop-number.disk) c.loop-number.auto.number
+    c.tile_with.ensures.low c.tile_with.ensures.number c.loop-number.invariant
+    c.put.ensures.any_moment c.put.ensures.told c.in_ok-put.ensures.known
+    c.in_ok-put.ensures.cause.fine c.in_ok-put.ensures.written
+
+pub returns-clause-holds : goal.returns-clause-holds
+returns-clause-holds g c = λ before after told_old told_now leaves are first level place low below
+    full.
+    let past = c.loop-number-test.false in
+    c.loop-number.invariant.holds before after told_old told_now leaves are first level place low
+    (omega arith) full

@@ -1,0 +1,9 @@
+pub mod Layout
+pub mod Contents
+pub mod Frames
+pub mod Sound
+pub mod Store
+pub mod Writing
+pub mod Comparing
+pub mod Causes
+pub mod Laws

@@ -1,0 +1,43 @@
+-- What a store of tiles shows.
+use Rattle.std.specs.Prelude.{◌≡◌, ℕ, List, Option, option_map}
+use Rattle.byte_forms.specs.Types.{Hash}
+use Rattle.disk_core.specs.Moments.{Looks}
+use Rattle.disk_core.specs.declared.disk.Disk.{Ghosts}
+use Rattle.frame_pool.specs.Frames.{PoolState}
+use Rattle.tile_store.specs.Sound.{leaves_with}
+use Rattle.tile_store.specs.declared.store.Tiles.{Tiles}
+use Rattle.tree_cache.specs.Rows.{count_of, spare_of}
+use Rattle.tree_core.specs.declared.hashing.TreeHash.{Ghosts as Hashes}
+
+module _ {H T : Type 0} {hashes : Hashes H} {g : Ghosts T} where
+  abbrev pub tiles_disk : Tiles H T hashes g → T
+  tiles_disk tiles = tiles.disk
+
+  abbrev pub tiles_pool : Tiles H T hashes g → PoolState
+  tiles_pool tiles = tiles.pool
+
+  -- how many leaves there are, and how many more need no memory
+  abbrev pub tiles_count : Tiles H T hashes g → ℕ
+  tiles_count tiles = count_of tiles.rows.rows
+
+  abbrev pub tiles_spare : Tiles H T hashes g → ℕ
+  tiles_spare tiles = spare_of tiles.rows
+
+  -- the tiles that the first so many leaves fill are adopted
+  abbrev pub tiles_adopted : Tiles H T hashes g → ℕ
+  tiles_adopted tiles = tiles.adopted
+
+  -- and those that the first so many fill were stored or adopted
+  abbrev pub tiles_stored : Tiles H T hashes g → ℕ
+  tiles_stored tiles = tiles.stored
+
+  -- the leaf hashes, where the device tells its bytes
+  abbrev pub tiles_leaves : Tiles H T hashes g → Option (List Hash)
+  tiles_leaves tiles = option_map (leaves_with tiles.adopted tiles.rows) (g.told tiles.disk)
+
+  -- The device was only looked at, and all but it and the frames is as it was.
+  pub record TilesStay (old new : Tiles H T hashes g) : Type 0 where
+    pub looks : Looks g old.disk new.disk
+    pub rows : new.rows ≡ old.rows
+    pub adopted : new.adopted ≡ old.adopted
+    pub stored : new.stored ≡ old.stored

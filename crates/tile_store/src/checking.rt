@@ -1,0 +1,126 @@
+//! Stored tiles compared with the nodes in memory.
+
+ghost use Rattle.std.specs.Prelude.{◌≡◌, ◌↔◌, ℕ, ◌+◌, ◌*◌, ◌^◌, ◌<◌, ◌≤◌, length, IsTrue, IfErr, IfOk, OnOk};
+ghost use Rattle.disk_core.specs.Disk.{part};
+ghost use Rattle.frame_pool.specs.declared.key.TileKey.{TileKey as Key};
+ghost use Rattle.frame_pool.specs.Frames.{IsUnheld};
+ghost use Rattle.mtc_io.specs.Counts.{HasCause};
+ghost use Rattle.tile_store.specs.Comparing.{HasTileReason, HaveCompared, HaveMatched, OverEach};
+ghost use Rattle.tile_store.specs.Contents.{IsTile};
+ghost use Rattle.tile_store.specs.Frames.{HasNoPins};
+ghost use Rattle.tile_store.specs.declared.error.TileError.TheVariants.{BadTile};
+ghost use Rattle.tile_store.specs.Layout.{IsFull, tile_at, tile_number, tiles_in};
+ghost use Rattle.tree_cache.specs.Rows.{count_of, gone_at};
+ghost use Rattle.tree_cache.specs.Tiled.{gone_of};
+
+use crate::TileError;
+use crate::layout::{TILE, tile_with};
+use crate::reading::load;
+use crate::writing::tile_bytes;
+use disk_core::{Disk, look_len};
+use frame_pool::{Pool, TileKey};
+use mtc_io::Failed;
+use tree_cache::Rows;
+use tree_core::TreeHash;
+
+// That the file has not this tile.
+fn bad(key: TileKey) -> TileError
+    ensures { result ≡ BadTile key.level key.place }
+{
+    TileError::BadTile {
+        level: key.level,
+        place: key.place,
+    }
+}
+
+// Whether the file has the tile of the rows. It is read into a frame, which is empty again then.
+fn matches<H: TreeHash, T: Disk>(
+    disk: &mut T,
+    pool: &mut Pool,
+    rows: &Rows,
+    key: TileKey,
+) -> Result<bool, Failed>
+    requires low { key.level ≤ 2 }
+    requires few { count_of rows.now.rows < 2 ^ 32 }
+    requires full { IsFull (count_of rows.now.rows) key.level key.place }
+    requires kept { gone_at rows.now.rows (8 * key.level) ≤ 256 * key.place }
+    requires there { tile_at key.level key.place + 8192 ≤ T.known disk.old }
+    requires unheld { IsUnheld pool.old key }
+    requires some { 1 ≤ length pool.old.keys }
+    requires free { HasNoPins pool.old }
+    ensures same { OverEach T.Disk H.hash rows.now disk.old pool.old (λ b leaves.
+        IfOk result (λ yes. IsTrue yes ↔ IsTile H.hash leaves key.level key.place
+        (part (tile_at key.level key.place) 8192 b))) }
+    ensures compared { HaveCompared T.Disk disk.old disk.new pool.old pool.new }
+    ensures cause { HasCause (T.faults disk.old) (T.faults disk.new) result }
+{
+    let slot = load(disk, pool, key)?;
+    let same = pool.frame(slot) == tile_bytes(rows, key);
+    pool.sound();
+    pool.release(slot);
+    Ok(same)
+}
+
+// Whether the file has the tiles of these numbers, all of which end within it.
+fn compare<H: TreeHash, T: Disk>(
+    disk: &mut T,
+    pool: &mut Pool,
+    rows: &Rows,
+    from: u64,
+    to: u64,
+) -> Result<(), TileError>
+    requires few { count_of rows.now.rows < 2 ^ 32 }
+    requires full { to ≤ tiles_in (count_of rows.now.rows) }
+    requires gone { (adopted : ℕ) × (tiles_in adopted ≤ from)
+        × ((level : ℕ) → gone_at rows.now.rows level ≡ gone_of adopted level) }
+    requires there { 8192 * to ≤ T.known disk.old }
+    requires unheld { (key : Key) → from ≤ tile_number key.level key.place
+        → IsUnheld pool.old key }
+    requires some { 1 ≤ length pool.old.keys }
+    requires free { HasNoPins pool.old }
+    ensures compared { HaveCompared T.Disk disk.old disk.new pool.old pool.new }
+    ensures ok { OnOk result (HaveMatched T.Disk H.hash rows.now from to disk.old pool.old) }
+    ensures fine { OnOk result (T.faults disk.new ≡ T.faults disk.old) }
+    ensures err { IfErr result
+        (HasTileReason T.Disk H.hash rows.now from to disk.old disk.new pool.old) }
+{
+    for number in from..to {
+        let key = tile_with(number);
+        if !matches::<H, T>(disk, pool, rows, key)? {
+            return Err(bad(key));
+        }
+    }
+    Ok(())
+}
+
+// Whether the file has the tiles of these numbers. The first that it has not is told.
+pub(crate) fn check<H: TreeHash, T: Disk>(
+    disk: &mut T,
+    pool: &mut Pool,
+    rows: &Rows,
+    from: u64,
+    to: u64,
+) -> Result<(), TileError>
+    requires few { count_of rows.now.rows < 2 ^ 32 }
+    requires full { to ≤ tiles_in (count_of rows.now.rows) }
+    requires gone { (adopted : ℕ) × (tiles_in adopted ≤ from)
+        × ((level : ℕ) → gone_at rows.now.rows level ≡ gone_of adopted level) }
+    requires order { from < to }
+    requires unheld { (key : Key) → from ≤ tile_number key.level key.place
+        → IsUnheld pool.old key }
+    requires some { 1 ≤ length pool.old.keys }
+    requires free { HasNoPins pool.old }
+    ensures compared { HaveCompared T.Disk disk.old disk.new pool.old pool.new }
+    ensures ok { OnOk result (HaveMatched T.Disk H.hash rows.now from to disk.old pool.old) }
+    ensures reach { OnOk result (8192 * to ≤ T.known disk.new) }
+    ensures fine { OnOk result (T.faults disk.new ≡ T.faults disk.old) }
+    ensures err { IfErr result
+        (HasTileReason T.Disk H.hash rows.now from to disk.old disk.new pool.old) }
+{
+    let whole = look_len(disk)? / TILE;
+    compare::<H, T>(disk, pool, rows, from, to.min(whole))?;
+    if whole < to {
+        return Err(bad(tile_with(whole.max(from))));
+    }
+    Ok(())
+}

@@ -1,0 +1,310 @@
+//! The store of nodes.
+
+ghost use Rattle.std.specs.Prelude.{◌≡◌, ◌↔◌, ℕ, ◌+◌, ◌*◌, ◌%◌, ◌^◌, ◌<◌, ◌≤◌, max, [], ◌∷◌, ◌++◌, length, Some, option_map, IsSome, IfSome, IfOk, IfErr, OnOk, OnErr};
+ghost use Rattle.std.proofs.Props.{props};
+ghost use Rattle.byte_forms.specs.Types.{Text};
+ghost use Rattle.disk_core.specs.Moments.{LeavesOnly, Looks};
+ghost use Rattle.frame_pool.specs.Frames.{HoldsKey, IsUnheld};
+ghost use Rattle.frame_pool.specs.declared.key.TileKey.{TileKey as Key};
+ghost use Rattle.mtc_io.specs.Counts.{HasCause, Rose};
+ghost use Rattle.tile_store.specs.Frames.{HasNoPins};
+ghost use Rattle.tile_store.specs.Layout.{IsFull, tiles_end};
+ghost use Rattle.tile_store.specs.Sound.{IsSoundOver, IsSoundOver-prop};
+ghost use Rattle.tree_cache.specs.Rows.{count_of, gone_at};
+ghost use Rattle.tree_cache.specs.Tiled.{gone_of};
+
+use crate::TileError;
+use crate::checking::check;
+use crate::layout::{count_tiles, is_full, tile_of};
+use crate::reading::{hashes_below, load, node_over};
+use crate::writing::write_tiles;
+use disk_core::Disk;
+use frame_pool::{Pool, Slot, TileKey};
+use mtc_io::{Failed, Memory};
+use std::alloc::Global;
+use std::marker::PhantomData;
+use tree_cache::Rows;
+use tree_core::TreeHash;
+use tree_proofs::Nodes;
+
+/// A list of fewer than 2^32 leaf hashes as nodes. Those in adopted tiles come out of the file,
+/// through a frame, and the others are kept in memory.
+///
+/// Where the device tells its bytes, contracts see the leaf hashes. They always see how many there
+/// are, how many more need no memory, and the sizes of the lists whose full tiles are stored and
+/// adopted.
+#[derive(Drop)]
+pub struct Tiles<H: TreeHash, T: Disk> {
+    pub(crate) disk: T,
+    pub(crate) pool: Pool,
+    pub(crate) rows: Rows,
+    pub(crate) adopted: u64,
+    pub(crate) stored: u64,
+    function: PhantomData<H>,
+    ghost few: { count_of rows.rows < 2 ^ 32 },
+    ghost whole: { adopted % 256 ≡ 0 },
+    ghost written: { adopted ≤ stored },
+    ghost within: { stored ≤ count_of rows.rows },
+    ghost reach: { tiles_end stored ≤ T.Disk.known disk },
+    ghost gone: { (level : ℕ) → gone_at rows.rows level ≡ gone_of adopted level },
+    ghost some: { 1 ≤ length pool.keys },
+    ghost free: { HasNoPins pool },
+    ghost keys: { (slot : ℕ) (key : Key) → HoldsKey pool slot key
+        → IsFull adopted key.level key.place },
+    ghost told: { (b : Text) → T.Disk.told disk ≡ Some b → IsSoundOver H.TreeHash.hash adopted
+        stored rows pool b } by { Prim.hlevel (props, IsSoundOver-prop) },
+}
+
+impl<H: TreeHash, T: Disk> Tiles<H, T> {
+    ghost use Rattle.tile_store.specs.Causes.{HasCauseOf, IsNewTile, StandsIn};
+    ghost use Rattle.tile_store.specs.Contents.{HoldsTiles, IsTile};
+    ghost use Rattle.tile_store.specs.Frames.{IsHeld};
+    ghost use Rattle.tile_store.specs.Layout.{tile_level, tile_place};
+    ghost use Rattle.tile_store.specs.Store.{TilesStay, tiles_adopted, tiles_count, tiles_disk, tiles_leaves, tiles_pool, tiles_spare, tiles_stored};
+    ghost use Rattle.tile_store.specs.Writing.{IsImageBehind};
+    ghost use Rattle.tree_proofs.specs.Told.{IsRootOf};
+
+    /// No leaves, over a device and a pool whose frames hold no tile. It takes no memory.
+    pub fn new(alloc: Global, disk: T, pool: Pool) -> Tiles<H, T>
+        requires { (slot : ℕ) (key : Key) → HoldsKey pool slot key → ⊥ }
+        ensures disk { tiles_disk result ≡ disk }
+        ensures count { tiles_count result ≡ 0 }
+        ensures adopted { tiles_adopted result ≡ 0 }
+        ensures stored { tiles_stored result ≡ 0 }
+        ensures leaves { IfSome (tiles_leaves result) (λ leaves. leaves ≡ []) }
+    {
+        pool.sound();
+        Tiles {
+            disk,
+            pool,
+            rows: Rows::new(alloc),
+            adopted: 0,
+            stored: 0,
+            function: PhantomData,
+        }
+    }
+
+    /// Makes room for at least `count` more leaves. It is refused only where fewer are spare. The
+    /// store stays as it was, also then.
+    pub fn reserve(&mut self, count: usize) -> Result<(), Memory>
+        ensures list { tiles_leaves self.new ≡ tiles_leaves self.old }
+        ensures count { tiles_count self.new ≡ tiles_count self.old }
+        ensures disk { tiles_disk self.new ≡ tiles_disk self.old }
+        ensures adopted { tiles_adopted self.new ≡ tiles_adopted self.old }
+        ensures stored { tiles_stored self.new ≡ tiles_stored self.old }
+        ensures spare { OnOk result (count ≤ tiles_spare self.new) }
+        ensures kept { tiles_spare self.old ≤ tiles_spare self.new }
+        ensures full { OnErr result (tiles_spare self.old < count) }
+    {
+        self.rows.reserve(count)
+    }
+
+    /// Puts a leaf hash behind the others. It is refused only where no spare leaf is left, and
+    /// leaves all as it was then.
+    pub fn push(&mut self, leaf: &[u8; 32]) -> Result<(), Memory>
+        requires { tiles_count self.old + 1 < 2 ^ 32 }
+        ensures ok { OnOk result (tiles_leaves self.new
+            ≡ option_map (λ list. list ++ leaf.now ∷ []) (tiles_leaves self.old)) }
+        ensures count { OnOk result (tiles_count self.new ≡ tiles_count self.old + 1) }
+        ensures err { OnErr result (tiles_leaves self.new ≡ tiles_leaves self.old) }
+        ensures count_err { OnErr result (tiles_count self.new ≡ tiles_count self.old) }
+        ensures disk { tiles_disk self.new ≡ tiles_disk self.old }
+        ensures adopted { tiles_adopted self.new ≡ tiles_adopted self.old }
+        ensures stored { tiles_stored self.new ≡ tiles_stored self.old }
+        ensures spare { tiles_spare self.old ≤ tiles_spare self.new + 1 }
+        ensures full { OnErr result (tiles_spare self.old ≡ 0) }
+    {
+        self.reserve(1)?;
+        self.rows.push::<H>(leaf);
+        Ok(())
+    }
+
+    /// The hash of the `2^level` leaves from `place * 2^level` on, as [`Nodes::node`]. Where its
+    /// tile is adopted, at Ok a frame holds that tile, and where none did before it was read from
+    /// the device in this call. `Failed` comes only where the count of the device's faults rose.
+    pub fn tile_node(&mut self, level: u32, place: u64) -> Result<[u8; 32], Failed>
+        requires { (place + 1) * 2 ^ level ≤ tiles_count self.old }
+        ensures value { IfOk result (IsRootOf H.hash (tiles_leaves self.old) (place * 2 ^ level)
+            ((place + 1) * 2 ^ level)) }
+        ensures list { tiles_leaves self.new ≡ tiles_leaves self.old }
+        ensures held { OnOk result
+            (IsFull (tiles_adopted self.old) (tile_level level) (tile_place level place)
+            → IsHeld (tiles_pool self.new) (tile_level level) (tile_place level place)) }
+        ensures read { OnOk result
+            (IsFull (tiles_adopted self.old) (tile_level level) (tile_place level place)
+            → (IsHeld (tiles_pool self.old) (tile_level level) (tile_place level place) → ⊥)
+            → Rose (T.moment (tiles_disk self.old)) (T.moment (tiles_disk self.new))) }
+        ensures stays { TilesStay self.old self.new }
+        ensures cause { HasCause (T.faults (tiles_disk self.old)) (T.faults (tiles_disk self.new))
+            result }
+    {
+        let key = tile_of(level, place);
+        if !is_full(self.adopted, key) {
+            return Ok(self.rows.hash_at(level, place));
+        }
+        let slot = self.load(key)?;
+        let hashes = hashes_below(self.pool.frame(slot), level, place);
+        Ok(node_over::<H>(hashes, level % 8))
+    }
+
+    // The frame of an adopted tile.
+    fn load(&mut self, key: TileKey) -> Result<Slot, Failed>
+        requires { IsFull (tiles_adopted self.old) key.level key.place }
+        ensures held { IfOk result (λ slot. HoldsKey (tiles_pool self.new) slot.0 key) }
+        ensures read { OnOk result (IsUnheld (tiles_pool self.old) key
+            → Rose (T.moment (tiles_disk self.old)) (T.moment (tiles_disk self.new))) }
+        ensures stays { TilesStay self.old self.new }
+        ensures cause { HasCause (T.faults (tiles_disk self.old)) (T.faults (tiles_disk self.new))
+            result }
+    {
+        load(&mut self.disk, &mut self.pool, key)
+    }
+
+    /// The 8,192 bytes of the frame that holds a tile; none exactly where no frame does. Frames
+    /// hold adopted tiles alone.
+    pub fn held_tile(&self, key: TileKey) -> Option<&[u8]>
+        ensures held { IsSome result ↔ IsHeld (tiles_pool self.now) key.level key.place }
+        ensures tile { IfSome result (λ tile.
+            IsFull (tiles_adopted self.now) key.level key.place
+            × IfSome (tiles_leaves self.now) (λ leaves.
+            IsTile H.hash leaves key.level key.place tile.now)) }
+    {
+        match self.pool.find(key) {
+            Some(slot) => Some(self.pool.frame(slot)),
+            None => None,
+        }
+    }
+
+    /// Writes each tile that the first `size` leaves fill and that is not stored yet, and makes
+    /// all certain. At any moment a crash leaves what it might have left before, but for what lies
+    /// behind the stored tiles. It adopts none, and takes no memory.
+    pub fn store(&mut self, size: u64) -> Result<(), Failed>
+        requires { size ≤ tiles_count self.old }
+        ensures list { tiles_leaves self.new ≡ tiles_leaves self.old }
+        ensures count { tiles_count self.new ≡ tiles_count self.old }
+        ensures spare { tiles_spare self.new ≡ tiles_spare self.old }
+        ensures adopted { tiles_adopted self.new ≡ tiles_adopted self.old }
+        ensures stored { OnOk result (tiles_stored self.new ≡ max size (tiles_stored self.old)) }
+        ensures stored_err { OnErr result (tiles_stored self.new ≡ tiles_stored self.old) }
+        ensures holds { OnOk result (IfSome (tiles_leaves self.old) (λ leaves. (c : Text)
+            → T.may_leave (tiles_disk self.new) c → HoldsTiles H.hash leaves size c)) }
+        ensures any_moment { LeavesOnly T.Disk (tiles_disk self.old) (tiles_disk self.new)
+            (IsImageBehind T.Disk (tiles_disk self.old) (tiles_end (tiles_stored self.old))) }
+        ensures cause { HasCause (T.faults (tiles_disk self.old)) (T.faults (tiles_disk self.new))
+            result }
+    {
+        self.write(size)?;
+        self.stored = self.stored.max(size);
+        Ok(())
+    }
+
+    // Writes the tiles that are to be stored.
+    fn write(&mut self, size: u64) -> Result<(), Failed>
+        requires { size ≤ tiles_count self.old }
+        ensures list { tiles_leaves self.new ≡ tiles_leaves self.old }
+        ensures count { tiles_count self.new ≡ tiles_count self.old }
+        ensures spare { tiles_spare self.new ≡ tiles_spare self.old }
+        ensures adopted { tiles_adopted self.new ≡ tiles_adopted self.old }
+        ensures stored { tiles_stored self.new ≡ tiles_stored self.old }
+        ensures reach { OnOk result (tiles_end size ≤ T.known (tiles_disk self.new)) }
+        ensures holds { OnOk result (IfSome (tiles_leaves self.old) (λ leaves. (c : Text)
+            → T.may_leave (tiles_disk self.new) c → HoldsTiles H.hash leaves size c)) }
+        ensures any_moment { LeavesOnly T.Disk (tiles_disk self.old) (tiles_disk self.new)
+            (IsImageBehind T.Disk (tiles_disk self.old) (tiles_end (tiles_stored self.old))) }
+        ensures cause { HasCause (T.faults (tiles_disk self.old)) (T.faults (tiles_disk self.new))
+            result }
+    {
+        let (from, to) = (count_tiles(self.stored), count_tiles(size));
+        write_tiles::<H, T>(&mut self.disk, &self.rows, from, to)
+    }
+
+    /// Reads back each tile that the first `size` leaves fill and that is not adopted yet, in the
+    /// order in which they became full, and compares it with the nodes in memory. At Ok they are
+    /// adopted, and these nodes are dropped from memory.
+    ///
+    /// Errors, whichever comes first: `Failed`; `BadTile`, exactly where the file ends before the
+    /// end of a tile or has other hashes there, with the first such tile. Then all but the frames
+    /// is as it was. It takes no memory.
+    pub fn adopt(&mut self, size: u64) -> Result<(), TileError>
+        requires multiple { size % 256 ≡ 0 }
+        requires within { size ≤ tiles_count self.old }
+        ensures list { tiles_leaves self.new ≡ tiles_leaves self.old }
+        ensures count { tiles_count self.new ≡ tiles_count self.old }
+        ensures looks { Looks T.Disk (tiles_disk self.old) (tiles_disk self.new) }
+        ensures adopted { OnOk result (tiles_adopted self.new
+            ≡ max size (tiles_adopted self.old)) }
+        ensures stands { OnOk result (IfSome (T.told (tiles_disk self.old)) (λ bytes.
+            IfSome (tiles_leaves self.old) (λ leaves. (level place : ℕ)
+            → IsNewTile (tiles_adopted self.old) size level place
+            → StandsIn H.hash leaves bytes level place))) }
+        ensures spare { tiles_spare self.new ≡ tiles_spare self.old }
+        ensures stays { OnErr result (TilesStay self.old self.new) }
+        ensures fine { OnOk result (T.faults (tiles_disk self.new)
+            ≡ T.faults (tiles_disk self.old)) }
+        ensures cause { IfErr result (HasCauseOf self.old (tiles_disk self.new) size) }
+    {
+        if size <= self.adopted {
+            return Ok(());
+        }
+        self.compare(size)?;
+        self.rows.forget(size);
+        self.adopted = size;
+        self.stored = self.stored.max(size);
+        Ok(())
+    }
+
+    // Whether the file has the new tiles of so many leaves.
+    fn compare(&mut self, size: u64) -> Result<(), TileError>
+        requires multiple { size % 256 ≡ 0 }
+        requires within { size ≤ tiles_count self.old }
+        requires above { tiles_adopted self.old < size }
+        ensures stays { TilesStay self.old self.new }
+        ensures stands { OnOk result (IfSome (T.told (tiles_disk self.old)) (λ bytes.
+            IfSome (tiles_leaves self.old) (λ leaves. (level place : ℕ)
+            → IsNewTile (tiles_adopted self.old) size level place
+            → StandsIn H.hash leaves bytes level place))) }
+        ensures reach { OnOk result (tiles_end size ≤ T.known (tiles_disk self.new)) }
+        ensures fine { OnOk result (T.faults (tiles_disk self.new)
+            ≡ T.faults (tiles_disk self.old)) }
+        ensures cause { IfErr result (HasCauseOf self.old (tiles_disk self.new) size) }
+    {
+        let (from, to) = (count_tiles(self.adopted), count_tiles(size));
+        check::<H, T>(&mut self.disk, &mut self.pool, &self.rows, from, to)
+    }
+
+    /// The device, for another use.
+    pub fn into_disk(self) -> T
+        ensures { result ≡ tiles_disk self }
+    {
+        self.disk
+    }
+}
+
+impl<H: TreeHash, T: Disk> Nodes for Tiles<H, T> {
+    ghost use Rattle.tile_store.specs.Laws.{counted-tiles, stay-on, stay-same};
+    ghost use Rattle.tile_store.specs.Store.{TilesStay, tiles_count, tiles_disk, tiles_leaves};
+
+    type H = H;
+
+    ghost leaves = { λ t. tiles_leaves t };
+
+    ghost count = { λ t. tiles_count t };
+
+    ghost faults = { λ t. T.Disk.faults (tiles_disk t) };
+
+    ghost stays = { λ old new. TilesStay old new };
+
+    ghost counted = { λ t. counted-tiles t };
+
+    ghost stays_before = { λ t. stay-same t (T.Disk.only_now (tiles_disk t)) };
+
+    ghost stays_on = { λ a b c first second. stay-on a b c first second };
+
+    fn size(&self) -> u64 {
+        self.rows.count()
+    }
+
+    fn node(&mut self, level: u32, place: u64) -> Result<[u8; 32], Failed> {
+        self.tile_node(level, place)
+    }
+}

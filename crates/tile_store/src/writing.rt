@@ -1,0 +1,122 @@
+//! Tiles written from the nodes in memory.
+
+ghost use Rattle.std.specs.Prelude.{◌≡◌, ℕ, ◌+◌, ◌*◌, ◌^◌, ◌<◌, ◌≤◌, max, List, [], length, slice_index_or, Some, is_some, IfSome, OnOk, OnErr};
+ghost use Rattle.byte_forms.specs.Types.{Hash, HashFunction, Text};
+ghost use Rattle.disk_core.specs.Disk.{Only};
+ghost use Rattle.disk_core.specs.Moments.{LeavesOnly};
+ghost use Rattle.mtc_io.specs.Counts.{HasCause};
+ghost use Rattle.tile_store.specs.Contents.{IsTile, hash_in};
+ghost use Rattle.tile_store.specs.Layout.{IsFull, tile_at, tiles_in};
+ghost use Rattle.tile_store.specs.Writing.{HoldsFirst, IsImageBehind, IsTileWritten, KeepsFront};
+ghost use Rattle.tree_cache.specs.Rows.{AreRowsOf, count_of, gone_at};
+ghost use Rattle.tree_cache.specs.Tiled.{gone_of};
+
+use crate::layout::{place_of, tile_with};
+use disk_core::{Disk, settle};
+use frame_pool::TileKey;
+use mtc_io::Failed;
+use tree_cache::Rows;
+use tree_core::TreeHash;
+
+// The bytes of hashes, one behind the other.
+fn bytes_of(hashes: &[[u8; 32]]) -> &[u8]
+    ensures size { length result.now ≡ 32 * length hashes.now }
+    ensures each { (i : ℕ) → i < length hashes.now
+        → hash_in i result.now ≡ slice_index_or hashes.now i [] }
+{
+    hashes.as_flattened()
+}
+
+// The bytes of a tile of the rows.
+pub(crate) fn tile_bytes(rows: &Rows, key: TileKey) -> &[u8]
+    requires low { key.level ≤ 2 }
+    requires few { count_of rows.now.rows < 2 ^ 32 }
+    requires full { IsFull (count_of rows.now.rows) key.level key.place }
+    requires kept { gone_at rows.now.rows (8 * key.level) ≤ 256 * key.place }
+    ensures size { length result.now ≡ 8192 }
+    ensures tile { (h : HashFunction) (leaves : List Hash) → AreRowsOf h leaves rows.now.rows
+        → IsTile h leaves key.level key.place result.now }
+{
+    bytes_of(rows.hashes(8 * key.level as u32, 256 * key.place, 256))
+}
+
+// Writes one tile.
+fn put<H: TreeHash, T: Disk>(disk: &mut T, rows: &Rows, key: TileKey) -> Result<(), Failed>
+    requires low { key.level ≤ 2 }
+    requires few { count_of rows.now.rows < 2 ^ 32 }
+    requires full { IsFull (count_of rows.now.rows) key.level key.place }
+    requires kept { gone_at rows.now.rows (8 * key.level) ≤ 256 * key.place }
+    requires place { tile_at key.level key.place ≤ T.known disk.old }
+    ensures written { OnOk result (IsTileWritten H.hash rows.now key.level key.place
+        (T.told disk.old) (T.told disk.new)) }
+    ensures told { is_some (T.told disk.new) ≡ is_some (T.told disk.old) }
+    ensures known { OnOk result (T.known disk.new
+        ≡ max (tile_at key.level key.place + 8192) (T.known disk.old)) }
+    ensures known_err { OnErr result (T.known disk.new ≡ T.known disk.old) }
+    ensures any_moment { LeavesOnly T.Disk disk.old disk.new
+        (IsImageBehind T.Disk disk.old (tile_at key.level key.place)) }
+    ensures cause { HasCause (T.faults disk.old) (T.faults disk.new) result }
+{
+    disk.write_at(place_of(key), tile_bytes(rows, key))
+}
+
+// Writes the tiles of these numbers, from one on up to another.
+fn put_all<H: TreeHash, T: Disk>(
+    disk: &mut T,
+    rows: &Rows,
+    from: u64,
+    to: u64,
+) -> Result<(), Failed>
+    requires few { count_of rows.now.rows < 2 ^ 32 }
+    requires full { to ≤ tiles_in (count_of rows.now.rows) }
+    requires gone { (adopted : ℕ) × (tiles_in adopted ≤ from)
+        × ((level : ℕ) → gone_at rows.now.rows level ≡ gone_of adopted level) }
+    requires place { 8192 * from ≤ T.known disk.old }
+    ensures holds { OnOk result ((before after : Text) → T.told disk.old ≡ Some before
+        → T.told disk.new ≡ Some after → (leaves : List Hash)
+        → AreRowsOf H.hash leaves rows.now.rows → HoldsFirst H.hash leaves from before
+        → HoldsFirst H.hash leaves to after) }
+    ensures any_moment { LeavesOnly T.Disk disk.old disk.new
+        (IsImageBehind T.Disk disk.old (8192 * from)) }
+    ensures told { is_some (T.told disk.new) ≡ is_some (T.told disk.old) }
+    ensures known { T.known disk.old ≤ T.known disk.new }
+    ensures reach { OnOk result (8192 * to ≤ T.known disk.new) }
+    ensures cause { HasCause (T.faults disk.old) (T.faults disk.new) result }
+{
+    for number in from..to {
+        put::<H, T>(disk, rows, tile_with(number))?;
+    }
+    Ok(())
+}
+
+// Writes the tiles of these numbers, over bytes that are certain, and makes them certain.
+pub(crate) fn write_tiles<H: TreeHash, T: Disk>(
+    disk: &mut T,
+    rows: &Rows,
+    from: u64,
+    to: u64,
+) -> Result<(), Failed>
+    requires few { count_of rows.now.rows < 2 ^ 32 }
+    requires full { to ≤ tiles_in (count_of rows.now.rows) }
+    requires gone { (adopted : ℕ) × (tiles_in adopted ≤ from)
+        × ((level : ℕ) → gone_at rows.now.rows level ≡ gone_of adopted level) }
+    requires place { 8192 * from ≤ T.known disk.old }
+    ensures holds { OnOk result ((before after : Text) → T.told disk.old ≡ Some before
+        → T.told disk.new ≡ Some after → (leaves : List Hash)
+        → AreRowsOf H.hash leaves rows.now.rows → HoldsFirst H.hash leaves from before
+        → HoldsFirst H.hash leaves to after) }
+    ensures durable { OnOk result (IfSome (T.told disk.new)
+        (λ bytes. Only bytes (T.may_leave disk.new))) }
+    ensures front { (before after : Text) → T.told disk.old ≡ Some before
+        → T.told disk.new ≡ Some after → KeepsFront (8192 * from) before after }
+    ensures any_moment { LeavesOnly T.Disk disk.old disk.new
+        (IsImageBehind T.Disk disk.old (8192 * from)) }
+    ensures told { is_some (T.told disk.new) ≡ is_some (T.told disk.old) }
+    ensures known { T.known disk.old ≤ T.known disk.new }
+    ensures reach { OnOk result (8192 * to ≤ T.known disk.new) }
+    ensures cause { HasCause (T.faults disk.old) (T.faults disk.new) result }
+{
+    settle(disk)?;
+    put_all::<H, T>(disk, rows, from, to)?;
+    settle(disk)
+}
