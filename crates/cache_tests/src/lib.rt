@@ -1,7 +1,9 @@
-//! Tests of the nodes that are kept, and of the frames for tiles.
+//! Tests of the nodes that are kept, of the frames for tiles, and of the store of tiles.
 #![tactic(auto)]
 
 #[cfg(test)]
 mod framing;
 #[cfg(test)]
 mod keeping;
+#[cfg(test)]
+mod storing;
