@@ -362,7 +362,7 @@ module _ {R S D O E : Type 0} (h : HashFunction) (rooms : Rooms R S D) (disks : 
   about_input : (room : R) (command : CommandValue) (turn : Turn R O E) → rooms.tells room
       → HasTurned h rooms disks outs errs room turn → command_of turn.words ≡ Ok command
       → turn.status ≡ 2 → Only h [] (rooms.file room) command
-      → IsAboutInput h rooms disks outs errs command turn
+      → IsAboutInput h rooms disks outs errs command room turn
   about_input room command turn tells run spoken two fits =
       let a = run.answered (λ five. omega (arith, two, five)) (λ six. omega (arith, two, six))
       (λ eight. omega (arith, two, eight)) in
@@ -373,6 +373,8 @@ module _ {R S D O E : Type 0} (h : HashFunction) (rooms : Rooms R S D) (disks : 
         file = found.0;
         reason = found.1.0;
         input = found.1.1.0;
+        asked = subst (λ (r : Reply). Meets (command_outcome h command (rooms.file room)).answer r)
+            found.1.1.1 meets;
         line = refused_line turn a.reply found.0 found.1.0 found.1.1.1 a.line;
       }
 

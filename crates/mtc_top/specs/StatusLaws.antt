@@ -8,14 +8,17 @@ use Rattle.mtc_words.specs.Commands.{CommandValue, advance, cert, checkpoint, co
 use Rattle.mtc_words.specs.Commands.{entries, export, issue, landmark, landmarks, light_cert}
 use Rattle.mtc_words.specs.Commands.{subtree}
 use Rattle.mtc_words.specs.Words.{command_of, known_word}
+use Rattle.mtc_answers.specs.Answers.{refused}
 use Rattle.mtc_answers.specs.Endings.{IsNamed}
 use Rattle.mtc_answers.specs.Lines.{line_of}
+use Rattle.mtc_answers.specs.Wanted.{Meets}
+use Rattle.mtc_answers.specs.declared.answer.Stopped.TheVariants.{BadForm}
 use Rattle.node_history.specs.declared.start.NodeStart.{NodeStart}
 use Rattle.node_history.specs.declared.start.NodeStart.TheVariants.{Log, Cosigner}
 use Rattle.mtc_top.specs.Concluded.{Reports}
 use Rattle.mtc_top.specs.CourseLaws.{OfCourses}
 use Rattle.mtc_top.specs.Courses.{Turn, HasTurned}
-use Rattle.mtc_top.specs.Outcome.{files_of}
+use Rattle.mtc_top.specs.Outcome.{command_outcome, files_of}
 
 -- The command opens the journal of this name, as that of such a node.
 abbrev pub Opens : NodeStart → Text → CommandValue → Type 0
@@ -35,11 +38,14 @@ Opens start name other = ⊥
 
 module _ {R S D O E : Type 0} (h : HashFunction) (rooms : Rooms R S D) (disks : Disks D)
     (outs : Sinks O) (errs : Sinks E) where
-  -- The line on standard error is about an input of the command: a file behind its journal.
-  pub record IsAboutInput (command : CommandValue) (turn : Turn R O E) : Type 0 where
+  -- What is asked for is a refusal of an input of the command, a file behind its journal; and the
+  -- line on standard error says so.
+  pub record IsAboutInput (command : CommandValue) (room : R) (turn : Turn R O E) : Type 0 where
     pub file : Text
     pub reason : Text
     pub input : IsNamed (drop 1 (files_of command)) file
+    pub asked : Meets (command_outcome h command (rooms.file room)).answer
+        (refused BadForm (Some file) reason)
     pub line : Reports errs turn.err turn.err_after
         (line_of (known_word turn.words) (Some file) reason)
 
@@ -49,4 +55,4 @@ module _ {R S D O E : Type 0} (h : HashFunction) (rooms : Rooms R S D) (disks : 
   MisreadFilesAreInputs = OfCourses h rooms disks outs errs (λ name start first made links new.
       (command : CommandValue) (turn : Turn R O E) → Opens start name command
       → HasTurned h rooms disks outs errs new turn → command_of turn.words ≡ Ok command
-      → turn.status ≡ 2 → IsAboutInput command turn)
+      → turn.status ≡ 2 → IsAboutInput command new turn)
