@@ -26,6 +26,9 @@ LINKED = ("mtc_top.specs.Courses", LAWS.format("Course"), LAWS.format("Room"))
 COURSES = ("The laws of courses name", r"(?:courses|entries|made|no|recovered|what)_\w+", LINKED)
 STATEMENTS = (RUNS, COURSES, PRINTS)
 
+# The contracts are generic: what they say of a room, a device, a stream and a hash function is what these traits ensure.
+TRAITS = ("mtc_room/src/room.rt", "disk_core/src/disk.rt", "mtc_io/src/source.rt", "mtc_io/src/sink.rt", "tree_core/src/hashing.rt")
+
 # The promise as a whole is one law. Its level are the crates of what a reader has to take in for it: the list of their definitions
 # on which it rests is closed, and has at most so many. It ends at what a run is, which has a table of its own, and at the words of
 # the crates below, which are those of these standards and formats.
@@ -126,6 +129,25 @@ def contracts(functions):
             yield bare, {sign_of(name): origin for name, origin in imports_of(text).items()}
 
 
+def definition_of(dotted, name):
+    """The definition of a word as (module, name), where it is one of this repository."""
+    module = module_of(dotted)
+    whole = module.owners.get(sign_of(name), name) if module else None
+    return (dotted, whole) if module and whole in module.bodies else None
+
+
+@cache
+def rules():
+    """What the clauses of the traits name: the definitions, as (module, name)."""
+    found = set()
+    for place in TRAITS:
+        text = (ROOT / "crates" / place).read_text()
+        bare = re.sub(r"//[^\n]*", "", re.search(r"^pub trait .*?^\}", text, re.M | re.S).group())
+        imports = {sign_of(name): origin for name, origin in imports_of(text).items()}
+        found |= {definition_of(*imports[token]) for token in set(TOKEN.findall(bare)) if token in imports}
+    return sorted(found - {None})
+
+
 def declared(dotted):
     """The crate and the name of a type of the code, from the module in which contracts see it."""
     crate, _, place = dotted.partition(".specs.declared.")
@@ -190,7 +212,7 @@ def row(name, own, types):
 
 
 def all_named():
-    return [named for statement in STATEMENTS for named in named_first(statement)] + named_by(WHOLE)
+    return [named for statement in STATEMENTS for named in named_first(statement)] + named_by(WHOLE) + rules()
 
 
 def standard_of(dotted):
@@ -222,6 +244,9 @@ def promise_rows():
         if mine:
             behind, _, _ = reached((dotted, name) for name, dotted in mine)
             rows.append(f"| {standard} | {', '.join(f'`{name}`' for name, _ in mine)} | {len(behind)} |")
+    behind, _, _ = reached(rules())
+    rows.append(f"| the rules of rooms, devices, streams and hash functions (their traits) | {', '.join(f'`{name}`' for _, name in rules())} | {len(behind)} |")
+    ends |= set(rules())
     for those, title in ((ends - ENDS, "all but a run, each counted once"), (ends, "all, each counted once")):
         behind, types, _ = reached(those)
         rows.append(f"| {title} | {len(those)} words | {len(behind.keys() - own.keys())}, and {len(types)} types of the code |")
@@ -231,15 +256,13 @@ def promise_rows():
 def first_rows(statement):
     """The definitions of a statement and those that it names, with their lengths."""
     found = {}
-    for dotted, name in named_first(statement):
-        module = module_of(dotted)
-        whole = module.owners.get(sign_of(name), name) if module else None
-        if module and whole in module.bodies:
-            found[dotted, whole] = len(module.bodies[whole])
+    for definition in filter(None, map(definition_of, *zip(*named_first(statement)))):
+        dotted, whole = definition
+        found[definition] = len(module_of(dotted).bodies[whole])
     rows = [f"| {statement[0]} | In | Lines |", "|---|---|---|"]
     rows += [f"| `{name}` | {file_of(dotted)} | {count} |" for (dotted, name), count in sorted(found.items())]
     named = named_first(statement)
-    own, types, _ = reached(named)
+    own, types, _ = reached(named + rules())
     first_types = {declared(dotted) for dotted, _ in named if ".specs.declared." in dotted}
     rows.append(f"| {len(found)} definitions, and {len(first_types)} types of the code | | {sum(found.values())} |")
     return rows + [f"| {len(own)} definitions with all that these rest on, and {len(types)} types | | {sum(map(len, own.values()))} |", ""]
