@@ -209,10 +209,18 @@ const APPENDING: [Appending; 2] = [
     },
 ];
 
-// Whichever call of the device fails, the journal has its old records, or these and the new one.
+// The calls of the device: a sync, the length, the header and what stands behind it open the
+// journal; the record is written and synced, and so is its gate.
+const CALLS: u64 = 8;
+
+// Whichever calls of the device fail, the journal has its old records, or these and the new one.
 // The status, where all is as it has to be.
-fn status_of(alloc: Global, appending: &Appending, call: u64) -> Result<Option<u8>, Fail> {
-    let script = format!(in alloc; "{READY}fails {call}")?;
+fn status_of(alloc: Global, appending: &Appending, failing: &[u64]) -> Result<Option<u8>, Fail> {
+    let mut script = format!(in alloc; "{READY}fails")?;
+    for call in failing {
+        let word = format!(in alloc; " {call}")?;
+        script.push_str(word.as_str())?;
+    }
     let Some(mut desk) = desk_of(alloc, script.as_str())? else {
         return Ok(None);
     };
@@ -233,19 +241,31 @@ fn status_of(alloc: Global, appending: &Appending, call: u64) -> Result<Option<u
     }
 }
 
+// The calls from this one on, so many of them.
+fn calls_from(alloc: Global, call: u64, count: u64) -> Result<Vec<u64>, Fail> {
+    let mut calls = Vec::new(alloc);
+    for behind in 0..count {
+        calls.push(call.saturating_add(behind))?;
+    }
+    Ok(calls)
+}
+
+// One call fails alone; or the device stops at it, so that none behind it is answered.
 #[test]
 fn a_device_fails_an_append(rt: HostRuntime) -> Result<(), Fail> {
     for appending in &APPENDING {
-        let mut some_fail = false;
-        let mut some_pass = false;
-        for call in 0..16 {
-            match status_of(rt.alloc(), appending, call)? {
-                None => assert!(rt; false, "{} {call}", appending.words),
-                Some(5) => some_fail = true,
-                Some(_) => some_pass = true,
+        for call in 0..2 * CALLS {
+            let wanted = if call < CALLS { 5 } else { 0 };
+            for count in [1, 2 * CALLS] {
+                let failing = calls_from(rt.alloc(), call, count)?;
+                let status = status_of(rt.alloc(), appending, failing.as_slice())?;
+                assert!(rt;
+                    status == Some(wanted),
+                    "{}, {count} from {call}",
+                    appending.words
+                );
             }
         }
-        assert!(rt; some_fail && some_pass, "{}", appending.words);
     }
     Ok(())
 }

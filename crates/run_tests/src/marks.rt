@@ -2,6 +2,7 @@
 //! certificates without signatures.
 
 use crate::scripts::{Outcome, outcome_of};
+use crate::trust::TABLES;
 use std::test::Fail;
 
 const SCRIPT: &str = r#"
@@ -165,31 +166,10 @@ name REQUEST
 | not_after = "2026-01-08T00:00:00Z"
 | dns = ["a.example"]
 | key = "MCowBQYDK2VwAyEAAAAAAAAAAAAAAAAAAAAAAAAAAAAAAAAAAAAAAAAAAAA="
-# A store that trusts the subtrees of landmarks at the sizes 5 and 9.
+# The head of a store.
 name LOG
 | [log]
 | id = "32473.1"
-name TABLES
-| [[subtree]]
-| start = 0
-| end = 4
-| hash = "f956582328eaa7dbde68fc31ba2921f9235df4f4cb6ccde43bdc178396606ec5"
-|
-| [[subtree]]
-| start = 4
-| end = 5
-| hash = "7edfd5e2318a6de081fe8ee5e0a629335e6f6fd825fbe9f7111be6a8d243d161"
-|
-| [[subtree]]
-| start = 4
-| end = 8
-| hash = "c67b5df0526a55f2970ebcef168f727267c6eb3af62e2cc9b3bf5317af5325b5"
-|
-| [[subtree]]
-| start = 8
-| end = 9
-| hash = "7edfd5e2318a6de081fe8ee5e0a629335e6f6fd825fbe9f7111be6a8d243d161"
-|
 # The certificate of entry 6, in the interval 4 to 8.
 name CERT
   3082010430819ca003020102020106300c060a2b0601040182da4b2f00301931173015060a2b0601040182da
@@ -283,7 +263,8 @@ status 4
 
 #[test]
 fn certificates_without_signatures(rt: HostRuntime) -> Result<(), Fail> {
-    let outcome = outcome_of(rt.alloc(), LIGHT)?;
+    let script = format!(in rt.alloc(); "{TABLES}{LIGHT}")?;
+    let outcome = outcome_of(rt.alloc(), script.as_str())?;
     assert!(rt; outcome == Outcome::Passed(31), "{outcome:?}");
     Ok(())
 }

@@ -6,24 +6,8 @@ use mtc_io::{Bytes, MemSink};
 use std::alloc::Global;
 use std::test::Fail;
 
-const SCRIPT: &str = r#"
-# Its entry and key, each behind its length of two bytes; and the item of the null entry.
-name ENTRY
-  00830001a003020102301931173015060a2b0601040182da4b2f010c0733323437332e31301e170d3236303130
-  313030303030305a170d3236303130383030303030305a30000420722abd12e99a5367f375aeb9672a8e07712e
-  03c2add16fa8d6914d1cfa2efe0ca31b301930170603551d110101ff040d300b8209612e6578616d706c65
-name KEY
-  002c302a300506032b657003210000000000000000000000000000000000000000000000000000000000000000
-  00
-name ITEM ENTRY KEY
-name NULL 000200000000
-name NINE NULL ITEM ITEM ITEM ITEM ITEM ITEM ITEM ITEM
-# The list of two active landmarks at the sizes 5 and 9, and what they trust.
-name LIST
-| 2 2
-| 9
-| 5
-| 0
+/// What landmarks at the sizes 5 and 9 make trusted, as TABLES.
+pub(crate) const TABLES: &str = r#"
 name TABLES
 | [[subtree]]
 | start = 0
@@ -45,6 +29,26 @@ name TABLES
 | end = 9
 | hash = "7edfd5e2318a6de081fe8ee5e0a629335e6f6fd825fbe9f7111be6a8d243d161"
 |
+"#;
+
+const SCRIPT: &str = r#"
+# Its entry and key, each behind its length of two bytes; and the item of the null entry.
+name ENTRY
+  00830001a003020102301931173015060a2b0601040182da4b2f010c0733323437332e31301e170d3236303130
+  313030303030305a170d3236303130383030303030305a30000420722abd12e99a5367f375aeb9672a8e07712e
+  03c2add16fa8d6914d1cfa2efe0ca31b301930170603551d110101ff040d300b8209612e6578616d706c65
+name KEY
+  002c302a300506032b657003210000000000000000000000000000000000000000000000000000000000000000
+  00
+name ITEM ENTRY KEY
+name NULL 000200000000
+name NINE NULL ITEM ITEM ITEM ITEM ITEM ITEM ITEM ITEM
+# The list of two active landmarks at the sizes 5 and 9.
+name LIST
+| 2 2
+| 9
+| 5
+| 0
 
 case what is trusted
 file l LIST
@@ -264,7 +268,8 @@ $ verify cert store 1767225600
 #[test]
 fn subtrees_of_landmarks_are_trusted(rt: HostRuntime) -> Result<(), Fail> {
     for (script, runs) in [(SCRIPT, 18), (COVERED, 30)] {
-        let outcome = outcome_of(rt.alloc(), script)?;
+        let whole = format!(in rt.alloc(); "{TABLES}{script}")?;
+        let outcome = outcome_of(rt.alloc(), whole.as_str())?;
         assert!(rt; outcome == Outcome::Passed(runs), "{outcome:?}");
     }
     Ok(())
