@@ -71,10 +71,10 @@ def long_parts():
 
 
 def wide_lines():
-    """(crate, what) for each line that is too long; imports of sources, or of one name, are let through."""
+    """(crate, what) for each line that is too long; imports of one name are let through."""
     for name, path in code_files("src", "specs", "proofs"):
         for number, line in enumerate(path.read_text().split("\n"), 1):
-            is_import = re.match(r"\s*(pub |ghost )*use ", line) and (path.suffix == ".rt" or "," not in line)
+            is_import = re.match(r"\s*(pub |ghost )*use ", line) and "," not in line
             if len(line) > MOST_COLUMNS and not is_import:
                 yield name, f"{shown(path, number)}: {len(line)} columns"
 
@@ -137,7 +137,7 @@ def check_lengths():
 
 
 def check_columns():
-    """lines have at most 100 columns, imports of sources left out"""
+    """lines have at most 100 columns, imports of one name left out"""
     yield from over_limit("columns")
 
 

@@ -1,11 +1,14 @@
 //! The names in a subjectAltName (RFC 5280, section 4.2.1.6).
 
-ghost use Rattle.std.specs.Prelude.{◌≡◌, ◌<◌, List, [], ◌∷◌, length, Ok, Err, OnOk, IfErr, MatchOption};
+ghost use Rattle.std.specs.Prelude.{◌≡◌, ◌<◌, List, [], ◌∷◌, length, Ok, Err, OnOk, IfErr};
+ghost use Rattle.std.specs.Prelude.{MatchOption};
 ghost use Rattle.std.specs.Iterator.{YieldsFirstRef, item_count};
 ghost use Rattle.byte_forms.specs.Types.{Text};
 ghost use Rattle.byte_forms.specs.Readings.{Moves, discarded};
 ghost use Rattle.byte_forms.specs.Lists.{up_to_end};
-ghost use Rattle.cert_fields.specs.AltNames.{is_name_tag, is_ascii, general_name_at, general_names_at, are_general_names, names_left, names_in};
+ghost use Rattle.cert_fields.specs.AltNames.{is_name_tag, is_ascii, general_name_at};
+ghost use Rattle.cert_fields.specs.AltNames.{general_names_at, are_general_names, names_left};
+ghost use Rattle.cert_fields.specs.AltNames.{names_in};
 
 use crate::tags::DNS_NAME;
 use der_core::tags::SEQUENCE;

@@ -2,7 +2,9 @@
 
 ghost use Rattle.std.specs.Prelude.{◌≡◌, Ok, IfOk};
 ghost use Rattle.byte_forms.specs.Readings.{Reads, Moves, Gives};
-ghost use Rattle.cert_fields.specs.Certificate.{Parts, version_at, serial_at, behind_serial_at, tbs_at, signed_at, certificate_at, parts_of, is_unique_id};
+ghost use Rattle.cert_fields.specs.Certificate.{Parts, version_at, serial_at, behind_serial_at};
+ghost use Rattle.cert_fields.specs.Certificate.{tbs_at, signed_at, certificate_at, parts_of};
+ghost use Rattle.cert_fields.specs.Certificate.{is_unique_id};
 ghost use Rattle.cert_fields.specs.Spelling.{certificate};
 ghost use Rattle.cert_fields.specs.Grammar.{IsCertificate};
 ghost use Rattle.cert_fields.specs.Views.{parts, body};

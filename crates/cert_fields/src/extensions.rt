@@ -1,9 +1,15 @@
 //! Extensions (RFC 5280, sections 4.1.2.9 and 4.2).
 
-ghost use Rattle.std.specs.Prelude.{◌≡◌, ◌^◌, ◌<◌, ◌≤◌, [], length, Ok, Err, OnOk, IfErr, IsTrue, if◌then◌else◌};
+ghost use Rattle.std.specs.Prelude.{◌≡◌, ◌^◌, ◌<◌, ◌≤◌, [], length, Ok, Err, OnOk, IfErr, IsTrue};
+ghost use Rattle.std.specs.Prelude.{if◌then◌else◌};
 ghost use Rattle.std.specs.List.{list_any};
 ghost use Rattle.byte_forms.specs.Readings.{Reads, Moves, Gives, discarded};
-ghost use Rattle.cert_fields.specs.Extensions.{is_among, new_identifier_at, critical_at, has_its_form, extension_at, extension_list_at, extension_sequence_at, extensions_at, identifiers, are_repeated, extensions_left, list_in, is_unknown_critical, has_unknown_critical, alt_name_octets, dns_names_in};
+ghost use Rattle.cert_fields.specs.Extensions.{is_among, new_identifier_at, critical_at};
+ghost use Rattle.cert_fields.specs.Extensions.{has_its_form, extension_at, extension_list_at};
+ghost use Rattle.cert_fields.specs.Extensions.{extension_sequence_at, extensions_at, identifiers};
+ghost use Rattle.cert_fields.specs.Extensions.{are_repeated, extensions_left, list_in};
+ghost use Rattle.cert_fields.specs.Extensions.{is_unknown_critical, has_unknown_critical};
+ghost use Rattle.cert_fields.specs.Extensions.{alt_name_octets, dns_names_in};
 ghost use Rattle.cert_fields.specs.Views.{extension_fields};
 ghost use Rattle.der_core.specs.declared.fault.CertError.TheVariants.{RepeatedExtension};
 

@@ -2,7 +2,8 @@
 
 ghost use Rattle.std.specs.Prelude.{◌≡◌};
 ghost use Rattle.byte_forms.specs.Readings.{Moves, Gives};
-ghost use Rattle.cert_fields.specs.Keys.{algorithm_at, spki_at, is_public_key, whole_bits_of, signature_at};
+ghost use Rattle.cert_fields.specs.Keys.{algorithm_at, spki_at, is_public_key, whole_bits_of};
+ghost use Rattle.cert_fields.specs.Keys.{signature_at};
 
 use der_core::tags::{BIT_STRING, OBJECT_IDENTIFIER, SEQUENCE};
 use der_core::{CertError, DerError, Element, Reader, bits, oid};

@@ -1,6 +1,7 @@
 //! Laws of certificates: the clauses are the laws, and the functions do nothing.
 
-ghost use Rattle.std.specs.Prelude.{◌≡◌, ℕ, ◌^◌, ◌<◌, ◌⊎◌, true, false, List, [], ◌∷◌, ◌++◌, length, Ok, Contains};
+ghost use Rattle.std.specs.Prelude.{◌≡◌, ℕ, ◌^◌, ◌<◌, ◌⊎◌, true, false, List, [], ◌∷◌, ◌++◌};
+ghost use Rattle.std.specs.Prelude.{length, Ok, Contains};
 ghost use Rattle.std.specs.List.{list_any};
 ghost use Rattle.byte_forms.specs.Types.{Text};
 ghost use Rattle.byte_forms.specs.Places.{IsBytes};
@@ -10,11 +11,16 @@ ghost use Rattle.cert_fields.specs.Keys.{algorithm_at, spki_at, signature_at};
 ghost use Rattle.cert_fields.specs.Names.{name_at};
 ghost use Rattle.cert_fields.specs.Times.{validity_at};
 ghost use Rattle.cert_fields.specs.AltNames.{are_general_names, names_in};
-ghost use Rattle.cert_fields.specs.Extensions.{ExtensionFields, is_alt_name, extensions_at, extensions_in, dns_names_in, is_unknown_critical, has_unknown_critical};
-ghost use Rattle.cert_fields.specs.Found.{sequence_text, extensions_text, AreExtensionsOf, AreNamesOf, dns_only};
+ghost use Rattle.cert_fields.specs.Extensions.{ExtensionFields, is_alt_name, extensions_at};
+ghost use Rattle.cert_fields.specs.Extensions.{extensions_in, dns_names_in, is_unknown_critical};
+ghost use Rattle.cert_fields.specs.Extensions.{has_unknown_critical};
+ghost use Rattle.cert_fields.specs.Found.{sequence_text, extensions_text, AreExtensionsOf};
+ghost use Rattle.cert_fields.specs.Found.{AreNamesOf, dns_only};
 ghost use Rattle.cert_fields.specs.Certificate.{Parts, parts_of};
 ghost use Rattle.cert_fields.specs.Spelling.{certificate};
-ghost use Rattle.cert_fields.specs.Grammar.{IsAlgorithm, IsPublicKey, IsName, IsValidity, IsSignatureValue, IsGeneralNames, AreExtensions, IsExtensionsField, IsCertificate};
+ghost use Rattle.cert_fields.specs.Grammar.{IsAlgorithm, IsPublicKey, IsName, IsValidity};
+ghost use Rattle.cert_fields.specs.Grammar.{IsSignatureValue, IsGeneralNames, AreExtensions};
+ghost use Rattle.cert_fields.specs.Grammar.{IsExtensionsField, IsCertificate};
 
 /// Algorithms, public keys, names, validities and signatures are read exactly from their spellings,
 /// whatever follows.

@@ -5,7 +5,8 @@
 ghost use Rattle.std.specs.Prelude.{◌≡◌, ℕ, ◌+◌, ◌<◌, ◌≤◌, ◌++◌, [], length, take, OnOk};
 ghost use Rattle.std.specs.List.Sorted.{IsPermutation};
 ghost use Rattle.byte_forms.specs.Readings.{Moves};
-ghost use Rattle.cert_fields.specs.Extensions.{is_among, head_at, identifiers, are_repeated, any_among};
+ghost use Rattle.cert_fields.specs.Extensions.{is_among, head_at, identifiers, are_repeated};
+ghost use Rattle.cert_fields.specs.Extensions.{any_among};
 ghost use Rattle.cert_fields.specs.Views.{texts, AreSorted};
 
 use der_core::tags::{OBJECT_IDENTIFIER, SEQUENCE};

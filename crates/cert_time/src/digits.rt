@@ -1,7 +1,8 @@
 //! Forms made of digits, and the numbers that digits write.
 
 ghost use Rattle.std.specs.Prelude.{◌≡◌, ◌+◌, ◌<◌, IsTrue, length};
-ghost use Rattle.cert_time.specs.Forms.{fits_byte, fits_form, four_digits_at, two_digits_at, two_digits};
+ghost use Rattle.cert_time.specs.Forms.{fits_byte, fits_form, four_digits_at, two_digits_at};
+ghost use Rattle.cert_time.specs.Forms.{two_digits};
 
 // Whether a byte is one that this byte of a form allows.
 fn fits_at(form: u8, byte: u8) -> bool

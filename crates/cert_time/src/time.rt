@@ -3,7 +3,8 @@
 ghost use Rattle.std.specs.Prelude.{◌≡◌, ◌+◌, ◌<◌, ◌++◌, length, nat_lt, OnOk, OnErr, IfSome};
 ghost use Rattle.cert_time.specs.Calendar.{IsMoment};
 ghost use Rattle.cert_time.specs.Forms.{HasDigits};
-ghost use Rattle.cert_time.specs.Times.{contents_with, full_year, general_moment, general_with, civil_in, short_element, tag_with, time_moment, utc_moment};
+ghost use Rattle.cert_time.specs.Times.{contents_with, full_year, general_moment, general_with};
+ghost use Rattle.cert_time.specs.Times.{civil_in, short_element, tag_with, time_moment, utc_moment};
 
 use crate::calendar::moment_of;
 use crate::civil::CivilTime;

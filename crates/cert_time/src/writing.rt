@@ -2,7 +2,8 @@
 
 ghost use Rattle.std.specs.Prelude.{◌≡◌, ◌++◌, length, take, OnOk, OnErr};
 ghost use Rattle.cert_time.specs.Forms.{HasDigits};
-ghost use Rattle.cert_time.specs.Times.{contents_with, sequence_of_times, tag_with, validity_element};
+ghost use Rattle.cert_time.specs.Times.{contents_with, sequence_of_times, tag_with};
+ghost use Rattle.cert_time.specs.Times.{validity_element};
 ghost use Rattle.cert_time.specs.Periods.{period};
 
 use crate::calendar::civil_at;

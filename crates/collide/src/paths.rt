@@ -1,6 +1,7 @@
 //! A list and an inclusion path with one hash.
 
-ghost use Rattle.std.specs.Prelude.{◌≡◌, ◌-◌, ◌<◌, ◌≤◌, [], length, map, slice_index_or, IfOk, IsSome, Some, Ok};
+ghost use Rattle.std.specs.Prelude.{◌≡◌, ◌-◌, ◌<◌, ◌≤◌, [], length, map, slice_index_or, IfOk};
+ghost use Rattle.std.specs.Prelude.{IsSome, Some, Ok};
 ghost use Rattle.byte_forms.specs.Types.{Hash};
 ghost use Rattle.tree_core.specs.Evaluation.{eval_of, evaluation};
 ghost use Rattle.tree_core.specs.Path.{part_of};

@@ -1,6 +1,7 @@
 //! A cosigner that is open for requests.
 
-ghost use Rattle.std.specs.Prelude.{◌≡◌, ◌<◌, ◌^◌, ◌++◌, ℕ, List, [], ◌∷◌, length, false, None, Some, option_map, Ok, IfSome, IfOk, IfErr, OnOk, OnErr};
+ghost use Rattle.std.specs.Prelude.{◌≡◌, ◌<◌, ◌^◌, ◌++◌, ℕ, List, [], ◌∷◌, length, false, None};
+ghost use Rattle.std.specs.Prelude.{Some, option_map, Ok, IfSome, IfOk, IfErr, OnOk, OnErr};
 ghost use Rattle.std.proofs.Props.{props};
 ghost use Rattle.std.specs.Io.KnownBytes.{Appends};
 ghost use Rattle.mtc_io.specs.Streams.{AppendsPrefix};
@@ -12,7 +13,8 @@ ghost use Rattle.mtc_proof.specs.Inputs.{signed_text};
 ghost use Rattle.cosigner_core.specs.Exports.{HasExportCause, export_text};
 ghost use Rattle.cosigner_core.specs.Folds.{cosigner_of, having_signed, holding};
 ghost use Rattle.cosigner_core.specs.SettledRecords.{IsSettledAs, IsSettledAs-prop};
-ghost use Rattle.cosigner_core.specs.Openings.{CosignerCountsNoOther, HasCosignerCause, cosigner_read};
+ghost use Rattle.cosigner_core.specs.Openings.{CosignerCountsNoOther, HasCosignerCause};
+ghost use Rattle.cosigner_core.specs.Openings.{cosigner_read};
 ghost use Rattle.cosigner_core.specs.Records.{advance_record, sign_record};
 ghost use Rattle.cosigner_core.specs.Refusals.{CosignKeepsTo, advance_refused, cosign_refused};
 ghost use Rattle.cosigner_core.specs.Signatures.{signature_by};
@@ -46,7 +48,9 @@ pub struct Cosigner<H: TreeHash, D: Disk> {
 }
 
 impl<H: TreeHash, D: Disk> Cosigner<H, D> {
-    ghost use Rattle.cosigner_core.specs.Words.{cosigner_disk, cosigner_records, cosigner_end, cosigner_broken, cosigner_state, CosignerAppends, IsShown};
+    ghost use Rattle.cosigner_core.specs.Words.{cosigner_disk, cosigner_records, cosigner_end};
+    ghost use Rattle.cosigner_core.specs.Words.{cosigner_broken, cosigner_state, CosignerAppends};
+    ghost use Rattle.cosigner_core.specs.Words.{IsShown};
 
     /// Opens the cosigner in a journal. Its records are read and tested one by one, and then its
     /// key is made anew: the one-time keys that have signed by these records are used.

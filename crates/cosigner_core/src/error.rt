@@ -2,8 +2,10 @@
 
 ghost use Rattle.std.specs.Prelude.{◌≡◌};
 ghost use Rattle.cosigner_core.specs.declared.error.CosignError.TheVariants.{Append as NotAppended};
-ghost use Rattle.cosigner_core.specs.declared.error.RecordError.TheVariants.{Unfit, Memory as RecordMemory};
-ghost use Rattle.cosigner_core.specs.declared.error.ReadExportError.TheVariants.{Memory as ExportMemory, Short as ExportShort};
+ghost use Rattle.cosigner_core.specs.declared.error.RecordError.TheVariants.{Unfit};
+ghost use Rattle.cosigner_core.specs.declared.error.RecordError.TheVariants.{Memory as RecordMemory};
+ghost use Rattle.cosigner_core.specs.declared.error.ReadExportError.TheVariants.{Memory as ExportMemory};
+ghost use Rattle.cosigner_core.specs.declared.error.ReadExportError.TheVariants.{Short as ExportShort};
 ghost use Rattle.cosigner_core.specs.Faults.{cosigner_id_fault};
 
 use crate::fault::FormError;

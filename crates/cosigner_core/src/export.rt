@@ -1,7 +1,8 @@
 //! Writing what others may know of a cosigner: all but the first record of its journal, which holds
 //! the secret.
 
-ghost use Rattle.std.specs.Prelude.{◌≡◌, ◌≤◌, ◌<◌, ◌+◌, ◌-◌, ◌^◌, min, length, List, IfSome, IfOk, OnOk};
+ghost use Rattle.std.specs.Prelude.{◌≡◌, ◌≤◌, ◌<◌, ◌+◌, ◌-◌, ◌^◌, min, length, List, IfSome, IfOk};
+ghost use Rattle.std.specs.Prelude.{OnOk};
 ghost use Rattle.std.specs.Io.KnownBytes.{Appends};
 ghost use Rattle.byte_forms.specs.Types.{Text};
 ghost use Rattle.mtc_io.specs.Counts.{HasCause};

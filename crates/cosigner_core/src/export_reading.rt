@@ -4,7 +4,9 @@ ghost use Rattle.std.specs.Prelude.{◌≡◌, ◌<◌, ◌++◌, [], ◌∷◌,
 ghost use Rattle.std.specs.Int.{w32};
 ghost use Rattle.byte_forms.specs.Readings.{Answers, Moves};
 ghost use Rattle.tls_wire.specs.Reading.{vector_at};
-ghost use Rattle.cosigner_core.specs.ExportReading.{MovesUnless, export_front_at, export_id_at, export_in, export_key_at, exported_at, signing_keys, steps_left};
+ghost use Rattle.cosigner_core.specs.ExportReading.{MovesUnless, export_front_at, export_id_at};
+ghost use Rattle.cosigner_core.specs.ExportReading.{export_in, export_key_at, exported_at};
+ghost use Rattle.cosigner_core.specs.ExportReading.{signing_keys, steps_left};
 ghost use Rattle.cosigner_core.specs.Progress.{with_step};
 ghost use Rattle.cosigner_core.specs.Views.{step_said};
 ghost use Rattle.cosigner_core.specs.declared.error.ReadExportError.TheVariants.{Memory as NoRoom};

@@ -7,18 +7,21 @@ ghost use Rattle.byte_forms.specs.Forms.{Anything, IsForm};
 ghost use Rattle.byte_forms.specs.Places.{IsBytes};
 ghost use Rattle.journal_core.specs.Format.{StandsFor};
 ghost use Rattle.cosigner_core.specs.Counts.{AreCounted, CountsUp};
-ghost use Rattle.cosigner_core.specs.ExportReading.{IsExport, export_in, export_of, export_progress, exported_text};
+ghost use Rattle.cosigner_core.specs.ExportReading.{IsExport, export_in, export_of};
+ghost use Rattle.cosigner_core.specs.ExportReading.{export_progress, exported_text};
 ghost use Rattle.cosigner_core.specs.Exports.{export_text};
 ghost use Rattle.cosigner_core.specs.declared.lists.Export.{Export};
 ghost use Rattle.cosigner_core.specs.Folds.{CosignerState, cosigner_of, progress_of};
 ghost use Rattle.hss_core.specs.Hss.{one_level_public};
 ghost use Rattle.cosigner_core.specs.Openings.{FoundCosigner, cosigner_read};
 ghost use Rattle.cosigner_core.specs.Progress.{may_follow_cosigner, steps_in};
-ghost use Rattle.cosigner_core.specs.Records.{FitsCosigner, FitsStep, cosigner_in, cosigner_record, step_in, step_record};
+ghost use Rattle.cosigner_core.specs.Records.{FitsCosigner, FitsStep, cosigner_in, cosigner_record};
+ghost use Rattle.cosigner_core.specs.Records.{step_in, step_record};
 ghost use Rattle.cosigner_core.specs.declared.step.Step.{Step};
 ghost use Rattle.cosigner_core.specs.declared.settings.CosignerSettings.{CosignerSettings};
 ghost use Rattle.cosigner_core.specs.Reading.{advance_at, advance_in, subtree_at, subtree_in};
-ghost use Rattle.cosigner_core.specs.Requests.{AdvanceParts, IsAdvance, IsSubtreeRequest, SubtreeParts, advance_text, subtree_text};
+ghost use Rattle.cosigner_core.specs.Requests.{AdvanceParts, IsAdvance, IsSubtreeRequest};
+ghost use Rattle.cosigner_core.specs.Requests.{SubtreeParts, advance_text, subtree_text};
 
 /// What is read as a request to hold a larger log is spelled as one, and the spelling of each such
 /// request is read as its parts. So a request has one spelling.

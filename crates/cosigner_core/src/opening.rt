@@ -1,8 +1,10 @@
 //! The records of a file that is opened as a cosigner's.
 
-ghost use Rattle.std.specs.Prelude.{◌≡◌, ◌<◌, [], false, None, option_map, MatchBool, IfOk, IfErr, OnOk};
+ghost use Rattle.std.specs.Prelude.{◌≡◌, ◌<◌, [], false, None, option_map, MatchBool, IfOk, IfErr};
+ghost use Rattle.std.specs.Prelude.{OnOk};
 ghost use Rattle.disk_core.specs.Moments.{Looks};
-ghost use Rattle.journal_core.specs.Openings.{opening_disk, read_list, is_ended, refusal, bytes_left};
+ghost use Rattle.journal_core.specs.Openings.{opening_disk, read_list, is_ended, refusal};
+ghost use Rattle.journal_core.specs.Openings.{bytes_left};
 ghost use Rattle.journal_core.specs.Readings.{HasFolded, HasFound};
 ghost use Rattle.cosigner_core.specs.Faults.{cosigner_refusal_at};
 ghost use Rattle.cosigner_core.specs.Folds.{cosigner_fold};

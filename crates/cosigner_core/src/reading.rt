@@ -1,7 +1,8 @@
 //! Reading requests.
 
 ghost use Rattle.byte_forms.specs.Readings.{Gives, Moves};
-ghost use Rattle.cosigner_core.specs.Reading.{advance_at, advance_in, log_id_at, subtree_at, subtree_in};
+ghost use Rattle.cosigner_core.specs.Reading.{advance_at, advance_in, log_id_at, subtree_at};
+ghost use Rattle.cosigner_core.specs.Reading.{subtree_in};
 ghost use Rattle.cosigner_core.specs.Views.{advance_parts, subtree_parts};
 
 use crate::fault::FormError;

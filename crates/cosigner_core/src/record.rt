@@ -4,7 +4,9 @@ ghost use Rattle.std.specs.Prelude.{◌≡◌, ◌≢◌, ◌≤◌, Err, option
 ghost use Rattle.byte_forms.specs.Readings.{Moves, whole_of};
 ghost use Rattle.lms_core.specs.Heights.{height};
 ghost use Rattle.tls_wire.specs.Reading.{bytes_at};
-ghost use Rattle.cosigner_core.specs.Records.{advance_step_at, cosigner_at, cosigner_in, founded, cosigner_settings_with, sign_step_at, signing_type, step_in, advance_of, sign_of};
+ghost use Rattle.cosigner_core.specs.Records.{advance_step_at, cosigner_at, cosigner_in, founded};
+ghost use Rattle.cosigner_core.specs.Records.{cosigner_settings_with, sign_step_at, signing_type};
+ghost use Rattle.cosigner_core.specs.Records.{step_in, advance_of, sign_of};
 ghost use Rattle.cosigner_core.specs.Results.{CosignerFinds};
 ghost use Rattle.cosigner_core.specs.declared.error.RecordError.TheVariants.{Memory as RecordMemory};
 ghost use Rattle.cosigner_core.specs.Views.{step_said};

@@ -3,7 +3,8 @@
 ghost use Rattle.std.specs.Prelude.{◌≡◌, ◌+◌, ◌*◌, ◌≤◌, ◌++◌, [], length, IfOk};
 ghost use Rattle.lms_core.specs.Heights.{height};
 ghost use Rattle.tls_wire.specs.Spelling.{hashes};
-ghost use Rattle.cosigner_core.specs.Records.{FitsAdvance, FitsCosigner, FitsSign, advance_record, cosigner_record, sign_record};
+ghost use Rattle.cosigner_core.specs.Records.{FitsAdvance, FitsCosigner, FitsSign, advance_record};
+ghost use Rattle.cosigner_core.specs.Records.{cosigner_record, sign_record};
 
 use crate::record::{ADVANCE, COSIGNER, SIGN};
 use crate::settings::CosignerSettings;

@@ -3,7 +3,8 @@
 ghost use Rattle.std.specs.Prelude.{◌≡◌, ◌<◌, true};
 ghost use Rattle.byte_forms.specs.Readings.{Gives};
 ghost use Rattle.byte_forms.specs.Numbers.{value};
-ghost use Rattle.der_core.specs.Contents.{is_padded, if_small, unsigned_of, boolean_of, are_arcs, oid_of, are_unused, bits_of};
+ghost use Rattle.der_core.specs.Contents.{is_padded, if_small, unsigned_of, boolean_of, are_arcs};
+ghost use Rattle.der_core.specs.Contents.{oid_of, are_unused, bits_of};
 
 use crate::element::Element;
 use crate::fault::DerError;

@@ -11,7 +11,8 @@ ghost use Rattle.der_core.specs.Reading.{element_at, wanted_at};
 ghost use Rattle.der_core.specs.Integers.{integer};
 ghost use Rattle.der_core.specs.Contents.{unsigned_of, boolean_of, oid_of, bits_of};
 ghost use Rattle.der_core.specs.Sets.{rising_at};
-ghost use Rattle.der_core.specs.Forms.{IsRead, element_item, IsContents, boolean, FitsBoolean, IsOid, bit_string, IsBitString, IsRisen};
+ghost use Rattle.der_core.specs.Forms.{IsRead, element_item, IsContents, boolean, FitsBoolean};
+ghost use Rattle.der_core.specs.Forms.{IsOid, bit_string, IsBitString, IsRisen};
 
 /// What is read is spelled so, and an element that is spelled so is read again, whatever follows
 /// it.

@@ -4,7 +4,8 @@ ghost use Rattle.std.specs.Prelude.{◌≡◌, ◌+◌, ◌^◌, ◌<◌, ◌≤
 ghost use Rattle.byte_forms.specs.Places.{At, at, begins_with};
 ghost use Rattle.byte_forms.specs.Readings.{Reads, Gives, found};
 ghost use Rattle.der_core.specs.Items.{item, inside};
-ghost use Rattle.der_core.specs.Reading.{length_at, one_at, two_at, three_at, behind_tag, element_at, wanted_at, end_at};
+ghost use Rattle.der_core.specs.Reading.{length_at, one_at, two_at, three_at, behind_tag};
+ghost use Rattle.der_core.specs.Reading.{element_at, wanted_at, end_at};
 
 use crate::element::Element;
 use crate::fault::DerError;

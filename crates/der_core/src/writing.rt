@@ -1,7 +1,8 @@
 //! Writing elements behind the bytes that are there. Where memory is refused, these bytes stay as
 //! they were.
 
-ghost use Rattle.std.specs.Prelude.{◌≡◌, ◌≢◌, ◌%◌, ◌^◌, ◌<◌, ◌≤◌, ◌++◌, false, length, slice_index, IfOk, OnOk, OnErr};
+ghost use Rattle.std.specs.Prelude.{◌≡◌, ◌≢◌, ◌%◌, ◌^◌, ◌<◌, ◌≤◌, ◌++◌, false, length, slice_index};
+ghost use Rattle.std.specs.Prelude.{IfOk, OnOk, OnErr};
 ghost use Rattle.byte_forms.specs.Places.{IsBytes};
 ghost use Rattle.byte_forms.specs.Numbers.{value};
 ghost use Rattle.der_core.specs.Elements.{element};

@@ -1,6 +1,8 @@
 //! A disk as its user sees it: what a read gives, and what a crash leaves.
 
-ghost use Rattle.std.specs.Prelude.{◌≡◌, ℕ, ◌+◌, ◌^◌, ◌<◌, ◌≤◌, max, Bool, length, Option, is_some, is_ok, option_map, Some, IfSome, IfOk, OnOk, OnErr, MatchResult};
+ghost use Rattle.std.specs.Prelude.{◌≡◌, ℕ, ◌+◌, ◌^◌, ◌<◌, ◌≤◌, max, Bool, length, Option, is_some};
+ghost use Rattle.std.specs.Prelude.{is_ok, option_map, Some, IfSome, IfOk, OnOk, OnErr};
+ghost use Rattle.std.specs.Prelude.{MatchResult};
 ghost use Rattle.byte_forms.specs.Types.{Text};
 ghost use Rattle.byte_forms.specs.Places.{IsBytes};
 ghost use Rattle.mtc_io.specs.Counts.{Rose, HasCause};

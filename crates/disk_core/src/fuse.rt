@@ -1,6 +1,7 @@
 //! A disk that stops at some call, as the machine does.
 
-ghost use Rattle.std.specs.Prelude.{◌≡◌, ◌↔◌, ◌+◌, ◌-◌, ◌==◌, ◌||◌, true, false, if◌then◌else◌, is_err, OnOk, OnErr, IsErr, IsTrue};
+ghost use Rattle.std.specs.Prelude.{◌≡◌, ◌↔◌, ◌+◌, ◌-◌, ◌==◌, ◌||◌, true, false, if◌then◌else◌};
+ghost use Rattle.std.specs.Prelude.{is_err, OnOk, OnErr, IsErr, IsTrue};
 ghost use Rattle.mtc_io.specs.Counts.{HasCause, with_count};
 
 use crate::disk::Disk;

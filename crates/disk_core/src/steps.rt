@@ -1,7 +1,8 @@
 //! The steps that a user of a disk takes: it looks, it makes certain what is there, or it writes
 //! and syncs.
 
-ghost use Rattle.std.specs.Prelude.{◌≡◌, ◌+◌, ◌^◌, ◌<◌, ◌≤◌, max, length, is_some, option_map, IfSome, IfOk, OnOk, MatchResult};
+ghost use Rattle.std.specs.Prelude.{◌≡◌, ◌+◌, ◌^◌, ◌<◌, ◌≤◌, max, length, is_some, option_map};
+ghost use Rattle.std.specs.Prelude.{IfSome, IfOk, OnOk, MatchResult};
 ghost use Rattle.byte_forms.specs.Types.{Text};
 ghost use Rattle.mtc_io.specs.Counts.{Rose, HasCause};
 ghost use Rattle.disk_core.specs.Disk.{overwritten, part, Torn, Only};

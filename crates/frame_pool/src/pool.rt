@@ -1,8 +1,11 @@
 //! The pool of frames.
 
-ghost use Rattle.std.specs.Prelude.{◌≡◌, ◌<◌, ◌≤◌, true, false, length, not, count_by, IfNone, IfOk, IfSome};
+ghost use Rattle.std.specs.Prelude.{◌≡◌, ◌<◌, ◌≤◌, true, false, length, not, count_by, IfNone};
+ghost use Rattle.std.specs.Prelude.{IfOk, IfSome};
 ghost use Rattle.std.specs.Borrow.{sem};
-ghost use Rattle.frame_pool.specs.Frames.{HasUnpinned, HoldsKey, IsNew, IsNextSlot, IsUnheld, PoolState, frame_at, claimed, pinned_at, released, with_pin};
+ghost use Rattle.frame_pool.specs.Frames.{HasUnpinned, HoldsKey, IsNew, IsNextSlot, IsUnheld};
+ghost use Rattle.frame_pool.specs.Frames.{PoolState, frame_at, claimed, pinned_at, released};
+ghost use Rattle.frame_pool.specs.Frames.{with_pin};
 ghost use Rattle.frame_pool.specs.Lending.{LendsFrame};
 ghost use Rattle.frame_pool.specs.Sound.{IsSoundPool};
 ghost use Rattle.frame_pool.specs.declared.key.TileKey.{TileKey as Key};

@@ -1,6 +1,7 @@
 //! Searches over the slots of a pool.
 
-ghost use Rattle.std.specs.Prelude.{◌≡◌, ◌≢◌, ℕ, ◌<◌, ◌≤◌, ◌==◌, List, length, slice_index_or, Some, None, true, false, is_none, MatchOption};
+ghost use Rattle.std.specs.Prelude.{◌≡◌, ◌≢◌, ℕ, ◌<◌, ◌≤◌, ◌==◌, List, length, slice_index_or};
+ghost use Rattle.std.specs.Prelude.{Some, None, true, false, is_none, MatchOption};
 ghost use Rattle.std.specs.List.{All, Contains, position};
 ghost use Rattle.byte_forms.specs.Types.{Text};
 ghost use Rattle.frame_pool.specs.Frames.{IsNextSlot};

@@ -1,7 +1,9 @@
 //! What the records of a journal make of a log, with the nodes of the tree over its entries.
 
-ghost use Rattle.std.specs.Prelude.{◌≡◌, ◌<◌, ◌≤◌, [], ◌∷◌, ◌++◌, length, map, nat_lt, not, option_and_then, vec_len, vec_capacity, IfOk, OnOk};
-ghost use Rattle.issuance_log.specs.Folds.{begun_log, new_log, next_log, with_entry, with_item, with_landmark, with_mark};
+ghost use Rattle.std.specs.Prelude.{◌≡◌, ◌<◌, ◌≤◌, [], ◌∷◌, ◌++◌, length, map, nat_lt, not};
+ghost use Rattle.std.specs.Prelude.{option_and_then, vec_len, vec_capacity, IfOk, OnOk};
+ghost use Rattle.issuance_log.specs.Folds.{begun_log, new_log, next_log, with_entry, with_item};
+ghost use Rattle.issuance_log.specs.Folds.{with_landmark, with_mark};
 ghost use Rattle.issuance_log.specs.Marks.{last_mark, AreRising};
 ghost use Rattle.issuance_log.specs.Records.{IsShort, mark_in};
 ghost use Rattle.issuance_log.specs.Settings.{AreAllowed};

@@ -1,8 +1,10 @@
 //! What the calls of a log refuse.
 
 ghost use Rattle.std.specs.Prelude.{◌≡◌};
-ghost use Rattle.issuance_log.specs.declared.error.LogError.TheVariants.{Append as NotAppended, Memory as LogMemory};
-ghost use Rattle.issuance_log.specs.declared.error.RecordError.TheVariants.{Unfit, Memory as RecordMemory};
+ghost use Rattle.issuance_log.specs.declared.error.LogError.TheVariants.{Append as NotAppended};
+ghost use Rattle.issuance_log.specs.declared.error.LogError.TheVariants.{Memory as LogMemory};
+ghost use Rattle.issuance_log.specs.declared.error.RecordError.TheVariants.{Unfit};
+ghost use Rattle.issuance_log.specs.declared.error.RecordError.TheVariants.{Memory as RecordMemory};
 ghost use Rattle.issuance_log.specs.Faults.{log_id_fault};
 
 use journal_core::{AppendError, OpenError};

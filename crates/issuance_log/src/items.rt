@@ -1,6 +1,7 @@
 //! The items of a log: each entry with its key, at its index.
 
-ghost use Rattle.std.specs.Prelude.{◌≡◌, ◌<◌, [], ◌∷◌, ◌++◌, length, vec_len, vec_capacity, IfOk, OnOk};
+ghost use Rattle.std.specs.Prelude.{◌≡◌, ◌<◌, [], ◌∷◌, ◌++◌, length, vec_len, vec_capacity, IfOk};
+ghost use Rattle.std.specs.Prelude.{OnOk};
 ghost use Rattle.issuance_log.specs.Folds.{null_entry};
 
 use mtc_io::{Bytes, Memory};

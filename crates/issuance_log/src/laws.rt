@@ -6,7 +6,8 @@ ghost use Rattle.byte_forms.specs.Places.{IsBytes};
 ghost use Rattle.journal_core.specs.Format.{StandsFor};
 ghost use Rattle.issuance_log.specs.Folds.{LogState, begun_log, next_log, log_behind, log_of};
 ghost use Rattle.issuance_log.specs.Openings.{FoundLog, log_read};
-ghost use Rattle.issuance_log.specs.Records.{IsShort, entry_record, item_in, landmark_record, mark_in, settings_in};
+ghost use Rattle.issuance_log.specs.Records.{IsShort, entry_record, item_in, landmark_record};
+ghost use Rattle.issuance_log.specs.Records.{mark_in, settings_in};
 ghost use Rattle.issuance_log.specs.Rules.{IsFirst, IsNext};
 ghost use Rattle.issuance_log.specs.Settings.{Settings};
 

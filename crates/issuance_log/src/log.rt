@@ -1,6 +1,7 @@
 //! A log that is open for more entries.
 
-ghost use Rattle.std.specs.Prelude.{◌≡◌, ◌≤◌, ◌<◌, ◌+◌, ◌++◌, [], ◌∷◌, length, map, true, false, None, Ok, IfSome, IfOk, IfErr, OnOk, OnErr};
+ghost use Rattle.std.specs.Prelude.{◌≡◌, ◌≤◌, ◌<◌, ◌+◌, ◌++◌, [], ◌∷◌, length, map, true, false};
+ghost use Rattle.std.specs.Prelude.{None, Ok, IfSome, IfOk, IfErr, OnOk, OnErr};
 ghost use Rattle.std.proofs.Props.{props};
 ghost use Rattle.disk_core.specs.Moments.{Looks};
 ghost use Rattle.journal_core.specs.Format.{StandsFor, end_behind};
@@ -12,7 +13,8 @@ ghost use Rattle.issuance_log.specs.Openings.{LogCountsNoOther, HasLogCause, log
 ghost use Rattle.issuance_log.specs.Marks.{AreRising};
 ghost use Rattle.issuance_log.specs.Records.{entry_record, landmark_record};
 ghost use Rattle.issuance_log.specs.Settings.{AreAllowed};
-ghost use Rattle.issuance_log.specs.Refusals.{add_refusal, ItemKeepsTo, mark_refusal, MarkKeepsTo, item_at, GivesItem};
+ghost use Rattle.issuance_log.specs.Refusals.{add_refusal, ItemKeepsTo, mark_refusal, MarkKeepsTo};
+ghost use Rattle.issuance_log.specs.Refusals.{item_at, GivesItem};
 ghost use Rattle.issuance_log.specs.Sound.{IsSound};
 
 use crate::contents::Contents;
@@ -52,7 +54,8 @@ fn copy(bytes: &Bytes, out: &mut Bytes) -> Result<(), Memory>
 }
 
 impl<H: TreeHash, D: Disk> Log<H, D> {
-    ghost use Rattle.issuance_log.specs.Words.{log_disk, log_records, log_end, log_broken, log_state, view_of, LogAppends};
+    ghost use Rattle.issuance_log.specs.Words.{log_disk, log_records, log_end, log_broken};
+    ghost use Rattle.issuance_log.specs.Words.{log_state, view_of, LogAppends};
 
     /// Opens the log in a journal. Its records are read and tested one by one.
     ///

@@ -2,7 +2,9 @@
 
 ghost use Rattle.std.specs.Prelude.{◌≡◌, ◌+◌, ◌<◌, ◌≤◌, length, true, IfOk};
 ghost use Rattle.byte_forms.specs.Readings.{Moves};
-ghost use Rattle.issuance_log.specs.Records.{settings_at, entry_at, log_settings_with, settings_in, item_in, mark_in, settings_record, IsShort, entry_record, landmark_record};
+ghost use Rattle.issuance_log.specs.Records.{settings_at, entry_at, log_settings_with, settings_in};
+ghost use Rattle.issuance_log.specs.Records.{item_in, mark_in, settings_record, IsShort};
+ghost use Rattle.issuance_log.specs.Records.{entry_record, landmark_record};
 ghost use Rattle.issuance_log.specs.Results.{LogFinds};
 ghost use Rattle.issuance_log.specs.Settings.{most_item, are_allowed, AreAllowed};
 ghost use Rattle.tls_wire.specs.Arcs.{IsAnchorId};

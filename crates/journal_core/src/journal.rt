@@ -1,6 +1,7 @@
 //! A journal that is open for more records.
 
-ghost use Rattle.std.specs.Prelude.{◌≡◌, ◌↔◌, ◌≤◌, ◌<◌, ◌+◌, length, true, false, is_some, Some, IsTrue, IsErrOf, IfSome, OnOk};
+ghost use Rattle.std.specs.Prelude.{◌≡◌, ◌↔◌, ◌≤◌, ◌<◌, ◌+◌, length, true, false, is_some, Some};
+ghost use Rattle.std.specs.Prelude.{IsTrue, IsErrOf, IfSome, OnOk};
 ghost use Rattle.std.proofs.Props.{props};
 ghost use Rattle.byte_forms.specs.Types.{Text};
 ghost use Rattle.mtc_io.specs.Counts.{HasCause};
@@ -34,7 +35,8 @@ pub struct Journal<D: Disk> {
 }
 
 impl<D: Disk> Journal<D> {
-    ghost use Rattle.journal_core.specs.Words.{disk_of, end_of, is_broken, records, AppendLeaves, HoldsBody, HoldsLength};
+    ghost use Rattle.journal_core.specs.Words.{disk_of, end_of, is_broken, records, AppendLeaves};
+    ghost use Rattle.journal_core.specs.Words.{HoldsBody, HoldsLength};
 
     /// Adds a record of 1 to 131,072 bytes. At Ok a crash leaves the records with it; at any moment
     /// of the call it leaves the old records, or these and the new one.

@@ -1,12 +1,14 @@
 //! A file that is read as a journal.
 
-ghost use Rattle.std.specs.Prelude.{◌≡◌, ◌≢◌, ◌+◌, ◌<◌, ◌≤◌, List, length, take, true, false, MatchBool, MatchOption, Some, None, IfSome, IfOk, IfErr, OnOk};
+ghost use Rattle.std.specs.Prelude.{◌≡◌, ◌≢◌, ◌+◌, ◌<◌, ◌≤◌, List, length, take, true, false};
+ghost use Rattle.std.specs.Prelude.{MatchBool, MatchOption, Some, None, IfSome, IfOk, IfErr, OnOk};
 ghost use Rattle.std.proofs.Props.{props};
 ghost use Rattle.byte_forms.specs.Types.{Text};
 ghost use Rattle.mtc_io.specs.Counts.{HasCause};
 ghost use Rattle.disk_core.specs.Disk.{Only};
 ghost use Rattle.disk_core.specs.Moments.{Looks};
-ghost use Rattle.journal_core.specs.Format.{header, end_behind, IsClosedAt, StandsFor, records_before};
+ghost use Rattle.journal_core.specs.Format.{header, end_behind, IsClosedAt, StandsFor};
+ghost use Rattle.journal_core.specs.Format.{records_before};
 ghost use Rattle.journal_core.specs.Opens.{HasReason, IsOfHeader};
 ghost use Rattle.journal_core.specs.Windows.{Holds, Holds-prop};
 ghost use Rattle.journal_core.specs.Settled.{IsReading, IsReading-prop, IsClosedAt-prop};
@@ -80,7 +82,8 @@ fn measure<D: Disk>(disk: &mut D) -> Result<Option<u64>, Failed>
 }
 
 impl<D: Disk> Opening<D> {
-    ghost use Rattle.journal_core.specs.Openings.{opening_disk, read_list, is_ended, last_body, HasBegun, Steps, Nexts};
+    ghost use Rattle.journal_core.specs.Openings.{opening_disk, read_list, is_ended, last_body};
+    ghost use Rattle.journal_core.specs.Openings.{HasBegun, Steps, Nexts};
     ghost use Rattle.journal_core.specs.contracts.opening.Opening.{the_row};
     ghost use Rattle.std.specs.Borrow.{sem};
     ghost use Rattle.std.specs.Io.BufRead.{Rests};

@@ -1,6 +1,7 @@
 //! One record of a file.
 
-ghost use Rattle.std.specs.Prelude.{◌≡◌, ◌≢◌, ◌≤◌, ◌<◌, ◌+◌, length, slice_index, IfSome, IfOk, IfErr, MatchOption, MatchResult};
+ghost use Rattle.std.specs.Prelude.{◌≡◌, ◌≢◌, ◌≤◌, ◌<◌, ◌+◌, length, slice_index, IfSome, IfOk};
+ghost use Rattle.std.specs.Prelude.{IfErr, MatchOption, MatchResult};
 ghost use Rattle.std.specs.Int.{w32, to_be_bytes};
 ghost use Rattle.mtc_io.specs.Counts.{HasCause};
 ghost use Rattle.disk_core.specs.Disk.{part};

@@ -2,7 +2,8 @@
 
 ghost use Rattle.std.specs.Prelude.{◌≡◌, ℕ, ◌-◌, MatchOption};
 ghost use Rattle.tree_core.specs.Cover.{CoversInterval};
-ghost use Rattle.landmarks.specs.Landmarks.{IsActive, IsCovering, IsLeastAbove, active_of, covering_of, part_with, landmark_size, subtrees_of};
+ghost use Rattle.landmarks.specs.Landmarks.{IsActive, IsCovering, IsLeastAbove, active_of};
+ghost use Rattle.landmarks.specs.Landmarks.{covering_of, part_with, landmark_size, subtrees_of};
 
 use crate::list::Landmarks;
 use tree_core::{Cover, Span, cover};

@@ -2,7 +2,8 @@
 
 ghost use Rattle.std.specs.Prelude.{◌≡◌, ◌+◌, ◌≤◌, ℕ, List, ◌∷◌, length, min, slice_index, Ok};
 ghost use Rattle.byte_forms.specs.Types.{Text};
-ghost use Rattle.landmarks.specs.Landmarks.{IsAllowed, IsLandmarks, LandmarkList, active_count, landmarks_of, landmark_size};
+ghost use Rattle.landmarks.specs.Landmarks.{IsAllowed, IsLandmarks, LandmarkList, active_count};
+ghost use Rattle.landmarks.specs.Landmarks.{landmarks_of, landmark_size};
 ghost use Rattle.landmarks.specs.Texts.{list_of, list_text};
 
 /// As many landmarks as may be are active, where there are as many. The listed ones have the sizes

@@ -1,8 +1,10 @@
 //! The landmarks of a log, as far as they are active.
 
-ghost use Rattle.std.specs.Prelude.{◌≡◌, ◌+◌, ◌-◌, ◌^◌, ◌<◌, ◌≤◌, ℕ, ◌∷◌, reverse, slice_index, take, IfOk, MatchOption};
+ghost use Rattle.std.specs.Prelude.{◌≡◌, ◌+◌, ◌-◌, ◌^◌, ◌<◌, ◌≤◌, ℕ, ◌∷◌, reverse, slice_index};
+ghost use Rattle.std.specs.Prelude.{take, IfOk, MatchOption};
 ghost use Rattle.std.specs.List.Sorted.{IsStrictlyIncreasing};
-ghost use Rattle.landmarks.specs.Landmarks.{IsActive, IsLandmarks, IsLeastAbove, above_count, active_count, landmarks_of, least_of, landmark_size};
+ghost use Rattle.landmarks.specs.Landmarks.{IsActive, IsLandmarks, IsLeastAbove, above_count};
+ghost use Rattle.landmarks.specs.Landmarks.{active_count, landmarks_of, least_of, landmark_size};
 
 use mtc_io::Memory;
 use std::alloc::Global;

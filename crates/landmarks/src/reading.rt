@@ -1,9 +1,11 @@
 //! Reading the text in which landmarks are handed out.
 
-ghost use Rattle.std.specs.Prelude.{◌≡◌, ◌≢◌, ◌+◌, ◌^◌, ◌<◌, ◌≤◌, [], ◌∷◌, ◌++◌, ◌==◌, length, Ok, Err, IfOk, IfErr, IfSome, OnOk, option_map};
+ghost use Rattle.std.specs.Prelude.{◌≡◌, ◌≢◌, ◌+◌, ◌^◌, ◌<◌, ◌≤◌, [], ◌∷◌, ◌++◌, ◌==◌, length, Ok};
+ghost use Rattle.std.specs.Prelude.{Err, IfOk, IfErr, IfSome, OnOk, option_map};
 ghost use Rattle.std.specs.List.{position};
 ghost use Rattle.byte_forms.specs.Readings.{Answers, Gives};
-ghost use Rattle.landmarks.specs.Texts.{cut_at, head_line, head_of, line_at, list_of, number_line, size_line, sizes_of};
+ghost use Rattle.landmarks.specs.Texts.{cut_at, head_line, head_of, line_at, list_of, number_line};
+ghost use Rattle.landmarks.specs.Texts.{size_line, sizes_of};
 ghost use Rattle.landmarks.specs.declared.error.ListError.TheVariants.{Memory as NoRoom};
 ghost use Rattle.landmarks.specs.Views.{list_head};
 

@@ -1,7 +1,8 @@
 //! The four parameter sets.
 
 ghost use Rattle.std.specs.Prelude.{◌≡◌, ◌/◌};
-ghost use Rattle.lmots_core.specs.Parameters.{chains, shift, signature_length, steps, type_of_code, typecode, width};
+ghost use Rattle.lmots_core.specs.Parameters.{chains, shift, signature_length, steps, type_of_code};
+ghost use Rattle.lmots_core.specs.Parameters.{typecode, width};
 
 // Where the chains' values begin in a signature: behind its typecode and its randomizer.
 pub const LINKS: usize = 36;

@@ -4,7 +4,8 @@ ghost use Rattle.std.specs.Prelude.{◌≡◌, ◌+◌, ◌*◌, ◌<◌, ◌≤
 ghost use Rattle.byte_forms.specs.Refusals.{answer_of};
 ghost use Rattle.lmots_core.specs.Strings.{u32_at};
 ghost use Rattle.lms_core.specs.Heights.{height, lms_signature_length};
-ghost use Rattle.lms_core.specs.Refusals.{check_refusal, key_types, level_refusal, lms_refusal, root_of_key, yields_root};
+ghost use Rattle.lms_core.specs.Refusals.{check_refusal, key_types, level_refusal, lms_refusal};
+ghost use Rattle.lms_core.specs.Refusals.{root_of_key, yields_root};
 
 use crate::climbing::climb;
 use crate::heights::LmsType;

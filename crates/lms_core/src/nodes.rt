@@ -2,7 +2,8 @@
 
 ghost use Rattle.std.specs.Prelude.{◌≡◌, ◌+◌, ◌<◌, ◌^◌};
 ghost use Rattle.lms_core.specs.Heights.{height};
-ghost use Rattle.lms_core.specs.Trees.{inner_node, leaf_node, parent, private_key, sibling, tree_value};
+ghost use Rattle.lms_core.specs.Trees.{inner_node, leaf_node, parent, private_key, sibling};
+ghost use Rattle.lms_core.specs.Trees.{tree_value};
 
 use crate::heights::LmsType;
 use crate::private_key::PrivateKey;

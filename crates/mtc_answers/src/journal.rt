@@ -7,7 +7,8 @@ ghost use Rattle.mtc_answers.specs.Answers.{stop_ending, ending_of};
 ghost use Rattle.mtc_answers.specs.Endings.{IsNamed};
 ghost use Rattle.mtc_answers.specs.Served.{GivesBack, HasServed};
 ghost use Rattle.mtc_answers.specs.Steps.{Outcome, starts, with_file, with_fresh};
-ghost use Rattle.mtc_answers.specs.Works.{BeginsOn, HasBegunOn, HasLent, HasTaken, IsNotLent, made_ending};
+ghost use Rattle.mtc_answers.specs.Works.{BeginsOn, HasBegunOn, HasLent, HasTaken, IsNotLent};
+ghost use Rattle.mtc_answers.specs.Works.{made_ending};
 
 use crate::answer::{Answer, Reason, Said, Stop, Stopped};
 use crate::reason::refuse_file;

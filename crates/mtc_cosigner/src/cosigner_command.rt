@@ -6,7 +6,8 @@ ghost use Rattle.mtc_answers.specs.Answers.{stop_ending, ending_of};
 ghost use Rattle.mtc_answers.specs.Served.{HasServed};
 ghost use Rattle.mtc_answers.specs.Valid.{KeepsValid, ServesValidly};
 ghost use Rattle.mtc_answers.specs.Works.{HasWorkedOn};
-ghost use Rattle.mtc_cosigner.specs.Works.{IsCosigner, cosigner_bytes_say, cosigner_outcome, cosigner_open_ending, cosigner_says};
+ghost use Rattle.mtc_cosigner.specs.Works.{IsCosigner, cosigner_bytes_say, cosigner_outcome};
+ghost use Rattle.mtc_cosigner.specs.Works.{cosigner_open_ending, cosigner_says};
 
 use crate::work::{Work, carry_out};
 use cosigner_core::{Cosigner, CosignerOpenError};

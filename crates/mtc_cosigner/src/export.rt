@@ -5,7 +5,8 @@ ghost use Rattle.mtc_answers.specs.Answers.{ending_of};
 ghost use Rattle.mtc_cosigner.specs.CosignerOutcomes.{export_says};
 ghost use Rattle.mtc_answers.specs.Served.{HasServed};
 ghost use Rattle.mtc_answers.specs.Valid.{KeepsValid};
-ghost use Rattle.mtc_cosigner.specs.Works.{HasWorkedOnCosigner, IsCosigner, IsReadyCosigner, StaysCosigner, export_outcome};
+ghost use Rattle.mtc_cosigner.specs.Works.{HasWorkedOnCosigner, IsCosigner, IsReadyCosigner};
+ghost use Rattle.mtc_cosigner.specs.Works.{StaysCosigner, export_outcome};
 
 use crate::cosigner_command::on_cosigner;
 use crate::work::Work;

@@ -1,12 +1,14 @@
 //! The command `keygen`: the public key of a secret.
 
-ghost use Rattle.std.specs.Prelude.{◌≡◌, ◌<◌, ◌≤◌, ◌^◌, true, [], ◌∷◌, ◌++◌, IfOk, codes, nat_lt, if◌then◌else◌, string_bytes};
+ghost use Rattle.std.specs.Prelude.{◌≡◌, ◌<◌, ◌≤◌, ◌^◌, true, [], ◌∷◌, ◌++◌, IfOk, codes, nat_lt};
+ghost use Rattle.std.specs.Prelude.{if◌then◌else◌, string_bytes};
 ghost use Rattle.std.specs.Fmt.{decimal};
 ghost use Rattle.base64.specs.GeneralPurpose.{encode_of};
 ghost use Rattle.base64.specs.Engines.{standard};
 ghost use Rattle.lms_core.specs.Heights.{height as height_of};
 ghost use Rattle.mtc_words.specs.Commands.{is_height, is_width};
-ghost use Rattle.mtc_cosigner.specs.KeygenOutcome.{lms_type, ots_type, public_line, keygen_says, keygen_outcome};
+ghost use Rattle.mtc_cosigner.specs.KeygenOutcome.{lms_type, ots_type, public_line, keygen_says};
+ghost use Rattle.mtc_cosigner.specs.KeygenOutcome.{keygen_outcome};
 ghost use Rattle.mtc_answers.specs.Answers.{ending_of, stop_ending, replied, refused};
 ghost use Rattle.mtc_answers.specs.Endings.{Replies};
 ghost use Rattle.mtc_answers.specs.Served.{HasAnswered};

@@ -1,14 +1,17 @@
 //! The commands `advance` and `cosign`: requests to a cosigner of a log.
 
-ghost use Rattle.std.specs.Prelude.{◌≡◌, ◌≢◌, ◌<◌, ◌≤◌, ◌+◌, ◌++◌, ◌^◌, [], ◌∷◌, length, IfOk, vec_len, vec_capacity};
+ghost use Rattle.std.specs.Prelude.{◌≡◌, ◌≢◌, ◌<◌, ◌≤◌, ◌+◌, ◌++◌, ◌^◌, [], ◌∷◌, length, IfOk};
+ghost use Rattle.std.specs.Prelude.{vec_len, vec_capacity};
 ghost use Rattle.std.specs.Int.{w8, w16};
 ghost use Rattle.tls_wire.specs.Spelling.{vector};
 ghost use Rattle.cosigner_core.specs.Views.{advance_parts, subtree_parts};
 ghost use Rattle.mtc_answers.specs.Answers.{stop_ending, ending_of, reason_text};
 ghost use Rattle.mtc_answers.specs.Served.{HasServed};
 ghost use Rattle.mtc_answers.specs.Valid.{KeepsValid};
-ghost use Rattle.mtc_cosigner.specs.CosignerOutcomes.{advance_says, advanced_text, cosign_says, form_fault_text, step_ending};
-ghost use Rattle.mtc_cosigner.specs.Works.{HasWorkedOnCosigner, IsCosigner, IsReadyCosigner, StaysCosigner, advance_outcome, cosign_outcome};
+ghost use Rattle.mtc_cosigner.specs.CosignerOutcomes.{advance_says, advanced_text, cosign_says};
+ghost use Rattle.mtc_cosigner.specs.CosignerOutcomes.{form_fault_text, step_ending};
+ghost use Rattle.mtc_cosigner.specs.Works.{HasWorkedOnCosigner, IsCosigner, IsReadyCosigner};
+ghost use Rattle.mtc_cosigner.specs.Works.{StaysCosigner, advance_outcome, cosign_outcome};
 
 use crate::cosigner_command::on_cosigner;
 use crate::work::Work;

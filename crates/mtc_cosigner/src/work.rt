@@ -2,7 +2,8 @@
 //! most one append, behind which nothing wants memory.
 
 ghost use Rattle.mtc_answers.specs.Answers.{ending_of};
-ghost use Rattle.mtc_cosigner.specs.Works.{HasWorkedOnCosigner, IsReadyCosigner, StaysCosigner, cosigner_says};
+ghost use Rattle.mtc_cosigner.specs.Works.{HasWorkedOnCosigner, IsReadyCosigner, StaysCosigner};
+ghost use Rattle.mtc_cosigner.specs.Works.{cosigner_says};
 
 use crate::export::export_on;
 use crate::requests::{advance_on, cosign_on};

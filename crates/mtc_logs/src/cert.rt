@@ -10,7 +10,8 @@ ghost use Rattle.mtc_answers.specs.Valid.{KeepsValid};
 ghost use Rattle.mtc_logs.specs.Works.{IsLog};
 ghost use Rattle.mtc_answers.specs.Wanted.{exactly};
 ghost use Rattle.mtc_proof.specs.Proofs.{AreSignatures};
-ghost use Rattle.mtc_logs.specs.CertOutcome.{cert_ending, cert_reply, light_reply, signatures_ending, signatures_in};
+ghost use Rattle.mtc_logs.specs.CertOutcome.{cert_ending, cert_reply, light_reply};
+ghost use Rattle.mtc_logs.specs.CertOutcome.{signatures_ending, signatures_in};
 ghost use Rattle.mtc_logs.specs.CertCommand.{cert_outcome};
 
 use crate::log_command::on_log;

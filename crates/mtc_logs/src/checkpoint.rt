@@ -6,7 +6,8 @@ ghost use Rattle.mtc_answers.specs.Answers.{stop_ending, ending_of, replied};
 ghost use Rattle.mtc_answers.specs.Endings.{Replies};
 ghost use Rattle.mtc_answers.specs.Wanted.{exactly};
 ghost use Rattle.entry_list.specs.Items.{file_text, listed_text};
-ghost use Rattle.mtc_logs.specs.LogOutcomes.{IsItemAt, beyond, checkpoint_reply, entries_reply, items_of};
+ghost use Rattle.mtc_logs.specs.LogOutcomes.{IsItemAt, beyond, checkpoint_reply, entries_reply};
+ghost use Rattle.mtc_logs.specs.LogOutcomes.{items_of};
 
 use crate::tree::root_of;
 use disk_core::Disk;

@@ -4,7 +4,8 @@ ghost use Rattle.std.specs.Prelude.{◌≡◌, ◌≢◌, ◌<◌, ◌^◌, [], 
 ghost use Rattle.mtc_answers.specs.Answers.{stop_ending, ending_of};
 ghost use Rattle.mtc_answers.specs.Served.{HasServed};
 ghost use Rattle.mtc_answers.specs.Valid.{KeepsValid};
-ghost use Rattle.mtc_logs.specs.IssueOutcome.{field_text, issue_ending, issue_says, issued_text, request_ending};
+ghost use Rattle.mtc_logs.specs.IssueOutcome.{field_text, issue_ending, issue_says, issued_text};
+ghost use Rattle.mtc_logs.specs.IssueOutcome.{request_ending};
 ghost use Rattle.mtc_logs.specs.IssueCommand.{issue_outcome};
 ghost use Rattle.mtc_logs.specs.Works.{HasWorkedOnLog, IsLog, IsReadyLog, StaysLog};
 

@@ -5,7 +5,8 @@ ghost use Rattle.issuance_log.specs.Words.{log_state};
 ghost use Rattle.mtc_answers.specs.Answers.{ending_of, stop_ending};
 ghost use Rattle.mtc_answers.specs.Endings.{Replies};
 ghost use Rattle.mtc_answers.specs.Wanted.{exactly};
-ghost use Rattle.mtc_logs.specs.LandmarkOutcomes.{MayRefuseMark, landmark_line, landmark_says, landmarks_reply, log_landmarks, mark_ending};
+ghost use Rattle.mtc_logs.specs.LandmarkOutcomes.{MayRefuseMark, landmark_line, landmark_says};
+ghost use Rattle.mtc_logs.specs.LandmarkOutcomes.{landmarks_reply, log_landmarks, mark_ending};
 ghost use Rattle.mtc_logs.specs.Works.{HasWorkedOnLog, IsReadyLog, StaysLog};
 
 use disk_core::Disk;

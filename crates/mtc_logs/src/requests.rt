@@ -7,7 +7,8 @@ ghost use Rattle.tree_core.specs.Subtree.{is_subtree};
 ghost use Rattle.mtc_answers.specs.Answers.{ending_of};
 ghost use Rattle.mtc_answers.specs.Endings.{Replies};
 ghost use Rattle.mtc_answers.specs.Wanted.{exactly};
-ghost use Rattle.mtc_logs.specs.RequestOutcomes.{advance_by_log, consist_reply, subtree_of, subtree_reply};
+ghost use Rattle.mtc_logs.specs.RequestOutcomes.{advance_by_log, consist_reply, subtree_of};
+ghost use Rattle.mtc_logs.specs.RequestOutcomes.{subtree_reply};
 
 use crate::checkpoint::too_many;
 use crate::tree::{growth_of, hash_of, proof_of, root_of};

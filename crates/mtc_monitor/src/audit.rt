@@ -13,7 +13,8 @@ ghost use Rattle.mtc_answers.specs.Served.{HasAnswered};
 ghost use Rattle.mtc_proof.specs.Views.{proof_parts};
 ghost use Rattle.world_core.specs.Audit.{WasJudged};
 ghost use Rattle.world_core.specs.Walk.{AreSteps};
-ghost use Rattle.mtc_monitor.specs.AuditOutcome.{audit_outcome, audit_cert_says, audit_export_says, audit_items_say, accepted_in, audit_store_says};
+ghost use Rattle.mtc_monitor.specs.AuditOutcome.{audit_outcome, audit_cert_says, audit_export_says};
+ghost use Rattle.mtc_monitor.specs.AuditOutcome.{audit_items_say, accepted_in, audit_store_says};
 ghost use Rattle.mtc_monitor.specs.Views.{accepted_parts, input_file};
 
 use crate::accepted::AcceptedCert;

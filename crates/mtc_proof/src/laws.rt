@@ -7,7 +7,8 @@ ghost use Rattle.byte_forms.specs.Places.{IsBytes, at};
 ghost use Rattle.byte_forms.specs.Lists.{up_to_end};
 ghost use Rattle.byte_forms.specs.Forms.{IsForm, Anything, Nothing};
 ghost use Rattle.mtc_proof.specs.Inputs.{InputParts, IsInput, input_text};
-ghost use Rattle.mtc_proof.specs.Proofs.{SigParts, ProofParts, signature_text, IsMtcSignature, proof_text, IsProof};
+ghost use Rattle.mtc_proof.specs.Proofs.{SigParts, ProofParts, signature_text, IsMtcSignature};
+ghost use Rattle.mtc_proof.specs.Proofs.{proof_text, IsProof};
 ghost use Rattle.mtc_proof.specs.Reading.{mtc_signature_at, signatures_left, proof_in};
 
 /// A signature is read exactly from its spelling, whatever follows it, and so is a list of them,

@@ -2,7 +2,9 @@
 
 ghost use Rattle.std.specs.Prelude.{◌≡◌};
 ghost use Rattle.mtc_answers.specs.Answers.{reason_text};
-ghost use Rattle.mtc_reads.specs.Reasons.{der_fault_text, cert_fault_text, hashes_fault_text, proof_fault_text, key_text, store_fault_text, shape_text, refusal_text};
+ghost use Rattle.mtc_reads.specs.Reasons.{der_fault_text, cert_fault_text, hashes_fault_text};
+ghost use Rattle.mtc_reads.specs.Reasons.{proof_fault_text, key_text, store_fault_text, shape_text};
+ghost use Rattle.mtc_reads.specs.Reasons.{refusal_text};
 
 use der_core::{CertError, DerError};
 use mtc_answers::Reason;

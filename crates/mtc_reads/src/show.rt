@@ -10,7 +10,10 @@ ghost use Rattle.mtc_io.specs.Streams.{joined};
 ghost use Rattle.mtc_answers.specs.Answers.{ending_of};
 ghost use Rattle.mtc_answers.specs.Endings.{Replies};
 ghost use Rattle.mtc_answers.specs.Served.{HasAnswered};
-ghost use Rattle.mtc_reads.specs.ShowOutcome.{issuer_text, subject_text, is_graphic, name_line, fields_text, cosigner_text, signature_line, interval_text, proof_section, show_text, show_says, show_outcome};
+ghost use Rattle.mtc_reads.specs.ShowOutcome.{issuer_text, subject_text, is_graphic, name_line};
+ghost use Rattle.mtc_reads.specs.ShowOutcome.{fields_text, cosigner_text, signature_line};
+ghost use Rattle.mtc_reads.specs.ShowOutcome.{interval_text, proof_section, show_text, show_says};
+ghost use Rattle.mtc_reads.specs.ShowOutcome.{show_outcome};
 
 use crate::reasons::cert_reason;
 use cert_fields::{Cert, DnsNames, MTC_PROOF, dns_names, parse};

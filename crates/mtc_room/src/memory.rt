@@ -1,11 +1,13 @@
 //! A room in memory.
 
-ghost use Rattle.std.specs.Prelude.{◌≡◌, ◌≢◌, ⊤, ◌+◌, ◌<◌, ◌^◌, [], Option, Result, Ok, Some, None, IfOk, OnOk, OnErr, IsErrOf, IsSome, IfErr, IsErr, length};
+ghost use Rattle.std.specs.Prelude.{◌≡◌, ◌≢◌, ⊤, ◌+◌, ◌<◌, ◌^◌, [], Option, Result, Ok, Some, None};
+ghost use Rattle.std.specs.Prelude.{IfOk, OnOk, OnErr, IsErrOf, IsSome, IfErr, IsErr, length};
 ghost use Rattle.std.specs.Option.{option_copied, IsSomeAnd};
 ghost use Rattle.byte_forms.specs.Types.{Text};
 ghost use Rattle.mtc_io.specs.Counts.{with_count};
 ghost use Rattle.disk_core.specs.Same.{SameDevice};
-ghost use Rattle.disk_core.specs.Memory.{bytes_of, calls_of, failing_of, made_of, faults_of, starved_of, images_of, IsFresh};
+ghost use Rattle.disk_core.specs.Memory.{bytes_of, calls_of, failing_of, made_of, faults_of};
+ghost use Rattle.disk_core.specs.Memory.{starved_of, images_of, IsFresh};
 
 use crate::RoomError;
 use crate::room::Room;

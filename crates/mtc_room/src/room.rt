@@ -1,6 +1,7 @@
 //! What the program asks of the files that it may reach.
 
-ghost use Rattle.std.specs.Prelude.{◌≡◌, ℕ, ◌+◌, ◌<◌, ◌^◌, [], Option, None, Some, IsSome, IfOk, OnOk, OnErr, IsErrOf};
+ghost use Rattle.std.specs.Prelude.{◌≡◌, ℕ, ◌+◌, ◌<◌, ◌^◌, [], Option, None, Some, IsSome, IfOk};
+ghost use Rattle.std.specs.Prelude.{OnOk, OnErr, IsErrOf};
 ghost use Rattle.std.specs.Option.{IsSomeAnd};
 ghost use Rattle.byte_forms.specs.Types.{Text};
 
@@ -12,7 +13,8 @@ use mtc_io::Source;
 pub trait Room {
     ghost use Rattle.mtc_io.specs.Counts.{with_count};
     ghost use Rattle.disk_core.specs.Same.{SameDevice};
-    ghost use Rattle.mtc_room.specs.Room.{Lending, Stays, AllStay, OthersStay, LendsBytes, TellsFile};
+    ghost use Rattle.mtc_room.specs.Room.{Lending, Stays, AllStay, OthersStay, LendsBytes};
+    ghost use Rattle.mtc_room.specs.Room.{TellsFile};
 
     /// What gives a file's bytes.
     type Src: Source;

@@ -2,7 +2,8 @@
 
 ghost use Rattle.std.specs.Prelude.{◌≡◌, ◌⊎◌, ◌++◌, codes, option_map};
 ghost use Rattle.mtc_io.specs.Counts.{Rose};
-ghost use Rattle.mtc_answers.specs.Answers.{said, said_code, stopped_code, ending_of, more_text, reason_text};
+ghost use Rattle.mtc_answers.specs.Answers.{said, said_code, stopped_code, ending_of, more_text};
+ghost use Rattle.mtc_answers.specs.Answers.{reason_text};
 ghost use Rattle.mtc_answers.specs.Lines.{line_of, of_command, WritesLine};
 ghost use Rattle.mtc_top.specs.Concluded.{Wrote, Lost, Concludes};
 

@@ -2,9 +2,12 @@
 //! nothing.
 
 ghost use Rattle.mtc_top.specs.AuditLaws.{AuditsStand};
-ghost use Rattle.mtc_top.specs.CourseLaws.{AddedEntriesStand, CoursesAreHistories, EntriesStand, HandedOutStand, JournalsAreRead, KeysSignOnce, KeysSignOneMessage, MadeOfNodes, RecoveredListsGrow};
+ghost use Rattle.mtc_top.specs.CourseLaws.{AddedEntriesStand, CoursesAreHistories, EntriesStand};
+ghost use Rattle.mtc_top.specs.CourseLaws.{HandedOutStand, JournalsAreRead, KeysSignOnce};
+ghost use Rattle.mtc_top.specs.CourseLaws.{KeysSignOneMessage, MadeOfNodes, RecoveredListsGrow};
 ghost use Rattle.mtc_top.specs.ExportLaws.{ExportsHoldTheSteps};
-ghost use Rattle.mtc_top.specs.PrintLaws.{IndicesArePrinted, IssuedEntriesStand, SignaturesArePrinted, SignaturesStand};
+ghost use Rattle.mtc_top.specs.PrintLaws.{IndicesArePrinted, IssuedEntriesStand};
+ghost use Rattle.mtc_top.specs.PrintLaws.{SignaturesArePrinted, SignaturesStand};
 ghost use Rattle.mtc_top.specs.RoomLaws.{JournalsAreOneHistory};
 ghost use Rattle.mtc_top.specs.RunLaws.{FrontsAreRuns, RunsShow, RunsAreSteps};
 ghost use Rattle.mtc_top.specs.StatusLaws.{MisreadFilesAreInputs};

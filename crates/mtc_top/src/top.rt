@@ -7,7 +7,8 @@ ghost use Rattle.mtc_answers.specs.Answers.{ending_of};
 ghost use Rattle.mtc_answers.specs.Served.{HasDone};
 ghost use Rattle.mtc_answers.specs.Valid.{KeepsValid};
 ghost use Rattle.mtc_answers.specs.Works.{TellsNew};
-ghost use Rattle.mtc_top.specs.Outcome.{command_outcome, files_of, journals_of, new_of, outcome, rules_of, spoken, spoken_new, spoken_rules};
+ghost use Rattle.mtc_top.specs.Outcome.{command_outcome, files_of, journals_of, new_of, outcome};
+ghost use Rattle.mtc_top.specs.Outcome.{rules_of, spoken, spoken_new, spoken_rules};
 ghost use Rattle.mtc_top.specs.Run.{HasRun};
 
 use crate::finish::conclude;

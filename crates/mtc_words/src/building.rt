@@ -2,7 +2,8 @@
 
 ghost use Rattle.std.specs.Prelude.{◌≡◌, length, map, string_bytes, IfOk};
 ghost use Rattle.byte_forms.specs.Readings.{Answers};
-ghost use Rattle.mtc_words.specs.Commands.{command_value, said, is_height, is_width, is_time, is_active, is_limit, is_any, IsInRange};
+ghost use Rattle.mtc_words.specs.Commands.{command_value, said, is_height, is_width, is_time};
+ghost use Rattle.mtc_words.specs.Commands.{is_active, is_limit, is_any, IsInRange};
 ghost use Rattle.mtc_words.specs.Names.{word_count};
 ghost use Rattle.mtc_words.specs.Words.{command_from, number_word, id_word};
 

@@ -1,6 +1,7 @@
 //! Laws of histories: the clauses are the laws, and the functions do nothing.
 
-ghost use Rattle.std.specs.Prelude.{◌≡◌, ℕ, true, List, [], ◌∷◌, ◌++◌, length, slice_get, Some, IfSome, Contains, Ok};
+ghost use Rattle.std.specs.Prelude.{◌≡◌, ℕ, true, List, [], ◌∷◌, ◌++◌, length, slice_get, Some};
+ghost use Rattle.std.specs.Prelude.{IfSome, Contains, Ok};
 ghost use Rattle.byte_forms.specs.Types.{HashFunction, Text};
 ghost use Rattle.cosigner_core.specs.Counts.{AreCounted};
 ghost use Rattle.cosigner_core.specs.declared.settings.CosignerSettings.{CosignerSettings};
@@ -8,7 +9,8 @@ ghost use Rattle.journal_core.specs.Format.{StandsFor};
 ghost use Rattle.issuance_log.specs.Folds.{LogState, log_of};
 ghost use Rattle.issuance_log.specs.Records.{item_in};
 ghost use Rattle.node_history.specs.Histories.{history_of, moved};
-ghost use Rattle.node_history.specs.Laws.{HasGrown, HasItemAt, IsOfSettled, IsSoundNode, KeepsItems, LeadsTo, WereBegun};
+ghost use Rattle.node_history.specs.Laws.{HasGrown, HasItemAt, IsOfSettled, IsSoundNode};
+ghost use Rattle.node_history.specs.Laws.{KeepsItems, LeadsTo, WereBegun};
 ghost use Rattle.node_history.specs.Nodes.{HistoryState, fresh_node, node_of_step};
 ghost use Rattle.node_history.specs.Rules.{AreRecords, IsReadAs, StartsWith, may_follow as valid};
 ghost use Rattle.node_history.specs.declared.start.NodeStart.{NodeStart};

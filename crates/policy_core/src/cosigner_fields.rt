@@ -7,7 +7,8 @@ ghost use Rattle.toml.specs.View.{items_view, table_view, view};
 ghost use Rattle.policy_core.specs.declared.error.StoreError.{StoreError};
 ghost use Rattle.policy_core.specs.Fields.{store_field};
 ghost use Rattle.policy_core.specs.Limits.{most_cosigners};
-ghost use Rattle.policy_core.specs.CosignerFields.{cosigner_data, cosigners_at, cosigners_from, id_data_at, hss_key, hss_key_data};
+ghost use Rattle.policy_core.specs.CosignerFields.{cosigner_data, cosigners_at, cosigners_from};
+ghost use Rattle.policy_core.specs.CosignerFields.{id_data_at, hss_key, hss_key_data};
 
 use crate::cosigners::{Cosigners, Known, MOST_COSIGNERS};
 use crate::error::{Key, StoreError};

@@ -6,7 +6,8 @@ ghost use Rattle.toml.specs.Data.{Data, get_member};
 ghost use Rattle.toml.specs.View.{items_view, table_view, view};
 ghost use Rattle.toml_fields.specs.Codes.{hash_data, number_data};
 ghost use Rattle.policy_core.specs.declared.error.StoreError.{StoreError};
-ghost use Rattle.policy_core.specs.Fields.{each_of, store_field, id_data, items_at, list_at, table_with};
+ghost use Rattle.policy_core.specs.Fields.{each_of, store_field, id_data, items_at, list_at};
+ghost use Rattle.policy_core.specs.Fields.{table_with};
 ghost use Rattle.policy_core.specs.Files.{log_at, range_data, subtree_data};
 
 use crate::error::{Key, StoreError};

@@ -1,6 +1,7 @@
 //! The rules of a store file.
 
-ghost use Rattle.std.specs.Prelude.{◌≡◌, ◌≢◌, ◌&&◌, ◌≤◌, nat_le, not, length, codes, Ok, Err, IfOk, IfErr, IfSome};
+ghost use Rattle.std.specs.Prelude.{◌≡◌, ◌≢◌, ◌&&◌, ◌≤◌, nat_le, not, length, codes, Ok, Err, IfOk};
+ghost use Rattle.std.specs.Prelude.{IfErr, IfSome};
 ghost use Rattle.std.specs.List.{AllByRecursion, list_any};
 ghost use Rattle.byte_forms.specs.Readings.{Answers};
 ghost use Rattle.toml.specs.Data.{get_member};
@@ -8,7 +9,8 @@ ghost use Rattle.toml.specs.View.{items_view, table_view, view};
 ghost use Rattle.policy_core.specs.declared.error.StoreError.{StoreError};
 ghost use Rattle.policy_core.specs.Fields.{each_of, store_field};
 ghost use Rattle.policy_core.specs.Limits.{most_cosigners};
-ghost use Rattle.policy_core.specs.CosignerFields.{count_data, if_different, place_data, place_of, places_data, places_in, rule_data, rules_at};
+ghost use Rattle.policy_core.specs.CosignerFields.{count_data, if_different, place_data, place_of};
+ghost use Rattle.policy_core.specs.CosignerFields.{places_data, places_in, rule_data, rules_at};
 ghost use Rattle.policy_core.specs.Stores.{has_repeat, is_same_place, IsRule};
 
 use crate::cosigners::{Cosigners, Known};

@@ -4,7 +4,8 @@ ghost use Rattle.std.specs.Prelude.{◌≡◌, length, IfOk};
 ghost use Rattle.byte_forms.specs.Readings.{Answers};
 ghost use Rattle.std.specs.List.{AllByRecursion, list_any};
 ghost use Rattle.policy_core.specs.Files.{are_inhabited, are_subtrees, checked_store};
-ghost use Rattle.policy_core.specs.Stores.{has_repeat, has_same_id, has_same_interval, IsRule, IsValid};
+ghost use Rattle.policy_core.specs.Stores.{has_repeat, has_same_id, has_same_interval, IsRule};
+ghost use Rattle.policy_core.specs.Stores.{IsValid};
 ghost use Rattle.cert_names.specs.LogNames.{name_with};
 ghost use Rattle.tls_wire.specs.Anchors.{text_of};
 

@@ -5,7 +5,8 @@ ghost use Rattle.std.specs.List.{list_any};
 ghost use Rattle.byte_forms.specs.Places.{at};
 ghost use Rattle.mtc_proof.specs.Reading.{signatures_left};
 ghost use Rattle.mtc_proof.specs.Views.{proof_parts, sig_parts};
-ghost use Rattle.policy_core.specs.Counting.{counted, counts, has_signed, is_named, is_signature_of};
+ghost use Rattle.policy_core.specs.Counting.{counted, counts, has_signed, is_named};
+ghost use Rattle.policy_core.specs.Counting.{is_signature_of};
 
 use hss_core::verify;
 use mtc_proof::{InputBuf, Proof, SigRef, signature_input, signatures};

@@ -1,18 +1,21 @@
 //! Laws of judgements: the clauses are the laws, and the functions do nothing.
 
-ghost use Rattle.std.specs.Prelude.{◌≡◌, ◌⊎◌, ℕ, ◌<◌, ◌≤◌, true, false, ℤ, List, length, slice_get, slice_index_or, Some, Ok};
+ghost use Rattle.std.specs.Prelude.{◌≡◌, ◌⊎◌, ℕ, ◌<◌, ◌≤◌, true, false, ℤ, List, length, slice_get};
+ghost use Rattle.std.specs.Prelude.{slice_index_or, Some, Ok};
 ghost use Rattle.std.specs.List.{AllByRecursion, Contains, flat_map, list_any};
 ghost use Rattle.byte_forms.specs.Places.{IsBytes};
 ghost use Rattle.byte_forms.specs.Types.{Hash, HashFunction, Text};
 ghost use Rattle.hss_core.specs.Hss.{Verifies};
 ghost use Rattle.mtc_proof.specs.Inputs.{signed_text};
 ghost use Rattle.mtc_proof.specs.Proofs.{IsMtcSignature, ProofParts, SigParts, signature_text};
-ghost use Rattle.policy_core.specs.Counting.{counted, counts, has_signed, is_in_set, is_named, is_signature_of};
+ghost use Rattle.policy_core.specs.Counting.{counted, counts, has_signed, is_in_set, is_named};
+ghost use Rattle.policy_core.specs.Counting.{is_signature_of};
 ghost use Rattle.policy_core.specs.declared.cosigners.Known.{Known};
 ghost use Rattle.policy_core.specs.Stores.{IsValid};
 ghost use Rattle.policy_core.specs.declared.answer.Accepted.{Accepted};
 ghost use Rattle.policy_core.specs.declared.store.Store.{Store};
-ghost use Rattle.policy_core.specs.Acceptance.{HoldsNoOther, IsAccepted, IsCosigned, IsSatisfied, IsTrusted, Trusts, accepted_by};
+ghost use Rattle.policy_core.specs.Acceptance.{HoldsNoOther, IsAccepted, IsCosigned, IsSatisfied};
+ghost use Rattle.policy_core.specs.Acceptance.{IsTrusted, Trusts, accepted_by};
 ghost use Rattle.policy_core.specs.Judgement.{judgement};
 
 /// A certificate is accepted exactly where its bytes spell a certificate of the store's log that is

@@ -1,7 +1,8 @@
 //! Where tiles stand in their file.
 
 ghost use Rattle.std.specs.Prelude.{◌≡◌, ◌↔◌, ◌+◌, ◌*◌, ◌^◌, ◌<◌, ◌≤◌, IsTrue};
-ghost use Rattle.tile_store.specs.Layout.{IsFull, tile_at, tile_level, tile_number, tile_place, tiles_in};
+ghost use Rattle.tile_store.specs.Layout.{IsFull, tile_at, tile_level, tile_number, tile_place};
+ghost use Rattle.tile_store.specs.Layout.{tiles_in};
 
 use frame_pool::TileKey;
 

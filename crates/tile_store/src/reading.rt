@@ -1,6 +1,7 @@
 //! Tiles read into frames, and nodes out of them.
 
-ghost use Rattle.std.specs.Prelude.{◌≡◌, ℕ, ◌+◌, ◌-◌, ◌*◌, ◌%◌, ◌^◌, ◌<◌, ◌≤◌, ◌⊎◌, List, length, Some, IfOk, OnOk, OnErr};
+ghost use Rattle.std.specs.Prelude.{◌≡◌, ℕ, ◌+◌, ◌-◌, ◌*◌, ◌%◌, ◌^◌, ◌<◌, ◌≤◌, ◌⊎◌, List, length};
+ghost use Rattle.std.specs.Prelude.{Some, IfOk, OnOk, OnErr};
 ghost use Rattle.byte_forms.specs.Types.{Hash, Text};
 ghost use Rattle.disk_core.specs.Moments.{Looks};
 ghost use Rattle.frame_pool.specs.Frames.{HoldsKey, IsUnheld};

@@ -1,6 +1,8 @@
 //! The store of nodes.
 
-ghost use Rattle.std.specs.Prelude.{◌≡◌, ◌↔◌, ℕ, ◌+◌, ◌*◌, ◌%◌, ◌^◌, ◌<◌, ◌≤◌, max, [], ◌∷◌, ◌++◌, length, Some, option_map, IsSome, IfSome, IfOk, IfErr, OnOk, OnErr};
+ghost use Rattle.std.specs.Prelude.{◌≡◌, ◌↔◌, ℕ, ◌+◌, ◌*◌, ◌%◌, ◌^◌, ◌<◌, ◌≤◌, max, [], ◌∷◌, ◌++◌};
+ghost use Rattle.std.specs.Prelude.{length, Some, option_map, IsSome, IfSome, IfOk, IfErr, OnOk};
+ghost use Rattle.std.specs.Prelude.{OnErr};
 ghost use Rattle.std.proofs.Props.{props};
 ghost use Rattle.byte_forms.specs.Types.{Text};
 ghost use Rattle.disk_core.specs.Moments.{LeavesOnly, Looks};
@@ -60,7 +62,8 @@ impl<H: TreeHash, T: Disk> Tiles<H, T> {
     ghost use Rattle.tile_store.specs.Contents.{HoldsTiles, IsTile};
     ghost use Rattle.tile_store.specs.Frames.{IsHeld};
     ghost use Rattle.tile_store.specs.Layout.{tile_level, tile_place};
-    ghost use Rattle.tile_store.specs.Store.{TilesStay, tiles_adopted, tiles_count, tiles_disk, tiles_leaves, tiles_pool, tiles_spare, tiles_stored};
+    ghost use Rattle.tile_store.specs.Store.{TilesStay, tiles_adopted, tiles_count, tiles_disk};
+    ghost use Rattle.tile_store.specs.Store.{tiles_leaves, tiles_pool, tiles_spare, tiles_stored};
     ghost use Rattle.tile_store.specs.Writing.{IsImageBehind};
     ghost use Rattle.tree_proofs.specs.Told.{IsRootOf};
 

@@ -1,6 +1,7 @@
 //! Tiles written from the nodes in memory.
 
-ghost use Rattle.std.specs.Prelude.{◌≡◌, ℕ, ◌+◌, ◌*◌, ◌^◌, ◌<◌, ◌≤◌, max, List, [], length, slice_index_or, Some, is_some, IfSome, OnOk, OnErr};
+ghost use Rattle.std.specs.Prelude.{◌≡◌, ℕ, ◌+◌, ◌*◌, ◌^◌, ◌<◌, ◌≤◌, max, List, [], length};
+ghost use Rattle.std.specs.Prelude.{slice_index_or, Some, is_some, IfSome, OnOk, OnErr};
 ghost use Rattle.byte_forms.specs.Types.{Hash, HashFunction, Text};
 ghost use Rattle.disk_core.specs.Disk.{Only};
 ghost use Rattle.disk_core.specs.Moments.{LeavesOnly};

@@ -5,7 +5,8 @@ ghost use Rattle.base64.specs.Engines.{standard};
 ghost use Rattle.base64.specs.GeneralPurpose.{decode_of, IsDecodeFailure};
 ghost use Rattle.byte_forms.specs.Places.{IsBytes};
 ghost use Rattle.toml.specs.View.{view};
-ghost use Rattle.toml_fields.specs.Codes.{bytes_of_base64, bytes_data, hash_data, hash_of_hex, number_data};
+ghost use Rattle.toml_fields.specs.Codes.{bytes_of_base64, bytes_data, hash_data, hash_of_hex};
+ghost use Rattle.toml_fields.specs.Codes.{number_data};
 
 use base64::DecodeAllocError;
 use base64::engine::general_purpose::STANDARD;

@@ -1,6 +1,7 @@
 //! Rows of nodes, of which those at the front may be gone.
 
-ghost use Rattle.std.specs.Prelude.{◌≡◌, ℕ, ◌+◌, ◌*◌, ◌^◌, ◌<◌, ◌≤◌, List, [], ◌∷◌, ◌++◌, length, slice_index_or, OnOk, OnErr};
+ghost use Rattle.std.specs.Prelude.{◌≡◌, ℕ, ◌+◌, ◌*◌, ◌^◌, ◌<◌, ◌≤◌, List, [], ◌∷◌, ◌++◌, length};
+ghost use Rattle.std.specs.Prelude.{slice_index_or, OnOk, OnErr};
 ghost use Rattle.byte_forms.specs.Types.{Hash, HashFunction};
 ghost use Rattle.tree_cache.specs.Cached.{AreFulls};
 ghost use Rattle.tree_cache.specs.Rows.{AreRowsOf, HaveGrown, count_of, gone_at, spare_of};

@@ -1,6 +1,7 @@
 //! The hashes of one level.
 
-ghost use Rattle.std.specs.Prelude.{◌≡◌, ◌+◌, ◌-◌, ◌%◌, ◌<◌, ◌≤◌, [], ◌∷◌, ◌++◌, length, take, drop, slice_index_or, vec_len, vec_capacity, MatchOption, OnOk};
+ghost use Rattle.std.specs.Prelude.{◌≡◌, ◌+◌, ◌-◌, ◌%◌, ◌<◌, ◌≤◌, [], ◌∷◌, ◌++◌, length, take};
+ghost use Rattle.std.specs.Prelude.{drop, slice_index_or, vec_len, vec_capacity, MatchOption, OnOk};
 ghost use Rattle.tree_cache.specs.Rows.{RowState};
 ghost use Rattle.tree_cache.specs.Tiled.{CanForget, HasForgotten};
 ghost use Rattle.tree_core.specs.Tree.{pair_hash};

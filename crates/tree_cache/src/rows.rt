@@ -1,8 +1,10 @@
 //! The rows of a tree, from the leaves up.
 
-ghost use Rattle.std.specs.Prelude.{◌≡◌, ℕ, ◌+◌, ◌^◌, ◌<◌, ◌≤◌, List, [], ◌∷◌, ◌++◌, length, IfOk, OnOk};
+ghost use Rattle.std.specs.Prelude.{◌≡◌, ℕ, ◌+◌, ◌^◌, ◌<◌, ◌≤◌, List, [], ◌∷◌, ◌++◌, length, IfOk};
+ghost use Rattle.std.specs.Prelude.{OnOk};
 ghost use Rattle.byte_forms.specs.Types.{Hash, HashFunction};
-ghost use Rattle.tree_cache.specs.Rows.{AreLong, AreRowsOf, HaveCount, HaveGrown, HaveLevels, HaveNone, HaveRoom, HoldUpTo, count_of, gone_at, row_count};
+ghost use Rattle.tree_cache.specs.Rows.{AreLong, AreRowsOf, HaveCount, HaveGrown, HaveLevels};
+ghost use Rattle.tree_cache.specs.Rows.{HaveNone, HaveRoom, HoldUpTo, count_of, gone_at, row_count};
 ghost use Rattle.tree_cache.specs.Tiled.{CanForgetAll, gone_of};
 
 use crate::row::Row;

@@ -2,7 +2,8 @@
 
 ghost use Rattle.byte_forms.specs.Types.{HashFunction};
 ghost use Rattle.tree_core.specs.Laws.{IsTreeHash, SplitsAtLargestPower, SubtreesByPower};
-ghost use Rattle.tree_core.specs.PathLaws.{IsInclusionPath, PathsByLength, PathsEvaluate, SubtreePathsEvaluate};
+ghost use Rattle.tree_core.specs.PathLaws.{IsInclusionPath, PathsByLength, PathsEvaluate};
+ghost use Rattle.tree_core.specs.PathLaws.{SubtreePathsEvaluate};
 ghost use Rattle.tree_core.specs.PathLaws.{WrongLengthByPath};
 
 /// The law of the tree hash, for every hash function: the hash of no entries, of one, and of more

@@ -1,7 +1,8 @@
 //! The law of consistency proofs: the clauses are the law, and the function does nothing.
 
 ghost use Rattle.byte_forms.specs.Types.{HashFunction};
-ghost use Rattle.tree_proofs.specs.ProofLaws.{IsConsistencyProof, PassesWhereChecks, ProofsCheck, WrongLengthByProof};
+ghost use Rattle.tree_proofs.specs.ProofLaws.{IsConsistencyProof, PassesWhereChecks, ProofsCheck};
+ghost use Rattle.tree_proofs.specs.ProofLaws.{WrongLengthByProof};
 
 /// The law of consistency proofs, for every hash function: the proof of an interval by the split of
 /// its list (the draft on Merkle Tree Certificates, where it makes subtree consistency proofs).

@@ -1,6 +1,7 @@
 //! A list of leaf hashes as nodes.
 
-ghost use Rattle.std.specs.Prelude.{◌≡◌, ◌+◌, ◌-◌, ◌*◌, ◌^◌, ◌<◌, ◌≤◌, [], ◌∷◌, ◌++◌, length, Some, refl, vec_len, vec_capacity, OnOk, OnErr};
+ghost use Rattle.std.specs.Prelude.{◌≡◌, ◌+◌, ◌-◌, ◌*◌, ◌^◌, ◌<◌, ◌≤◌, [], ◌∷◌, ◌++◌, length, Some};
+ghost use Rattle.std.specs.Prelude.{refl, vec_len, vec_capacity, OnOk, OnErr};
 ghost use Rattle.std.proofs.Common.{◌∙◌};
 ghost use Rattle.tree_core.specs.Path.{part_of};
 ghost use Rattle.tree_core.specs.Tree.{root_of};

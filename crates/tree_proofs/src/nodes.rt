@@ -1,6 +1,7 @@
 //! Nodes of a tree as they are asked for.
 
-ghost use Rattle.std.specs.Prelude.{◌≡◌, ℕ, ◌+◌, ◌*◌, ◌^◌, ◌≤◌, true, List, length, Option, IfSome, IfOk};
+ghost use Rattle.std.specs.Prelude.{◌≡◌, ℕ, ◌+◌, ◌*◌, ◌^◌, ◌≤◌, true, List, length, Option, IfSome};
+ghost use Rattle.std.specs.Prelude.{IfOk};
 ghost use Rattle.byte_forms.specs.Types.{Hash};
 ghost use Rattle.mtc_io.specs.Counts.{HasCause};
 ghost use Rattle.tree_core.specs.Subtree.{is_subtree};

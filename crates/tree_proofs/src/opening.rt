@@ -1,7 +1,8 @@
 //! What a consistency proof gives, by the definition's recursion from the root down.
 
 ghost use Rattle.std.specs.Prelude.{◌≡◌, ◌<◌, ◌≤◌, option_map};
-ghost use Rattle.tree_proofs.specs.Open.{both_right_of, open_of, open_whole, root_left_of, root_right_of};
+ghost use Rattle.tree_proofs.specs.Open.{both_right_of, open_of, open_whole, root_left_of};
+ghost use Rattle.tree_proofs.specs.Open.{root_right_of};
 
 use crate::Opened;
 use crate::tree::split;

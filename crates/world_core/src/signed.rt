@@ -1,10 +1,12 @@
 //! The walk from a signature to the list of entries behind it.
 
-ghost use Rattle.std.specs.Prelude.{◌≡◌, ◌<◌, ◌+◌, ◌↔◌, IsTrue, IfOk, Some, length, slice_get, slice_index_or};
+ghost use Rattle.std.specs.Prelude.{◌≡◌, ◌<◌, ◌+◌, ◌↔◌, IsTrue, IfOk, Some, length, slice_get};
+ghost use Rattle.std.specs.Prelude.{slice_index_or};
 ghost use Rattle.cert_fields.specs.Views.{texts};
 ghost use Rattle.cosigner_core.specs.declared.step.Step.{Step};
 ghost use Rattle.collide.specs.Extraction.{Extracts};
-ghost use Rattle.world_core.specs.Walk.{AreSteps, HasFront, IsOfList, IsSign, IsWithin, Shows, front_inputs, held_behind, held_by, proof_inputs};
+ghost use Rattle.world_core.specs.Walk.{AreSteps, HasFront, IsOfList, IsSign, IsWithin, Shows};
+ghost use Rattle.world_core.specs.Walk.{front_inputs, held_behind, held_by, proof_inputs};
 
 use crate::front::{has_front, held_by};
 use collide::{Finding, in_consistency, list_hash};

@@ -2,7 +2,8 @@
 
 ghost use Rattle.std.specs.Prelude.{◌≡◌, ◌≤◌, IfSome, MatchOption, None, Some, option_map};
 ghost use Rattle.cert_fields.specs.Views.{texts};
-ghost use Rattle.world_core.specs.Audit.{IsForeign, foreign_in, hash_there, of_checkpoint, wanted_hash};
+ghost use Rattle.world_core.specs.Audit.{IsForeign, foreign_in, hash_there, of_checkpoint};
+ghost use Rattle.world_core.specs.Audit.{wanted_hash};
 
 use crate::answer::Audit;
 use crate::front::held_by;

@@ -1,12 +1,15 @@
 //! Issuing: the entry of a request is added to the log.
 
-ghost use Rattle.std.specs.Prelude.{◌≡◌, ◌≢◌, ◌++◌, ◌∷◌, [], length, slice_index_or, None, Ok, Err, IfOk, IfSome};
+ghost use Rattle.std.specs.Prelude.{◌≡◌, ◌≢◌, ◌++◌, ◌∷◌, [], length, slice_index_or, None, Ok, Err};
+ghost use Rattle.std.specs.Prelude.{IfOk, IfSome};
 ghost use Rattle.issuance_log.specs.Folds.{log_of};
 ghost use Rattle.issuance_log.specs.declared.error.LogError.TheVariants.{Memory as NoMemory};
 ghost use Rattle.issuance_log.specs.Refusals.{add_refusal};
-ghost use Rattle.issuance_log.specs.Words.{log_end, log_broken, log_records, log_state, view_of, LogAppends};
+ghost use Rattle.issuance_log.specs.Words.{log_end, log_broken, log_records, log_state, view_of};
+ghost use Rattle.issuance_log.specs.Words.{LogAppends};
 ghost use Rattle.authority_core.specs.Acceptance.{IsOwnEntry};
-ghost use Rattle.authority_core.specs.Issues.{KeepsToOrMemory, issued_entry, issued_log, issued_record, of_log};
+ghost use Rattle.authority_core.specs.Issues.{KeepsToOrMemory, issued_entry, issued_log};
+ghost use Rattle.authority_core.specs.Issues.{issued_record, of_log};
 
 use crate::issuing::entry::entry_of_request;
 use crate::issuing::error::IssueError;

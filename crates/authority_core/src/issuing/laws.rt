@@ -1,6 +1,7 @@
 //! Laws of what is issued: the clauses are the laws, and the functions do nothing.
 
-ghost use Rattle.std.specs.Prelude.{◌≡◌, ◌+◌, ◌<◌, ◌≤◌, true, false, List, [], ◌∷◌, ◌++◌, length, Some, Ok};
+ghost use Rattle.std.specs.Prelude.{◌≡◌, ◌+◌, ◌<◌, ◌≤◌, true, false, List, [], ◌∷◌, ◌++◌, length};
+ghost use Rattle.std.specs.Prelude.{Some, Ok};
 ghost use Rattle.byte_forms.specs.Types.{HashFunction, Text};
 ghost use Rattle.tls_wire.specs.Arcs.{IsAnchorId};
 ghost use Rattle.tls_wire.specs.Anchors.{text_of};

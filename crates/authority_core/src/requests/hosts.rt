@@ -2,7 +2,8 @@
 
 ghost use Rattle.std.specs.Prelude.{◌≡◌, ◌<◌, true, [], ◌∷◌, length, IfNone, IfSome};
 ghost use Rattle.std.specs.List.{list_all, position};
-ghost use Rattle.authority_core.specs.Hosts.{are_labels, is_dot, is_host_name, is_label, is_label_at, is_label_byte, labels_of};
+ghost use Rattle.authority_core.specs.Hosts.{are_labels, is_dot, is_host_name, is_label};
+ghost use Rattle.authority_core.specs.Hosts.{is_label_at, is_label_byte, labels_of};
 
 // A letter, a digit or a hyphen.
 fn is_label_byte(byte: u8) -> bool

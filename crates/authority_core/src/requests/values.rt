@@ -6,7 +6,8 @@ ghost use Rattle.cert_fields.specs.Grammar.{IsPublicKey};
 ghost use Rattle.cert_time.specs.Calendar.{IsMoment};
 ghost use Rattle.toml.specs.Data.{get_member};
 ghost use Rattle.toml.specs.View.{items_view, table_view, view};
-ghost use Rattle.authority_core.specs.Files.{common_name_data, field, field_or_none, host_data, hosts_in, public_key_data, names_data, time_data};
+ghost use Rattle.authority_core.specs.Files.{common_name_data, field, field_or_none, host_data};
+ghost use Rattle.authority_core.specs.Files.{hosts_in, public_key_data, names_data, time_data};
 ghost use Rattle.authority_core.specs.Hosts.{IsHostName};
 ghost use Rattle.authority_core.specs.Requests.{IsCommonName};
 

@@ -3,7 +3,8 @@
 ghost use Rattle.std.specs.Prelude.{◌≡◌, length, IfOk, IfSome};
 ghost use Rattle.issuance_log.specs.Words.{log_state, view_of};
 ghost use Rattle.authority_core.specs.Acceptance.{StoresAcceptLightly};
-ghost use Rattle.authority_core.specs.Certificates.{covering_in, HoldsEntry, IsLightlyWritten, KeepsToLightRefusal, light_refusal};
+ghost use Rattle.authority_core.specs.Certificates.{covering_in, HoldsEntry, IsLightlyWritten};
+ghost use Rattle.authority_core.specs.Certificates.{KeepsToLightRefusal, light_refusal};
 
 use crate::writing::error::WriteError;
 use crate::writing::item::written;

@@ -1,11 +1,13 @@
 //! What a disk in memory held at first, and its calls since: all that it tells is read off these.
 
-ghost use Rattle.std.specs.Prelude.{◌≡◌, ◌+◌, ◌<◌, [], length, true, false, if◌then◌else◌, is_ok, IfOk, OnOk, OnErr};
+ghost use Rattle.std.specs.Prelude.{◌≡◌, ◌+◌, ◌<◌, [], length, true, false, if◌then◌else◌, is_ok};
+ghost use Rattle.std.specs.Prelude.{IfOk, OnOk, OnErr};
 ghost use Rattle.std.proofs.Props.{props};
 ghost use Rattle.byte_forms.specs.Types.{Text};
 ghost use Rattle.byte_forms.specs.Places.{IsBytes};
 ghost use Rattle.disk_core.specs.Disk.{overwritten, Torn, Follows, NoNew, Only, Elapses};
-ghost use Rattle.disk_core.specs.Replay.{State, after_call, state_now, IsImage, LeftSince, noted, HoldsBytes, HoldsBytes-prop};
+ghost use Rattle.disk_core.specs.Replay.{State, after_call, state_now, IsImage, LeftSince, noted};
+ghost use Rattle.disk_core.specs.Replay.{HoldsBytes, HoldsBytes-prop};
 
 use crate::memory::call::{Call, Made};
 use crate::memory::copies::copies;

@@ -1,12 +1,14 @@
 //! A disk in memory, which tells all, fails where it is told to, and can crash.
 
-ghost use Rattle.std.specs.Prelude.{◌≡◌, ◌+◌, ◌≤◌, ◌<◌, [], length, true, Some, is_ok, if◌then◌else◌, OnOk, OnErr, IfOk};
+ghost use Rattle.std.specs.Prelude.{◌≡◌, ◌+◌, ◌≤◌, ◌<◌, [], length, true, Some, is_ok};
+ghost use Rattle.std.specs.Prelude.{if◌then◌else◌, OnOk, OnErr, IfOk};
 ghost use Rattle.mtc_io.specs.Counts.{HasCause};
 ghost use Rattle.disk_core.specs.Disk.{overwritten, Torn, Follows, NoNew, Only, Elapses};
 ghost use Rattle.disk_core.specs.History.{seen_of, left_of, moment_of, since_of};
 ghost use Rattle.disk_core.specs.Plan.{PlanTurn};
 ghost use Rattle.disk_core.specs.Replay.{State, after_call};
-ghost use Rattle.disk_core.specs.ReplayLaws.{told_seen, told_are, told_length, now_since, since_now, since_bytes};
+ghost use Rattle.disk_core.specs.ReplayLaws.{told_seen, told_are, told_length, now_since};
+ghost use Rattle.disk_core.specs.ReplayLaws.{since_now, since_bytes};
 
 use crate::disk::Disk;
 use crate::memory::call::{Call, Made};
@@ -101,7 +103,8 @@ fn write(plan: &mut Plan, past: &mut History, place: u64, piece: &[u8]) -> Resul
 }
 
 impl MemDisk {
-    ghost use Rattle.disk_core.specs.Memory.{bytes_of, images_of, calls_of, known_of, made_of, failing_of, faults_of, starved_of, IsFresh};
+    ghost use Rattle.disk_core.specs.Memory.{bytes_of, images_of, calls_of, known_of, made_of};
+    ghost use Rattle.disk_core.specs.Memory.{failing_of, faults_of, starved_of, IsFresh};
     ghost use Rattle.disk_core.specs.Same.{SameDevice};
 
     /// An empty disk that fails the calls with these numbers.

@@ -1,6 +1,7 @@
 //! A sink in memory.
 
-ghost use Rattle.std.specs.Prelude.{◌≡◌, Some, [], ◌==◌, ◌≤◌, ◌<◌, ◌&&◌, not, if◌then◌else◌, length, min, IfOk, IsTrue, is_err};
+ghost use Rattle.std.specs.Prelude.{◌≡◌, Some, [], ◌==◌, ◌≤◌, ◌<◌, ◌&&◌, not, if◌then◌else◌};
+ghost use Rattle.std.specs.Prelude.{length, min, IfOk, IsTrue, is_err};
 ghost use Rattle.std.specs.List.{list_any};
 ghost use Rattle.std.specs.Io.KnownBytes.{WriteAppends};
 ghost use Rattle.mtc_io.specs.Counts.{HasCause, with_count};

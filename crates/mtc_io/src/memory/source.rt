@@ -1,6 +1,7 @@
 //! A source in memory.
 
-ghost use Rattle.std.specs.Prelude.{◌≡◌, Some, ◌+◌, ◌==◌, ◌≤◌, ◌<◌, if◌then◌else◌, length, take, min, drop, IfOk, is_err};
+ghost use Rattle.std.specs.Prelude.{◌≡◌, Some, ◌+◌, ◌==◌, ◌≤◌, ◌<◌, if◌then◌else◌, length, take};
+ghost use Rattle.std.specs.Prelude.{min, drop, IfOk, is_err};
 ghost use Rattle.std.specs.List.{list_any};
 ghost use Rattle.std.specs.Io.KnownBytes.{ReadConsumes};
 ghost use Rattle.mtc_io.specs.Counts.{HasCause, with_count};
