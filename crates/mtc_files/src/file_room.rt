@@ -1,7 +1,7 @@
 //! The files of the system as a room.
 
 ghost use Rattle.std.specs.Prelude.{◌≡◌, ◌≤◌, ◌<◌, ◌^◌, None, IfOk, IfErr};
-ghost use Rattle.mtc_io.specs.Counts.{Rose};
+ghost use Rattle.mtc_io.specs.Counts.{Rose, with_count};
 ghost use Rattle.mtc_room.specs.Room.{Lending};
 ghost use Rattle.disk_core.specs.File.{file_faults, file_moment};
 
@@ -46,6 +46,7 @@ impl<'a, R: Files<File = File>> FileRoom<'a, R> {
         ensures lent { self.new.lent ≡ self.old.lent }
         ensures later { self.old.faults ≤ self.new.faults }
         ensures fault { Rose self.old.faults self.new.faults }
+        ensures counted { self.new.faults ≡ with_count self.old.faults 1 }
     {
         self.faults = self.faults.saturating_add(1);
         RoomError::Failed

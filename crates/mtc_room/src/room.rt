@@ -74,7 +74,8 @@ pub trait Room {
 
     /// Makes an empty file and lends its device, which has no fault so far, and of which a crash
     /// leaves nothing. `Exists` comes exactly where the name has a file, and `Failed` only with a
-    /// fault of the room; `Absent` never comes. A refusal makes no file.
+    /// fault of the room; `Absent` never comes. A refusal makes no file in a room that tells its
+    /// files.
     fn fresh(&mut self, name: &str) -> Result<Self::Dsk, RoomError>
         requires { lent self.old < 2 ^ 32 }
         ensures lending { Lending (lent self.old) (lent self.new)
