@@ -1,0 +1,13 @@
+mod AnchorIds
+mod Beginning
+mod CosignerStops
+mod Ending
+mod FailedCalls
+mod FirstEntries
+mod GrownDisks
+mod Opened
+mod ReadImages
+mod Rounding
+mod Standing
+mod Stops
+mod Turning

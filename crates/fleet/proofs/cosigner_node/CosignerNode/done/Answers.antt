@@ -1,0 +1,27 @@
+use Rattle.std.proofs.Common.{List, [], ◌∷◌, ◌++◌, sym, subst}
+use Rattle.byte_forms.specs.Types.{Text}
+use Rattle.disk_core.specs.Memory.{bytes_of}
+use Rattle.cosigner_core.specs.Folds.{CosignerState}
+use Rattle.cosigner_core.specs.SettledRecords.{settled_of}
+use Rattle.cosigner_core.specs.Words.{cosigner_disk, cosigner_end}
+use Rattle.fleet.specs.CosignerCalls.{body_called, cosigner_behind}
+use Rattle.fleet.specs.CosignerNodes.{IsCosignerDisk}
+use Rattle.fleet.specs.CosignerViews.{cosigner_shown}
+use Rattle.fleet.proofs.GrownDisks.{is_disk}
+use Rattle.fleet.proofs.cosigner_node.CosignerNode.done.Goals as goal
+
+pub invariant_of-self : goal.invariant_of-self
+invariant_of-self g c =
+    let called = c.in_ok-call_cosigner.ensures in
+    let grown = called.grown c.if-branch.true in
+    let list : List Text =
+    settled_of (cosigner_end c.args.self.cosigner) (bytes_of (cosigner_disk c.args.self.cosigner))
+    ++ body_called (cosigner_shown c.args.self) c.args.call.now ∷ [] in
+    record {
+      sound = grown.sound;
+      stands = subst (λ (s : CosignerState). IsCosignerDisk g.H.TreeHash.hash s
+          (cosigner_disk c.call_cosigner.new.cosigner)) (sym grown.state)
+          (is_disk g.H.TreeHash.hash (cosigner_behind (cosigner_shown c.args.self) c.args.call.now)
+          (cosigner_disk c.call_cosigner.new.cosigner) list called.reads
+          (called.kept c.if-branch.true) called.valid);
+    }

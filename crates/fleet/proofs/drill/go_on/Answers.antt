@@ -1,0 +1,14 @@
+use Rattle.std.proofs.Common.{◌∙◌, ℕ, ap}
+use Rattle.fleet.specs.Draws.{round}
+use Rattle.fleet.specs.Views.{shown}
+use Rattle.fleet.proofs.Standing.{standing_on}
+use Rattle.fleet.proofs.drill.go_on.Goals as goal
+
+pub returns : goal.returns
+returns g c = λ number count is.
+    standing_on g.H.TreeHash.hash number count c.args.dice.now.number c.round.new.self.number
+    c.args.stops c.stops-stopped.result c.in_ok-round.round (shown c.args.nodes)
+    (shown c.in_ok-played.played) is
+    (c.in_ok-round.ensures.drawn ∙ ap (λ (k : ℕ). round k c.args.dice.now.number)
+    c.size-size.ensures.value) c.in_ok-played.ensures c.stops-stopped.ensures.value
+    c.stops-stopped.ensures.few

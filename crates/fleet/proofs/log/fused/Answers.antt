@@ -1,0 +1,20 @@
+use Rattle.std.proofs.Common.{◌∙◌, sym, subst}
+use Rattle.disk_core.specs.declared.memory.mem_disk.MemDisk.{MemDisk}
+use Rattle.fleet.specs.LogNodes.{log_shown}
+use Rattle.fleet.specs.Nodes.{IsLogDisk, records_on}
+use Rattle.fleet.proofs.log.fused.Goals as goal
+
+pub returns : goal.returns
+returns g c =
+    let stands : IsLogDisk g.H.TreeHash.hash (log_shown c.args.node) c.new-fuse.result.disk =
+    subst (λ (d : MemDisk). IsLogDisk g.H.TreeHash.hash (log_shown c.args.node) d)
+    (sym (c.new-fuse.ensures.disk ∙ c.into_disk.ensures)) c.args.node.stands in
+    let found = c.in_ok-log.ensures.found (records_on c.new-fuse.result.disk)
+    (log_shown c.args.node) stands.holds stands.valid in
+    record {
+      sound = c.in_ok-log.ensures.sound;
+      state = found.1;
+      list = records_on c.new-fuse.result.disk;
+      records = found.0;
+      valid = stands.valid;
+    }

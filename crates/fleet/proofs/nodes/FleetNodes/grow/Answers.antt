@@ -1,0 +1,48 @@
+use Rattle.std.proofs.Common.{◌≡◌, ◌∙◌, ◌+◌, length, ap, arith, refl}
+use Rattle.issuance_log.specs.Folds.{LogState}
+use Rattle.fleet.specs.CosignerViews.{cosigner_shown}
+use Rattle.fleet.specs.LogNodes.{log_shown}
+use Rattle.fleet.specs.Played.{holding_all, issued_to}
+use Rattle.fleet.specs.Views.{shown}
+use Rattle.fleet.proofs.Rounding.{all_are, issued_length}
+use Rattle.fleet.proofs.nodes.FleetNodes.grow.Goals as goal
+
+pub advance-requires-clause-first : goal.advance-requires-clause-first
+advance-requires-clause-first g c =
+    let longer : length (log_shown c.in_ok-log.log).entries
+    ≡ length (log_shown c.args.self.log).entries + length c.args.entries.now =
+    ap (λ (s : LogState). length s.entries) c.in_ok-log.ensures
+    ∙ issued_length g.H.TreeHash.hash (length c.args.entries.now) (log_shown c.args.self.log) in
+    omega (arith, longer, c.args.self.first_holds, c.requires)
+
+pub advance-requires-clause-second : goal.advance-requires-clause-second
+advance-requires-clause-second g c =
+    let longer : length (log_shown c.in_ok-log.log).entries
+    ≡ length (log_shown c.args.self.log).entries + length c.args.entries.now =
+    ap (λ (s : LogState). length s.entries) c.in_ok-log.ensures
+    ∙ issued_length g.H.TreeHash.hash (length c.args.entries.now) (log_shown c.args.self.log) in
+    omega (arith, longer, c.args.self.second_holds, c.requires)
+
+pub advance-requires-clause-third : goal.advance-requires-clause-third
+advance-requires-clause-third g c =
+    let longer : length (log_shown c.in_ok-log.log).entries
+    ≡ length (log_shown c.args.self.log).entries + length c.args.entries.now =
+    ap (λ (s : LogState). length s.entries) c.in_ok-log.ensures
+    ∙ issued_length g.H.TreeHash.hash (length c.args.entries.now) (log_shown c.args.self.log) in
+    omega (arith, longer, c.args.self.third_holds, c.requires)
+
+pub returns : goal.returns
+returns g c =
+    let h = g.H.TreeHash.hash in
+    let held = c.in_ok-trio.ensures.state in
+    let same : log_shown c.in_ok-log.log
+    ≡ issued_to h (length c.args.entries.now) (log_shown c.args.self.log) = c.in_ok-log.ensures in
+    all_are h (issued_to h (length c.args.entries.now) (log_shown c.args.self.log))
+    (shown c.args.self) _ (c.in_ok-trio.ensures.same ∙ same)
+    (held.first
+    ∙ ap (λ (l : LogState). holding_all h l (cosigner_shown c.args.self.trio.first)) same)
+    (held.second
+    ∙ ap (λ (l : LogState). holding_all h l (cosigner_shown c.args.self.trio.second)) same)
+    (held.third
+    ∙ ap (λ (l : LogState). holding_all h l (cosigner_shown c.args.self.trio.third)) same)
+    refl

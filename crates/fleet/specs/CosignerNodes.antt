@@ -1,0 +1,83 @@
+-- The cosigners of a drill on their devices.
+use Rattle.std.specs.Prelude.{◌≡◌, ◌⊎◌, ◌≤◌, ◌+◌, ℕ, List, [], ◌∷◌, ◌++◌, Ok}
+use Rattle.std.specs.Prelude.{Option, Some, None, Bool, true, replicate}
+use Rattle.std.specs.Int.{w64, to_be_bytes}
+use Rattle.std.proofs.Props.{props}
+use Rattle.byte_forms.specs.Types.{Text, HashFunction}
+use Rattle.disk_core.specs.Memory.{bytes_of, images_of}
+use Rattle.disk_core.specs.declared.memory.mem_disk.MemDisk.{MemDisk}
+use Rattle.journal_core.specs.Format.{StandsFor, StandsForEither}
+use Rattle.journal_core.specs.Settled.{StandsFor-prop}
+use Rattle.lmots_core.specs.declared.parameters.OtsType.TheVariants.{W4}
+use Rattle.lms_core.specs.declared.heights.LmsType.TheVariants.{H5}
+use Rattle.cosigner_core.specs.Folds.{CosignerState, cosigner_of}
+use Rattle.cosigner_core.specs.declared.settings.CosignerSettings.{CosignerSettings}
+use Rattle.fleet.specs.CosignerCalls.{IsSignature, body_called, cosigner_behind}
+use Rattle.fleet.specs.Entries.{id_of, drill_log_id}
+use Rattle.fleet.specs.Nodes.{records_on}
+use Rattle.fleet.specs.declared.cosigner_calls.CosignerCall.{CosignerCall}
+use Rattle.fleet.specs.declared.turns.Stop.{Stop}
+
+-- What a disk holds and all that a crash now may leave of it stand for its records, and these make
+-- this cosigner.
+pub record IsCosignerDisk (h : HashFunction) (s : CosignerState) (disk : MemDisk) : Type 0 where
+  pub holds : StandsFor (bytes_of disk) (records_on disk)
+  pub images : (c : Text) → images_of disk c → StandsFor c (records_on disk)
+  pub valid : cosigner_of h (records_on disk) ≡ Ok s
+
+pub IsCosignerDisk-prop : (h : HashFunction) (s : CosignerState) (disk : MemDisk)
+    → IsProp (IsCosignerDisk h s disk)
+IsCosignerDisk-prop h s disk =
+    hlevel (
+      props,
+      StandsFor-prop (bytes_of disk) (records_on disk),
+      λ (c : Text). StandsFor-prop c (records_on disk),
+    )
+
+-- A disk that a stop within a call has left: each of its images stands for the records from before,
+-- or for these and that of the call, and where the call was done for the latter; and both are those
+-- of a cosigner. The signature of a call that was done is given.
+pub record IsLeftBy (h : HashFunction) (call : CosignerCall) (s : CosignerState)
+    (images : Text → Type 0) (out : Text) (done : Bool) : Type 0 where
+  pub list : List Text
+  pub old : cosigner_of h list ≡ Ok s
+  pub new : cosigner_of h (list ++ body_called s call ∷ []) ≡ Ok (cosigner_behind s call)
+  pub either : (c : Text) → images c → StandsForEither list (body_called s call) c
+  pub all : done ≡ true → (c : Text) → images c → StandsFor c (list ++ body_called s call ∷ [])
+  pub signed : done ≡ true → IsSignature s call out
+
+-- The cosigner from before, or that which the call makes of it; the latter where it was done, and
+-- then the signature is given.
+pub record IsReopened (call : CosignerCall) (old new : CosignerState) (out : Text) (done : Bool)
+    : Type 0 where
+  pub either : (new ≡ old) ⊎ (new ≡ cosigner_behind old call)
+  pub all : done ≡ true → new ≡ cosigner_behind old call
+  pub signed : done ≡ true → IsSignature old call out
+
+-- The settings of 32473.N, a cosigner of the log.
+abbrev pub cosigner_settings : ℕ → CosignerSettings
+cosigner_settings last = record { id = id_of last; log = drill_log_id; lms = H5; ots = W4 }
+
+-- The secret of 32473.N in the drill with a number: 16 bytes of N, and the number four times in
+-- eight bytes.
+unfoldable pub secret_of : ℕ → ℕ → Text
+secret_of last number =
+    let bytes = to_be_bytes w64 number in
+    replicate 16 last ++ (bytes ++ bytes) ++ (bytes ++ bytes)
+
+-- at most so many records for one call: two where it is stopped
+abbrev pub most_of : Option Stop → ℕ
+most_of None = 1
+most_of (Some stop) = 2
+
+-- A cosigner that has signed: it holds what it held, and its signature verifies. One one-time key
+-- more is used, or two where the call was stopped.
+pub record HasSigned (call : CosignerCall) (turn : Option Stop) (old new : CosignerState)
+    (out : Text) : Type 0 where
+  pub id : new.id ≡ old.id
+  pub log : new.log ≡ old.log
+  pub held : new.held ≡ old.held
+  pub key : new.key.key ≡ old.key.key
+  pub more : old.key.next + 1 ≤ new.key.next
+  pub few : new.key.next ≤ old.key.next + most_of turn
+  pub signed : IsSignature old call out

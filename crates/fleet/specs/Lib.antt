@@ -1,0 +1,13 @@
+pub mod Draws
+pub mod Rounds
+pub mod Entries
+pub mod Calls
+pub mod Nodes
+pub mod LogNodes
+pub mod CosignerCalls
+pub mod CosignerNodes
+pub mod CosignerViews
+pub mod Played
+pub mod Views
+pub mod Fleets
+pub mod Trios

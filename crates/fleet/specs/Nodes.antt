@@ -1,0 +1,43 @@
+-- The nodes of a drill.
+use Rattle.std.specs.Prelude.{◌≡◌, ◌⊎◌, List, [], ◌∷◌, ◌++◌, Ok}
+use Rattle.std.proofs.Props.{props}
+use Rattle.byte_forms.specs.Types.{Text, HashFunction}
+use Rattle.disk_core.specs.Memory.{bytes_of, images_of}
+use Rattle.disk_core.specs.declared.memory.mem_disk.MemDisk.{MemDisk}
+use Rattle.journal_core.specs.Format.{StandsFor, StandsForEither, records_of}
+use Rattle.journal_core.specs.Settled.{StandsFor-prop}
+use Rattle.issuance_log.specs.Folds.{LogState, log_of}
+use Rattle.fleet.specs.Calls.{log_called, record_of}
+use Rattle.fleet.specs.declared.calls.LogCall.{LogCall}
+
+-- the records of a disk in memory
+abbrev pub records_on : MemDisk → List Text
+records_on disk = records_of (bytes_of disk)
+
+-- What a disk holds and all that a crash now may leave of it stand for its records, and these make
+-- this log.
+pub record IsLogDisk (h : HashFunction) (s : LogState) (disk : MemDisk) : Type 0 where
+  pub holds : StandsFor (bytes_of disk) (records_on disk)
+  pub images : (c : Text) → images_of disk c → StandsFor c (records_on disk)
+  pub valid : log_of h (records_on disk) ≡ Ok s
+
+pub IsLogDisk-prop : (h : HashFunction) (s : LogState) (disk : MemDisk)
+    → IsProp (IsLogDisk h s disk)
+IsLogDisk-prop h s disk = hlevel (
+  props,
+  StandsFor-prop (bytes_of disk) (records_on disk),
+  λ (c : Text). StandsFor-prop c (records_on disk),
+)
+
+-- A disk that a stop within a call has left: each of its images stands for the records from before,
+-- or for these and that of the call, and both are those of a log.
+pub record IsLeft (h : HashFunction) (call : LogCall) (s : LogState) (images : Text → Type 0)
+    : Type 0 where
+  pub list : List Text
+  pub old : log_of h list ≡ Ok s
+  pub new : log_of h (list ++ record_of h s call ∷ []) ≡ Ok (log_called h s call)
+  pub either : (c : Text) → images c → StandsForEither list (record_of h s call) c
+
+-- the log from before, or that which the call makes of it
+abbrev pub IsEither : HashFunction → LogCall → LogState → LogState → Type 0
+IsEither h call old new = (new ≡ old) ⊎ (new ≡ log_called h old call)

@@ -1,0 +1,75 @@
+//! Calls of a log that add a record.
+
+ghost use Rattle.std.specs.Prelude.{IfOk};
+ghost use Rattle.fleet.specs.Calls.{HasCalledLog, HasOpenedLog};
+ghost use Rattle.fleet.specs.declared.calls.LogCall.TheVariants.{Issue, Mark};
+
+use authority_core::{IssueError, Request, issue};
+use disk_core::Disk;
+use issuance_log::{Log, LogError};
+use journal_core::AppendError;
+use mtc_io::Memory;
+use std::alloc::Global;
+use tree_core::TreeHash;
+
+/// A call of a log that adds a record.
+#[derive(Debug, Drop)]
+pub(crate) enum LogCall {
+    /// A request is issued.
+    Issue(Request),
+    /// A landmark is set.
+    Mark,
+}
+
+// Issues a request. It is not refused: an error that isn't the device's is want of memory.
+fn issue_on<H: TreeHash, D: Disk>(
+    alloc: Global,
+    log: &mut Log<H, D>,
+    request: &Request,
+) -> Result<bool, Memory>
+    ensures { IfOk result (HasCalledLog H.hash (Issue request.now) log.old log.new) }
+{
+    match issue(alloc, log, request) {
+        Ok(_) => Ok(true),
+        Err(IssueError::Log(LogError::Append(AppendError::Failed))) => Ok(false),
+        Err(_) => Err(Memory),
+    }
+}
+
+// Sets a landmark, likewise.
+fn mark_on<H: TreeHash, D: Disk>(log: &mut Log<H, D>) -> Result<bool, Memory>
+    ensures { IfOk result (HasCalledLog H.hash Mark log.old log.new) }
+{
+    match log.mark() {
+        Ok(_) => Ok(true),
+        Err(LogError::Append(AppendError::Failed)) => Ok(false),
+        Err(_) => Err(Memory),
+    }
+}
+
+/// Makes the call: whether it was done, or its device failed.
+pub(crate) fn call_log<H: TreeHash, D: Disk>(
+    alloc: Global,
+    log: &mut Log<H, D>,
+    call: &LogCall,
+) -> Result<bool, Memory>
+    ensures { IfOk result (HasCalledLog H.hash call.now log.old log.new) }
+{
+    match call {
+        LogCall::Issue(request) => issue_on(alloc, log, request),
+        LogCall::Mark => mark_on(log),
+    }
+}
+
+/// Opens the log on a device that stands for one. Only want of memory is met there.
+pub(crate) fn open_log<H: TreeHash, D: Disk + Drop>(
+    alloc: Global,
+    disk: D,
+) -> Result<Log<H, D>, Memory>
+    ensures { IfOk result (HasOpenedLog H.hash disk) }
+{
+    match Log::open(alloc, disk) {
+        Ok(log) => Ok(log),
+        Err(_) => Err(Memory),
+    }
+}

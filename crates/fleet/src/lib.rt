@@ -1,0 +1,33 @@
+//! The drill: a log and three cosigners on devices in memory, which stop at moments that a number
+//! draws, and are still right.
+//!
+//! A drill has sixteen rounds. In each the log issues entries and sometimes sets a landmark, each
+//! cosigner follows it and signs all of it, and a certificate is written. Before each call that
+//! adds a record the machine may be made to stop within it: the node is opened again on one of the
+//! images that the stop may leave, and goes on. [`fleet`] plays the rounds of a number and hands
+//! out what it has made.
+#![tactic(auto)]
+
+mod calls;
+mod cosigner;
+mod cosigner_calls;
+mod cosigner_node;
+mod cosigner_trio;
+mod cosigners;
+mod dice;
+mod drill;
+mod ids;
+mod light;
+mod log;
+mod log_node;
+mod made;
+mod nodes;
+mod play;
+mod requests;
+mod round;
+mod tree;
+mod trio;
+mod turns;
+
+pub use drill::fleet;
+pub use made::{Certs, Fleet};

@@ -1,0 +1,174 @@
+//! The log of a drill.
+
+ghost use Rattle.std.specs.Prelude.{◌≡◌, List, length, Ok, IfOk};
+ghost use Rattle.byte_forms.specs.Types.{Text};
+ghost use Rattle.disk_core.specs.Memory.{bytes_of, images_of};
+ghost use Rattle.journal_core.specs.Format.{StandsFor};
+ghost use Rattle.issuance_log.specs.Folds.{LogState, log_of, new_log, with_mark};
+ghost use Rattle.authority_core.specs.Issues.{issued_log};
+ghost use Rattle.fleet.specs.Calls.{IsLogWith, count_in, log_called};
+ghost use Rattle.fleet.specs.Entries.{log_settings, request_for};
+ghost use Rattle.fleet.specs.LogNodes.{log_shown};
+ghost use Rattle.fleet.specs.Nodes.{IsEither, IsLeft};
+ghost use Rattle.fleet.specs.Played.{issued_to};
+
+use crate::calls::{LogCall, call_log, open_log};
+use crate::ids::{LOG, id_of};
+use crate::log_node::LogNode;
+use crate::requests::request_for;
+use crate::turns::{Stop, Turn, Turns};
+use disk_core::{Fuse, MemDisk};
+use issuance_log::{Log, LogSettings, create};
+use mtc_io::Memory;
+use std::alloc::Global;
+use tree_core::TreeHash;
+
+// So many landmarks of the log are active, and it has so many entries at most.
+const ACTIVE: u32 = 4;
+
+const LIMIT: u32 = 64;
+
+// A log on a device that stands for its records.
+fn opened<H: TreeHash>(alloc: Global, disk: MemDisk) -> Result<LogNode<H>, Memory>
+    ensures { IfOk result (λ it. (list : List Text) (s : LogState) → StandsFor (bytes_of disk) list
+        → log_of H.hash list ≡ Ok s → log_shown it ≡ s) }
+{
+    Ok(LogNode {
+        log: open_log(alloc, disk)?,
+    })
+}
+
+// The log behind a fuse.
+fn fused<H: TreeHash>(
+    alloc: Global,
+    node: LogNode<H>,
+    passes: u64,
+) -> Result<Log<H, Fuse<MemDisk>>, Memory>
+    ensures { IfOk result (IsLogWith H.hash (log_shown node)) }
+{
+    let fuse = Fuse::new(node.log.into_disk(), passes);
+    let log = open_log(alloc, fuse)?;
+    Ok(log)
+}
+
+// What a call leaves of the device behind the fuse. It may find no memory.
+fn halted<H: TreeHash>(
+    alloc: Global,
+    log: Log<H, Fuse<MemDisk>>,
+    call: &LogCall,
+) -> Result<MemDisk, Memory>
+    ensures { IfOk result (λ left. (s : LogState) → IsLogWith H.hash s log
+        → IsLeft H.hash call.now s (images_of left)) }
+{
+    let mut log = log;
+    call_log(alloc, &mut log, call)?;
+    let left = log.into_disk().into_inner();
+    if left.starved() > 0 {
+        return Err(Memory);
+    }
+    Ok(left)
+}
+
+// The call is made behind a fuse, and the log is opened again on an image of what is left.
+fn stopped<H: TreeHash>(
+    alloc: Global,
+    node: LogNode<H>,
+    call: &LogCall,
+    stop: Stop,
+) -> Result<LogNode<H>, Memory>
+    ensures { IfOk result (λ it. IsEither H.hash call.now (log_shown node) (log_shown it)) }
+{
+    let log = fused(alloc, node, stop.passes)?;
+    let left = halted(alloc, log, call)?;
+    let image = left.crash(stop.pick)?;
+    let again = opened(alloc, image)?;
+    Ok(again)
+}
+
+impl<H: TreeHash> LogNode<H> {
+    /// A new log on an empty device.
+    pub(crate) fn create(alloc: Global) -> Result<LogNode<H>, Memory>
+        ensures { IfOk result (λ it. log_shown it ≡ new_log log_settings) }
+    {
+        let settings = LogSettings {
+            id: id_of(alloc, LOG)?,
+            max_active: ACTIVE,
+            limit: LIMIT,
+        };
+        let disk = MemDisk::new(alloc, Vec::new(alloc));
+        match create(alloc, disk, &settings) {
+            Ok(journal) => {
+                let node = opened(alloc, journal.into_disk())?;
+                Ok(node)
+            }
+            Err(_) => Err(Memory),
+        }
+    }
+
+    // How many records were added by calls of this kind.
+    fn count(&self, call: &LogCall) -> u64
+        ensures { result ≡ count_in (log_shown self.now) call.now }
+    {
+        match call {
+            LogCall::Issue(_) => self.log.size(),
+            LogCall::Mark => self.log.marks().len() as u64,
+        }
+    }
+
+    // The call without a stop.
+    fn done(mut self, alloc: Global, call: &LogCall) -> Result<LogNode<H>, Memory>
+        ensures { IfOk result (λ it. log_shown it ≡ log_called H.hash (log_shown self) call.now) }
+    {
+        if call_log(alloc, &mut self.log, call)? {
+            Ok(self)
+        } else {
+            Err(Memory)
+        }
+    }
+
+    // The call, with a stop or without one. Behind a stop it is made again, unless its record was
+    // recovered.
+    fn asked(self, alloc: Global, call: &LogCall, turn: Turn) -> Result<LogNode<H>, Memory>
+        ensures { IfOk result (λ it. log_shown it ≡ log_called H.hash (log_shown self) call.now) }
+    {
+        let Some(stop) = turn else {
+            return self.done(alloc, call);
+        };
+        let before = self.count(call);
+        let node = stopped(alloc, self, call, stop)?;
+        if before < node.count(call) {
+            Ok(node)
+        } else {
+            node.done(alloc, call)
+        }
+    }
+
+    /// Issues the next entry.
+    pub(crate) fn issue(self, alloc: Global, turn: Turn) -> Result<LogNode<H>, Memory>
+        ensures { IfOk result (λ it. log_shown it ≡ issued_log H.hash (log_shown self)
+            (request_for (length (log_shown self).entries))) }
+    {
+        let request = request_for(alloc, self.log.size())?;
+        self.asked(alloc, &LogCall::Issue(request), turn)
+    }
+
+    /// Issues an entry for each turn.
+    #[tactic(auto, unfolding(crate::specs::Played::issued_to))]
+    pub(crate) fn issue_all(self, alloc: Global, turns: &Turns) -> Result<LogNode<H>, Memory>
+        ensures { IfOk result (λ it. log_shown it
+            ≡ issued_to H.hash (length turns.now) (log_shown self)) }
+    {
+        let mut node = self;
+        for turn in turns.as_slice() {
+            node = node.issue(alloc, *turn)?;
+        }
+        Ok(node)
+    }
+
+    /// Sets a landmark.
+    pub(crate) fn mark(self, alloc: Global, turn: Turn) -> Result<LogNode<H>, Memory>
+        ensures { IfOk result (λ it. log_shown it ≡ with_mark (log_shown self)) }
+    {
+        self.asked(alloc, &LogCall::Mark, turn)
+    }
+}

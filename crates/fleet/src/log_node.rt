@@ -1,0 +1,18 @@
+//! The log of a drill on its device.
+
+ghost use Rattle.std.specs.Prelude.{◌≡◌, false};
+ghost use Rattle.issuance_log.specs.Words.{log_broken, log_disk, log_state};
+ghost use Rattle.fleet.specs.Nodes.{IsLogDisk, IsLogDisk-prop};
+
+use disk_core::MemDisk;
+use issuance_log::Log;
+use tree_core::TreeHash;
+
+/// A log, open on a device in memory.
+#[derive(Drop)]
+pub(crate) struct LogNode<H: TreeHash> {
+    pub(crate) log: Log<H, MemDisk>,
+    ghost sound: { log_broken log ≡ false },
+    ghost stands: { IsLogDisk H.TreeHash.hash (log_state log) (log_disk log) } by { IsLogDisk-prop
+        H.TreeHash.hash (log_state log) (log_disk log) },
+}

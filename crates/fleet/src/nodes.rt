@@ -1,0 +1,26 @@
+//! The nodes of a drill, and what they have made so far.
+
+ghost use Rattle.std.specs.Prelude.{◌≤◌, length};
+ghost use Rattle.fleet.specs.CosignerViews.{cosigner_shown};
+ghost use Rattle.fleet.specs.LogNodes.{log_shown};
+
+use crate::cosigner_trio::Trio;
+use crate::log_node::LogNode;
+use mtc_io::Bytes;
+use tree_core::TreeHash;
+
+/// The log and its cosigners, which hold no more than it has; the certificates of the rounds, and
+/// those without signatures that were accepted.
+#[derive(Drop)]
+pub(crate) struct FleetNodes<H: TreeHash> {
+    pub(crate) log: LogNode<H>,
+    pub(crate) trio: Trio<H>,
+    pub(crate) certs: Vec<Bytes>,
+    pub(crate) light: Vec<Bytes>,
+    ghost first_holds: { (cosigner_shown trio.first).held.size
+        ≤ length (log_shown log).entries },
+    ghost second_holds: { (cosigner_shown trio.second).held.size
+        ≤ length (log_shown log).entries },
+    ghost third_holds: { (cosigner_shown trio.third).held.size
+        ≤ length (log_shown log).entries },
+}
