@@ -1,0 +1,7 @@
+//! Tests of drills.
+#![tactic(auto)]
+
+#[cfg(test)]
+mod drills;
+#[cfg(test)]
+mod summary;

@@ -1,0 +1,128 @@
+//! What a drill has made, counted anew from what it handed out.
+
+use cosigner_core::{Cosigner, Export, Step, read_export};
+use disk_core::MemDisk;
+use fleet::Fleet;
+use issuance_log::Log;
+use mtc_io::{MemSink, Memory};
+use policy_core::{By, Cosigners, Known, Places, Revoked, Rule, Rules, Store, Subtrees};
+use relying_party::judge;
+use std::alloc::Global;
+use tls_wire::AnchorId;
+use tree_core::Sha;
+
+/// The numbers of a drill, in the order in which it prints them.
+#[derive(Clone, Copy, Debug, PartialEq, Eq)]
+pub struct Counts {
+    pub entries: u64,
+    pub landmarks: u64,
+    pub signatures: u64,
+    pub stops: u64,
+    pub verified: u64,
+    pub light: u64,
+}
+
+fn open_log(alloc: Global, disk: &MemDisk) -> Result<Log<Sha, MemDisk>, Memory> {
+    match Log::open(alloc, disk.lend()?) {
+        Ok(log) => Ok(log),
+        Err(_) => Err(Memory),
+    }
+}
+
+// What others may know of the cosigner on a device.
+fn export_of(alloc: Global, disk: &MemDisk) -> Result<Export, Memory> {
+    let Ok(mut cosigner) = Cosigner::<Sha, MemDisk>::open(alloc, disk.lend()?) else {
+        return Err(Memory);
+    };
+    let mut out = MemSink::new(alloc, 1_000_000, Vec::new(alloc));
+    if cosigner.export(&mut out).is_err() {
+        return Err(Memory);
+    }
+    match read_export::<Sha>(alloc, out.taken()) {
+        Ok(Some(export)) => Ok(export),
+        _ => Err(Memory),
+    }
+}
+
+fn signs(export: &Export) -> u64 {
+    let steps = export.steps.as_slice();
+    steps
+        .iter()
+        .filter(|step| matches!(step, Step::Sign { .. }))
+        .count() as u64
+}
+
+fn known(alloc: Global, export: &Export) -> Result<Known, Memory> {
+    match AnchorId::from_bytes(alloc, export.cosigner.as_bytes()) {
+        Ok(id) => Ok(Known {
+            id,
+            key: export.public,
+        }),
+        Err(_) => Err(Memory),
+    }
+}
+
+// The store with the rule two of three.
+fn store_of(alloc: Global, exports: [&Export; 3]) -> Result<Store, Memory> {
+    let mut cosigners = Vec::new(alloc);
+    let mut places = Vec::new(alloc);
+    let mut rules = Vec::new(alloc);
+    cosigners.push(known(alloc, exports[0])?)?;
+    cosigners.push(known(alloc, exports[1])?)?;
+    cosigners.push(known(alloc, exports[2])?)?;
+    for place in [0, 1, 2] {
+        places.push(place)?;
+    }
+    rules.push(Rule {
+        count: 2,
+        cosigners: Places::from_vec(places),
+    })?;
+    let Ok(log) = AnchorId::from_text(alloc, "32473.1") else {
+        return Err(Memory);
+    };
+    if cosigners.len() > 3 {
+        return Err(Memory);
+    }
+    Ok(Store {
+        name: cert_names::log_name(alloc, &log)?,
+        log,
+        cosigners: Cosigners::from_vec(cosigners),
+        rules: Rules::from_vec(rules),
+        subtrees: Subtrees::from_vec(Vec::new(alloc)),
+        revoked: Revoked::from_vec(Vec::new(alloc)),
+    })
+}
+
+// Whether a certificate is accepted by the rule alone, by all three cosigners.
+fn is_verified(bytes: &[u8], store: &Store) -> bool {
+    match judge::<Sha>(bytes, store, 1_767_225_600) {
+        Ok(accepted) => accepted.by == By::Cosigners(7),
+        Err(_) => false,
+    }
+}
+
+/// Counts anew.
+pub fn counts_of(alloc: Global, fleet: &Fleet) -> Result<Counts, Memory> {
+    let log = open_log(alloc, &fleet.log)?;
+    let first = export_of(alloc, &fleet.first)?;
+    let second = export_of(alloc, &fleet.second)?;
+    let third = export_of(alloc, &fleet.third)?;
+    let exports = [&first, &second, &third];
+    let store = store_of(alloc, exports)?;
+    let mut verified = 0u64;
+    for bytes in fleet.certs.as_slice() {
+        if is_verified(bytes.as_slice(), &store) {
+            verified = verified.saturating_add(1);
+        }
+    }
+    Ok(Counts {
+        entries: log.size(),
+        landmarks: log.marks().len() as u64,
+        signatures: signs(&first)
+            .saturating_add(signs(&second))
+            .saturating_add(signs(&third)),
+        stops: fleet.stops,
+        verified,
+        light: fleet.light,
+    })
+}
