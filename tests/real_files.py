@@ -27,6 +27,10 @@ AT_ONCE = 4
 KEY = "MCowBQYDK2VwAyEAAAAAAAAAAAAAAAAAAAAAAAAAAAAAAAAAAAAAAAAAAAA="
 NEW_LOG = ["init-log", "j", "32473.1", "2", "100000"]
 FAILED = (5, "", "mtc: {}: {}: Failed\n")
+HEADER = b"mtc-journal/v1\n\0"
+# The last bytes of a journal are written again in pieces.
+PIECE, PIECES = 4096, 33
+TAIL = PIECES * PIECE
 
 
 class Folder:
@@ -211,11 +215,12 @@ def can_trace(folder):
 
 
 OPENING = ["flock j", "fsync j", "fsync d"]
+REOPENING = ["flock j", "pwrite64 j", "fsync j", "fsync d"]
 RECORD = ["pwrite64 j", "fsync j", "pwrite64 j", "fsync j"]
 
 
 def check_order(folder, _kills):
-    """A journal is locked, it and its folder are synced, and only then it is read or written"""
+    """A journal is locked, its end is written again, it and its folder are synced, and only then it is read or written"""
     if not can_trace(folder):
         folder.notes.append("left out: strace isn't here, or may not trace")
         return
@@ -224,8 +229,8 @@ def check_order(folder, _kills):
     folder.own(inner)
     for words, wanted in (
             (["init-log", "d/j", *NEW_LOG[2:]], [*OPENING, *RECORD]),
-            (["issue", "d/j", "r"], [*OPENING, "fsync j", *RECORD]),
-            (["checkpoint", "d/j"], [*OPENING, "fsync j"])):
+            (["issue", "d/j", "r"], [*REOPENING, "fsync j", *RECORD]),
+            (["checkpoint", "d/j"], [*REOPENING, "fsync j"])):
         status, calls = traced(folder, words)
         yield from unlike(words[0], (status, [f"{call} {file}" for call, file, _ in calls]), (0, wanted))
     shell = ["sh", "-c", 'exec "$0" "$@" <&- >&- 2>&-']
@@ -248,9 +253,57 @@ def check_faults(folder, _kills):
         yield from unlike("the new file", folder.bytes(), b"")
     folder.new_log()
     before = folder.bytes()
-    for fault in [*faults, "fsync:error=EIO:when=3"]:
-        yield from unlike(f"issue {fault}", traced(folder, ["issue", "j", "r"], "-e", f"inject={fault}")[0], 5)
+    tail = ["pread64:error=EIO:when=1", "pread64:error=EIO:when=2", "pwrite64:error=ENOSPC:when=1"]
+    for fault in [*faults, *tail, "fsync:error=EIO:when=3"]:
+        injected = ["-e", f"trace={fault.split(':')[0]}", "-e", f"inject={fault}", "-P", folder.path / "j", "-P", folder.path]
+        yield from unlike(f"issue {fault}", traced(folder, ["issue", "j", "r"], *injected)[0], 5)
         yield from unlike("the journal", folder.bytes(), before)
+
+
+def placed(folder, words):
+    """The reads and writes of `j` behind its lock and before the first sync, each with its bytes' number and place, and
+    how many writes there are in all."""
+    trace = folder.path / "trace"
+    trace.write_bytes(b"")
+    folder.own(trace)
+    calls = "trace=flock,fsync,pread64,pwrite64"
+    _, _, err = folder.run(words, before=["strace", "-qq", "-o", trace, "-e", calls, "-P", folder.path / "j"])
+    text = trace.read_text()
+    opening = re.search(r"^flock\(.*?\n(.*?)^fsync\(", text, re.M | re.S)
+    lines = re.findall(r"^(pread64|pwrite64)\(.*, (\d+), (\d+)\) += \2$", opening[1] if opening else "", re.M)
+    return [(call, int(size), int(place)) for call, size, place in lines], text.count("pwrite64("), err
+
+
+def tail_calls(length):
+    """The calls that write the end of a journal of so many bytes again, piece by piece."""
+    yield "pread64", len(HEADER), 0
+    for place in range(max(length - TAIL, 0), length, PIECE):
+        size = min(PIECE, length - place)
+        yield "pread64", size, place
+        yield "pwrite64", size, place
+
+
+def check_tail(folder, _kills):
+    """The last bytes of a journal are written again as they are, behind its lock and before its sync, and no other file's"""
+    if not can_trace(folder):
+        folder.notes.append("left out: strace isn't here, or may not trace")
+        return
+    folder.new_log()
+    log, file = folder.bytes(), folder.path / "j"
+    lengths = [len(log), PIECE - 1, PIECE, PIECE + 1, TAIL - 1, TAIL, TAIL + 1, TAIL + PIECE, 3 * TAIL + 7]
+    for length in lengths:
+        # Bytes behind the closed gate mean nothing.
+        file.write_bytes(log + random.randbytes(length - len(log)))
+        before = folder.bytes()
+        wanted = [*tail_calls(length)]
+        writes = sum(call == "pwrite64" for call, _, _ in wanted)
+        yield from unlike(f"{length} bytes", placed(folder, ["checkpoint", "j"]), (wanted, writes, ""))
+        yield from unlike(f"the journal of {length} bytes", folder.bytes() == before, True)
+    line = "mtc: checkpoint: j: NotJournal\n"
+    for other in (b"", HEADER[:-1], HEADER[:-1] + b"\1", random.randbytes(2 * PIECE)):
+        file.write_bytes(other)
+        calls, writes, err = placed(folder, ["checkpoint", "j"])
+        yield from unlike(f"another file of {len(other)} bytes", (writes, err, folder.bytes() == other), (0, line, True))
 
 
 def opened_before_its_lock(folder, words):
@@ -409,8 +462,8 @@ def check_kills(folder, kills):
     folder.notes.append(f"{kills} times, {len(told)} acknowledged, {unsaid} not acknowledged and there")
 
 
-CHECKS = [check_locks, check_refusals, check_modes, check_streams, check_order, check_faults, check_replaced, check_memory,
-          check_at_once, check_kills]
+CHECKS = [check_locks, check_refusals, check_modes, check_streams, check_order, check_faults, check_tail, check_replaced,
+          check_memory, check_at_once, check_kills]
 
 
 def main(words):

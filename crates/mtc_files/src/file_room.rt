@@ -5,7 +5,7 @@ ghost use Rattle.mtc_io.specs.Counts.{Rose, with_count};
 ghost use Rattle.mtc_room.specs.Room.{Lending};
 ghost use Rattle.disk_core.specs.File.{file_faults, file_moment};
 
-use crate::journal::{hold, make, open_to_write};
+use crate::journal::{create_empty, lock_and_sync, open_to_write};
 use disk_core::{Disk, FileDisk};
 use mtc_io::{Failed, Source, StdSource};
 use mtc_room::{Room, RoomError};
@@ -100,7 +100,7 @@ impl<'a, R: Files<File = File>> Room for FileRoom<'a, R> {
     fn disk(&mut self, name: &str) -> Result<FileDisk, RoomError> {
         match open_to_write(self.files, name) {
             Ok(file) => {
-                let held = hold(self.files, file, name);
+                let held = lock_and_sync(self.files, file, name);
                 self.lend(held)
             }
             Err(why) if is_absent(&why) => Err(RoomError::Absent),
@@ -109,10 +109,10 @@ impl<'a, R: Files<File = File>> Room for FileRoom<'a, R> {
     }
 
     fn fresh(&mut self, name: &str) -> Result<FileDisk, RoomError> {
-        match make(self.files, name) {
+        match create_empty(self.files, name) {
             Ok(file) => {
                 // A file that isn't held stays: its name may lead to another command's by now.
-                let held = hold(self.files, file, name);
+                let held = lock_and_sync(self.files, file, name);
                 self.lend(held)
             }
             Err(why) if why.kind() == ErrorKind::AlreadyExists => Err(RoomError::Exists),
