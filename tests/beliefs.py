@@ -23,7 +23,7 @@ LAWS = "mtc_top.specs.{}Laws"
 PRINTED = tuple(map(LAWS.format, ("Export", "Audit", "Print", "Status")))
 PRINTS = ("The laws of what is printed name", r"(?:exports|audits|printed|misread)_\w+", PRINTED)
 LINKED = ("mtc_top.specs.Courses", LAWS.format("Course"), LAWS.format("Room"))
-COURSES = ("The laws of courses name", r"(?:courses|entries|made|no|recovered|what)_\w+", LINKED)
+COURSES = ("The laws of courses name", r"(?:courses|entries|journals|no|recovered|what)_\w+", LINKED)
 STATEMENTS = (RUNS, COURSES, PRINTS)
 
 # The contracts are generic: what they say of a room, a device, a stream and a hash function is what these traits ensure.
@@ -175,9 +175,14 @@ def named_first(statement):
     return sorted(found)
 
 
+def is_below(dotted, name):
+    """Whether it is a word of the crates below the level of the promise."""
+    return dotted.split(".")[0] not in LEVEL
+
+
 def is_end(dotted, name):
     """Where the list of the promise ends: at a run, and at the words of the crates below its level."""
-    return (dotted, name) in ENDS or dotted.split(".")[0] not in LEVEL
+    return (dotted, name) in ENDS or is_below(dotted, name)
 
 
 def reached(waiting, ends=lambda dotted, name: False, found=None):
@@ -237,7 +242,9 @@ def promise_rows():
     own, ends = promise()
     rows = ["| The promise as a whole is | In | Lines |", "|---|---|---|"]
     rows += [f"| `{name}` | {file_of(dotted)} | {len(body)} |" for (dotted, name), body in sorted(own.items())]
-    rows += [f"| {len(own)} definitions of its level, of at most {MOST} | | {sum(map(len, own.values()))} |", ""]
+    rows += [f"| {len(own)} definitions of its level, of at most {MOST} | | {sum(map(len, own.values()))} |"]
+    with_runs, _, _ = reached(named_by(WHOLE), is_below, set())
+    rows += [f"| {len(with_runs)} with those of a run, where the list ends | | {sum(map(len, with_runs.values()))} |", ""]
     rows += ["| It ends at words of | Words | Definitions of these, and all behind them |", "|---|---|---|"]
     for standard in STANDARDS:
         mine = sorted((name, dotted) for dotted, name in ends if standard_of(dotted) == standard)

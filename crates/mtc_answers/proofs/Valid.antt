@@ -1,14 +1,16 @@
 -- A command's record keeps to the rules of its node, from the open device to the room.
 use Rattle.std.proofs.Common.{◌≡◌, inl, inr, ℕ, List, [], ◌∷◌, Option, None, Some}
-use Rattle.std.proofs.Common.{arith, IfSome, IsSome, option_map, subst, sym, refl}
+use Rattle.std.proofs.Common.{arith, IfSome, IsSome, option_map, subst, sym, refl, ap, ◌∙◌}
+use Rattle.std.specs.Option.{IsSomeAnd}
 use Rattle.std.proofs.lemmas.Option.{IfSome_then}
 use Rattle.disk_core.specs.Moments.{Looks}
+use Rattle.disk_core.specs.Same.{SameDevice}
 use Rattle.disk_core.specs.declared.disk.Disk.{Ghosts as Disks}
 use Rattle.journal_core.specs.Format.{StandsFor, records_of}
 use Rattle.journal_core.specs.Words.{AllStandFor}
 use Rattle.mtc_room.specs.declared.room.Room.{Ghosts as Rooms}
 use Rattle.mtc_answers.specs.Answers.{no_memory}
-use Rattle.mtc_answers.specs.Made.{HasKept, Leaves}
+use Rattle.mtc_answers.specs.Made.{HasKept, Leaves, told_at}
 use Rattle.mtc_answers.specs.Served.{GivesBack, OfEach, done_with}
 use Rattle.mtc_answers.specs.Steps.{Outcome, starts, with_file, with_fresh}
 use Rattle.mtc_answers.specs.Valid.{AddsValid, KeepsValid, LeavesValid, ServesValidly}
@@ -17,6 +19,14 @@ use Rattle.mtc_answers.specs.Works.{HasLent, HasTaken, journaled_by}
 use Rattle.mtc_answers.proofs.Made.{OnlyNow, kept_of, left_lent, looked, still}
 use Rattle.mtc_answers.proofs.Served.{each_is, each_so}
 use Rattle.mtc_answers.proofs.Works.{of_bytes, opened_at}
+
+-- a device that was lent and put back tells what it told, where the one that was worked on does
+told_lent : {D : Type 0} (g : Disks D) (x y : Option D) (d e : D)
+    → IsSomeAnd x (λ a. SameDevice g a d) → IsSomeAnd y (λ b. SameDevice g e b)
+    → g.told e ≡ g.told d → told_at g y ≡ told_at g x
+told_lent g None y d e lent put same = absurd lent
+told_lent g (Some a) None d e lent put same = absurd put
+told_lent g (Some a) (Some b) d e lent put same = put.reads ∙ same ∙ lent.reads
 
 -- the work behind an opening is work on the device that was lent
 module _ {D : Type 0} (g : Disks D) (Valid : List (List ℕ) → Type 0) (name : List ℕ)
@@ -46,10 +56,12 @@ module _ {R S D : Type 0} (rooms : Rooms R S D) (disks : Disks D)
     elim valid [
       | inl looks ↦
           (let did = journaled_by (with_file name (rooms.file old name) says) in
-          inl (left_lent disks no_memory did _ _ d e (lent.device t)
-          (taken.device (lent.tells t)
-          (subst IsSome (sym (lent.stay name).bytes) (lent.bytes t).there))
-          (kept_of disks d e did looks)))
+          let put = taken.device (lent.tells t)
+          (subst IsSome (sym (lent.stay name).bytes) (lent.bytes t).there) in
+          inl (
+            left_lent disks no_memory did _ _ d e (lent.device t) put (kept_of disks d e did looks),
+            told_lent disks _ _ d e (lent.device t) put looks.told,
+          ))
       | inr adds ↦ inr (of_bytes (λ o. AddsValid Valid (journaled_by o)) name _ _ says
           (lent.bytes t) adds)
     ],
@@ -62,7 +74,10 @@ module _ {R S D : Type 0} (rooms : Rooms R S D) (disks : Disks D)
       → KeepsValid rooms disks Valid names wanted old new
   kept_valid names wanted old new read only_now = λ t.
       each_is (LeavesValid rooms disks Valid old new)
-      (λ name did. inl (still disks _ _ did only_now (read.others name tt).disk))
+      (λ name did. inl (
+        still disks _ _ did only_now (read.others name tt).disk,
+        ap (told_at disks) (read.others name tt).disk,
+      ))
       (done_with names wanted.journals)
 
   -- nothing was done
@@ -85,7 +100,8 @@ module _ {R S D : Type 0} (rooms : Rooms R S D) (disks : Disks D)
       (done_with names w.journals)) (same t)
       (each_so (LeavesValid rooms disks Valid mid new) (LeavesValid rooms disks Valid old new)
       (λ name did is. elim is [
-        | inl kept ↦ inl (subst (λ x. Leaves disks (HasKept did) x (rooms.device new name))
+        | inl kept ↦ inl (subst (λ x. Leaves disks (HasKept did) x (rooms.device new name)
+            × (told_at disks (rooms.device new name) ≡ told_at disks x))
             (read.others name tt).disk kept)
         | inr adds ↦ inr adds
       ]) (done_with names wanted'.journals) (valid (read.tells t)))

@@ -33,8 +33,8 @@ Images = Text → Type 0
 abbrev pub Leaving : Type 1
 Leaving = Images → Images → Images → Type 0
 
--- A name's device: its images, its moment and the images since a moment. A file that isn't there is
--- like an empty one at moment 0.
+-- A name's device: its images, its moment, the images since a moment, and the bytes that it tells.
+-- A file that isn't there is like an empty one at moment 0, and tells none.
 module _ {D : Type 0} (g : Ghosts D) where
   abbrev pub images_at : Option D → Text → Type 0
   images_at None c = c ≡ []
@@ -47,6 +47,10 @@ module _ {D : Type 0} (g : Ghosts D) where
   abbrev pub images_since : Option D → ℕ → Text → Type 0
   images_since None t c = c ≡ []
   images_since (Some d) t c = g.left_since d t c
+
+  abbrev pub told_at : Option D → Option Text
+  told_at None = None
+  told_at (Some d) = g.told d
 
 -- Nothing new is left: each image, now and since the call began, is one from before.
 pub record Kept (before now since : Images) : Type 0 where

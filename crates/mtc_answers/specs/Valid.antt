@@ -1,11 +1,11 @@
 -- The records that a command adds to a journal, by the rules of its node.
-use Rattle.std.specs.Prelude.{◌⊎◌, List, [], ◌∷◌, ◌++◌, Option, IfSome}
+use Rattle.std.specs.Prelude.{◌≡◌, ◌⊎◌, List, [], ◌∷◌, ◌++◌, Option, IfSome}
 use Rattle.byte_forms.specs.Types.{Text}
 use Rattle.disk_core.specs.Moments.{Looks}
 use Rattle.disk_core.specs.declared.disk.Disk.{Ghosts as Disks}
 use Rattle.mtc_room.specs.declared.room.Room.{Ghosts as Rooms}
 use Rattle.mtc_answers.specs.Made.{Journaled, untouched, reads, appended, started, HasKept, Leaves}
-use Rattle.mtc_answers.specs.Made.{OnlyLooks}
+use Rattle.mtc_answers.specs.Made.{OnlyLooks, told_at}
 use Rattle.mtc_answers.specs.Served.{OfEach, done_with}
 use Rattle.mtc_answers.specs.Steps.{Outcome}
 use Rattle.mtc_answers.specs.Works.{journaled_by}
@@ -19,10 +19,11 @@ AddsValid Valid (started body) = Valid (body ∷ [])
 
 module _ {R S D : Type 0} (rooms : Rooms R S D) (disks : Disks D)
     (Valid : List Text → Type 0) where
-  -- Nothing new is left of a journal, or a record that keeps to the rules.
+  -- Nothing new is left of a journal, and it reads as before; or a record that keeps to the rules.
   abbrev pub LeavesValid : R → R → Text → Journaled → Type 0
   LeavesValid old new name did =
-      Leaves disks (HasKept did) (rooms.device old name) (rooms.device new name)
+      (Leaves disks (HasKept did) (rooms.device old name) (rooms.device new name)
+      × (told_at disks (rooms.device new name) ≡ told_at disks (rooms.device old name)))
       ⊎ AddsValid Valid did
 
   -- So a command that has to give this outcome has left the journals of these names.

@@ -190,7 +190,7 @@ module _ {R S D O E : Type 0} (h : HashFunction) (rooms : Rooms R S D) (disks : 
       → IsSignedInCourse h rooms disks outs errs x kept_text → is_supported x ≡ true
   signed x kept_text read by =
       let e = exports_hold h rooms disks outs errs image only told bytes by.name
-      (Cosigner by.settings by.public) by.first by.made by.old by.links by.was by.course
+      (Cosigner by.settings by.public) by.first by.begins by.old by.links by.begun by.course
       by.settings by.public refl by.turn by.turned by.spoken (inl by.done) in
       let same = printed_text (outs.taken by.turn.out) (outs.taken by.turn.out_after) by.before
       kept_text e.text by.told by.printed (e.printed.whole by.done) in

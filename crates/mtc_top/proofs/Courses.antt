@@ -10,21 +10,20 @@ use Rattle.mtc_io.specs.declared.sink.Sink.{Ghosts as Sinks}
 use Rattle.mtc_room.specs.Room.{TellsFile}
 use Rattle.mtc_room.specs.declared.room.Room.{Ghosts as Rooms}
 use Rattle.mtc_words.specs.Words.{command_of}
-use Rattle.mtc_answers.specs.Made.{Journaled, appended, started, images_at, images_since, moment_at}
+use Rattle.mtc_answers.specs.Made.{Journaled, appended, images_at, images_since, moment_at}
 use Rattle.mtc_answers.specs.Served.{IsOther}
 use Rattle.mtc_answers.proofs.Made.{OnlyNow, ReadsImage}
 use Rattle.node_history.specs.Laws.{Begins, HasGrown, LeadsTo}
-use Rattle.node_history.specs.Nodes.{HistoryState, fresh_node}
+use Rattle.node_history.specs.Nodes.{HistoryState}
 use Rattle.node_history.specs.Rules.{StartsWith, may_follow}
 use Rattle.node_history.specs.declared.start.NodeStart.{NodeStart}
 use Rattle.node_history.specs.declared.step.NodeStep.{NodeStep}
-use Rattle.node_history.proofs.GoesOn.{begins_fresh}
 use Rattle.node_history.proofs.Sound.{began_so, grown}
 use Rattle.node_history.proofs.Steps.{some_is}
 use Rattle.mtc_top.specs.Courses.{Turn, Link, ran, stops, cut, writes, HasTurned, DidWith}
 use Rattle.mtc_top.specs.Courses.{images_in, images_from, HasStopped, HasWritten, IsCourse}
-use Rattle.mtc_top.specs.Courses.{WasMade, HasHeld, WasHeld, HandsOut}
-use Rattle.mtc_top.specs.Nodes.{AllStandForNode, EndsWell, StandsForNode, TookSome}
+use Rattle.mtc_top.specs.Courses.{HasHeld, WasHeld, HandsOut, IsHeard}
+use Rattle.mtc_top.specs.Nodes.{AllStandForNode, EndsWell, StandsForNode}
 use Rattle.mtc_top.specs.Nodes.{end_state, steps_of}
 use Rattle.mtc_top.specs.Outcome.{journals_of, outcome, spoken}
 use Rattle.mtc_top.specs.Run.{journals}
@@ -33,9 +32,9 @@ use Rattle.node_history.proofs.Agreement.{alone}
 use Rattle.node_history.proofs.Sound.{sound}
 use Rattle.mtc_top.specs.Courses.{WentOut, WentOutBy}
 use Rattle.mtc_top.specs.Nodes.{End, MayEnd, begun, has_handed, has_settled, same, stopped}
-use Rattle.mtc_top.proofs.Nodes.{took_dec}
+use Rattle.mtc_top.proofs.Nodes.{heard_dec}
 use Rattle.mtc_top.proofs.WentOut.{end_hands, find_added, moment_hands, other_none, out_by}
-use Rattle.mtc_top.proofs.Turns.{find_name, now_of, read_stands, steps_with}
+use Rattle.mtc_top.proofs.Turns.{find_name, now_of, steps_with}
 
 module _ {R S D O E : Type 0} (h : HashFunction) (rooms : Rooms R S D) (disks : Disks D)
     (outs : Sinks O) (errs : Sinks E) (image : ReadsImage disks) (only : OnlyNow disks)
@@ -111,7 +110,7 @@ module _ {R S D O E : Type 0} (h : HashFunction) (rooms : Rooms R S D) (disks : 
       }
 
       -- more steps behind more steps
-      abbrev later_on : (steps more : List NodeStep) (room : R) → IsLater (steps ++ more) room
+      abbrev pub later_on : (steps more : List NodeStep) (room : R) → IsLater (steps ++ more) room
           → IsLater steps room
       later_on steps more room later = record {
         more = more ++ later.more;
@@ -121,7 +120,7 @@ module _ {R S D O E : Type 0} (h : HashFunction) (rooms : Rooms R S D) (disks : 
       }
 
       -- what is settled stays
-      grown_at : (steps : List NodeStep) (s : HistoryState) (room room' : R) → IsAt steps s room
+      pub grown_at : (steps : List NodeStep) (s : HistoryState) (room room' : R) → IsAt steps s room
           → (later : IsLater steps room') → HasGrown s later.state
       grown_at steps s room room' at later =
           let leads = later.at.leads in
@@ -133,8 +132,8 @@ module _ {R S D O E : Type 0} (h : HashFunction) (rooms : Rooms R S D) (disks : 
 
       by_end : (steps : List NodeStep) (s : HistoryState) (old : R) (turn : Turn R O E)
           (did : Journaled) → IsAt steps s old → Turned old turn → Did old turn name did
-          → EndsWell h did turn.status (TookSome (outs.taken turn.out) (outs.taken turn.out_after))
-          s first (Images turn.room name) (Between old turn.room name)
+          → EndsWell h did turn.status (IsHeard outs turn) s first (Images turn.room name) (Between
+          old turn.room name)
       by_end steps s old turn did at run among =
           (steps_with h rooms disks outs errs image only told old turn name did run at.tells
           among).ends s first at.stands
@@ -182,27 +181,25 @@ module _ {R S D O E : Type 0} (h : HashFunction) (rooms : Rooms R S D) (disks : 
           (outcome h turn.words (rooms.file old)).journals name
 
       -- a run: where it leads, and what went out
-      record RunGoes (steps : List NodeStep) (s : HistoryState) (old : R) (turn : Turn R O E)
+      pub record RunGoes (steps : List NodeStep) (s : HistoryState) (old : R) (turn : Turn R O E)
           : Type 0 where
         pub later : IsLater steps turn.room
         pub out : List (List ℕ)
         pub went : WentOutBy h rooms disks outs errs name old turn out
         pub handed : handed_bodies later.state ≡ handed_bodies s ++ out
 
-      abbrev Took : Turn R O E → Type 0
-      Took turn = TookSome (outs.taken turn.out) (outs.taken turn.out_after)
-
       abbrev NoneOut : R → Turn R O E → Type 0
       NoneOut old turn = (list : List (List ℕ)) (body : List ℕ)
           → HandsOut h rooms disks outs errs name old turn list body → ⊥
 
-      -- nothing went out, or a byte behind the record that this journal got
+      -- nothing is handed out, or the record that this journal got
       abbrev IsTold : R → Turn R O E → Journaled → Type 0
       IsTold old turn did = NoneOut old turn ⊎ ((list : List (List ℕ)) × ((body : List ℕ)
-          × ((did ≡ appended list body) × Took turn)))
+          × ((did ≡ appended list body) × IsHeard outs turn)))
 
       went_by : (old : R) (turn : Turn R O E) (did : Journaled) (e : End)
-          → Did old turn name did → MayEnd did turn.status (Took turn) e → IsTold old turn did
+          → Did old turn name did → MayEnd did turn.status (IsHeard outs turn) e → IsTold old turn
+          did
           → WentOutBy h rooms disks outs errs name old turn (out_by e)
       went_by old turn did same among may why = elim why [
         | inl none ↦ inr (refl, none)
@@ -263,18 +260,20 @@ module _ {R S D O E : Type 0} (h : HashFunction) (rooms : Rooms R S D) (disks : 
           → IsAt steps s old → Turned old turn → RunGoes steps s old turn
       run_goes steps s old turn at run = elim (find old turn) [
         | inl other ↦ goes_idle steps s old turn at run other
-        | inr found ↦ elim (took_dec (outs.taken turn.out) (outs.taken turn.out_after)) [
-          | inr none ↦ goes_with steps s old turn found.0 at run found.1
-              (inl (λ list body hands. none hands.1))
-          | inl took ↦ elim (find_added (journals h rooms disks outs errs turn.words old turn.room
-              turn.out turn.out_after turn.err turn.err_after) name) [
-                | inl added ↦ goes_with steps s old turn (appended added.0 added.1.0) at run
-                    added.1.1
-                    (inr (added.0, (added.1.0, (refl, took))))
-                | inr none ↦ goes_with steps s old turn found.0 at run found.1
-                    (inl (λ list body hands. none list body hands.0))
-              ]
-        ]
+        | inr found ↦ elim (heard_dec turn.status (outs.taken turn.out)
+            (outs.taken turn.out_after)) [
+              | inr none ↦ goes_with steps s old turn found.0 at run found.1
+                  (inl (λ list body hands. none hands.1))
+              | inl heard ↦ elim (find_added (journals h rooms disks outs errs turn.words old
+                  turn.room
+                  turn.out turn.out_after turn.err turn.err_after) name) [
+                    | inl added ↦ goes_with steps s old turn (appended added.0 added.1.0) at run
+                        added.1.1
+                        (inr (added.0, (added.1.0, (refl, heard))))
+                    | inr none ↦ goes_with steps s old turn found.0 at run found.1
+                        (inl (λ list body hands. none list body hands.0))
+                  ]
+            ]
       ]
 
       run_moment : (steps : List NodeStep) (s : HistoryState) (old : R) (turn : Turn R O E)
@@ -399,7 +398,7 @@ module _ {R S D O E : Type 0} (h : HashFunction) (rooms : Rooms R S D) (disks : 
         pub later : IsLater steps room
         pub front : Begins list (first ∷ later.state.settled)
 
-      fronts_on : (steps more : List NodeStep) (room : R) (list : List (List ℕ))
+      pub fronts_on : (steps more : List NodeStep) (room : R) (list : List (List ℕ))
           → Fronts (steps ++ more) room list → Fronts steps room list
       fronts_on steps more room list fronts =
           record { later = later_on steps more room fronts.later; front = fronts.front }
@@ -452,22 +451,3 @@ module _ {R S D O E : Type 0} (h : HashFunction) (rooms : Rooms R S D) (disks : 
           let mid = (cut_goes steps s old room turn at course.0.0 course.0.1).later in
           fronts_on steps mid.more new list (course_held (steps ++ mid.more) mid.state room new
           links list mid.at course.1 was)
-
-      -- ---- the run that made the journal
-
-      made_stands : (made : R) (was : WasMade h rooms disks outs errs name start first made)
-          → AllStandForNode (fresh_node start) first (Images was.turn.room name)
-      made_stands made was = elim was.did [
-        | inl new ↦ (steps_with h rooms disks outs errs image only told was.old was.turn name
-            (started first) was.turned was.tells new.1).begins new.0 first refl start
-        | inr found ↦ λ c at. inl (read_stands h rooms disks outs errs image only told was.old
-            was.turn name (first ∷ []) was.turned was.tells found.0 found.1 found.2 c at)
-      ]
-
-      pub made_at : (made : R) → WasMade h rooms disks outs errs name start first made
-          → IsAt [] (fresh_node start) made
-      made_at made was = subst (IsAt [] (fresh_node start)) was.leaves (record {
-        tells = was.turned.back.tells was.tells;
-        leads = begins_fresh (may_follow h) (start ∷ []) 0 start refl;
-        stands = made_stands made was;
-      })

@@ -38,12 +38,12 @@ use Rattle.node_history.specs.declared.start.NodeStart.TheVariants.{Cosigner}
 use Rattle.node_history.proofs.Chains.{map_some}
 use Rattle.node_history.proofs.Cosigners.{of_first}
 use Rattle.node_history.proofs.Steps.{some_is}
-use Rattle.mtc_top.specs.Courses.{Link, Turn, HasTurned, IsCourse, IsHeard, IsRecovered, WasMade}
+use Rattle.mtc_top.specs.Courses.{Link, Turn, HasTurned, IsCourse, IsBegun, IsHeard, IsRecovered}
 use Rattle.mtc_top.specs.ExportLaws.{ExportsHoldTheSteps, HasExported}
 use Rattle.mtc_top.specs.Outcome.{spoken_outcome}
 use Rattle.mtc_top.specs.RunLaws.{Heard}
 use Rattle.mtc_top.proofs.Recovered.{handed_stand, last, read_again}
-use Rattle.mtc_top.proofs.Turns.{heard_run, not_refused, printed_so}
+use Rattle.mtc_top.proofs.Turns.{file_bytes, heard_run, not_refused, printed_so}
 
 -- ---- the steps of records
 
@@ -111,20 +111,16 @@ file_image : {D : Type 0} (g : Disks D) (file : Option (List ℕ)) (x : Option D
 file_image g file None c image tells is = absurd cc
 file_image g file (Some d) c image tells is = image d c (tells.0 ∙ is)
 
-pub file_bytes : {D : Type 0} (g : Disks D) (file : Option (List ℕ)) (x : Option D) (c : List ℕ)
-    → ((d : D) (b : List ℕ) → g.told d ≡ Some b → IsBytes b) → TellsFile g.told file x
-    → file ≡ Some c → IsBytes c
-file_bytes g file None c bytes tells is = absurd cc
-file_bytes g file (Some d) c bytes tells is = bytes d c (tells.0 ∙ is)
-
 module _ {R S D O E : Type 0} (h : HashFunction) (rooms : Rooms R S D) (disks : Disks D)
     (outs : Sinks O) (errs : Sinks E) (image : ReadsImage disks) (only : OnlyNow disks)
     (told : (room : R) (name : List ℕ) → rooms.tells room
     → TellsFile disks.told (rooms.file room name) (rooms.device room name))
     (bytes : (d : D) (b : List ℕ) → disks.told d ≡ Some b → IsBytes b) where
-  module _ (name : List ℕ) (start : NodeStart) (first : List ℕ) (made new : R)
-      (links : List (Link R O E)) (was : WasMade h rooms disks outs errs name start first made)
-      (course : IsCourse h rooms disks outs errs name made links new) (settings : CosignerSettings)
+  module _ (name : List ℕ) (start : NodeStart) (first : List ℕ) (begins new : R)
+      (links : List (Link R O E))
+      (begun : IsBegun h rooms disks outs errs name start first begins links)
+      (course : IsCourse h rooms disks outs errs name begins links new) (settings :
+      CosignerSettings)
       (public : List ℕ) (is : start ≡ Cosigner settings public) (turn : Turn R O E)
       (run : HasTurned h rooms disks outs errs new turn)
       (spoken : command_of turn.words ≡ Ok (export name)) (heard : IsHeard outs turn)
@@ -142,14 +138,15 @@ module _ {R S D O E : Type 0} (h : HashFunction) (rooms : Rooms R S D) (disks : 
         (heard_so.is (inl tells))
 
     exported : (file : Option (List ℕ)) → rooms.file new name ≡ file
-        → HasExported h rooms disks outs errs settings public name made links new turn
+        → HasExported h rooms disks outs errs settings public name begins links new turn
     exported None none =
         absurd (not_refused h rooms disks outs errs new turn run heard Missing (Some name)
         (codes "Absent") (replied (stops_at Missing name (codes "Absent"))
         (asked_absent h name (rooms.file new) none)))
     exported (Some c) there =
-        let node = read_again h rooms disks outs errs image only told name start first made new
-        links was course c (inr there) in
+        let node = read_again h rooms disks outs errs image only told bytes name start first begins
+        new
+        links begun course c (inr there) in
         let opened = read_cosigner h start settings public c node.records is node.read in
         let tells_file = told new name tells in
         let are = file_bytes disks (rooms.file new name) (rooms.device new name) c bytes tells_file
@@ -158,7 +155,7 @@ module _ {R S D O E : Type 0} (h : HashFunction) (rooms : Rooms R S D) (disks : 
         let stands = found_stands (cosigner_fold h) c found are opened.1 in
         let again = export_again h c node.records opened.0 are stands.0 stands.1 in
         let own = of_first h settings public first node.of_node.others opened.0
-        (subst (λ (n : NodeStart). StartsWith n first) is was.starts)
+        (subst (λ (n : NodeStart). StartsWith n first) is begun.starts)
         (subst (λ (l : List (List ℕ)). cosigner_of h l ≡ Ok opened.0) node.of_node.is stands.1) in
         let meets = replied (export_says found)
         (asked_there h name (rooms.file new) c found there opened.1) in
@@ -186,15 +183,18 @@ module _ {R S D O E : Type 0} (h : HashFunction) (rooms : Rooms R S D) (disks : 
           allowed = again.3;
           steps = again.1;
           signed = λ record0 front body step hands says.
-              let begins = handed_stand h rooms disks outs errs image only told name start first
-              made new links was course (record0 ∷ front) node.records body hands recovered in
-              step_there front body begins.0 again.0 step
+              let front_is = handed_stand h rooms disks outs errs image only told bytes name start
+              first
+              begins new links begun course (record0 ∷ front) node.records body hands recovered in
+              step_there front body front_is.0 again.0 step
               (subst (λ (l : List (List ℕ)). steps_in l ≡ Some again.0)
-              (behind_first record0 front body begins.0 node.records begins.1) again.1) says;
+              (behind_first record0 front body front_is.0 node.records front_is.1) again.1) says;
         }
 
   pub exports_hold : ExportsHoldTheSteps h rooms disks outs errs
-  exports_hold name start first made new links was course settings public is turn run spoken heard =
-      exported name start first made new links was course settings public is turn run spoken heard
-      (last h rooms disks outs errs image only told name start first made new links was
+  exports_hold name start first begins new links begun course settings public is turn run spoken
+      heard =
+      exported name start first begins new links begun course settings public is turn run spoken
+      heard
+      (last h rooms disks outs errs image only told bytes name start first begins new links begun
       course).at.tells (rooms.file new name) refl

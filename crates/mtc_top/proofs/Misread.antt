@@ -3,6 +3,7 @@ use Rattle.std.proofs.Common.{◌≡◌, inl, inr, ℕ, true, false, Bool, List,
 use Rattle.std.proofs.Common.{Option, None, Some, Result, Ok, Err, codes, refl, sym, subst, ap}
 use Rattle.std.proofs.Common.{◌∙◌, arith, not}
 use Rattle.std.specs.Prelude.{if◌then◌else◌, nat_le, nat_lt}
+use Rattle.byte_forms.specs.Places.{IsBytes}
 use Rattle.byte_forms.specs.Types.{HashFunction}
 use Rattle.disk_core.specs.declared.disk.Disk.{Ghosts as Disks}
 use Rattle.journal_core.specs.Format.{end_behind}
@@ -349,7 +350,8 @@ module _ (h : HashFunction) where
 module _ {R S D O E : Type 0} (h : HashFunction) (rooms : Rooms R S D) (disks : Disks D)
     (outs : Sinks O) (errs : Sinks E) (image : ReadsImage disks) (only : OnlyNow disks)
     (told : (room : R) (name : List ℕ) → rooms.tells room
-    → TellsFile disks.told (rooms.file room name) (rooms.device room name)) where
+    → TellsFile disks.told (rooms.file room name) (rooms.device room name))
+    (bytes : (d : D) (b : List ℕ) → disks.told d ≡ Some b → IsBytes b) where
   -- the line of a refusal
   refused_line : (turn : Turn R O E) (reply : Reply) (file reason : List ℕ)
       → reply ≡ refused BadForm (Some file) reason
@@ -379,21 +381,24 @@ module _ {R S D O E : Type 0} (h : HashFunction) (rooms : Rooms R S D) (disks : 
       }
 
   pub misread_inputs : MisreadFilesAreInputs h rooms disks outs errs
-  misread_inputs name (Log settings) first made new links was course command turn opens run
+  misread_inputs name (Log settings) first begins new links begun course command turn opens run
       spoken two =
-      let end = last h rooms disks outs errs image only told name (Log settings) first made new
-      links was course in
+      let end = last h rooms disks outs errs image only told bytes name (Log settings) first begins
+      new
+      links begun course in
       about_input new command turn end.at.tells run spoken two
       (log_only h name (rooms.file new) settings command opens (λ c is.
-      let node = read_again h rooms disks outs errs image only told name (Log settings) first made
-      new links was course c (inr is) in
+      let node = read_again h rooms disks outs errs image only told bytes name (Log settings) first
+      begins
+      new links begun course c (inr is) in
       (record { records = node.records; state = node.read.0 }, node.read.1)))
-  misread_inputs name (Cosigner settings public) first made new links was course command turn
+  misread_inputs name (Cosigner settings public) first begins new links begun course command turn
       opens run spoken two =
-      let end = last h rooms disks outs errs image only told name (Cosigner settings public) first
-      made new links was course in
+      let end = last h rooms disks outs errs image only told bytes name (Cosigner settings public)
+      first
+      begins new links begun course in
       about_input new command turn end.at.tells run spoken two
       (cosigner_only h name (rooms.file new) settings public command opens (λ c is.
-      let node = read_again h rooms disks outs errs image only told name
-      (Cosigner settings public) first made new links was course c (inr is) in
+      let node = read_again h rooms disks outs errs image only told bytes name
+      (Cosigner settings public) first begins new links begun course c (inr is) in
       (record { records = node.records; state = node.read.0 }, node.read.1)))

@@ -2,7 +2,7 @@
 use Rattle.std.proofs.Common.{◌≡◌, ◌≢◌, ◌⊎◌, inl, inr, ℕ, true, false, Bool, List, [], ◌∷◌, ◌++◌}
 use Rattle.std.proofs.Common.{length, Option, None, Some, IfSome, refl, sym, subst, ap, ◌∙◌, arith}
 use Rattle.std.proofs.Common.{rules, append_assoc, take}
-use Rattle.std.proofs.lemmas.Bool.Decides.{leb_tells}
+use Rattle.std.proofs.lemmas.Bool.Decides.{eqb_tells, leb_tells}
 use Rattle.std.proofs.lemmas.List.{append-nil}
 use Rattle.byte_forms.specs.Types.{HashFunction}
 use Rattle.disk_core.specs.declared.disk.Disk.{Ghosts}
@@ -125,7 +125,7 @@ valid_image h n first c bodies is of stands = elim of [
 ]
 
 -- each image before stands for the node
-module _ (h : HashFunction) (status : ℕ) (took : Type 0) (n : HistoryState) (first : List ℕ)
+module _ (h : HashFunction) (status : ℕ) (heard : Type 0) (n : HistoryState) (first : List ℕ)
     (before now since : Images) (all : AllStandForNode n first before) where
   stop_of : (list : List (List ℕ)) → WasRead before list → Stopped n first list
   stop_of list was =
@@ -168,9 +168,9 @@ module _ (h : HashFunction) (status : ℕ) (took : Type 0) (n : HistoryState) (f
     }
   ]
 
-  stays : (did : Journaled) → IsEarly status → NotHanded did took → Kept before now since
+  stays : (did : Journaled) → IsEarly status → NotHanded did heard → Kept before now since
       → (status ≢ 5 → status ≢ 8 → IfSome (records_left did) (λ list. list ≡ first ∷ n.settled))
-      → EndsWell h did status took n first now since
+      → EndsWell h did status heard n first now since
   stays did early not kept holds = record {
     end = same;
     may = (early, not);
@@ -181,8 +181,8 @@ module _ (h : HashFunction) (status : ℕ) (took : Type 0) (n : HistoryState) (f
   }
 
   -- want of memory, or a failure of the room, has ended it
-  pub kept_ends : (did : Journaled) → (status ≡ 5) ⊎ (status ≡ 8) → (took → ⊥)
-      → Kept before now since → EndsWell h did status took n first now since
+  pub kept_ends : (did : Journaled) → (status ≡ 5) ⊎ (status ≡ 8) → (heard → ⊥)
+      → Kept before now since → EndsWell h did status heard n first now since
   kept_ends did ended none kept =
       stays did (elim ended [
         | inl is5 ↦ inr (inr (inl is5))
@@ -192,9 +192,9 @@ module _ (h : HashFunction) (status : ℕ) (took : Type 0) (n : HistoryState) (f
         | inr is8 ↦ absurd (not8 is8)
       ])
 
-  pub failed_ends : (did : Journaled) → status ≡ 5 → IsOnOld did → (took → ⊥)
+  pub failed_ends : (did : Journaled) → status ≡ 5 → IsOnOld did → (heard → ⊥)
       → MayHaveMade did before now since → Kept before now since ⊎ AddsValid (AreRecords h) did
-      → EndsWell h did status took n first now since
+      → EndsWell h did status heard n first now since
   failed_ends untouched is on none made valid = kept_ends untouched (inl is) none made
   failed_ends (reads list) is on none made valid = kept_ends (reads list) (inl is) none made
   failed_ends (appended list body) is on none made valid = elim valid [
@@ -220,10 +220,10 @@ module _ (h : HashFunction) (status : ℕ) (took : Type 0) (n : HistoryState) (f
   failed_ends (started body) is on none made valid = absurd on
 
   -- it ended without either
-  added_ends : (list : List (List ℕ)) (body : List ℕ) → took ⊎ (took → ⊥)
+  added_ends : (list : List (List ℕ)) (body : List ℕ) → heard ⊎ (heard → ⊥)
       → HasMade (appended list body) before now since
       → Kept before now since ⊎ AddsValid (AreRecords h) (appended list body)
-      → (c : List ℕ) × now c → EndsWell h (appended list body) status took n first now since
+      → (c : List ℕ) × now c → EndsWell h (appended list body) status heard n first now since
   added_ends list body dec made valid some =
       let s = stop_of list made.read in
       let allows : Allows h n first s.kept body
@@ -255,10 +255,10 @@ module _ (h : HashFunction) (status : ℕ) (took : Type 0) (n : HistoryState) (f
         }
       ]
 
-  pub made_ends : (did : Journaled) → IsOnOld did → took ⊎ (took → ⊥)
+  pub made_ends : (did : Journaled) → IsOnOld did → heard ⊎ (heard → ⊥)
       → (did ≡ untouched → IsEarly status) → HasMade did before now since
       → Kept before now since ⊎ AddsValid (AreRecords h) did → (c : List ℕ) × now c
-      → EndsWell h did status took n first now since
+      → EndsWell h did status heard n first now since
   made_ends untouched on dec early made valid some = stays untouched (early refl)
       (λ body is. absurd (grind (rules, is.1))) made (λ not5 not8. tt)
   made_ends (reads list) on dec early made valid some =
@@ -276,12 +276,26 @@ module _ (h : HashFunction) (status : ℕ) (took : Type 0) (n : HistoryState) (f
   made_ends (started body) on dec early made valid some = absurd on
 
 -- whether a byte went out
-pub took_dec : (old new : Option (List ℕ)) → TookSome old new ⊎ (TookSome old new → ⊥)
+took_dec : (old new : Option (List ℕ)) → TookSome old new ⊎ (TookSome old new → ⊥)
 took_dec None new = inr (λ t. t)
 took_dec (Some old) None = inr (λ t. t)
 took_dec (Some old) (Some new) = elim (leb_tells (length new) (length old)) [
   | inl most ↦ inr (λ less. omega (arith, most.1, less))
   | inr more ↦ inl (omega (arith, more.1))
+]
+
+-- whether a command did its work, or a byte of it went out
+pub heard_dec : (status : ℕ) (old new : Option (List ℕ)) → ((status ≡ 0) ⊎ TookSome old new)
+    ⊎ ((status ≡ 0) ⊎ TookSome old new → ⊥)
+heard_dec status old new = elim (eqb_tells status 0) [
+  | inl zero_ ↦ inl (inl zero_.1)
+  | inr other ↦ elim (took_dec old new) [
+    | inl took ↦ inl (inr took)
+    | inr none ↦ inr (λ heard. elim heard [
+      | inl zero_ ↦ other.1 zero_
+      | inr took ↦ none took
+    ])
+  ]
 ]
 
 -- what the room tells of a file stands for what all images stand for

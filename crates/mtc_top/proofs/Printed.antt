@@ -29,7 +29,8 @@ use Rattle.issuance_log.specs.Folds.{log_fold, view_in}
 use Rattle.issuance_log.specs.Openings.{FoundLog, log_read}
 use Rattle.issuance_log.specs.Refusals.{add_refusal}
 use Rattle.issuance_log.specs.declared.error.LogError.{LogError}
-use Rattle.mtc_answers.specs.Answers.{Reply, refused}
+use Rattle.mtc_answers.specs.Answers.{Reply, refused, said}
+use Rattle.mtc_answers.specs.declared.answer.Said.TheVariants.{Done}
 use Rattle.mtc_answers.specs.Made.{Journaled, appended}
 use Rattle.mtc_answers.specs.Served.{Journals, done_with}
 use Rattle.mtc_answers.specs.Steps.{Outcome, appends, stops_at, with_bytes, with_file}
@@ -50,27 +51,26 @@ use Rattle.mtc_top.specs.Outcome.{command_outcome, journals_of, spoken, spoken_o
 use Rattle.mtc_top.specs.PrintLaws.{HasCosigned, HasIssued, IndicesArePrinted}
 use Rattle.mtc_top.specs.PrintLaws.{SignaturesArePrinted}
 use Rattle.mtc_top.specs.Run.{journals}
-use Rattle.mtc_top.proofs.Exports.{file_bytes}
-use Rattle.mtc_top.proofs.Turns.{heard_run, not_refused, printed_so}
+use Rattle.mtc_top.proofs.Turns.{file_bytes, heard_run, not_refused, printed_so}
 
 module _ {R S D O E : Type 0} (h : HashFunction) (rooms : Rooms R S D) (disks : Disks D)
     (outs : Sinks O) (errs : Sinks E)
     (told : (room : R) (name : List ℕ) → rooms.tells room
     → TellsFile disks.told (rooms.file room name) (rooms.device room name))
     (bytes : (d : D) (b : List ℕ) → disks.told d ≡ Some b → IsBytes b) where
-  module _ (name : List ℕ) (old : R) (turn : Turn R O E)
+  module _ (names : List (List ℕ)) (old : R) (turn : Turn R O E)
       (run : HasTurned h rooms disks outs errs old turn) (heard : IsHeard outs turn) where
     abbrev reply : Reply
     reply = (heard_run h rooms disks outs errs old turn run heard).reply
 
-    -- the run answered what this outcome wants, and did so with the one journal
-    record HasDone (wanted : Outcome) : Type 0 where
+    -- the run answered what this outcome wants, and did so with the journals of these names
+    pub record HasDone (wanted : Outcome) : Type 0 where
       pub meets : Meets wanted.answer reply
       pub journals_are : journals h rooms disks outs errs turn.words old turn.room turn.out
-          turn.out_after turn.err turn.err_after ≡ done_with (name ∷ []) wanted.journals
+          turn.out_after turn.err turn.err_after ≡ done_with names wanted.journals
 
-    done_so : (command : CommandValue) → rooms.tells old → command_of turn.words ≡ Ok command
-        → journals_of command ≡ name ∷ []
+    pub done_so : (command : CommandValue) → rooms.tells old → command_of turn.words ≡ Ok command
+        → journals_of command ≡ names
         → HasDone (command_outcome h command (rooms.file old))
     done_so command tells spoken_so named = record {
       meets = subst (λ (r : Result CommandValue WordError).
@@ -79,17 +79,17 @@ module _ {R S D O E : Type 0} (h : HashFunction) (rooms : Rooms R S D) (disks : 
       journals_are = ap (λ (r : Result CommandValue WordError).
           done_with (spoken journals_of r) (spoken_outcome h r (rooms.file old)).journals)
           spoken_so
-          ∙ ap (λ (names : List (List ℕ)). done_with names
+          ∙ ap (λ (l : List (List ℕ)). done_with l
           (command_outcome h command (rooms.file old)).journals) named;
     }
 
-    none_stopped : (why : Stopped) (file : Option (List ℕ)) (reason : List ℕ)
+    pub none_stopped : (why : Stopped) (file : Option (List ℕ)) (reason : List ℕ)
         (dids : List Journaled)
         → HasDone (record { answer = exactly (refused why file reason); journals = dids }) → ⊥
     none_stopped why file reason dids done =
         not_refused h rooms disks outs errs old turn run heard why file reason done.meets
 
-    past_bytes : (limit : ℕ) (file : List ℕ) (o : Option (List ℕ)) (next : List ℕ → Outcome)
+    pub past_bytes : (limit : ℕ) (file : List ℕ) (o : Option (List ℕ)) (next : List ℕ → Outcome)
         → HasDone (with_bytes limit file o next)
         → (b : List ℕ) × (o ≡ Some b) × (length b ≤ limit) × HasDone (next b)
     past_bytes limit file None next done =
@@ -102,25 +102,35 @@ module _ {R S D O E : Type 0} (h : HashFunction) (rooms : Rooms R S D) (disks : 
         go true is done = absurd (none_stopped Beyond (Some file) (codes "TooLong") [] done)
         go false is done = (b, refl, ltb-false limit (length b) is, done)
 
-    past_file : (file : List ℕ) (o : Option (List ℕ)) (next : List ℕ → Outcome)
+    pub past_file : (file : List ℕ) (o : Option (List ℕ)) (next : List ℕ → Outcome)
         → HasDone (with_file file o next) → (b : List ℕ) × (o ≡ Some b) × HasDone (next b)
     past_file file None next done =
         absurd (none_stopped Missing (Some file) (codes "Absent") [] done)
     past_file file (Some b) next done = (b, refl, done)
 
-    past_form : {F W : Type 0} (fault_text : W → List ℕ) (file : List ℕ) (r : Result F W)
+    pub past_form : {F W : Type 0} (fault_text : W → List ℕ) (file : List ℕ) (r : Result F W)
         (next : F → Outcome) → HasDone (with_form fault_text file r next)
         → (x : F) × (r ≡ Ok x) × HasDone (next x)
     past_form {F} {W} fault_text file (Ok x) next done = (x, refl, done)
     past_form {F} {W} fault_text file (Err why) next done =
         absurd (none_stopped BadForm (Some file) (fault_text why) [] done)
 
+    pub said_so : (text : List ℕ) (dids : List Journaled)
+        → HasDone (record { answer = exactly (said Done text); journals = dids })
+        → HasPrinted outs turn text
+    said_so text dids done = printed_so h rooms disks outs errs old turn run heard text done.meets
+
+  module _ (name : List ℕ) (old : R) (turn : Turn R O E)
+      (run : HasTurned h rooms disks outs errs old turn) (heard : IsHeard outs turn) where
+    abbrev pub Done' : Outcome → Type 0
+    Done' = HasDone (name ∷ []) old turn run heard
+
     -- it added this record, and printed this
-    record HasAdded (list : List (List ℕ)) (body text : List ℕ) : Type 0 where
+    pub record HasAdded (list : List (List ℕ)) (body text : List ℕ) : Type 0 where
       pub did : DidWith h rooms disks outs errs old turn name (appended list body)
       pub printed : HasPrinted outs turn text
 
-    added_so : (list : List (List ℕ)) (body text : List ℕ) → HasDone (appends list body text)
+    added_so : (list : List (List ℕ)) (body text : List ℕ) → Done' (appends list body text)
         → HasAdded list body text
     added_so list body text done = record {
       did = subst (λ (js : Journals). AreAmong js name (appended list body))
@@ -130,21 +140,26 @@ module _ {R S D O E : Type 0} (h : HashFunction) (rooms : Rooms R S D) (disks : 
 
     -- ---- `cosign`
 
-    stepped_so : (found : FoundCosigner) (body text : List ℕ) (why : Option CosignError)
-        → HasDone (stepped found body text why)
+    pub stepped_so : (found : FoundCosigner) (body text : List ℕ) (why : Option CosignError)
+        → Done' (stepped found body text why)
         → HasAdded found.records body text × (why ≡ None)
     stepped_so found body text None done = (added_so found.records body text done, refl)
-    stepped_so found body text (Some why) done = absurd (none_stopped _ _ _ _ done)
+    stepped_so found body text (Some why) done =
+        absurd (none_stopped (name ∷ []) old turn run heard _ _ _ _ done)
 
     cosigned_so : (request : List ℕ) → rooms.tells old
-        → HasDone (cosign_outcome h name request (rooms.file old))
+        → Done' (cosign_outcome h name request (rooms.file old))
         → HasCosigned h rooms disks outs errs name request old turn
     unfolding cosign_outcome
     cosigned_so request tells done =
-        let file = past_bytes 16777216 request (rooms.file old request) _ done in
-        let form = past_form form_fault_text request (subtree_in file.0) _ file.3 in
-        let journal = past_file name (rooms.file old name) _ form.2 in
-        let found = past_form cosigner_open_text name (cosigner_read h journal.0) _ journal.2 in
+        let file = past_bytes (name ∷ []) old turn run heard 16777216 request (rooms.file old
+        request) _ done in
+        let form = past_form (name ∷ []) old turn run heard form_fault_text request (subtree_in
+        file.0) _ file.3 in
+        let journal = past_file (name ∷ []) old turn run heard name (rooms.file old name) _ form.2
+        in
+        let found = past_form (name ∷ []) old turn run heard cosigner_open_text name (cosigner_read
+        h journal.0) _ journal.2 in
         let are = file_bytes disks (rooms.file old name) (rooms.device old name) journal.0 bytes
         (told old name tells) journal.1 in
         let stands = found_stands (cosigner_fold h) journal.0 found.0 are found.1 in
@@ -176,21 +191,26 @@ module _ {R S D O E : Type 0} (h : HashFunction) (rooms : Rooms R S D) (disks : 
     -- ---- `issue`
 
     issued_so : (r : RequestParts) (found : FoundLog) (why : Option LogError)
-        → HasDone (issued h r found why)
+        → Done' (issued h r found why)
         → HasAdded found.records (issued_record h found.state r)
         (issued_text (length found.state.entries)) × (why ≡ None)
     issued_so r found None done = (added_so found.records _ _ done, refl)
-    issued_so r found (Some why) done = absurd (none_stopped _ _ _ _ done)
+    issued_so r found (Some why) done =
+        absurd (none_stopped (name ∷ []) old turn run heard _ _ _ _ done)
 
     of_request : (request : List ℕ) → rooms.tells old
-        → HasDone (issue_outcome h name request (rooms.file old))
+        → Done' (issue_outcome h name request (rooms.file old))
         → HasIssued h rooms disks outs errs name request old turn
     unfolding log_outcome log_says
     of_request request tells done =
-        let file = past_bytes 16777216 request (rooms.file old request) _ done in
-        let form = past_form request_fault_text request (request_of file.0) _ file.3 in
-        let journal = past_file name (rooms.file old name) _ form.2 in
-        let found = past_form log_open_text name (log_read h journal.0) _ journal.2 in
+        let file = past_bytes (name ∷ []) old turn run heard 16777216 request (rooms.file old
+        request) _ done in
+        let form = past_form (name ∷ []) old turn run heard request_fault_text request (request_of
+        file.0) _ file.3 in
+        let journal = past_file (name ∷ []) old turn run heard name (rooms.file old name) _ form.2
+        in
+        let found = past_form (name ∷ []) old turn run heard log_open_text name (log_read h
+        journal.0) _ journal.2 in
         let are = file_bytes disks (rooms.file old name) (rooms.device old name) journal.0 bytes
         (told old name tells) journal.1 in
         let stands = found_stands (log_fold h) journal.0 found.0 are found.1 in
@@ -215,9 +235,9 @@ module _ {R S D O E : Type 0} (h : HashFunction) (rooms : Rooms R S D) (disks : 
   pub signatures_printed : SignaturesArePrinted h rooms disks outs errs
   signatures_printed name request old turn tells run spoken_so heard =
       cosigned_so name old turn run heard request tells
-      (done_so name old turn run heard (cosign name request) tells spoken_so refl)
+      (done_so (name ∷ []) old turn run heard (cosign name request) tells spoken_so refl)
 
   pub indices_printed : IndicesArePrinted h rooms disks outs errs
   indices_printed name request old turn tells run spoken_so heard =
       of_request name old turn run heard request tells
-      (done_so name old turn run heard (issue name request) tells spoken_so refl)
+      (done_so (name ∷ []) old turn run heard (issue name request) tells spoken_so refl)

@@ -1,5 +1,5 @@
 -- What becomes of the records behind what went out in a course.
-use Rattle.std.proofs.Common.{◌≡◌, ℕ, List, [], ◌∷◌, ◌++◌, Some, subst}
+use Rattle.std.proofs.Common.{◌≡◌, ℕ, List, [], ◌∷◌, ◌++◌, Some}
 use Rattle.byte_forms.specs.Places.{IsBytes}
 use Rattle.byte_forms.specs.Types.{HashFunction}
 use Rattle.disk_core.specs.declared.disk.Disk.{Ghosts as Disks}
@@ -10,8 +10,7 @@ use Rattle.mtc_words.specs.Commands.{cosign, issue}
 use Rattle.authority_core.specs.Issues.{issued_entry}
 use Rattle.mtc_answers.proofs.Made.{OnlyNow, ReadsImage}
 use Rattle.node_history.specs.Laws.{Begins}
-use Rattle.node_history.specs.declared.start.NodeStart.{NodeStart}
-use Rattle.mtc_top.specs.Courses.{WasHeld, WasMade}
+use Rattle.mtc_top.specs.Courses.{WasHeld}
 use Rattle.mtc_top.specs.PrintLaws.{HasCosigned, IsInLog, IssuedEntriesStand, OfHeard}
 use Rattle.mtc_top.specs.PrintLaws.{SignaturesStand}
 use Rattle.mtc_top.proofs.Printed.{indices_printed, signatures_printed}
@@ -23,21 +22,16 @@ module _ {R S D O E : Type 0} (h : HashFunction) (rooms : Rooms R S D) (disks : 
     (told : (room : R) (name : List ℕ) → rooms.tells room
     → TellsFile disks.told (rooms.file room name) (rooms.device room name))
     (bytes : (d : D) (b : List ℕ) → disks.told d ≡ Some b → IsBytes b) where
-  -- the run that made a journal left a room that tells
-  made_tells : (name : List ℕ) (start : NodeStart) (first : List ℕ) (made : R)
-      → WasMade h rooms disks outs errs name start first made → rooms.tells made
-  made_tells name start first made was =
-      subst rooms.tells was.leaves (was.turned.back.tells was.tells)
-
   pub signatures_stand : SignaturesStand h rooms disks outs errs
-  signatures_stand name start first made new links was course file found recovered =
+  signatures_stand name start first begins new links begun course file found recovered =
       each_held h rooms disks outs errs image only told name (λ list. Begins list found)
       (OfHeard h rooms disks outs errs (cosign name file) (λ old turn.
       (signed : HasCosigned h rooms disks outs errs name file old turn)
-      × Begins (signed.list ++ signed.body ∷ []) found)) made new links
-      (made_tells name start first made was) course
-      (λ list held. lists_grow h rooms disks outs errs image only told name start first made new
-      links was course list found held recovered)
+      × Begins (signed.list ++ signed.body ∷ []) found)) begins new links
+      begun.tells course
+      (λ list held. lists_grow h rooms disks outs errs image only told bytes name start first begins
+      new
+      links begun course list found held recovered)
       (λ old turn tells run fronts spoken heard.
       let s = signatures_printed h rooms disks outs errs told bytes name file old turn tells run
       spoken heard in (
@@ -47,17 +41,18 @@ module _ {R S D O E : Type 0} (h : HashFunction) (rooms : Rooms R S D) (disks : 
       ))
 
   pub issued_stand : IssuedEntriesStand h rooms disks outs errs
-  issued_stand name start first made new links was course settings file found is recovered =
+  issued_stand name start first begins new links begun course settings file found is recovered =
       each_held h rooms disks outs errs image only told name
-      (WasHeld h rooms disks outs errs name made links)
+      (WasHeld h rooms disks outs errs name begins links)
       (OfHeard h rooms disks outs errs (issue name file) (λ old turn.
-      IsInLog h rooms disks outs errs name file old turn found)) made new links
-      (made_tells name start first made was) course (λ list held. held)
+      IsInLog h rooms disks outs errs name file old turn found)) begins new links
+      begun.tells course (λ list held. held)
       (λ old turn tells run held spoken heard.
       let i = indices_printed h rooms disks outs errs told bytes name file old turn tells run
       spoken heard in
-      let log = added_stand h rooms disks outs errs image only told name start first made new
-      links was course settings i.list found i.body (issued_entry h i.state i.request)
+      let log = added_stand h rooms disks outs errs image only told bytes name start first begins
+      new
+      links begun course settings i.list found i.body (issued_entry h i.state i.request)
       i.request.key i.state is (held (i.list ++ i.body ∷ [])
       (heard_held h rooms disks outs errs old turn run heard name i.list i.body i.did)) i.log_is
       i.item recovered in

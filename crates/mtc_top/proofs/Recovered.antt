@@ -3,12 +3,14 @@ use Rattle.std.proofs.Common.{◌≡◌, ◌⊎◌, inl, inr, ℕ, true, List, [
 use Rattle.std.proofs.Common.{Result, Ok, Err, refl, sym, subst, ap, ◌∙◌, rules}
 use Rattle.std.proofs.lemmas.List.{append-nil}
 use Rattle.std.specs.Prelude.{IsOk, is_ok}
+use Rattle.byte_forms.specs.Places.{IsBytes}
 use Rattle.byte_forms.specs.Types.{HashFunction}
 use Rattle.disk_core.specs.declared.disk.Disk.{Ghosts as Disks}
 use Rattle.journal_core.specs.Format.{StandsFor}
 use Rattle.mtc_io.specs.declared.sink.Sink.{Ghosts as Sinks}
 use Rattle.mtc_room.specs.Room.{TellsFile}
 use Rattle.mtc_room.specs.declared.room.Room.{Ghosts as Rooms}
+use Rattle.mtc_words.specs.Words.{command_of}
 use Rattle.cosigner_core.specs.Counts.{AreCounted}
 use Rattle.cosigner_core.specs.declared.settings.CosignerSettings.{CosignerSettings}
 use Rattle.cosigner_core.proofs.Behind.{once_each}
@@ -19,24 +21,26 @@ use Rattle.mtc_answers.specs.Made.{images_at}
 use Rattle.mtc_answers.proofs.Made.{OnlyNow, ReadsImage}
 use Rattle.node_history.specs.Laws.{Begins, IsSoundNode}
 use Rattle.node_history.specs.Nodes.{HistoryState, fresh_node, with_pending}
-use Rattle.node_history.specs.Rules.{StartsWith, may_follow}
+use Rattle.node_history.specs.Rules.{AreRecords, StartsWith, may_follow}
 use Rattle.node_history.specs.declared.start.NodeStart.{NodeStart}
 use Rattle.node_history.specs.declared.start.NodeStart.TheVariants.{Log, Cosigner}
-use Rattle.node_history.proofs.Agreement.{alone, read, starts_so}
+use Rattle.node_history.proofs.Agreement.{agree, alone, read, starts_so}
 use Rattle.node_history.proofs.Items.{item_added, items_kept}
 use Rattle.node_history.proofs.Keys.{one_record}
 use Rattle.node_history.proofs.Sound.{sound}
 use Rattle.node_history.proofs.Steps.{begins_on}
-use Rattle.mtc_top.specs.CourseLaws.{AddedEntriesStand, AreOfNode, IsReadAsNode, MadeOfNodes}
+use Rattle.mtc_top.specs.CourseLaws.{AddedEntriesStand, AreOfNode, IsReadAsNode}
 use Rattle.mtc_top.specs.CourseLaws.{CoursesAreHistories, EntriesStand, HandedOutStand}
-use Rattle.mtc_top.specs.CourseLaws.{JournalsAreRead, KeysSignOnce, KeysSignOneMessage}
+use Rattle.mtc_top.specs.CourseLaws.{JournalsAreOfNodes, JournalsAreRead, KeysSignOnce}
+use Rattle.mtc_top.specs.CourseLaws.{KeysSignOneMessage}
 use Rattle.mtc_top.specs.CourseLaws.{RecoveredListsGrow}
-use Rattle.mtc_top.specs.Courses.{Link, IsCourse, IsReached, IsRecovered, WasHeld, WasMade}
+use Rattle.mtc_top.specs.Courses.{Link, IsBegun, IsCourse, IsReached, IsRecovered, WasHeld}
 use Rattle.mtc_top.specs.Courses.{WentOut, images_in}
 use Rattle.mtc_top.specs.Nodes.{StandsForNode}
-use Rattle.mtc_top.proofs.Courses.{IsLater, Goes, course_goes, course_held}
-use Rattle.mtc_top.proofs.Courses.{made_at, start_of}
-use Rattle.mtc_top.proofs.Turns.{all_held, made_records}
+use Rattle.mtc_top.proofs.Begun.{begun_goes, begun_held, no_records}
+use Rattle.mtc_top.proofs.Commands.{spoken_records}
+use Rattle.mtc_top.proofs.Courses.{IsLater, Goes, start_of}
+use Rattle.mtc_top.proofs.Turns.{all_held, held_rules}
 use Rattle.mtc_top.proofs.Nodes.{one_list, some_image, valid_pending}
 
 -- ---- the list of an image
@@ -130,41 +134,42 @@ keys_of h start settings public bodies is valid =
 module _ {R S D O E : Type 0} (h : HashFunction) (rooms : Rooms R S D) (disks : Disks D)
     (outs : Sinks O) (errs : Sinks E) (image : ReadsImage disks) (only : OnlyNow disks)
     (told : (room : R) (name : List ℕ) → rooms.tells room
-    → TellsFile disks.told (rooms.file room name) (rooms.device room name)) where
+    → TellsFile disks.told (rooms.file room name) (rooms.device room name))
+    (bytes : (d : D) (b : List ℕ) → disks.told d ≡ Some b → IsBytes b) where
   -- the end of a course
   abbrev Ends : List ℕ → (start : NodeStart) (first : List ℕ) → StartsWith start first → R → Type 0
   Ends name start first begins room =
       IsLater h rooms disks outs errs image only told name start first begins [] room
 
-  module _ (name : List ℕ) (start : NodeStart) (first : List ℕ) (made new : R)
-      (links : List (Link R O E)) (was : WasMade h rooms disks outs errs name start first made)
-      (course : IsCourse h rooms disks outs errs name made links new) where
-    abbrev goes : Goes h rooms disks outs errs image only told name start first was.starts []
-        (fresh_node start) made new links
-    goes = course_goes h rooms disks outs errs image only told name start first was.starts []
-        (fresh_node start) made new links
-        (made_at h rooms disks outs errs image only told name start first was.starts made was)
-        course
+  module _ (name : List ℕ) (start : NodeStart) (first : List ℕ) (begins new : R)
+      (links : List (Link R O E))
+      (begun : IsBegun h rooms disks outs errs name start first begins links)
+      (course : IsCourse h rooms disks outs errs name begins links new) where
+    abbrev goes : Goes h rooms disks outs errs image only told name start first begun.starts []
+        (fresh_node start) begins new links
+    goes = begun_goes h rooms disks outs errs image only told bytes name start first begins new
+        links begun course
 
-    abbrev pub last : Ends name start first was.starts new
+    abbrev pub last : Ends name start first begun.starts new
     last = goes.later
 
-    sound_of : (later : Ends name start first was.starts new)
+    sound_of : (later : Ends name start first begun.starts new)
         → IsSoundNode (may_follow h) later.state
     sound_of later =
         sound (may_follow h) (alone h) (start ∷ []) later.more 0 later.state later.at.leads
 
-    same_start : (later : Ends name start first was.starts new) → later.state.start ≡ start
+    same_start : (later : Ends name start first begun.starts new) → later.state.start ≡ start
     same_start later = start_of h rooms disks outs errs image only told name start first
-        was.starts later.more later.state new later.at
+        begun.starts later.more later.state new later.at
 
-    pub reached : IsReached h rooms disks outs errs name start first made links new
+    pub reached : IsReached h rooms disks outs errs name start first begins links new
     reached = record {
       steps = last.more;
       state = last.state;
       leads = last.at.leads;
       stands = last.at.stands;
-      handed = subst (WentOut h rooms disks outs errs name made links) (sym goes.handed) goes.went;
+      handed = subst (WentOut h rooms disks outs errs name begins links) (sym goes.handed)
+          goes.went;
     }
 
     pub node_list : (list : List (List ℕ))
@@ -179,7 +184,7 @@ module _ {R S D O E : Type 0} (h : HashFunction) (rooms : Rooms R S D) (disks : 
     read_file c is =
         subst (λ (s : NodeStart). IsReadAsNode h s first c) (same_start last)
         (read_node h last.state first (sound_of last) c
-        (subst (λ (s : NodeStart). StartsWith s first) (sym (same_start last)) was.starts)
+        (subst (λ (s : NodeStart). StartsWith s first) (sym (same_start last)) begun.starts)
         (last.at.stands c (elim is [
           | inl left ↦ left
           | inr tells ↦ told_image (rooms.file new name) (rooms.device new name)
@@ -192,13 +197,11 @@ module _ {R S D O E : Type 0} (h : HashFunction) (rooms : Rooms R S D) (disks : 
         told_image file (Some d) tells same = image d c (tells.0 ∙ same)
 
     pub held_front : (list found : List (List ℕ))
-        → WasHeld h rooms disks outs errs name made links list
+        → WasHeld h rooms disks outs errs name begins links list
         → IsRecovered h rooms disks outs errs name new found → Begins list found
     held_front list found held is =
-        let fronts = course_held h rooms disks outs errs image only told name start first
-        was.starts [] (fresh_node start) made new links list
-        (made_at h rooms disks outs errs image only told name start first was.starts made was)
-        course held in
+        let fronts = begun_held h rooms disks outs errs image only told bytes name start first
+        begins new links begun course list held in
         front_on fronts.later.state first is.0 list found
         (fronts.later.at.stands is.0 is.1.0) is.1.1 fronts.front
 
@@ -212,41 +215,43 @@ module _ {R S D O E : Type 0} (h : HashFunction) (rooms : Rooms R S D) (disks : 
   lists_grow = held_front
 
   pub handed_stand : HandedOutStand h rooms disks outs errs
-  handed_stand name start first made new links was course list found body hands is =
-      held_front name start first made new links was course (list ++ body ∷ []) found
-      (all_held h rooms disks outs errs image only told name made new links list body course hands)
+  handed_stand name start first begins new links begun course list found body hands is =
+      held_front name start first begins new links begun course (list ++ body ∷ []) found
+      (all_held h rooms disks outs errs image only told name begins new links list body course
+      hands)
       is
 
   pub keys_once : KeysSignOnce h rooms disks outs errs
-  keys_once name start first made new links was course settings public is record0 bodies found =
-      let of = node_list name start first made new links was course (record0 ∷ bodies) found in
+  keys_once name start first begins new links begun course settings public is record0 bodies found =
+      let of = node_list name start first begins new links begun course (record0 ∷ bodies) found in
       keys_of h start settings public bodies is
       (subst (λ (l : List (List ℕ)). may_follow h start l ≡ true)
       (sym (cons_both record0 first bodies of.others of.is)) of.valid)
 
   pub one_message : KeysSignOneMessage h rooms disks outs errs
-  one_message name start first made new links was course settings public is list other body
+  one_message name start first begins new links begun course settings public is list other body
       message number hands hands' uses uses' =
-      let end = last name start first made new links was course in
+      let end = last name start first begins new links begun course in
       let c = some_image disks (rooms.file new name) (rooms.device new name) image
       (told new name end.at.tells) in
       let found = some_list end.state first c.0 (end.at.stands c.0 c.1) in
       let recovered : IsRecovered h rooms disks outs errs name new (first ∷ found.0)
       = (c.0, (c.1, found.1)) in
-      let front = handed_stand name start first made new links was course list
+      let front = handed_stand name start first begins new links begun course list
       (first ∷ found.0) body hands recovered in
-      let front' = handed_stand name start first made new links was course other
+      let front' = handed_stand name start first begins new links begun course other
       (first ∷ found.0) message hands' recovered in
       one_record first found.0 list other body message front.0 front'.0 number
-      (keys_once name start first made new links was course settings public is first found.0
+      (keys_once name start first begins new links begun course settings public is first found.0
       recovered) front.1 front'.1 uses uses'
 
   pub entries_stand : EntriesStand h rooms disks outs errs
-  entries_stand name start first made new links was course settings list found s is held log
+  entries_stand name start first begins new links begun course settings list found s is held log
       recovered =
-      let of = node_list name start first made new links was course found recovered in
-      let t = log_found h start settings first found is was.starts of in
-      let front = held_front name start first made new links was course list found held recovered
+      let of = node_list name start first begins new links begun course found recovered in
+      let t = log_found h start settings first found is begun.starts of in
+      let front = held_front name start first begins new links begun course list found held
+      recovered
       in (
         t.0,
         (
@@ -257,11 +262,12 @@ module _ {R S D O E : Type 0} (h : HashFunction) (rooms : Rooms R S D) (disks : 
       )
 
   pub added_stand : AddedEntriesStand h rooms disks outs errs
-  added_stand name start first made new links was course settings list found body entry key s is
+  added_stand name start first begins new links begun course settings list found body entry key s is
       held log item recovered =
-      let of = node_list name start first made new links was course found recovered in
-      let t = log_found h start settings first found is was.starts of in
-      let front = held_front name start first made new links was course (list ++ body ∷ []) found
+      let of = node_list name start first begins new links begun course found recovered in
+      let t = log_found h start settings first found is begun.starts of in
+      let front = held_front name start first begins new links begun course (list ++ body ∷ [])
+      found
       held recovered in (
         t.0,
         (
@@ -271,19 +277,27 @@ module _ {R S D O E : Type 0} (h : HashFunction) (rooms : Rooms R S D) (disks : 
         ),
       )
 
-  pub made_of_nodes : MadeOfNodes h rooms disks outs errs
-  made_of_nodes name first old turn tells run done did =
-      let records = made_records h rooms disks outs errs image only told name first old turn tells
-      run done did in
-      let start = starts_so h first [] records in (
+  -- records begin with a first one
+  split : (list : List (List ℕ)) → AreRecords h list → (start : NodeStart) × ((first : List ℕ)
+      × (StartsWith start first × AreOfNode h start first list))
+  split [] records = absurd (no_records h records)
+  split (first ∷ others) records =
+      let start = starts_so h first others records in (
         start.0,
-        record {
-          old = old;
-          tells = tells;
-          turn = turn;
-          turned = run;
-          leaves = refl;
-          did = inl (done, did);
-          starts = start.1;
-        },
+        (
+          first,
+          (
+            start.1,
+            record {
+              others = others;
+              is = refl;
+              valid = agree h start.0 first others start.1 records;
+            },
+          ),
+        ),
       )
+
+  pub of_nodes : JournalsAreOfNodes h rooms disks outs errs
+  of_nodes name old turn list tells run held =
+      split list (spoken_records h (command_of turn.words) list
+      (held_rules h rooms disks outs errs image only told bytes name old turn list tells run held))

@@ -1,5 +1,5 @@
 -- What follows of each run, and how it ends as steps of a node.
-use Rattle.std.proofs.Common.{◌≡◌, ◌≢◌, ◌≤◌, ◌⊎◌, inl, inr, ℕ, List, [], ◌∷◌, ◌++◌, Option}
+use Rattle.std.proofs.Common.{◌≡◌, ◌≢◌, ◌≤◌, ◌<◌, ◌⊎◌, inl, inr, ℕ, List, [], ◌∷◌, ◌++◌, Option}
 use Rattle.std.proofs.Common.{None, Some, IsErr, codes, length, take, refl, sym, ap, subst, ◌∙◌}
 use Rattle.std.proofs.Common.{arith, rules, length-take, take_all}
 use Rattle.std.proofs.Math.Seq.{take-length}
@@ -31,10 +31,10 @@ use Rattle.node_history.specs.declared.start.NodeStart.{NodeStart}
 use Rattle.mtc_top.specs.Nodes.{AllStandForNode, TookSome}
 use Rattle.mtc_top.specs.Outcome.{spoken_rules}
 use Rattle.mtc_top.specs.Run.{journals, HasRun}
-use Rattle.mtc_top.specs.RunLaws.{FrontsAreRuns, Heard, RunShows, RunSteps, took}
+use Rattle.mtc_top.specs.RunLaws.{FrontsAreRuns, Heard, RunShows, RunSteps, is_heard}
 use Rattle.mtc_top.proofs.Runs.{reply_code}
 use Rattle.mtc_top.proofs.Commands.{IsNewAt, spoken_new, spoken_records}
-use Rattle.mtc_top.proofs.Nodes.{kept_ends, failed_ends, made_ends, took_dec, file_stands}
+use Rattle.mtc_top.proofs.Nodes.{kept_ends, failed_ends, made_ends, heard_dec, file_stands}
 use Rattle.mtc_top.proofs.Nodes.{none_stands, some_image}
 
 -- where nothing was appended, no byte went out
@@ -46,6 +46,12 @@ took_none (Some xs) (Some ys) none took = grind (rules, arith, none, took)
 pub front_none : (old new : Option (List ℕ)) → AppendsPrefix old new [] → TookSome old new → ⊥
 front_none old new front took =
     took_none old new (subst (Appends old new) (take_all front.0 [] (omega arith)) front.1) took
+
+-- a run with such a status of which no byte went out isn't heard
+unheard : (status n : ℕ) (old new : Option (List ℕ)) → status ≡ n → 0 < n
+    → (TookSome old new → ⊥) → (status ≡ 0) ⊎ TookSome old new → ⊥
+unheard status n old new is some none (inl zero_) = omega (arith, is, some, zero_)
+unheard status n old new is some none (inr took) = none took
 
 whole_front : (old new : Option (List ℕ)) (text : List ℕ) → Appends old new text
     → AppendsPrefix old new text
@@ -255,7 +261,7 @@ module _ {R S D O E : Type 0} (h : List ℕ → List ℕ) (rooms : Rooms R S D) 
         images_since disks (rooms.device new name) (moment_at disks (rooms.device old name))
 
     abbrev went : Type 0
-    went = took h rooms disks outs errs words old new out out' err err'
+    went = is_heard h rooms disks outs errs words old new out out' err err' status
 
     abbrev pub Steps : List ℕ → Journaled → Type 0
     Steps = RunSteps h rooms disks outs errs words old new out out' err err' status
@@ -272,7 +278,7 @@ module _ {R S D O E : Type 0} (h : List ℕ → List ℕ) (rooms : Rooms R S D) 
     knows : rooms.tells old → OfEach Knows js
     knows tells = both_so _ _ Knows (λ name did valid is_new. (
       elim valid [
-        | inl kept ↦ inl kept
+        | inl kept ↦ inl kept.0
         | inr adds ↦ inr (adds_so (spoken_rules h (command_of words)) (AreRecords h)
             (spoken_records h (command_of words)) did adds)
       ],
@@ -328,7 +334,7 @@ module _ {R S D O E : Type 0} (h : List ℕ → List ℕ) (rooms : Rooms R S D) 
         → Steps name did
     made_steps name did made known = record {
       ends = λ n first all. made_ends h status went n first _ _ _ all did
-          (on_old name did known n first all) (took_dec _ _) made.1 made.0.images
+          (on_old name did known n first all) (heard_dec status _ _) made.1 made.0.images
           (images_valid name did known) (some_image disks _ _ image (file name));
       as_read = λ n first stands. file_stands disks n first _ _ image (file name) stands;
       later = made.0.later;
@@ -345,12 +351,13 @@ module _ {R S D O E : Type 0} (h : List ℕ → List ℕ) (rooms : Rooms R S D) 
     run_steps tells = elim (eqb_tells status 8) [
       | inl is8 ↦
           (let r = run.no_memory is8.1 in
-          each_so _ Steps (kept_steps is8.1 (took_none _ _ r.text)) js (r.made tells))
+          each_so _ Steps (kept_steps is8.1 (unheard status 8 _ _ is8.1 (omega arith)
+          (took_none _ _ r.text))) js (r.made tells))
       | inr not8 ↦ elim (eqb_tells status 5) [
         | inl is5 ↦
             (let r = run.room_failed is5.1 in
-            both_so _ _ Steps (failed_steps is5.1 (took_none _ _ r.text)) js (r.made tells)
-            (knows tells))
+            both_so _ _ Steps (failed_steps is5.1 (unheard status 5 _ _ is5.1 (omega arith)
+            (took_none _ _ r.text))) js (r.made tells) (knows tells))
         | inr not5 ↦ elim (eqb_tells status 6) [
           | inl is6 ↦ answered_steps tells ((run.out_failed is6.1).made tells)
           | inr not6 ↦ answered_steps tells ((run.answered not5.1 not6.1 not8.1).made tells)

@@ -3,6 +3,7 @@ use Rattle.std.proofs.Common.{◌≡◌, ℕ, zero, suc, ◌+◌, List, [], ◌�
 use Rattle.std.proofs.Common.{Ok, refl, sym, subst, ap, ◌∙◌, option_map, option_and_then, slice_get}
 use Rattle.std.specs.Prelude.{slice_set}
 use Rattle.byte_forms.specs.Readings.{◌>>=◌, some_or}
+use Rattle.byte_forms.specs.Places.{IsBytes}
 use Rattle.byte_forms.specs.Types.{HashFunction}
 use Rattle.byte_forms.proofs.Steps.{ok_is}
 use Rattle.disk_core.specs.declared.disk.Disk.{Ghosts as Disks}
@@ -149,7 +150,8 @@ module _ (valid : Valid) where
 module _ {R S D O E : Type 0} (h : HashFunction) (rooms : Rooms R S D) (disks : Disks D)
     (outs : Sinks O) (errs : Sinks E) (image : ReadsImage disks) (only : OnlyNow disks)
     (told : (room : R) (name : List ℕ) → rooms.tells room
-    → TellsFile disks.told (rooms.file room name) (rooms.device room name)) where
+    → TellsFile disks.told (rooms.file room name) (rooms.device room name))
+    (bytes : (d : D) (b : List ℕ) → disks.told d ≡ Some b → IsBytes b) where
   abbrev Journal : R → Type 0
   Journal = IsJournalOf h rooms disks outs errs
 
@@ -159,8 +161,8 @@ module _ {R S D O E : Type 0} (h : HashFunction) (rooms : Rooms R S D) (disks : 
       record { steps = []; states = []; allowed = none (may_follow h) 0 []; each = tt }
   one_history room (j ∷ js) =
       let rest = one_history room js in
-      let own = reached h rooms disks outs errs image only told j.name j.start j.first j.made room
-      j.links j.was j.course in
+      let own = reached h rooms disks outs errs image only told bytes j.name j.start j.first j.old
+      room j.links j.begun j.course in
       let others = map fresh_node (map (λ (i : Journal room). i.start) js) in
       let wide = with_others (may_follow h) 0 (fresh_node j.start) others own.leads.states
       own.steps own.leads.allowed in

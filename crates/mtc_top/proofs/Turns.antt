@@ -1,10 +1,11 @@
 -- What is known of one run of a course.
 use Rattle.std.proofs.Common.{◌≡◌, ◌≢◌, ◌⊎◌, inl, inr, ℕ, true, false, Bool, List, [], ◌∷◌}
 use Rattle.std.proofs.Common.{◌++◌, Option, None, Some, refl, sym, subst, ap, ◌∙◌, arith}
-use Rattle.std.proofs.Common.{true≢false}
+use Rattle.std.proofs.Common.{true≢false, length, length-append}
 use Rattle.std.proofs.lemmas.Bool.Decides.{eqb_tells}
 use Rattle.std.proofs.lemmas.Slice.Eq.{bytes_eq-Decides}
 use Rattle.std.specs.Str.{bytes_eq}
+use Rattle.byte_forms.specs.Places.{IsBytes}
 use Rattle.byte_forms.specs.Types.{HashFunction}
 use Rattle.disk_core.specs.declared.disk.Disk.{Ghosts as Disks}
 use Rattle.mtc_io.specs.declared.sink.Sink.{Ghosts as Sinks}
@@ -20,11 +21,12 @@ use Rattle.mtc_answers.specs.declared.answer.Stopped.TheVariants.{Missing, NotAl
 use Rattle.mtc_answers.specs.Made.{Journaled, appended, reads, started, images_at, images_since}
 use Rattle.mtc_answers.specs.Made.{moment_at}
 use Rattle.mtc_answers.specs.Served.{Journals, IsOther, OfEach, done_with, first_journaled}
-use Rattle.mtc_answers.specs.Served.{LeavesEach, rest_journaled}
-use Rattle.mtc_answers.specs.Made.{HasMade, Leaves}
+use Rattle.mtc_answers.specs.Served.{rest_journaled}
+use Rattle.mtc_answers.specs.Made.{HasMade, Leaves, told_at, untouched}
 use Rattle.mtc_answers.specs.Valid.{LeavesValid}
 use Rattle.mtc_answers.proofs.Made.{OnlyNow, ReadsImage}
-use Rattle.node_history.specs.Rules.{AreRecords}
+use Rattle.node_history.proofs.Chains.{no_some}
+use Rattle.node_history.proofs.Steps.{some_is}
 use Rattle.mtc_top.specs.Courses.{Turn, Link, ran, stops, cut, writes, AreAmong, HasTurned, DidWith}
 use Rattle.mtc_top.specs.Concluded.{Prints, PrintsFront}
 use Rattle.mtc_top.specs.Courses.{images_in, images_from, IsCourse, HasHeld, HasPrinted, IsHeard}
@@ -32,8 +34,10 @@ use Rattle.mtc_top.specs.Courses.{OfEachTurn, WasHeld, HandsOut, WasHandedOut}
 use Rattle.mtc_top.specs.Run.{journals}
 use Rattle.mtc_top.specs.RunLaws.{Heard, RunSteps}
 use Rattle.mtc_top.specs.Outcome.{spoken_rules}
-use Rattle.mtc_top.proofs.Commands.{IsNewAt, spoken_new, spoken_records}
-use Rattle.mtc_top.proofs.Nodes.{no_file_stands, some_image}
+use Rattle.mtc_top.specs.Nodes.{records_left}
+use Rattle.mtc_top.proofs.Commands.{IsNewAt, spoken_new}
+use Rattle.mtc_top.proofs.Nodes.{no_file_stands, one_list, some_image}
+use Rattle.mtc_top.proofs.Opened.{Finds, IsFound, spoken_finds}
 use Rattle.mtc_top.proofs.RunLaws.{front_none, run_heard, run_steps, took_none}
 
 -- ---- the journals of a run
@@ -139,6 +143,35 @@ module _ {R S D O E : Type 0} (h : HashFunction) (rooms : Rooms R S D) (disks : 
     no_want = heard_not8;
   }
 
+-- what is left of a journal that a run found or made
+left_stands : (did : Journaled) (list : List (List ℕ)) (before now since : List ℕ → Type 0)
+    → records_left did ≡ Some list → HasMade did before now since → (c : List ℕ) → now c
+    → StandsFor c list
+left_stands untouched list before now since is made c at = no_some list is
+left_stands (reads found) list before now since is made c at =
+    subst (StandsFor c) (some_is found list is) (made.now_is c at)
+left_stands (appended found body) list before now since is made c at =
+    subst (StandsFor c) (some_is (found ++ body ∷ []) list is) (made.now_is c at)
+left_stands (started body) list before now since is made c at =
+    subst (StandsFor c) (some_is (body ∷ []) list is) (made c at)
+
+-- what a device tells is an image, and what the room tells of the file
+told_image : {D : Type 0} (g : Disks D) (x : Option D) (c : List ℕ) → ReadsImage g
+    → told_at g x ≡ Some c → images_at g x c
+told_image g None c image is = no_some c is
+told_image g (Some d) c image is = image d c is
+
+told_file : {D : Type 0} (g : Disks D) (file : Option (List ℕ)) (x : Option D)
+    → TellsFile g.told file x → told_at g x ≡ file
+told_file g file None tells = sym tells
+told_file g file (Some d) tells = tells.0
+
+pub file_bytes : {D : Type 0} (g : Disks D) (file : Option (List ℕ)) (x : Option D) (c : List ℕ)
+    → ((d : D) (b : List ℕ) → g.told d ≡ Some b → IsBytes b) → TellsFile g.told file x
+    → file ≡ Some c → IsBytes c
+file_bytes g file None c bytes tells is = absurd cc
+file_bytes g file (Some d) c bytes tells is = bytes d c (tells.0 ∙ is)
+
 module _ {R S D O E : Type 0} (h : HashFunction) (rooms : Rooms R S D) (disks : Disks D)
     (outs : Sinks O) (errs : Sinks E) (image : ReadsImage disks) (only : OnlyNow disks)
     (told : (room : R) (name : List ℕ) → rooms.tells room
@@ -169,56 +202,94 @@ module _ {R S D O E : Type 0} (h : HashFunction) (rooms : Rooms R S D) (disks : 
       turn.err turn.err_after turn.status run image (λ n. told old n tells)
       (λ n. told turn.room n (run.back.tells tells)) tells) among
 
-  -- the records of a journal that was found are all that is left of it
-  pub read_stands : (old : R) (turn : Turn R O E) (name : List ℕ) (list : List (List ℕ))
-      → Turned old turn → rooms.tells old → turn.status ≢ 5 → turn.status ≢ 8
-      → Did old turn name (reads list) → (c : List ℕ) → Images turn.room name c
-      → StandsFor c list
-  read_stands old turn name list run tells not5 not8 did =
+  -- the records that a run found or made are all that is left of the journal
+  pub held_stands : (old : R) (turn : Turn R O E) (name : List ℕ) (list : List (List ℕ))
+      → Turned old turn → rooms.tells old → HasHeld h rooms disks outs errs name old turn list
+      → (c : List ℕ) → Images turn.room name c → StandsFor c list
+  held_stands old turn name list run tells held =
       let made = (run_heard h rooms disks outs errs turn.words old turn.room turn.out
-      turn.out_after turn.err turn.err_after turn.status run not5 not8).made tells in
+      turn.out_after turn.err turn.err_after turn.status run held.no_failure held.no_want).made
+      tells in
+      left_stands held.did list _ _ _ held.held
       (of_each (λ n d. Leaves disks (HasMade d) (rooms.device old n) (rooms.device turn.room n))
       (journals h rooms disks outs errs turn.words old turn.room turn.out turn.out_after
-      turn.err turn.err_after) name (reads list) made did).images.now_is
+      turn.err turn.err_after) name held.did made held.among).images
 
-  -- a journal that was made has the records of a log or a cosigner
-  pub made_records : (name first : List ℕ) (old : R) (turn : Turn R O E) → rooms.tells old
-      → Turned old turn → (turn.status ≡ 0) ⊎ (turn.status ≡ 6) → Did old turn name (started first)
-      → AreRecords h (first ∷ [])
-  made_records name first old turn tells run done did =
-      let js = journals h rooms disks outs errs turn.words old turn.room turn.out turn.out_after
-      turn.err turn.err_after in
-      let left = of_each (λ n d. Leaves disks (HasMade d) (rooms.device old n)
-      (rooms.device turn.room n)) js name (started first) (made done) did in
-      let is_new = of_each (IsNewAt (rooms.file old)) js name (started first)
-      (spoken_new h (command_of turn.words) (rooms.file old)) did in
-      let valid = of_each (LeavesValid rooms disks (spoken_rules h (command_of turn.words)) old
-      turn.room) js name (started first) (run.valid tells) did in
-      let c = some_image disks (rooms.file turn.room name) (rooms.device turn.room name) image
-      (told turn.room name (run.back.tells tells)) in
-      elim valid [
-        | inl kept ↦ elim is_new [
-          | inl on ↦ absurd on
-          | inr none ↦ absurd (no_file_stands disks (rooms.file old name)
-              (rooms.device old name) c.0 (first ∷ []) (told old name tells) none
-              (kept.images.now_is c.0 c.1) (left.images c.0 c.1))
+  abbrev Js : R → Turn R O E → Journals
+  Js old turn = journals h rooms disks outs errs turn.words old turn.room turn.out turn.out_after
+      turn.err turn.err_after
+
+  abbrev Rules : Turn R O E → List (List ℕ) → Type 0
+  Rules turn = spoken_rules h (command_of turn.words)
+
+  module _ (bytes : (d : D) (b : List ℕ) → disks.told d ≡ Some b → IsBytes b) where
+    -- what the files of a room are to a run
+    pub found_at : (name : List ℕ) (old : R) (turn : Turn R O E) (did : Journaled) → rooms.tells old
+        → Did old turn name did
+        → Finds (spoken_rules h (command_of turn.words)) (rooms.file old name) did
+    found_at name old turn did tells among =
+        of_each (λ n d. Finds (spoken_rules h (command_of turn.words)) (rooms.file old n) d)
+        (journals h rooms disks outs errs turn.words old turn.room turn.out turn.out_after
+        turn.err turn.err_after) name did
+        (spoken_finds h (rooms.file old) (λ n c is. file_bytes disks (rooms.file old n)
+        (rooms.device old n) c bytes (told old n tells) is) (command_of turn.words)) among
+
+    -- the records keep to the rules of the command
+    pub held_rules : (name : List ℕ) (old : R) (turn : Turn R O E) (list : List (List ℕ))
+        → rooms.tells old → Turned old turn → HasHeld h rooms disks outs errs name old turn list
+        → spoken_rules h (command_of turn.words) list
+    held_rules name old turn list tells run held =
+        by_did held.did held.held held.among (found_at name old turn held.did tells held.among)
+        (of_each (LeavesValid rooms disks (spoken_rules h (command_of turn.words)) old turn.room)
+        (Js old turn) name held.did (run.valid tells) held.among)
+        (of_each (IsNewAt (rooms.file old)) (Js old turn) name held.did
+        (spoken_new h (command_of turn.words) (rooms.file old)) held.among)
+      where
+        stands : (c : List ℕ) → Images turn.room name c → StandsFor c list
+        stands = held_stands old turn name list run tells held
+
+        -- the journal would stand for the records without the new one
+        same_told : (found : List (List ℕ)) (body : List ℕ) → found ++ body ∷ [] ≡ list
+            → IsFound (Rules turn) (rooms.file old name) found
+            → told_at disks (rooms.device turn.room name) ≡ told_at disks (rooms.device old name)
+            → ⊥
+        same_told found body is was same =
+            let still = told_image disks (rooms.device turn.room name) was.bytes image (same
+            ∙ told_file disks (rooms.file old name) (rooms.device old name) (told old name tells)
+            ∙ was.there) in
+            let both = one_list was.bytes found (found ++ body ∷ []) was.stands
+            (subst (StandsFor was.bytes) (sym is) (stands was.bytes still)) in
+            omega (arith, ap length both, length-append found (body ∷ []))
+
+        by_did : (did : Journaled) → records_left did ≡ Some list → Did old turn name did
+            → Finds (Rules turn) (rooms.file old name) did
+            → LeavesValid rooms disks (Rules turn) old turn.room name did
+            → IsNewAt (rooms.file old) name did → Rules turn list
+        by_did untouched is among finds valid is_new = no_some list is
+        by_did (reads found) is among finds valid is_new =
+            subst (Rules turn) (some_is found list is) finds.valid
+        by_did (appended found body) is among finds valid is_new = elim valid [
+          | inl kept ↦ absurd (same_told found body (some_is _ list is) finds kept.1)
+          | inr adds ↦ subst (Rules turn) (some_is _ list is) adds
         ]
-        | inr adds ↦ spoken_records h (command_of turn.words) (first ∷ []) adds
-      ]
-    where
-      made : (turn.status ≡ 0) ⊎ (turn.status ≡ 6) → LeavesEach rooms disks old turn.room
-          (journals h rooms disks outs errs turn.words old turn.room turn.out turn.out_after
-          turn.err turn.err_after) HasMade
-      made (inl zero_) = (run.answered (λ is. omega (arith, zero_, is))
-          (λ is. omega (arith, zero_, is)) (λ is. omega (arith, zero_, is))).made tells
-      made (inr six) = (run.out_failed six).made tells
+        by_did (started body) is among finds valid is_new = elim valid [
+          | inl kept ↦ elim is_new [
+            | inl on ↦ absurd on
+            | inr none ↦
+                (let c = some_image disks (rooms.file turn.room name) (rooms.device turn.room name)
+                image (told turn.room name (run.back.tells tells)) in
+                absurd (no_file_stands disks (rooms.file old name) (rooms.device old name) c.0 list
+                (told old name tells) none (kept.0.images.now_is c.0 c.1) (stands c.0 c.1)))
+          ]
+          | inr adds ↦ subst (Rules turn) (some_is _ list is) adds
+        ]
 
-  -- behind a byte that went out the run neither failed nor wanted memory
+  -- a run that was heard neither failed nor wanted memory
   handed_held : (name : List ℕ) (old : R) (turn : Turn R O E) (list : List (List ℕ))
       (body : List ℕ) → Turned old turn → HandsOut h rooms disks outs errs name old turn list body
       → HasHeld h rooms disks outs errs name old turn (list ++ body ∷ [])
   handed_held name old turn list body run hands =
-      heard_held h rooms disks outs errs old turn run (inr hands.1) name list body hands.0
+      heard_held h rooms disks outs errs old turn run hands.1 name list body hands.0
 
   pub all_held : (name : List ℕ) (old new : R) (links : List (Link R O E))
       (list : List (List ℕ)) (body : List ℕ) → IsCourse h rooms disks outs errs name old links new

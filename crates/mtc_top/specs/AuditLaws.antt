@@ -24,7 +24,7 @@ use Rattle.mtc_answers.specs.Steps.{Files}
 use Rattle.mtc_answers.specs.Wanted.{IsPair}
 use Rattle.mtc_monitor.specs.AuditOutcome.{collision_text, accepted_in, stands_text}
 use Rattle.mtc_top.specs.Concluded.{Prints}
-use Rattle.mtc_top.specs.Courses.{Link, Turn, HasTurned, IsCourse, WasHandedOut, WasMade}
+use Rattle.mtc_top.specs.Courses.{Link, Turn, HasTurned, IsBegun, IsCourse, WasHandedOut}
 
 -- The file of this name has this text, which is no longer than the limit.
 pub record HoldsText (files : Files) (name : Text) (limit : ℕ) (text : Text) : Type 0 where
@@ -63,21 +63,21 @@ module _ {R S D O E : Type 0} (h : HashFunction) (rooms : Rooms R S D) (disks : 
   -- In a course of a cosigner's journal a signature of the accepted interval and hash was handed
   -- out, a run of `export` behind it printed what was kept, and the store counts the cosigner.
   pub record IsSignedInCourse (x : AuditCase) (kept_text : Text) : Type 0 where
-    -- a run made the journal
+    -- a run made or opened the journal
     pub name : Text
     pub settings : CosignerSettings
     pub public : Text
     pub first : Text
-    pub made : R
-    pub was : WasMade h rooms disks outs errs name (Cosigner settings public) first made
-    -- the course
+    pub begins : R
     pub links : List (Link R O E)
+    pub begun : IsBegun h rooms disks outs errs name (Cosigner settings public) first begins links
+    -- the course
     pub old : R
-    pub course : IsCourse h rooms disks outs errs name made links old
+    pub course : IsCourse h rooms disks outs errs name begins links old
     -- a record that it handed out
     pub front : List Text
     pub body : Text
-    pub handed : WasHandedOut h rooms disks outs errs name made links (first ∷ front) body
+    pub handed : WasHandedOut h rooms disks outs errs name begins links (first ∷ front) body
     pub index : ℕ
     pub proof : List Text
     pub signs : step_in body

@@ -1,4 +1,4 @@
--- What holds of each course behind the run that made a journal, or found it new.
+-- What holds of each course of a journal, from the run on that made or opened it.
 use Rattle.std.specs.Prelude.{◌≡◌, ◌⊎◌, ℕ, true, List, [], ◌∷◌, ◌++◌, length, Some, Ok}
 use Rattle.byte_forms.specs.Types.{HashFunction, Text}
 use Rattle.disk_core.specs.declared.disk.Disk.{Ghosts as Disks}
@@ -9,13 +9,12 @@ use Rattle.cosigner_core.specs.declared.settings.CosignerSettings.{CosignerSetti
 use Rattle.issuance_log.specs.Folds.{LogState, log_of}
 use Rattle.issuance_log.specs.Records.{item_in}
 use Rattle.issuance_log.specs.Settings.{Settings}
-use Rattle.mtc_answers.specs.Made.{started}
 use Rattle.node_history.specs.Laws.{Begins, HasItemAt, KeepsItems}
-use Rattle.node_history.specs.Rules.{IsReadAs, may_follow}
+use Rattle.node_history.specs.Rules.{IsReadAs, StartsWith, may_follow}
 use Rattle.node_history.specs.declared.start.NodeStart.{NodeStart}
 use Rattle.node_history.specs.declared.start.NodeStart.TheVariants.{Log, Cosigner}
-use Rattle.mtc_top.specs.Courses.{Link, IsCourse, WasMade, IsReached, IsRecovered, WasHeld}
-use Rattle.mtc_top.specs.Courses.{DidWith, HasTurned, Turn, WasHandedOut, images_in}
+use Rattle.mtc_top.specs.Courses.{Link, IsBegun, IsCourse, IsReached, IsRecovered, HasHeld, WasHeld}
+use Rattle.mtc_top.specs.Courses.{HasTurned, Turn, WasHandedOut, images_in}
 
 -- These records begin with the first one of the node's journal, and the others may stand behind it.
 pub record AreOfNode (h : HashFunction) (start : NodeStart) (first : Text)
@@ -36,80 +35,80 @@ UsesKey list body number = indices_of (list ++ body ∷ []) ≡ indices_of list 
 
 module _ {R S D O E : Type 0} (h : HashFunction) (rooms : Rooms R S D) (disks : Disks D)
     (outs : Sinks O) (errs : Sinks E) where
-  -- So it is of each course behind a run that made the journal, or found it new.
+  -- So it is of each course that begins with a run that made or opened the journal.
   abbrev pub OfCourses : (Text → NodeStart → Text → R → List (Link R O E) → R → Type 0)
       → Type 0
-  OfCourses P = (name : Text) (start : NodeStart) (first : Text) (made new : R)
-      (links : List (Link R O E)) → WasMade h rooms disks outs errs name start first made
-      → IsCourse h rooms disks outs errs name made links new → P name start first made links new
+  OfCourses P = (name : Text) (start : NodeStart) (first : Text) (old new : R)
+      (links : List (Link R O E)) → IsBegun h rooms disks outs errs name start first old links
+      → IsCourse h rooms disks outs errs name old links new → P name start first old links new
 
   -- It is a history of the node.
   abbrev pub CoursesAreHistories : Type 0
-  CoursesAreHistories = OfCourses (λ name start first made links new.
-      IsReached h rooms disks outs errs name start first made links new)
+  CoursesAreHistories = OfCourses (λ name start first old links new.
+      IsReached h rooms disks outs errs name start first old links new)
 
   -- No journal is refused: what a crash may leave of the file, and what the room tells of it, is
   -- read as the node.
   abbrev pub JournalsAreRead : Type 0
-  JournalsAreRead = OfCourses (λ name start first made links new.
+  JournalsAreRead = OfCourses (λ name start first old links new.
       (c : Text) → images_in h rooms disks outs errs new name c ⊎ (rooms.file new name ≡ Some c)
       → IsReadAsNode h start first c)
 
   -- The i-th Sign record of a cosigner, counted from 0, has the number i, so no number stands
   -- twice.
   abbrev pub KeysSignOnce : Type 0
-  KeysSignOnce = OfCourses (λ name start first made links new.
+  KeysSignOnce = OfCourses (λ name start first old links new.
       (settings : CosignerSettings) (public : Text) → start ≡ Cosigner settings public
       → (record0 : Text) (bodies : List Text)
       → IsRecovered h rooms disks outs errs name new (record0 ∷ bodies) → AreCounted bodies)
 
-  -- Two records behind which a byte went out, and which used one key, are one record.
+  -- Two records that were handed out, and which used one key, are one record.
   abbrev pub KeysSignOneMessage : Type 0
-  KeysSignOneMessage = OfCourses (λ name start first made links new.
+  KeysSignOneMessage = OfCourses (λ name start first old links new.
       (settings : CosignerSettings) (public : Text) → start ≡ Cosigner settings public
       → (list other : List Text) (body message : Text) (number : ℕ)
-      → WasHandedOut h rooms disks outs errs name made links list body
-      → WasHandedOut h rooms disks outs errs name made links other message
+      → WasHandedOut h rooms disks outs errs name old links list body
+      → WasHandedOut h rooms disks outs errs name old links other message
       → UsesKey list body number → UsesKey other message number → body ≡ message)
 
   -- The records that a run found or made are the first ones of each list that may be recovered
   -- behind it.
   abbrev pub RecoveredListsGrow : Type 0
-  RecoveredListsGrow = OfCourses (λ name start first made links new. (list found : List Text)
-      → WasHeld h rooms disks outs errs name made links list
+  RecoveredListsGrow = OfCourses (λ name start first old links new. (list found : List Text)
+      → WasHeld h rooms disks outs errs name old links list
       → IsRecovered h rooms disks outs errs name new found → Begins list found)
 
-  -- So are those with the record behind which a byte went out.
+  -- So are those with the record that was handed out.
   abbrev pub HandedOutStand : Type 0
-  HandedOutStand = OfCourses (λ name start first made links new. (list found : List Text)
-      (body : Text) → WasHandedOut h rooms disks outs errs name made links list body
+  HandedOutStand = OfCourses (λ name start first old links new. (list found : List Text)
+      (body : Text) → WasHandedOut h rooms disks outs errs name old links list body
       → IsRecovered h rooms disks outs errs name new found → Begins (list ++ body ∷ []) found)
 
   -- Each entry that a log had where a run found or made its records has its index in each log that
   -- may be recovered behind it, and so has its key.
   abbrev pub EntriesStand : Type 0
-  EntriesStand = OfCourses (λ name start first made links new. (settings : Settings)
+  EntriesStand = OfCourses (λ name start first old links new. (settings : Settings)
       (list found : List Text) (s : LogState) → start ≡ Log settings
-      → WasHeld h rooms disks outs errs name made links list → log_of h list ≡ Ok s
+      → WasHeld h rooms disks outs errs name old links list → log_of h list ≡ Ok s
       → IsRecovered h rooms disks outs errs name new found
       → (log : LogState) × ((log_of h found ≡ Ok log) × KeepsItems s log))
 
   -- The item of a record that a run added is in each such log. Its index counts the entries before
   -- it, and is the one that `issue` prints.
   abbrev pub AddedEntriesStand : Type 0
-  AddedEntriesStand = OfCourses (λ name start first made links new. (settings : Settings)
+  AddedEntriesStand = OfCourses (λ name start first old links new. (settings : Settings)
       (list found : List Text) (body entry key : Text) (s : LogState)
       → start ≡ Log settings
-      → WasHeld h rooms disks outs errs name made links (list ++ body ∷ [])
+      → WasHeld h rooms disks outs errs name old links (list ++ body ∷ [])
       → log_of h list ≡ Ok s → item_in body ≡ Some (entry, key)
       → IsRecovered h rooms disks outs errs name new found
       → (log : LogState) × ((log_of h found ≡ Ok log)
       × HasItemAt (length s.entries) entry key log))
 
-  -- Each journal that a run made with status 0 or 6 is that of a node, as the laws of courses
-  -- suppose.
-  abbrev pub MadeOfNodes : Type 0
-  MadeOfNodes = (name first : Text) (old : R) (turn : Turn R O E) → rooms.tells old
-      → HasTurned h rooms disks outs errs old turn → (turn.status ≡ 0) ⊎ (turn.status ≡ 6)
-      → DidWith h rooms disks outs errs old turn name (started first)
-      → (start : NodeStart) × WasMade h rooms disks outs errs name start first turn.room
+  -- Each journal that a run made or opened is that of a node, as the laws of courses suppose.
+  abbrev pub JournalsAreOfNodes : Type 0
+  JournalsAreOfNodes = (name : Text) (old : R) (turn : Turn R O E) (list : List Text)
+      → rooms.tells old → HasTurned h rooms disks outs errs old turn
+      → HasHeld h rooms disks outs errs name old turn list
+      → (start : NodeStart) × ((first : Text)
+      × (StartsWith start first × AreOfNode h start first list))

@@ -7,8 +7,7 @@ use Rattle.journal_core.specs.Format.{StandsFor}
 use Rattle.mtc_io.specs.declared.sink.Sink.{Ghosts as Sinks}
 use Rattle.mtc_room.specs.Room.{Stays}
 use Rattle.mtc_room.specs.declared.room.Room.{Ghosts as Rooms}
-use Rattle.mtc_answers.specs.Made.{Journaled, appended, reads, started, images_at, images_since}
-use Rattle.mtc_answers.specs.Made.{moment_at}
+use Rattle.mtc_answers.specs.Made.{Journaled, appended, images_at, images_since, moment_at}
 use Rattle.mtc_answers.specs.Served.{Journals}
 use Rattle.node_history.specs.Laws.{LeadsTo, handed_bodies}
 use Rattle.node_history.specs.Nodes.{HistoryState}
@@ -42,12 +41,6 @@ pub data Link (R O E : Type 0) : Type 0 where
   cut : Turn R O E → R → Link R O E
   -- Other files are made, changed or taken away, as a request is between two runs.
   writes : R → Link R O E
-
-abbrev pub room_after : {R O E : Type 0} → Link R O E → R
-room_after (ran turn) = turn.room
-room_after (stops room) = room
-room_after (cut turn room) = room
-room_after (writes room) = room
 
 -- One of these journals has this name, and so it was worked on.
 abbrev pub AreAmong : Journals → Text → Journaled → Type 0
@@ -100,32 +93,39 @@ module _ {R S D O E : Type 0} (h : HashFunction) (rooms : Rooms R S D) (disks : 
     pub tells : rooms.tells old → rooms.tells new
     pub stays : Stays (rooms.file old) (rooms.file new) (rooms.device old) (rooms.device new) name
 
-  -- The link begins with this room, and is one of a course of the journal of this name.
-  abbrev pub IsLink : Text → R → Link R O E → Type 0
-  IsLink name old (ran turn) = HasTurned old turn
-  IsLink name old (stops new) = HasStopped (images_in old) old new
-  IsLink name old (cut turn new) =
-      HasTurned old turn × HasStopped (images_from old turn.room) turn.room new
-  IsLink name old (writes new) = HasWritten name old new
-
-  -- The links lead from one room to the other.
+  -- The links lead from one room to the other: a course of the journal of this name.
   abbrev pub IsCourse : Text → R → List (Link R O E) → R → Type 0
   IsCourse name old [] new = new ≡ old
-  IsCourse name old (link ∷ links) new =
-      IsLink name old link × IsCourse name (room_after link) links new
+  IsCourse name old (ran turn ∷ links) new =
+      HasTurned old turn × IsCourse name turn.room links new
+  IsCourse name old (stops room ∷ links) new =
+      HasStopped (images_in old) old room × IsCourse name room links new
+  IsCourse name old (cut turn room ∷ links) new =
+      (HasTurned old turn × HasStopped (images_from old turn.room) turn.room room)
+      × IsCourse name room links new
+  IsCourse name old (writes room ∷ links) new =
+      HasWritten name old room × IsCourse name room links new
 
-  -- This journal is there, and its one record is one with which such a node begins. A run made it,
-  -- and ended with status 0, or with 6: then standard output failed, and the journal is whole. Or a
-  -- run found it so, and ended without a failure of the room and with memory: the one that had made
-  -- it may have failed.
-  pub record WasMade (name : Text) (start : NodeStart) (first : Text) (made : R) : Type 0 where
-    pub old : R
+  -- The run opened or made the journal of this name, which then had these records, and ended
+  -- without a failure of the room and without want of memory.
+  pub record HasHeld (name : Text) (old : R) (turn : Turn R O E) (list : List Text)
+      : Type 0 where
+    pub did : Journaled
+    pub among : DidWith old turn name did
+    pub held : records_left did ≡ Some list
+    pub no_failure : turn.status ≢ 5
+    pub no_want : turn.status ≢ 8
+
+  -- The first link is a run that did so, and the first of the records is one with which such a node
+  -- begins.
+  pub record IsBegun (name : Text) (start : NodeStart) (first : Text) (old : R)
+      (links : List (Link R O E)) : Type 0 where
     pub tells : rooms.tells old
     pub turn : Turn R O E
-    pub turned : HasTurned old turn
-    pub leaves : turn.room ≡ made
-    pub did : (((turn.status ≡ 0) ⊎ (turn.status ≡ 6)) × DidWith old turn name (started first))
-        ⊎ ((turn.status ≢ 5) × (turn.status ≢ 8) × DidWith old turn name (reads (first ∷ [])))
+    pub later : List (Link R O E)
+    pub are : links ≡ ran turn ∷ later
+    pub others : List Text
+    pub held : HasHeld name old turn (first ∷ others)
     pub starts : StartsWith start first
 
   -- It is so of each run of the course, with the room in which it began.
@@ -140,17 +140,7 @@ module _ {R S D O E : Type 0} (h : HashFunction) (rooms : Rooms R S D) (disks : 
   abbrev pub IsRecovered : Text → R → List Text → Type 0
   IsRecovered name room list = (c : Text) × (images_in room name c × StandsFor c list)
 
-  -- The run opened or made the journal of this name, which then had these records, and ended
-  -- without a failure of the room and without want of memory.
-  pub record HasHeld (name : Text) (old : R) (turn : Turn R O E) (list : List Text)
-      : Type 0 where
-    pub did : Journaled
-    pub among : DidWith old turn name did
-    pub held : records_left did ≡ Some list
-    pub no_failure : turn.status ≢ 5
-    pub no_want : turn.status ≢ 8
-
-  -- A run of the course did so.
+  -- A run of the course opened or made the journal so.
   abbrev pub WasHeld : Text → R → List (Link R O E) → List Text → Type 0
   WasHeld name old [] list = ⊥
   WasHeld name old (ran turn ∷ links) list =
@@ -159,12 +149,12 @@ module _ {R S D O E : Type 0} (h : HashFunction) (rooms : Rooms R S D) (disks : 
   WasHeld name old (cut turn new ∷ links) list = WasHeld name new links list
   WasHeld name old (writes new ∷ links) list = WasHeld name new links list
 
-  -- The run added this record behind those, and a byte went out.
+  -- The run added this record behind those, and it did its work or a byte went out: the record is
+  -- handed out.
   abbrev pub HandsOut : Text → R → Turn R O E → List Text → Text → Type 0
-  HandsOut name old turn list body = DidWith old turn name (appended list body)
-      × TookSome (outs.taken turn.out) (outs.taken turn.out_after)
+  HandsOut name old turn list body = DidWith old turn name (appended list body) × IsHeard outs turn
 
-  -- These records went out in a run, each by a byte behind it: one that it added, or none.
+  -- These records are handed out in a run: one that it added, or none.
   abbrev pub WentOutBy : Text → R → Turn R O E → List Text → Type 0
   WentOutBy name old turn bodies = ((list : List Text) × ((body : Text)
       × ((bodies ≡ body ∷ []) × HandsOut name old turn list body)))
@@ -183,15 +173,15 @@ module _ {R S D O E : Type 0} (h : HashFunction) (rooms : Rooms R S D) (disks : 
 
   -- The journal of this name is that of a node at the end of a history, in which the records were
   -- handed out that went out in the course.
-  pub record IsReached (name : Text) (start : NodeStart) (first : Text) (made : R)
+  pub record IsReached (name : Text) (start : NodeStart) (first : Text) (old : R)
       (links : List (Link R O E)) (room : R) : Type 0 where
     pub steps : List NodeStep
     pub state : HistoryState
     pub leads : LeadsTo (may_follow h) (start ∷ []) steps 0 state
     pub stands : AllStandForNode state first (images_in room name)
-    pub handed : WentOut name made links (handed_bodies state)
+    pub handed : WentOut name old links (handed_bodies state)
 
-  -- A run of the course did so.
+  -- A run of the course handed the record out.
   abbrev pub WasHandedOut : Text → R → List (Link R O E) → List Text → Text → Type 0
   WasHandedOut name old [] list body = ⊥
   WasHandedOut name old (ran turn ∷ links) list body =

@@ -23,7 +23,7 @@ module _ {R S D O E : Type 0} (h : HashFunction) (rooms : Rooms R S D) (disks : 
   -- What went out is the export of a list with which the journal might have been recovered then. It
   -- has the ids of the settings and this public key. It is read as the steps of these records, each
   -- of which is allowed, and each step that was handed out before is among them.
-  pub record HasExported (settings : CosignerSettings) (public name : Text) (made : R)
+  pub record HasExported (settings : CosignerSettings) (public name : Text) (begun : R)
       (links : List (Link R O E)) (old : R) (turn : Turn R O E) : Type 0 where
     pub list : List Text
     pub recovered : IsRecovered h rooms disks outs errs name old list
@@ -38,14 +38,14 @@ module _ {R S D O E : Type 0} (h : HashFunction) (rooms : Rooms R S D) (disks : 
     pub allowed : export_progress h export ≡ Some progress
     pub steps : steps_in (drop 1 list) ≡ Some export.steps
     pub signed : (first : Text) (front : List Text) (body : Text) (step : Step)
-        → WasHandedOut h rooms disks outs errs name made links (first ∷ front) body
+        → WasHandedOut h rooms disks outs errs name begun links (first ∷ front) body
         → step_in body ≡ Some step → Contains export.steps step
 
   -- So it is of each run of `export` behind a course of a cosigner's journal that did its work, or
   -- of which a byte went out.
   abbrev pub ExportsHoldTheSteps : Type 0
-  ExportsHoldTheSteps = OfCourses h rooms disks outs errs (λ name start first made links new.
+  ExportsHoldTheSteps = OfCourses h rooms disks outs errs (λ name start first old links new.
       (settings : CosignerSettings) (public : Text) → start ≡ Cosigner settings public
       → (turn : Turn R O E) → HasTurned h rooms disks outs errs new turn
       → command_of turn.words ≡ Ok (export name) → IsHeard outs turn
-      → HasExported settings public name made links new turn)
+      → HasExported settings public name old links new turn)

@@ -59,17 +59,18 @@ GoesOn h n first end = StartsWith n.start first
 abbrev pub IsRecord : Journaled → Text → Type 0
 IsRecord did body = (list : List Text) × (did ≡ appended list body)
 
--- No byte went out behind a record.
+-- No record was added, or the command wasn't heard.
 abbrev pub NotHanded : Journaled → Type 0 → Type 0
-NotHanded did took = (body : Text) → IsRecord did body → took → ⊥
+NotHanded did heard = (body : Text) → IsRecord did body → heard → ⊥
 
--- The ends that a status allows. A record is handed out exactly where a byte went out behind it.
+-- The ends that a status allows. A record is handed out exactly where the command was heard: it did
+-- its work, or a byte of it went out.
 abbrev pub MayEnd : Journaled → ℕ → Type 0 → End → Type 0
-MayEnd did status took same = IsEarly status × NotHanded did took
-MayEnd did status took (stopped kept) = NotHanded did took
-MayEnd did status took (begun kept body) = IsRecord did body × (status ≡ 5) × (took → ⊥)
-MayEnd did status took (has_settled kept body) = IsRecord did body × (took → ⊥)
-MayEnd did status took (has_handed kept body) = IsRecord did body × took
+MayEnd did status heard same = IsEarly status × NotHanded did heard
+MayEnd did status heard (stopped kept) = NotHanded did heard
+MayEnd did status heard (begun kept body) = IsRecord did body × (status ≡ 5) × (heard → ⊥)
+MayEnd did status heard (has_settled kept body) = IsRecord did body × (heard → ⊥)
+MayEnd did status heard (has_handed kept body) = IsRecord did body × heard
 
 -- The records that a command leaves in its journal, where it opens it.
 abbrev pub records_left : Journaled → Option (List Text)
@@ -103,10 +104,10 @@ TookSome (Some old) (Some new) = length old < length new
 
 -- A command's end, over a state of the node for which each image before stands, with this first
 -- record.
-pub record EndsWell (h : HashFunction) (did : Journaled) (status : ℕ) (took : Type 0)
+pub record EndsWell (h : HashFunction) (did : Journaled) (status : ℕ) (heard : Type 0)
     (n : HistoryState) (first : Text) (now since : Images) : Type 0 where
   pub end : End
-  pub may : MayEnd did status took end
+  pub may : MayEnd did status heard end
   pub goes_on : GoesOn h n first end
   pub stands : AllStandForNode (end_state end n) first now
   pub each : (c : Text) → since c → IsNodeMoment h did n first c

@@ -1,32 +1,38 @@
 -- What goes out of `issue` and `cosign`, beside the request that they read and the record that they
 -- add, and what becomes of that record.
-use Rattle.std.specs.Prelude.{◌≡◌, List, [], ◌∷◌, ◌++◌, length, Some, Ok}
+use Rattle.std.specs.Prelude.{◌≡◌, ℕ, List, [], ◌∷◌, ◌++◌, length, Some, Ok, codes}
+use Rattle.std.specs.Fmt.{decimal}
 use Rattle.byte_forms.specs.Types.{HashFunction, Text}
 use Rattle.disk_core.specs.declared.disk.Disk.{Ghosts as Disks}
 use Rattle.mtc_io.specs.declared.sink.Sink.{Ghosts as Sinks}
 use Rattle.mtc_room.specs.declared.room.Room.{Ghosts as Rooms}
-use Rattle.mtc_words.specs.Commands.{CommandValue, cosign, issue}
+use Rattle.mtc_words.specs.Commands.{CommandValue, advance, cosign, export, init_cosigner, issue}
+use Rattle.mtc_words.specs.Commands.{keygen}
 use Rattle.mtc_words.specs.Words.{command_of}
 use Rattle.authority_core.specs.Files.{request_of}
 use Rattle.authority_core.specs.Issues.{issued_entry}
 use Rattle.authority_core.specs.Requests.{RequestParts}
+use Rattle.cosigner_core.specs.ExportReading.{export_in}
 use Rattle.cosigner_core.specs.Folds.{CosignerState, cosigner_of}
 use Rattle.cosigner_core.specs.Reading.{subtree_in}
 use Rattle.cosigner_core.specs.Records.{step_in}
 use Rattle.cosigner_core.specs.Requests.{SubtreeParts}
+use Rattle.cosigner_core.specs.declared.lists.Export.{Export}
 use Rattle.cosigner_core.specs.declared.step.Step.TheVariants.{Sign}
 use Rattle.issuance_log.specs.Folds.{LogState, log_of}
 use Rattle.issuance_log.specs.Records.{item_in}
 use Rattle.issuance_log.specs.Settings.{Settings}
 use Rattle.mtc_answers.specs.Made.{appended}
 use Rattle.mtc_cosigner.specs.CosignerOutcomes.{cosigned_text}
+use Rattle.mtc_cosigner.specs.KeygenOutcome.{lms_type, ots_type, public_line}
 use Rattle.mtc_logs.specs.IssueOutcome.{issued_text}
+use Rattle.mtc_logs.specs.Works.{IsLog}
 use Rattle.node_history.specs.Laws.{Begins, HasItemAt}
 use Rattle.node_history.specs.declared.start.NodeStart.TheVariants.{Log}
 use Rattle.mtc_top.specs.AuditLaws.{HoldsText}
 use Rattle.mtc_top.specs.CourseLaws.{OfCourses, UsesKey}
-use Rattle.mtc_top.specs.Courses.{Turn, DidWith, HasPrinted, HasTurned, IsHeard, IsRecovered}
-use Rattle.mtc_top.specs.Courses.{OfEachTurn}
+use Rattle.mtc_top.specs.Courses.{Turn, DidWith, HasHeld, HasPrinted, HasTurned, IsHeard}
+use Rattle.mtc_top.specs.Courses.{IsRecovered, OfEachTurn}
 
 module _ {R S D O E : Type 0} (h : HashFunction) (rooms : Rooms R S D) (disks : Disks D)
     (outs : Sinks O) (errs : Sinks E) where
@@ -64,6 +70,25 @@ module _ {R S D O E : Type 0} (h : HashFunction) (rooms : Rooms R S D) (disks : 
         ≡ Some (Sign state.key.next request.start request.end request.hash request.proof)
     pub printed : HasPrinted outs turn (cosigned_text state request)
 
+  -- What a command says that is given a secret, in a file or in a cosigner's journal. `cosign` says
+  -- a signature, and has added its record. `advance` says a size, `export` an export, and those
+  -- that are given the secret as a file say its public key. No other command is given one: each
+  -- journal that it opens or makes is a log's.
+  abbrev pub Says : CommandValue → R → Turn R O E → Type 0
+  Says (cosign name file) old turn = HasCosigned name file old turn
+  Says (advance name file) old turn =
+      (size : ℕ) × HasPrinted outs turn (codes "advanced " ++ (decimal size ++ codes "\n"))
+  Says (export name) old turn = (text : Text) × ((kept : Export)
+      × ((export_in h text ≡ Ok (Some kept)) × HasPrinted outs turn text))
+  Says (init_cosigner name id log height width file) old turn = (secret : Text)
+      × (HoldsText (rooms.file old) file 16777216 secret
+      × HasPrinted outs turn (public_line (lms_type height) (ots_type width) secret))
+  Says (keygen height width file) old turn = (secret : Text)
+      × (HoldsText (rooms.file old) file 16777216 secret
+      × HasPrinted outs turn (public_line (lms_type height) (ots_type width) secret))
+  Says other old turn = (name : Text) (list : List Text)
+      → HasHeld h rooms disks outs errs name old turn list → IsLog h list
+
   -- So it is of each run by this command that did its work, or of which a byte went out.
   abbrev pub OfHeard : CommandValue → (R → Turn R O E → Type 0) → R → Turn R O E → Type 0
   OfHeard command P old turn = command_of turn.words ≡ Ok command → IsHeard outs turn → P old turn
@@ -80,6 +105,11 @@ module _ {R S D O E : Type 0} (h : HashFunction) (rooms : Rooms R S D) (disks : 
   SignaturesArePrinted = (name file : Text)
       → OfEachRun (OfHeard (cosign name file) (HasCosigned name file))
 
+  -- No other command than `cosign` says a signature by a key of a cosigner.
+  abbrev pub OnlyCosignSigns : Type 0
+  OnlyCosignSigns = (command : CommandValue) (old : R) (turn : Turn R O E) → rooms.tells old
+      → HasTurned h rooms disks outs errs old turn → OfHeard command (Says command) old turn
+
   -- The entry is at its index, with its key, in the log of these records.
   pub record IsInLog (name file : Text) (old : R) (turn : Turn R O E) (found : List Text)
       : Type 0 where
@@ -91,17 +121,17 @@ module _ {R S D O E : Type 0} (h : HashFunction) (rooms : Rooms R S D) (disks : 
 
   -- Of each run of a course: so it is of each log with which the journal may be recovered.
   abbrev pub IssuedEntriesStand : Type 0
-  IssuedEntriesStand = OfCourses h rooms disks outs errs (λ name start first made links new.
+  IssuedEntriesStand = OfCourses h rooms disks outs errs (λ name start first old links new.
       (settings : Settings) (file : Text) (found : List Text) → start ≡ Log settings
       → IsRecovered h rooms disks outs errs name new found
       → OfEachTurn h rooms disks outs errs (OfHeard (issue name file) (λ old turn.
-      IsInLog name file old turn found)) made links)
+      IsInLog name file old turn found)) old links)
 
   -- Of each run of a course: the record of the signature, behind those that were there, begins each
   -- list with which the journal may be recovered.
   abbrev pub SignaturesStand : Type 0
-  SignaturesStand = OfCourses h rooms disks outs errs (λ name start first made links new.
+  SignaturesStand = OfCourses h rooms disks outs errs (λ name start first old links new.
       (file : Text) (found : List Text) → IsRecovered h rooms disks outs errs name new found
       → OfEachTurn h rooms disks outs errs (OfHeard (cosign name file) (λ old turn.
       (signed : HasCosigned name file old turn)
-      × Begins (signed.list ++ signed.body ∷ []) found)) made links)
+      × Begins (signed.list ++ signed.body ∷ []) found)) old links)

@@ -10,26 +10,26 @@ use Rattle.node_history.specs.Nodes.{HistoryState}
 use Rattle.node_history.specs.Rules.{may_follow}
 use Rattle.node_history.specs.declared.start.NodeStart.{NodeStart}
 use Rattle.node_history.specs.declared.step.NodeStep.{NodeStep}
-use Rattle.mtc_top.specs.Courses.{Link, IsCourse, WasMade, WentOut, images_in}
+use Rattle.mtc_top.specs.Courses.{Link, IsBegun, IsCourse, WentOut, images_in}
 use Rattle.mtc_top.specs.Nodes.{AllStandForNode}
 
 module _ {R S D O E : Type 0} (h : HashFunction) (rooms : Rooms R S D) (disks : Disks D)
     (outs : Sinks O) (errs : Sinks E) (room : R) where
-  -- A run made this journal, and a course behind it led to the room.
+  -- A course of this journal led to the room.
   pub record IsJournalOf : Type 0 where
     pub name : Text
     pub start : NodeStart
     pub first : Text
-    pub made : R
+    pub old : R
     pub links : List (Link R O E)
-    pub was : WasMade h rooms disks outs errs name start first made
-    pub course : IsCourse h rooms disks outs errs name made links room
+    pub begun : IsBegun h rooms disks outs errs name start first old links
+    pub course : IsCourse h rooms disks outs errs name old links room
 
   -- Each image of the journal stands for the state, which handed out what went out.
   pub record StandsSo (journal : IsJournalOf) (state : HistoryState) : Type 0 where
     pub stands : AllStandForNode state journal.first
         (images_in h rooms disks outs errs room journal.name)
-    pub handed : WentOut h rooms disks outs errs journal.name journal.made journal.links
+    pub handed : WentOut h rooms disks outs errs journal.name journal.old journal.links
         (handed_bodies state)
 
   -- So it is of each journal and its state.

@@ -25,6 +25,10 @@ module _ {R S D O E : Type 0} (h : HashFunction) (rooms : Rooms R S D) (disks : 
   abbrev pub took : Type 0
   took = TookSome (outs.taken out) (outs.taken out')
 
+  -- It did its work, or a byte of it went out.
+  abbrev pub is_heard : ℕ → Type 0
+  is_heard status = (status ≡ 0) ⊎ took
+
   -- What went out is a front of the text of a reply that is asked for, and the whole of it with
   -- another status than 6, which is the reply's. With each journal the run did what was asked.
   pub record Heard (status : ℕ) : Type 0 where
@@ -65,15 +69,16 @@ module _ {R S D O E : Type 0} (h : HashFunction) (rooms : Rooms R S D) (disks : 
     -- It ends in one of five ways, for each state and first record for which all images stood
     -- before.
     pub ends : (n : HistoryState) (first : Text) → AllStandForNode n first (images_before name)
-        → EndsWell h did status took n first (images_after name) (images_between name)
+        → EndsWell h did status (is_heard status) n first (images_after name)
+        (images_between name)
     -- What the room tells of the file stands for each state for which all images stand.
     pub as_read : (n : HistoryState) (first : Text) → AllStandForNode n first (images_after name)
         → IfSome (rooms.file new name) (StandsForNode n first)
     -- Time goes on.
     pub later : moment_at disks (rooms.device old name) ≤ moment_at disks (rooms.device new name)
-    -- Where a byte went out each image holds the record.
-    pub recorded : (list : List Text) (body : Text) → did ≡ appended list body → took
-        → (c : Text) → images_after name c → StandsFor c (list ++ body ∷ [])
+    -- Where it did its work or a byte went out, each image holds the record.
+    pub recorded : (list : List Text) (body : Text) → did ≡ appended list body
+        → is_heard status → (c : Text) → images_after name c → StandsFor c (list ++ body ∷ [])
     -- A new journal that was made is that of a node that has begun with this record, and no more.
     pub begins : (status ≡ 0) ⊎ (status ≡ 6) → (body : Text) → did ≡ started body
         → (start : NodeStart) → AllStandForNode (fresh_node start) body (images_after name)

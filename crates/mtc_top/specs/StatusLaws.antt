@@ -52,7 +52,7 @@ module _ {R S D O E : Type 0} (h : HashFunction) (rooms : Rooms R S D) (disks : 
   -- So it is of each run with status 2 that opens the journal behind a course of it. A command that
   -- has no input never ends so.
   abbrev pub MisreadFilesAreInputs : Type 0
-  MisreadFilesAreInputs = OfCourses h rooms disks outs errs (λ name start first made links new.
+  MisreadFilesAreInputs = OfCourses h rooms disks outs errs (λ name start first old links new.
       (command : CommandValue) (turn : Turn R O E) → Opens start name command
       → HasTurned h rooms disks outs errs new turn → command_of turn.words ≡ Ok command
       → turn.status ≡ 2 → IsAboutInput command new turn)

@@ -3,10 +3,10 @@
 
 ghost use Rattle.mtc_top.specs.AuditLaws.{AuditsStand};
 ghost use Rattle.mtc_top.specs.CourseLaws.{AddedEntriesStand, CoursesAreHistories, EntriesStand};
-ghost use Rattle.mtc_top.specs.CourseLaws.{HandedOutStand, JournalsAreRead, KeysSignOnce};
-ghost use Rattle.mtc_top.specs.CourseLaws.{KeysSignOneMessage, MadeOfNodes, RecoveredListsGrow};
+ghost use Rattle.mtc_top.specs.CourseLaws.{HandedOutStand, JournalsAreOfNodes, JournalsAreRead};
+ghost use Rattle.mtc_top.specs.CourseLaws.{KeysSignOnce, KeysSignOneMessage, RecoveredListsGrow};
 ghost use Rattle.mtc_top.specs.ExportLaws.{ExportsHoldTheSteps};
-ghost use Rattle.mtc_top.specs.PrintLaws.{IndicesArePrinted, IssuedEntriesStand};
+ghost use Rattle.mtc_top.specs.PrintLaws.{IndicesArePrinted, IssuedEntriesStand, OnlyCosignSigns};
 ghost use Rattle.mtc_top.specs.PrintLaws.{SignaturesArePrinted, SignaturesStand};
 ghost use Rattle.mtc_top.specs.RoomLaws.{JournalsAreOneHistory};
 ghost use Rattle.mtc_top.specs.RunLaws.{FrontsAreRuns, RunsShow, RunsAreSteps};
@@ -31,30 +31,30 @@ pub fn runs_may_lose_their_text<H: TreeHash, R: Room, O: Sink, E: Sink>()
     ensures { FrontsAreRuns H.hash R.Room R.Dsk.Disk O.Sink E.Sink }
 {}
 
-/// Behind the run that made a journal, or found it new, whatever runs there are by any words,
-/// wherever they fail, and wherever the machine stops between two runs or in the middle of one:
-/// what became of the journal is a history of its node.
+/// From a run on that made or opened a journal, whatever runs there are by any words, wherever they
+/// fail, and wherever the machine stops between two runs or in the middle of one: what became of
+/// the journal is a history of its node.
 pub fn courses_are_histories<H: TreeHash, R: Room, O: Sink, E: Sink>()
     ensures { CoursesAreHistories H.hash R.Room R.Dsk.Disk O.Sink E.Sink }
 {}
 
-/// Whatever journals a room has, each behind the run that made it: what became of all of them is
-/// one history of their nodes.
+/// Whatever journals a room has, each from a run on that made or opened it: what became of all of
+/// them is one history of their nodes.
 pub fn courses_make_one_history<H: TreeHash, R: Room, O: Sink, E: Sink>()
     ensures { JournalsAreOneHistory H.hash R.Room R.Dsk.Disk O.Sink E.Sink }
 {}
 
 /// In no course two records of a cosigner's journal have the number of the same one-time key: the
-/// i-th Sign record of a journal that may be recovered, counted from 0, has the number i. Where
-/// bytes of two cosignatures by one key of the journal went out, both are of one record, and so of
-/// one message.
+/// i-th Sign record of a journal that may be recovered, counted from 0, has the number i. Where two
+/// cosignatures by one key of the journal were handed out, both are of one record, and so of one
+/// message.
 pub fn no_one_time_key_signs_twice<H: TreeHash, R: Room, O: Sink, E: Sink>()
     ensures records { KeysSignOnce H.hash R.Room R.Dsk.Disk O.Sink E.Sink }
     ensures messages { KeysSignOneMessage H.hash R.Room R.Dsk.Disk O.Sink E.Sink }
 {}
 
-/// Where a byte of a cosignature, or of what else stands for a record, went out, each journal that
-/// may be recovered afterwards holds that record, behind those that were there.
+/// Where a run that added a record did its work, or a byte of it went out, each journal that may be
+/// recovered afterwards holds that record, behind those that were there.
 pub fn what_was_handed_out_stands<H: TreeHash, R: Room, O: Sink, E: Sink>()
     ensures { HandedOutStand H.hash R.Room R.Dsk.Disk O.Sink E.Sink }
 {}
@@ -73,10 +73,10 @@ pub fn entries_keep_their_places<H: TreeHash, R: Room, O: Sink, E: Sink>()
     ensures added { AddedEntriesStand H.hash R.Room R.Dsk.Disk O.Sink E.Sink }
 {}
 
-/// Each journal that a run made with status 0 or 6 is that of a log or a cosigner, so the laws of
-/// courses are of each of them.
-pub fn made_journals_are_of_nodes<H: TreeHash, R: Room, O: Sink, E: Sink>()
-    ensures { MadeOfNodes H.hash R.Room R.Dsk.Disk O.Sink E.Sink }
+/// Each journal that a run made or opened is that of a log or a cosigner, so the laws of courses
+/// are of each of them, from that run on.
+pub fn journals_are_of_nodes<H: TreeHash, R: Room, O: Sink, E: Sink>()
+    ensures { JournalsAreOfNodes H.hash R.Room R.Dsk.Disk O.Sink E.Sink }
 {}
 
 /// No journal that a course has reached is refused: what a crash may leave of it, and what the room
@@ -113,10 +113,13 @@ pub fn audits_stand<H: TreeHash, R: Room, O: Sink, E: Sink>()
 /// added, and its request is what the file says that its words name. What goes out of `issue` is
 /// the index of the entry, which counts those before it. What goes out of `cosign` is the signature
 /// by the one-time key whose number the record has, over the interval and the hash of the request.
-/// It is the whole with status 0; with 6, the one other status, it is a front.
+/// It is the whole with status 0; with 6, the one other status, it is a front. No other command
+/// that is given a secret says a signature by it: it says a size, an export or a public key. And
+/// those that are given none open logs alone.
 pub fn printed_texts_are_of_their_records<H: TreeHash, R: Room, O: Sink, E: Sink>()
     ensures indices { IndicesArePrinted H.hash R.Room R.Dsk.Disk O.Sink E.Sink }
     ensures signatures { SignaturesArePrinted H.hash R.Room R.Dsk.Disk O.Sink E.Sink }
+    ensures secrets { OnlyCosignSigns H.hash R.Room R.Dsk.Disk O.Sink E.Sink }
 {}
 
 /// So it is in each course of a journal, and what is said of the record stays so. Each entry of
@@ -130,15 +133,15 @@ pub fn printed_texts_stand<H: TreeHash, R: Room, O: Sink, E: Sink>()
 
 /// The promise as a whole. In no course a one-time key of a journal signs two messages. Each byte
 /// that goes out of `cosign` is of the signature by the key whose number its record has, over what
-/// the request file asks for. That record, as each behind which a byte went out, is in each list
-/// with which its journal may be recovered. Where a store accepts a certificate by a signature that
-/// was handed out so, or by a landmark, a run of `audit` over the wanted list, and over an export
-/// that was printed behind the signature, prints that the entry stands, or two different strings
-/// with one hash. Or it ends with status 5, 6 or 8.
+/// the request file asks for, and no other command says a signature by such a key. That record, as
+/// each that was handed out, is in each list with which its journal may be recovered. Where a store
+/// accepts a certificate by a signature that was handed out so, or by a landmark, a run of `audit`
+/// over the wanted list, and over an export that was printed behind the signature, prints that the
+/// entry stands, or two different strings with one hash. Or it ends with status 5, 6 or 8.
 pub fn the_whole_promise<H: TreeHash, R: Room, O: Sink, E: Sink>()
     ensures once { KeysSignOnce H.hash R.Room R.Dsk.Disk O.Sink E.Sink }
     ensures messages { KeysSignOneMessage H.hash R.Room R.Dsk.Disk O.Sink E.Sink }
     ensures stand { HandedOutStand H.hash R.Room R.Dsk.Disk O.Sink E.Sink }
-    ensures signatures { SignaturesStand H.hash R.Room R.Dsk.Disk O.Sink E.Sink }
+    ensures signatures { OnlyCosignSigns H.hash R.Room R.Dsk.Disk O.Sink E.Sink }
     ensures audits { AuditsStand H.hash R.Room R.Dsk.Disk O.Sink E.Sink }
 {}

@@ -1,22 +1,25 @@
 use Rattle.mtc_top.proofs.Audits.{audits_stand}
-use Rattle.mtc_top.proofs.PrintedStands.{signatures_stand}
 use Rattle.mtc_top.proofs.Recovered.{handed_stand, keys_once, one_message}
+use Rattle.mtc_top.proofs.Secrets.{only_cosign}
 use Rattle.mtc_top.proofs.laws.the_whole_promise.Goals as goal
 
 pub returns-clause-once : goal.returns-clause-once
 returns-clause-once g c = keys_once g.H.TreeHash.hash g.R.Room g.R.Dsk.Disk g.O.Sink g.E.Sink
     g.met.R.Dsk.Disk.reads_image g.met.R.Dsk.Disk.only_now g.met.R.Room.told_file
+    g.met.R.Dsk.Disk.told_bytes
 
 pub returns-clause-messages : goal.returns-clause-messages
 returns-clause-messages g c = one_message g.H.TreeHash.hash g.R.Room g.R.Dsk.Disk g.O.Sink g.E.Sink
     g.met.R.Dsk.Disk.reads_image g.met.R.Dsk.Disk.only_now g.met.R.Room.told_file
+    g.met.R.Dsk.Disk.told_bytes
 
 pub returns-clause-stand : goal.returns-clause-stand
 returns-clause-stand g c = handed_stand g.H.TreeHash.hash g.R.Room g.R.Dsk.Disk g.O.Sink g.E.Sink
     g.met.R.Dsk.Disk.reads_image g.met.R.Dsk.Disk.only_now g.met.R.Room.told_file
+    g.met.R.Dsk.Disk.told_bytes
 
 pub returns-clause-signatures : goal.returns-clause-signatures
-returns-clause-signatures g c = signatures_stand g.H.TreeHash.hash g.R.Room g.R.Dsk.Disk g.O.Sink
+returns-clause-signatures g c = only_cosign g.H.TreeHash.hash g.R.Room g.R.Dsk.Disk g.O.Sink
     g.E.Sink g.met.R.Dsk.Disk.reads_image g.met.R.Dsk.Disk.only_now g.met.R.Room.told_file
     g.met.R.Dsk.Disk.told_bytes
 
