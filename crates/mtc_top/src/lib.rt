@@ -9,6 +9,7 @@
 mod finish;
 mod laws;
 mod refused_words;
+mod stopping;
 mod top;
 
 pub use laws::{
@@ -19,4 +20,5 @@ pub use laws::{
     the_whole_promise, what_was_handed_out_stands,
 };
 pub use mtc_room::{MemRoom, Room, RoomError};
+pub use stopping::stop_leaving;
 pub use top::run;

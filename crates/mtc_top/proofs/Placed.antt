@@ -1,0 +1,56 @@
+-- A file that is placed in a room in memory has one image, and so each file has where the others
+-- had one.
+use Rattle.std.proofs.Common.{◌≡◌, ◌≢◌, ℕ, true, false, Bool, List}
+use Rattle.std.proofs.Common.{Option, None, Some, refl, sym, subst, ◌∙◌}
+use Rattle.std.proofs.Common.{true≢false}
+use Rattle.std.proofs.lemmas.Slice.Eq.{bytes_eq-Decides}
+use Rattle.std.specs.Option.{IsSomeAnd}
+use Rattle.std.specs.Str.{bytes_eq}
+use Rattle.disk_core.specs.Memory.{IsFresh, failing_of, first_of, images_of}
+use Rattle.disk_core.specs.contracts.memory.mem_disk.MemDiskDisk.TheImpl.{ghosts}
+use Rattle.disk_core.specs.Replay.{IsImage, run, settled}
+use Rattle.disk_core.specs.declared.disk.Disk.{Ghosts as Disks}
+use Rattle.disk_core.specs.declared.memory.call.Made.{Made}
+use Rattle.disk_core.specs.declared.memory.mem_disk.MemDisk.{MemDisk}
+use Rattle.mtc_answers.specs.Made.{images_at}
+
+pub fresh_left : (left c : List ℕ) (d : MemDisk) → IsFresh left d → images_of d c → c ≡ left
+fresh_left left c d fresh is =
+    subst (λ (calls : List Made). IsImage (run (settled (first_of d)) calls) c) fresh.calls is
+    ∙ fresh.first
+
+-- what a crash may leave of a file that was placed
+pub one_left : (x : Option MemDisk) (left : List ℕ) (failing : List ℕ)
+    → IsSomeAnd x (λ d. IsFresh left d × (failing_of d ≡ failing)) → (c : List ℕ)
+    → images_at ghosts x c → c ≡ left
+one_left None left failing placed c is = absurd placed
+one_left (Some d) left failing placed c is = fresh_left left c d placed.0 is
+
+module _ {D : Type 0} (g : Disks D) (old new : List ℕ → Option D) (name left : List ℕ)
+    (may : images_at g (old name) left)
+    (one : (c : List ℕ) → images_at g (new name) c → c ≡ left)
+    (others : (other : List ℕ) → other ≢ name → new other ≡ old other)
+    (settle : (other : List ℕ) → other ≢ name → (c : List ℕ) × (images_at g (old other) c
+    × ((d : List ℕ) → images_at g (old other) d → d ≡ c))) where
+  -- the one image of a file
+  pub record IsLeft (n : List ℕ) : Type 0 where
+    pub image : List ℕ
+    pub was : images_at g (old n) image
+    pub only : (c : List ℕ) → images_at g (new n) c → c ≡ image
+
+  pub left_at : (n : List ℕ) → IsLeft n
+  left_at n = go (bytes_eq n name) refl
+    where
+      go : (b : Bool) → bytes_eq n name ≡ b → IsLeft n
+      go true is = subst IsLeft (sym ((bytes_eq-Decides n name).0 is))
+          (record { image = left; was = may; only = one })
+      go false is =
+          let differ : n ≢ name
+          = λ same. absurd (true≢false (sym ((bytes_eq-Decides n name).1 same) ∙ is)) in
+          let found = settle n differ in
+          record {
+            image = found.0;
+            was = found.1.0;
+            only = λ c there. found.1.1 c
+                (subst (λ (x : Option D). images_at g x c) (others n differ) there);
+          }
