@@ -1,6 +1,6 @@
 use Rattle.disk_core.specs.contracts.memory.mem_disk.MemDiskDisk.TheImpl.{ghosts}
 use Rattle.mtc_room.specs.Memory.{disk_in}
-use Rattle.mtc_top.proofs.Placed.{IsLeft, left_at, one_left}
+use Rattle.mtc_top.proofs.Placed.{left_at, one_left}
 use Rattle.mtc_top.proofs.stopping.stop_leaving.Goals as goal
 
 pub returns : goal.returns
