@@ -39,7 +39,8 @@ is_fleet h number stops p f is made same =
       second = drilled h number 3 (drill_of number) p.second f.second is.second made.second;
       third = drilled h number 4 (drill_of number) p.third f.third is.third made.third;
       few = few;
-      certs = subst (λ (list : List Text). AreWritten h list (drill_of number).written)
+      certs = subst (λ (list : List Text). AreWritten h number list (drill_of number).written)
           (sym made.certs) is.certs;
+      verified = made.verified ∙ is.verified;
       stopped = made.stopped ∙ same;
     }

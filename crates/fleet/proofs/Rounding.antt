@@ -1,82 +1,36 @@
 -- From round to round.
-use Rattle.std.proofs.Common.{◌≡◌, ◌∙◌, ◌+◌, ◌*◌, ◌≤◌, ℕ, zero, suc, List, [], ◌∷◌, ◌++◌, length}
-use Rattle.std.proofs.Common.{Option, Some, None, refl, sym, ap, subst, arith, add-one}
-use Rattle.std.proofs.lemmas.List.{length-append}
+use Rattle.std.proofs.Common.{◌≡◌, ◌∙◌, ◌+◌, ◌*◌, ◌≤◌, ℕ, suc, List, [], ◌∷◌, ◌++◌, length}
+use Rattle.std.proofs.Common.{◌<◌, Option, Some, None, refl, sym, ap, subst, arith}
+use Rattle.std.specs.Prelude.{pos}
 use Rattle.byte_forms.specs.Types.{HashFunction, Text}
 use Rattle.tree_core.specs.Tree.{tree_hash}
 use Rattle.issuance_log.specs.Folds.{LogState}
 use Rattle.cosigner_core.specs.Folds.{CosignerState}
 use Rattle.cosigner_core.specs.declared.checkpoint.Checkpoint.{Checkpoint}
-use Rattle.authority_core.specs.Issues.{issued_log}
+use Rattle.policy_core.specs.Judgement.{judgement}
+use Rattle.policy_core.specs.declared.store.Store.{Store}
 use Rattle.fleet.specs.CosignerNodes.{most_of}
-use Rattle.fleet.specs.Entries.{entries_to, keys_to, log_with, request_for}
+use Rattle.fleet.specs.Entries.{entries_to, log_with}
 use Rattle.fleet.specs.Played.{AreWithin, AreWritten, HasCertified, HasPlayed, HasSignedAll}
 use Rattle.fleet.specs.Played.{IsAfter, IsCosignerWithin, IsWrittenOf, Shown, all_holding}
 use Rattle.fleet.specs.Played.{checkpoint_after, holding_all, issued_to, mark_shown}
+use Rattle.fleet.specs.Played.{signatures_by}
+use Rattle.fleet.specs.Stores.{IsAcceptedByAll, drill_store, one_accepted}
 use Rattle.fleet.specs.Rounds.{Drill, behind_round, marks_behind, stops_in, stops_of, three_turns}
 use Rattle.fleet.specs.declared.round.Round.{Round}
 use Rattle.fleet.specs.declared.turns.Stop.{Stop}
 use Rattle.fleet.specs.declared.turns.Three.{Three}
-
--- ---- entries
-
-pub entries_length : (h : HashFunction) (size : ℕ) → length (entries_to h size) ≡ size
-unfolding entries_to
-entries_length h zero = refl
-entries_length h (suc size) =
-    let before = entries_length h size in grind (arith, length-append, before)
-
-one_more : (h : HashFunction) (before : ℕ) (marks : List ℕ)
-    → issued_log h (log_with h (suc before) marks) (request_for (suc before))
-    ≡ log_with h (suc (suc before)) marks
-unfolding entries_to keys_to
-one_more h before marks = refl
-
-next_issued : (h : HashFunction) (t : LogState) (before : ℕ) (marks : List ℕ)
-    → t ≡ log_with h (suc before) marks
-    → issued_log h t (request_for (length t.entries)) ≡ log_with h (suc (suc before)) marks
-next_issued h t before marks same =
-    subst (λ (u : LogState). issued_log h u (request_for (length u.entries))
-    ≡ log_with h (suc (suc before)) marks) (sym same)
-    (subst (λ (k : ℕ). issued_log h (log_with h (suc before) marks) (request_for k)
-    ≡ log_with h (suc (suc before)) marks) (sym (entries_length h (suc before)))
-    (one_more h before marks))
-
-pub issued_is : (h : HashFunction) (count before size : ℕ) (marks : List ℕ)
-    → size ≡ suc before + count
-    → issued_to h count (log_with h (suc before) marks) ≡ log_with h size marks
-unfolding issued_to
-issued_is h zero before size marks same =
-    let equal : suc before ≡ size = omega arith in ap (λ (k : ℕ). log_with h k marks) equal
-issued_is h (suc count) before size marks same =
-    let last : suc (suc (before + count)) ≡ size = omega arith in
-    let earlier : suc (before + count) ≡ suc before + count = omega arith in
-    next_issued h (issued_to h count (log_with h (suc before) marks)) (before + count) marks
-    (issued_is h count before (suc (before + count)) marks earlier)
-    ∙ ap (λ (k : ℕ). log_with h k marks) last
-
--- one entry more
-pub issued_next : (h : HashFunction) (count : ℕ) (s t u : LogState) → t ≡ issued_to h count s
-    → u ≡ issued_log h t (request_for (length t.entries)) → u ≡ issued_to h (count + 1) s
-unfolding issued_to
-issued_next h count s t u before now =
-    rw (add-one count) (now ∙ ap (λ (x : LogState). issued_log h x
-    (request_for (length x.entries))) before)
-
-pub issued_length : (h : HashFunction) (count : ℕ) (s : LogState)
-    → length (issued_to h count s).entries ≡ length s.entries + count
-unfolding issued_to
-issued_length h zero s = omega arith
-issued_length h (suc count) s =
-    let before = issued_length h count s in grind (arith, length-append, before)
+use Rattle.fleet.proofs.EntryCounts.{entries_length, issued_is}
+use Rattle.fleet.proofs.Judged.{is_accepted}
 
 -- ---- the parts of a round
 
 -- nodes of which each part is known
 pub all_are : (h : HashFunction) (log : LogState) (p q : Shown) → q.log ≡ log
     → q.first ≡ holding_all h log p.first → q.second ≡ holding_all h log p.second
-    → q.third ≡ holding_all h log p.third → q.certs ≡ p.certs → q ≡ all_holding h log p
-all_are h log p q log_is first second third certs =
+    → q.third ≡ holding_all h log p.third → q.store ≡ p.store → q.certs ≡ p.certs
+    → q.verified ≡ p.verified → q ≡ all_holding h log p
+all_are h log p q log_is first second third store certs verified =
     ap (λ (x : LogState). record q { log = x }) log_is
     ∙ ap (λ (x : CosignerState). record q { log = log; first = x }) first
     ∙ ap (λ (x : CosignerState). record q {
@@ -90,7 +44,16 @@ all_are h log p q log_is first second third certs =
       second = holding_all h log p.second;
       third = x;
     }) third
-    ∙ ap (λ (x : List Text). record (all_holding h log p) { certs = x }) certs
+    ∙ ap (λ (x : Store). record (all_holding h log p) {
+      store = x;
+      certs = q.certs;
+      verified = q.verified;
+    }) store
+    ∙ ap (λ (x : List Text). record (all_holding h log p) {
+      certs = x;
+      verified = q.verified;
+    }) certs
+    ∙ ap (λ (x : ℕ). record (all_holding h log p) { verified = x }) verified
 
 -- the cosigner holds all of the log
 held_all : (h : HashFunction) (number last count size : ℕ) (marks : List ℕ) (held : Checkpoint)
@@ -121,7 +84,9 @@ all_held h number count size marks held most written before log p is same = reco
   second = held_all h number 3 count size marks held log p.second same is.second;
   third = held_all h number 4 count size marks held log p.third same is.third;
   few = is.few;
+  store = is.store;
   certs = is.certs;
+  verified = is.verified;
 }
 
 -- a landmark is set, or none
@@ -138,7 +103,9 @@ all_marked h number count size marks held most written (Some turn) p is = record
   second = is.second;
   third = is.third;
   few = is.few;
+  store = is.store;
   certs = is.certs;
+  verified = is.verified;
 }
 
 -- the cosigner has signed
@@ -170,13 +137,15 @@ most_three (Some x) (Some y) None = refl
 most_three (Some x) (Some y) (Some z) = refl
 
 -- one certificate more
-one_written : (h : HashFunction) (certs : List Text) (written : List (ℕ × ℕ)) (cert : Text)
-    (w : ℕ × ℕ) → AreWritten h certs written → IsWrittenOf h (log_with h w.1 []) w.0 cert
-    → AreWritten h (certs ++ cert ∷ []) (written ++ w ∷ [])
-one_written h [] [] cert w are is = (is, tt)
-one_written h [] (v ∷ vs) cert w are is = absurd are
-one_written h (c ∷ cs) [] cert w are is = absurd are
-one_written h (c ∷ cs) (v ∷ vs) cert w are is = (are.0, one_written h cs vs cert w are.1 is)
+one_written : (h : HashFunction) (number : ℕ) (certs : List Text) (written : List (ℕ × ℕ))
+    (cert : Text) (w : ℕ × ℕ) → AreWritten h number certs written
+    → IsWrittenOf h (log_with h w.1 []) w.0 cert → IsAcceptedByAll h number w.0 w.1 cert
+    → AreWritten h number (certs ++ cert ∷ []) (written ++ w ∷ [])
+one_written h number [] [] cert w are is accepted = ((is, accepted), tt)
+one_written h number [] (v ∷ vs) cert w are is accepted = absurd are
+one_written h number (c ∷ cs) [] cert w are is accepted = absurd are
+one_written h number (c ∷ cs) (v ∷ vs) cert w are is accepted =
+    (are.0, one_written h number cs vs cert w are.1 is accepted)
 
 written_of : (h : HashFunction) (size index : ℕ) (marks : List ℕ) (log : LogState) (cert : Text)
     → log ≡ log_with h size marks → IsWrittenOf h log index cert
@@ -184,31 +153,52 @@ written_of : (h : HashFunction) (size index : ℕ) (marks : List ℕ) (log : Log
 written_of h size index marks log cert same is =
     subst (λ (l : LogState). IsWrittenOf h (record l { marks = [] }) index cert) same is
 
+-- it was counted
+one_counted : (h : HashFunction) (number index size : ℕ) (store : Store) (cert : Text)
+    → store ≡ drill_store number → IsAcceptedByAll h number index size cert
+    → one_accepted (judgement h cert store (pos 1767225600)) ≡ 1
+one_counted h number index size store cert same accepted =
+    ap (λ (s : Store). one_accepted (judgement h cert s (pos 1767225600))) same
+    ∙ ap one_accepted accepted
+
 -- the certificate of the round is written
 pub all_certified : (h : HashFunction) (number count size most : ℕ) (marks : List ℕ)
     (held : Checkpoint) (written : List (ℕ × ℕ)) (index : ℕ) (turns : Three) (p q : Shown)
     → AreWithin h number count size marks held most written p
-    → HasCertified h index turns p q
+    → HasCertified h index turns p q → 1 ≤ index → index < size → size ≤ 64
     → AreWithin h number (suc count) size marks held
     (most + 3 + stops_in (three_turns turns)) (written ++ (index, size) ∷ []) q
-all_certified h number count size most marks held written index turns p q is done =
-    let a = done.first.1.few in
-    let b = done.second.1.few in
-    let c = done.third.1.few in
+all_certified h number count size most marks held written index turns p q is done some below small =
+    let a = done.first.few in
+    let b = done.second.few in
+    let c = done.third.few in
     let three = most_three turns.first turns.second turns.third in
     let few = is.few in
+    let before = is.verified in
+    let now = done.verified in
+    let accepted : IsAcceptedByAll h number index size done.cert =
+    is_accepted h number count size most marks held written index turns p q is done some below
+    small in
+    let one : one_accepted (judgement h done.cert p.store (pos 1767225600)) ≡ 1 =
+    one_counted h number index size p.store done.cert is.store accepted in
     record {
       log = done.log ∙ is.log;
-      first = has_signed h number 2 count held p.log turns.first p.first q.first done.first.0
-          is.first done.first.1;
+      first = has_signed h number 2 count held p.log turns.first p.first q.first done.one
+          is.first done.first;
       second = has_signed h number 3 count held p.log turns.second p.second q.second
-          done.second.0 is.second done.second.1;
-      third = has_signed h number 4 count held p.log turns.third p.third q.third done.third.0
-          is.third done.third.1;
+          done.two is.second done.second;
+      third = has_signed h number 4 count held p.log turns.third p.third q.third done.three
+          is.third done.third;
       few = omega arith;
-      certs = subst (λ (list : List Text). AreWritten h list (written ++ (index, size) ∷ []))
-          (sym done.certs) (one_written h p.certs written done.cert (index, size) is.certs
-          (written_of h size index marks p.log done.cert is.log done.written));
+      store = done.store ∙ is.store;
+      certs = subst (λ (list : List Text). AreWritten h number list (written ++ (index, size) ∷ []))
+          (sym done.certs) (one_written h number p.certs written done.cert (index, size) is.certs
+          (written_of h size index marks p.log done.cert is.log (
+            signatures_by p done.one
+                done.two done.three,
+            done.written,
+          )) accepted);
+      verified = omega (arith, before, now, one);
     }
 
 more_keys : (h : HashFunction) (number count size : ℕ) (marks : List ℕ) (held : Checkpoint)
@@ -223,15 +213,18 @@ more_keys h number count size marks held most many written p more is =
       second = is.second;
       third = is.third;
       few = omega arith;
+      store = is.store;
       certs = is.certs;
+      verified = is.verified;
     }
 
 -- ---- a round
 
 pub after_one : (h : HashFunction) (number count before : ℕ) (d : Drill) (r : Round) (next : ℕ)
     (p q : Shown) → d.size ≡ suc before → IsAfter h number count d p → HasPlayed h r p q
+    → 1 ≤ r.index → r.index < d.size + length r.entries → d.size + length r.entries ≤ 64
     → IsAfter h number (suc count) (behind_round d r next) q
-after_one h number count before d r next p q some is played =
+after_one h number count before d r next p q some is played first below small =
     let size : ℕ = d.size + length r.entries in
     let log : LogState = issued_to h (length r.entries) p.log in
     let length_is : size ≡ suc before + length r.entries = omega arith in
@@ -247,7 +240,7 @@ after_one h number count before d r next p q some is played =
     let done = all_certified h number count size (3 * count + d.stops)
     (marks_behind d.marks r.landmark size)
     (record { size = size; root = tree_hash h (entries_to h size) }) d.written r.index r.signs
-    (mark_shown r.landmark (all_holding h log p)) q set played in
+    (mark_shown r.landmark (all_holding h log p)) q set played first below small in
     let more : 3 * count + d.stops + 3 + stops_in (three_turns r.signs)
     ≤ 3 * suc count + (d.stops + stops_of r) = omega arith in
     more_keys h number (suc count) size (marks_behind d.marks r.landmark size)

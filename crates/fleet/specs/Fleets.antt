@@ -22,6 +22,7 @@ pub record IsHandedOut (h : HashFunction) (p : Shown) (stops : ℕ) (f : Fleet) 
   pub third : IsCosignerDisk h p.third f.third
   pub certs : f.certs ≡ p.certs
   pub stopped : f.stops ≡ stops
+  pub verified : f.verified ≡ p.verified
 
 -- The disk of a cosigner behind a drill: all that a crash may leave of it stands for records that
 -- make this cosigner, which has this id and secret. It holds all of the log, and has signed in each
@@ -39,7 +40,8 @@ pub record IsDrilled (h : HashFunction) (number last : ℕ) (d : Drill) (s : Cos
 -- What the drill with a number hands out. All that a crash may leave of the log's disk stands for
 -- records that make the log with the entries and the landmarks that are drawn; likewise the disks
 -- of the three cosigners. Together these have used no more than 48 one-time keys and one for each
--- stop. Each certificate is of the index and the size that are drawn.
+-- stop. Each certificate is of the index and the size that are drawn, and is accepted by all three
+-- cosigners, as was counted.
 pub record IsFleet (h : HashFunction) (number : ℕ) (f : Fleet) : Type 0 where
   pub log : IsLogDisk h (log_with h (drill_of number).size (drill_of number).marks) f.log
   pub one : CosignerState
@@ -49,7 +51,8 @@ pub record IsFleet (h : HashFunction) (number : ℕ) (f : Fleet) : Type 0 where
   pub second : IsDrilled h number 3 (drill_of number) two f.second
   pub third : IsDrilled h number 4 (drill_of number) three f.third
   pub few : one.key.next + two.key.next + three.key.next ≤ 48 + (drill_of number).stops
-  pub certs : AreWritten h f.certs (drill_of number).written
+  pub certs : AreWritten h number f.certs (drill_of number).written
+  pub verified : f.verified ≡ 16
   pub stopped : f.stops ≡ (drill_of number).stops
 
 -- A drill with a number, behind so many rounds: the number for the next draw, the stops so far, and
@@ -59,4 +62,5 @@ pub record IsStanding (h : HashFunction) (number count x stops : ℕ) (p : Shown
   pub stops_are : stops ≡ (after_rounds count (begun number)).stops
   pub few : stops ≤ 10 * count
   pub some : 1 ≤ (after_rounds count (begun number)).size
+  pub small : (after_rounds count (begun number)).size ≤ 1 + 3 * count
   pub after : IsAfter h number count (after_rounds count (begun number)) p

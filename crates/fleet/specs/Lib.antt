@@ -11,3 +11,4 @@ pub mod Played
 pub mod Views
 pub mod Fleets
 pub mod Trios
+pub mod Stores

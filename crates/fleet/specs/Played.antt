@@ -1,24 +1,29 @@
 -- What a round makes of the nodes of a drill.
 use Rattle.std.specs.Prelude.{◌≡◌, ◌+◌, ◌*◌, ◌<◌, ◌≤◌, ◌^◌, ℕ, zero, suc, List, [], ◌∷◌, ◌++◌}
-use Rattle.std.specs.Prelude.{length}
+use Rattle.std.specs.Prelude.{length, pos}
 use Rattle.std.specs.Prelude.{Option, Some, None}
+use Rattle.std.specs.List.{flat_map}
 use Rattle.byte_forms.specs.Types.{HashFunction, Text}
 use Rattle.hss_core.specs.Hss.{Verifies, one_level_public}
 use Rattle.lmots_core.specs.declared.parameters.OtsType.TheVariants.{W4}
 use Rattle.lms_core.specs.declared.heights.LmsType.TheVariants.{H5}
 use Rattle.lms_core.specs.Trees.{private_key}
 use Rattle.mtc_proof.specs.Inputs.{signed_text}
+use Rattle.mtc_proof.specs.Proofs.{SigParts, signature_text}
 use Rattle.tree_core.specs.Tree.{tree_hash}
 use Rattle.issuance_log.specs.Folds.{LogState, with_mark}
 use Rattle.cosigner_core.specs.Checkpoints.{empty_checkpoint}
 use Rattle.cosigner_core.specs.Folds.{CosignerState, holding}
 use Rattle.cosigner_core.specs.declared.checkpoint.Checkpoint.{Checkpoint}
+use Rattle.policy_core.specs.Judgement.{judgement}
+use Rattle.policy_core.specs.declared.store.Store.{Store}
 use Rattle.authority_core.specs.Certificates.{IsWritten}
 use Rattle.authority_core.specs.Issues.{issued_log}
 use Rattle.fleet.specs.CosignerNodes.{most_of, secret_of}
 use Rattle.fleet.specs.Entries.{drill_log_id, entries_to, id_of, log_with}
 use Rattle.fleet.specs.Entries.{request_for}
 use Rattle.fleet.specs.Rounds.{Drill}
+use Rattle.fleet.specs.Stores.{IsAcceptedByAll, StoresAcceptNow, drill_store, one_accepted}
 use Rattle.fleet.specs.declared.round.Round.{Round}
 use Rattle.fleet.specs.declared.turns.Stop.{Stop}
 use Rattle.fleet.specs.declared.turns.Three.{Three}
@@ -49,13 +54,16 @@ pub record HasSignedAll (h : HashFunction) (log : LogState) (turn : Option Stop)
 
 -- ---- the nodes of a drill, and what they have made so far
 
--- the log, the three cosigners and the certificates so far
+-- the log, the three cosigners, the store of the relying party, the certificates so far, and how
+-- many of them were accepted
 pub record Shown : Type 0 where
   pub log : LogState
   pub first : CosignerState
   pub second : CosignerState
   pub third : CosignerState
+  pub store : Store
   pub certs : List Text
+  pub verified : ℕ
 
 -- all cosigners hold all of this log
 abbrev pub all_holding : HashFunction → LogState → Shown → Shown
@@ -64,7 +72,9 @@ all_holding h log p = record {
   first = holding_all h log p.first;
   second = holding_all h log p.second;
   third = holding_all h log p.third;
+  store = p.store;
   certs = p.certs;
+  verified = p.verified;
 }
 
 -- a landmark more, if there is one
@@ -75,7 +85,9 @@ mark_shown (Some turn) p = record {
   first = p.first;
   second = p.second;
   third = p.third;
+  store = p.store;
   certs = p.certs;
+  verified = p.verified;
 }
 
 -- The bytes are a certificate of the log's entry at an index, in the subtree of all its entries.
@@ -83,19 +95,35 @@ abbrev pub IsWrittenOf : HashFunction → LogState → ℕ → Text → Type 0
 IsWrittenOf h s index bytes =
     (signatures : Text) × IsWritten h s index 0 (length s.entries) signatures bytes
 
--- The cosigners have signed all of the log, and there is one certificate more.
+-- the signatures of the cosigners, one behind the other
+abbrev pub signed_by_three : Shown → Text → Text → Text → List SigParts
+signed_by_three p one two three =
+    record { cosigner = p.first.id; signature = one }
+    ∷ record { cosigner = p.second.id; signature = two }
+    ∷ record { cosigner = p.third.id; signature = three } ∷ []
+
+abbrev pub signatures_by : Shown → Text → Text → Text → Text
+signatures_by p one two three = flat_map signature_text (signed_by_three p one two three)
+
+-- The cosigners have signed all of the log, and there is one certificate more, with their
+-- signatures. It was judged.
 pub record HasCertified (h : HashFunction) (index : ℕ) (turns : Three) (old new : Shown)
     : Type 0 where
   pub log : new.log ≡ old.log
-  pub first : (signature : Text)
-      × HasSignedAll h old.log turns.first old.first new.first signature
-  pub second : (signature : Text)
-      × HasSignedAll h old.log turns.second old.second new.second signature
-  pub third : (signature : Text)
-      × HasSignedAll h old.log turns.third old.third new.third signature
+  pub store : new.store ≡ old.store
+  pub one : Text
+  pub two : Text
+  pub three : Text
+  pub first : HasSignedAll h old.log turns.first old.first new.first one
+  pub second : HasSignedAll h old.log turns.second old.second new.second two
+  pub third : HasSignedAll h old.log turns.third old.third new.third three
   pub cert : Text
   pub certs : new.certs ≡ old.certs ++ cert ∷ []
-  pub written : IsWrittenOf h old.log index cert
+  pub written : IsWritten h old.log index 0 (length old.log.entries)
+      (signatures_by old one two three) cert
+  pub accepts : StoresAcceptNow h old.log index (signatures_by old one two three) cert
+  pub verified : new.verified
+      ≡ old.verified + one_accepted (judgement h cert old.store (pos 1767225600))
 
 -- A round was played.
 abbrev pub HasPlayed : HashFunction → Round → Shown → Shown → Type 0
@@ -119,20 +147,22 @@ pub record IsCosignerWithin (number last count : ℕ) (checkpoint : Checkpoint) 
   pub key : s.key.key ≡ private_key H5 W4 (secret_of last number)
   pub signed : count ≤ s.key.next
 
--- Each certificate is of the index and the size of its round.
-abbrev pub AreWritten : HashFunction → List Text → List (ℕ × ℕ) → Type 0
-AreWritten h [] [] = Unit {0}
-AreWritten h [] (w ∷ ws) = ⊥
-AreWritten h (cert ∷ certs) [] = ⊥
-AreWritten h (cert ∷ certs) (w ∷ ws) =
-    IsWrittenOf h (log_with h w.1 []) w.0 cert × AreWritten h certs ws
+-- Each certificate is of the index and the size of its round, and is accepted by all cosigners.
+abbrev pub AreWritten : HashFunction → ℕ → List Text → List (ℕ × ℕ) → Type 0
+AreWritten h number [] [] = Unit {0}
+AreWritten h number [] (w ∷ ws) = ⊥
+AreWritten h number (cert ∷ certs) [] = ⊥
+AreWritten h number (cert ∷ certs) (w ∷ ws) =
+    (IsWrittenOf h (log_with h w.1 []) w.0 cert × IsAcceptedByAll h number w.0 w.1 cert)
+    × AreWritten h number certs ws
 
 -- how many one-time keys are used
 abbrev pub used_keys : Shown → ℕ
 used_keys p = p.first.key.next + p.second.key.next + p.third.key.next
 
 -- The nodes within a drill: the log has so many entries and these landmarks, the cosigners hold
--- this, have signed so often, and have used so many one-time keys at most.
+-- this, have signed so often, and have used so many one-time keys at most. The relying party has
+-- accepted a certificate of each round.
 pub record AreWithin (h : HashFunction) (number count size : ℕ) (marks : List ℕ)
     (held : Checkpoint) (most : ℕ) (written : List (ℕ × ℕ)) (p : Shown) : Type 0 where
   pub log : p.log ≡ log_with h size marks
@@ -140,7 +170,9 @@ pub record AreWithin (h : HashFunction) (number count size : ℕ) (marks : List 
   pub second : IsCosignerWithin number 3 count held p.second
   pub third : IsCosignerWithin number 4 count held p.third
   pub few : used_keys p ≤ most
-  pub certs : AreWritten h p.certs written
+  pub store : p.store ≡ drill_store number
+  pub certs : AreWritten h number p.certs written
+  pub verified : p.verified ≡ count
 
 -- The nodes behind so many rounds of the drill with a number, which stands so.
 abbrev pub IsAfter : HashFunction → ℕ → ℕ → Drill → Shown → Type 0

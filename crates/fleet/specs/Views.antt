@@ -12,5 +12,7 @@ shown nodes = record {
   first = cosigner_shown nodes.trio.first;
   second = cosigner_shown nodes.trio.second;
   third = cosigner_shown nodes.trio.third;
+  store = nodes.store;
   certs = nodes.certs.items;
+  verified = nodes.verified;
 }

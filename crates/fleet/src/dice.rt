@@ -1,6 +1,6 @@
 //! The draws of a drill.
 
-ghost use Rattle.std.specs.Prelude.{◌≡◌, ◌<◌, ◌^◌, ◌≤◌, length, IfOk};
+ghost use Rattle.std.specs.Prelude.{◌≡◌, ◌+◌, ◌<◌, ◌^◌, ◌≤◌, length, IfOk};
 ghost use Rattle.fleet.specs.Draws.{draw, landmark, number_behind, round, stop_drawn, three, turn};
 ghost use Rattle.fleet.specs.Draws.{turns};
 
@@ -112,6 +112,7 @@ impl Dice {
         ensures drawn { IfOk result (λ r. (r, self.new.number) ≡ round size self.old.number) }
         ensures some { IfOk result (λ r. 1 ≤ length r.entries) }
         ensures few { IfOk result (λ r. length r.entries ≤ 3) }
+        ensures index { IfOk result (λ r. (1 ≤ r.index) × (r.index < size + length r.entries)) }
     {
         let count = 1 + self.draw(3);
         Ok(Round {

@@ -25,6 +25,7 @@ fn handed_out<H: TreeHash>(nodes: FleetNodes<H>, stops: u64) -> Fleet
         second: nodes.trio.second.cosigner.into_disk(),
         third: nodes.trio.third.cosigner.into_disk(),
         certs: Certs::from_vec(nodes.certs),
+        verified: nodes.verified,
         stops,
         light,
     }
@@ -37,7 +38,8 @@ fn go_on<H: TreeHash>(
     nodes: FleetNodes<H>,
     stops: u64,
 ) -> Result<(FleetNodes<H>, u64), Memory>
-    requires { stops ≤ 150 }
+    requires few_stops { stops ≤ 150 }
+    requires few_rounds { nodes.verified ≤ 15 }
     ensures { IfOk result (λ x. (number count : ℕ)
         → IsStanding H.hash number count dice.old.number stops (shown nodes)
         → IsStanding H.hash number (count + 1) dice.new.number x.1 (shown x.0)) }

@@ -25,6 +25,7 @@ mod nodes;
 mod play;
 mod requests;
 mod round;
+mod store;
 mod tree;
 mod trio;
 mod turns;

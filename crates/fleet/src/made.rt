@@ -36,8 +36,9 @@ impl Certs {
 }
 
 /// What a drill has made: the devices of the log and of the cosigners `32473.2`, `32473.3` and
-/// `32473.4`, the certificates of its rounds, the number of stops, and the number of certificates
-/// without signatures that were accepted.
+/// `32473.4`, the certificates of its rounds, how many of them were accepted by all three
+/// cosigners, the number of stops, and the number of certificates without signatures that were
+/// accepted.
 #[derive(Debug, Drop)]
 pub struct Fleet {
     pub log: MemDisk,
@@ -45,6 +46,7 @@ pub struct Fleet {
     pub second: MemDisk,
     pub third: MemDisk,
     pub certs: Certs,
+    pub verified: u64,
     pub stops: u64,
     pub light: u64,
 }

@@ -7,15 +7,19 @@ ghost use Rattle.fleet.specs.LogNodes.{log_shown};
 use crate::cosigner_trio::Trio;
 use crate::log_node::LogNode;
 use mtc_io::Bytes;
+use policy_core::Store;
 use tree_core::TreeHash;
 
-/// The log and its cosigners, which hold no more than it has; the certificates of the rounds, and
-/// those without signatures that were accepted.
+/// The log and its cosigners, which hold no more than it has; the store of a relying party that
+/// knows them; the certificates of the rounds, and how many of them it accepted by all cosigners;
+/// and the certificates without signatures that were accepted.
 #[derive(Drop)]
 pub(crate) struct FleetNodes<H: TreeHash> {
     pub(crate) log: LogNode<H>,
     pub(crate) trio: Trio<H>,
+    pub(crate) store: Store,
     pub(crate) certs: Vec<Bytes>,
+    pub(crate) verified: u64,
     pub(crate) light: Vec<Bytes>,
     ghost first_holds: { (cosigner_shown trio.first).held.size
         ≤ length (log_shown log).entries },

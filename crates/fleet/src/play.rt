@@ -1,10 +1,12 @@
 //! A round of a drill.
 
 ghost use Rattle.std.specs.Prelude.{◌≡◌, ◌≤◌, [], ◌∷◌, ◌++◌, length, IfOk};
+ghost use Rattle.authority_core.specs.Certificates.{IsWritten};
 ghost use Rattle.fleet.specs.LogNodes.{log_shown};
-ghost use Rattle.fleet.specs.Played.{HasCertified, HasPlayed, IsAfter, IsWrittenOf, all_holding};
-ghost use Rattle.fleet.specs.Played.{issued_to, mark_shown};
+ghost use Rattle.fleet.specs.Played.{HasCertified, HasPlayed, IsAfter, all_holding, issued_to};
+ghost use Rattle.fleet.specs.Played.{mark_shown};
 ghost use Rattle.fleet.specs.Rounds.{begun};
+ghost use Rattle.fleet.specs.Stores.{StoresAcceptNow};
 ghost use Rattle.fleet.specs.Views.{shown};
 
 use crate::cosigner_trio::Trio;
@@ -12,8 +14,9 @@ use crate::light::light_certificate;
 use crate::log_node::LogNode;
 use crate::nodes::FleetNodes;
 use crate::round::Round;
+use crate::store::one_accepted;
 use crate::turns::{Three, Turn, Turns};
-use authority_core::cert;
+use authority_core::{cert, entries_say_what_was_asked};
 use mtc_io::{Bytes, Memory};
 use mtc_proof::check_signatures;
 use std::alloc::Global;
@@ -51,8 +54,12 @@ fn certificate<H: TreeHash>(
     signatures: &Bytes,
 ) -> Result<(LogNode<H>, Bytes), Memory>
     ensures same { IfOk result (λ x. log_shown x.0 ≡ log_shown log) }
-    ensures written { IfOk result (λ x. IsWrittenOf H.hash (log_shown log) index x.1) }
+    ensures written { IfOk result (λ x. IsWritten H.hash (log_shown log) index 0
+        (length (log_shown log).entries) signatures.now x.1) }
+    ensures accepts { IfOk result (λ x. StoresAcceptNow H.hash (log_shown log) index
+        signatures.now x.1) }
 {
+    entries_say_what_was_asked();
     let mut inner = log.log;
     let size = inner.size();
     if check_signatures(signatures.as_slice()).is_err() {
@@ -71,12 +78,15 @@ impl<H: TreeHash> FleetNodes<H> {
     {
         let log = LogNode::create(alloc)?;
         let trio = Trio::create(alloc, number)?;
+        let store = trio.store(alloc)?;
         let certs = Vec::new(alloc);
         let light = Vec::new(alloc);
         Ok(FleetNodes {
             log,
             trio,
+            store,
             certs,
+            verified: 0,
             light,
         })
     }
@@ -93,7 +103,9 @@ impl<H: TreeHash> FleetNodes<H> {
         Ok(FleetNodes {
             log,
             trio,
+            store: self.store,
             certs: self.certs,
+            verified: self.verified,
             light: self.light,
         })
     }
@@ -108,7 +120,9 @@ impl<H: TreeHash> FleetNodes<H> {
         Ok(FleetNodes {
             log,
             trio: self.trio,
+            store: self.store,
             certs: self.certs,
+            verified: self.verified,
             light,
         })
     }
@@ -124,25 +138,30 @@ impl<H: TreeHash> FleetNodes<H> {
     }
 
     // Each cosigner signs all of the log, and the certificate of an entry is written with the
-    // signatures.
+    // signatures and judged.
     fn certify(self, alloc: Global, index: u64, turns: &Three) -> Result<FleetNodes<H>, Memory>
+        requires { self.verified ≤ 15 }
         ensures { IfOk result (λ it. HasCertified H.hash index turns.now (shown self) (shown it)) }
     {
         let mut signatures = Bytes::new(alloc);
         let (trio, log) = self.trio.cosign(alloc, self.log, turns, &mut signatures)?;
         let (log, bytes) = certificate(alloc, log, index, &signatures)?;
+        let verified = self.verified + one_accepted::<H>(&bytes, &self.store);
         let certs = with_cert(self.certs, bytes)?;
         Ok(FleetNodes {
             log,
             trio,
+            store: self.store,
             certs,
+            verified,
             light: self.light,
         })
     }
 
     /// Plays a round.
     pub(crate) fn play(self, alloc: Global, round: &Round) -> Result<FleetNodes<H>, Memory>
-        requires { 1 ≤ length round.now.entries }
+        requires some { 1 ≤ length round.now.entries }
+        requires few { self.verified ≤ 15 }
         ensures { IfOk result (λ it. HasPlayed H.hash round.now (shown self) (shown it)) }
     {
         let grown = self.grow(alloc, &round.entries, &round.advances)?;

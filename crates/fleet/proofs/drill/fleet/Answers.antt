@@ -11,6 +11,11 @@ loop-round-init g c = subst (λ (x : ℕ). IsStanding g.H.TreeHash.hash c.args.n
     (standing_first g.H.TreeHash.hash c.args.number (shown c.in_ok-nodes.nodes)
     c.in_ok-nodes.ensures)
 
+pub go_on-requires-clause-few_rounds : goal.go_on-requires-clause-few_rounds
+go_on-requires-clause-few_rounds g c =
+    let counted = c.loop-round.invariant.after.verified in
+    omega (arith, counted, c.loop-round-test.true)
+
 pub returns : goal.returns
 returns g c =
     let all : c.loop-round._round ≡ 16 =

@@ -1,5 +1,5 @@
 use Rattle.fleet.specs.LogNodes.{log_shown}
-use Rattle.fleet.proofs.Rounding.{issued_next}
+use Rattle.fleet.proofs.EntryCounts.{issued_next}
 use Rattle.fleet.proofs.log_node.LogNode.issue_all.Goals as goal
 
 pub loop-turn-preserved : goal.loop-turn-preserved

@@ -4,7 +4,8 @@ use Rattle.fleet.specs.CosignerViews.{cosigner_shown}
 use Rattle.fleet.specs.LogNodes.{log_shown}
 use Rattle.fleet.specs.Played.{holding_all, issued_to}
 use Rattle.fleet.specs.Views.{shown}
-use Rattle.fleet.proofs.Rounding.{all_are, issued_length}
+use Rattle.fleet.proofs.EntryCounts.{issued_length}
+use Rattle.fleet.proofs.Rounding.{all_are}
 use Rattle.fleet.proofs.nodes.FleetNodes.grow.Goals as goal
 
 pub advance-requires-clause-first : goal.advance-requires-clause-first
@@ -45,4 +46,4 @@ returns g c =
     ∙ ap (λ (l : LogState). holding_all h l (cosigner_shown c.args.self.trio.second)) same)
     (held.third
     ∙ ap (λ (l : LogState). holding_all h l (cosigner_shown c.args.self.trio.third)) same)
-    refl
+    refl refl refl
