@@ -220,7 +220,7 @@ RECORD = ["pwrite64 j", "fsync j", "pwrite64 j", "fsync j"]
 
 
 def check_order(folder, _kills):
-    """A journal is locked, its end is written again, it and its folder are synced, and only then it is read or written"""
+    """A journal is locked, its end is written again, it and its folder are synced, and only then its records are read and written"""
     if not can_trace(folder):
         folder.notes.append("left out: strace isn't here, or may not trace")
         return
