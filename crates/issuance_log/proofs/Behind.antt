@@ -110,7 +110,7 @@ begins_so h first s bodies is =
 some_is : (s t : LogState) → Some s ≡ Some t → s ≡ t
 some_is s t is = cc
 
-when : (b : Bool) (s t : LogState) → (if b then Some s else None) ≡ Some t → s ≡ t
+pub when : (b : Bool) (s t : LogState) → (if b then Some s else None) ≡ Some t → s ≡ t
 when true s t is = some_is s t is
 when false s t is = let wrong : None ≡ Some t = is in absurd cc
 

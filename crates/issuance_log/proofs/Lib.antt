@@ -5,4 +5,5 @@ pub mod Ids
 pub mod Leaves
 mod Readings
 mod Rules
+mod Shown
 mod Spelled

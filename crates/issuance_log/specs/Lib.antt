@@ -7,5 +7,7 @@ pub mod Refusals
 pub mod Results
 pub mod Rules
 pub mod Settings
+pub mod Shown
 pub mod Sound
+pub mod Staying
 pub mod Words

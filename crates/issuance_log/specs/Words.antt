@@ -3,7 +3,7 @@ use Rattle.std.specs.Prelude.{◌≡◌, ℕ, ◌+◌, ◌≤◌, Bool, true, fa
 use Rattle.std.specs.Prelude.{Option, option_map, IfSome, Result, Ok, Err, OnOk}
 use Rattle.byte_forms.specs.Types.{Text}
 use Rattle.mtc_io.specs.Counts.{Rose}
-use Rattle.disk_core.specs.Moments.{LeavesOnly}
+use Rattle.disk_core.specs.Moments.{LeavesOnly, Looks}
 use Rattle.disk_core.specs.declared.disk.Disk.{Ghosts}
 use Rattle.tree_core.specs.declared.hashing.TreeHash.{Ghosts as Hashes}
 use Rattle.journal_core.specs.Format.{StandsForEither}
@@ -11,6 +11,7 @@ use Rattle.journal_core.specs.Words.{disk_of, end_of, is_broken, records, AllSta
 use Rattle.journal_core.specs.declared.journal.Journal.{Journal}
 use Rattle.journal_core.specs.declared.error.AppendError.TheVariants as append_error
 use Rattle.issuance_log.specs.Folds.{LogState, LogView, view_in}
+use Rattle.issuance_log.specs.Shown.{shown_with}
 use Rattle.issuance_log.specs.declared.error.LogError.{LogError}
 use Rattle.issuance_log.specs.declared.error.LogError.TheVariants.{Full, TooLarge, NoSuchEntry}
 use Rattle.issuance_log.specs.declared.error.LogError.TheVariants.{NothingNew, Append, Memory}
@@ -42,6 +43,20 @@ module _ {H D : Type 0} {hashes : Hashes H} {g : Ghosts D} where
   -- what its refusals look at
   abbrev pub view_of : Log H D hashes g → LogView
   view_of log = view_in (log_state log)
+
+  -- The log as its disk tells it, where it does: what it shows over every disk, with the first
+  -- items in the records.
+  abbrev pub told_state : Log H D hashes g → Option LogState
+  told_state log = option_map (shown_with (view_of log)) (log_records log)
+
+  -- The disk was only looked at. The log shows what it showed, with the same records and the same
+  -- end, and is broken where it was.
+  pub record LogStays (old new : Log H D hashes g) : Type 0 where
+    pub looks : Looks g (log_disk old) (log_disk new)
+    pub state : log_state new ≡ log_state old
+    pub records : log_records new ≡ log_records old
+    pub end : log_end new ≡ log_end old
+    pub broken : log_broken new ≡ log_broken old
 
   -- no call of the disk, and the log is as it was
   pub record LogIsUntouched (old new : Log H D hashes g) : Type 0 where

@@ -1,15 +1,17 @@
 //! Laws of a log's records: the clauses are the laws, and the functions do nothing.
 
-ghost use Rattle.std.specs.Prelude.{◌≡◌, ◌<◌, ◌^◌, ℕ, List, ◌∷◌, Some, Ok};
+ghost use Rattle.std.specs.Prelude.{◌≡◌, ◌<◌, ◌≤◌, ◌^◌, ℕ, List, [], ◌∷◌, ◌++◌, length, Some, Ok};
 ghost use Rattle.byte_forms.specs.Types.{Text, HashFunction};
 ghost use Rattle.byte_forms.specs.Places.{IsBytes};
 ghost use Rattle.journal_core.specs.Format.{StandsFor};
-ghost use Rattle.issuance_log.specs.Folds.{LogState, begun_log, next_log, log_behind, log_of};
+ghost use Rattle.issuance_log.specs.Folds.{LogState, LogView, begun_log, next_log, log_behind};
+ghost use Rattle.issuance_log.specs.Folds.{log_of, view_in};
 ghost use Rattle.issuance_log.specs.Openings.{FoundLog, log_read};
 ghost use Rattle.issuance_log.specs.Records.{IsShort, entry_record, item_in, landmark_record};
 ghost use Rattle.issuance_log.specs.Records.{mark_in, settings_in};
 ghost use Rattle.issuance_log.specs.Rules.{IsFirst, IsNext};
 ghost use Rattle.issuance_log.specs.Settings.{Settings};
+ghost use Rattle.issuance_log.specs.Shown.{recorded_items, shown_with};
 
 /// The body of an Entry is read as the entry and the key that it spells, and only what is spelled
 /// so is read.
@@ -48,6 +50,16 @@ pub fn logs_are_read_from_their_journals()
     ensures only { (h : HashFunction) (bytes : Text) (found : FoundLog) → IsBytes bytes
         → log_read h bytes ≡ Ok found
         → StandsFor bytes found.records × (log_of h found.records ≡ Ok found.state) }
+{}
+
+/// A log that records make is what it shows over every disk, with the first items in the records.
+/// It stays so where a record more stands behind them.
+pub fn records_tell_the_items()
+    ensures whole { (h : HashFunction) (list : List Text) (s : LogState) → log_of h list ≡ Ok s
+        → shown_with (view_in s) list ≡ s }
+    ensures longer { (v : LogView) (list : List Text) (body : Text)
+        → v.size ≤ length (recorded_items list)
+        → shown_with v (list ++ body ∷ []) ≡ shown_with v list }
 {}
 
 /// Records make a log exactly where the first one has settings, and the others may stand behind

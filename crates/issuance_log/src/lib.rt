@@ -30,7 +30,7 @@ pub use error::{LogError, LogOpenError, LogRefused};
 pub use following::may_follow;
 pub use laws::{
     items_are_read_as_spelled, landmarks_are_read_as_spelled, logs_are_read_from_their_journals,
-    logs_begin_with_their_settings, records_keep_to_the_rules,
+    logs_begin_with_their_settings, records_keep_to_the_rules, records_tell_the_items,
 };
 pub use log::Log;
 pub use settings::{LogSettings, MOST_ACTIVE, MOST_ENTRIES};

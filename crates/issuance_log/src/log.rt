@@ -6,7 +6,7 @@ ghost use Rattle.std.proofs.Props.{props};
 ghost use Rattle.disk_core.specs.Moments.{Looks};
 ghost use Rattle.journal_core.specs.Format.{StandsFor, end_behind};
 ghost use Rattle.journal_core.specs.Words.{is_broken, records, AllStandFor};
-ghost use Rattle.issuance_log.specs.Folds.{log_of, with_item, with_mark};
+ghost use Rattle.issuance_log.specs.Folds.{log_of, view_in, with_item, with_mark};
 ghost use Rattle.log_entry.specs.Matching.{matches};
 ghost use Rattle.tree_core.specs.Tree.{leaf_hash};
 ghost use Rattle.issuance_log.specs.Openings.{LogCountsNoOther, HasLogCause, log_read};
@@ -15,6 +15,7 @@ ghost use Rattle.issuance_log.specs.Records.{entry_record, landmark_record};
 ghost use Rattle.issuance_log.specs.Settings.{AreAllowed};
 ghost use Rattle.issuance_log.specs.Refusals.{add_refusal, ItemKeepsTo, mark_refusal, MarkKeepsTo};
 ghost use Rattle.issuance_log.specs.Refusals.{item_at, GivesItem};
+ghost use Rattle.issuance_log.specs.Shown.{shown_with};
 ghost use Rattle.issuance_log.specs.Sound.{IsSound};
 
 use crate::contents::Contents;
@@ -42,6 +43,8 @@ pub struct Log<H: TreeHash, D: Disk> {
     contents: Contents<H>,
     ghost agrees: { is_broken journal ≡ false → IfSome (records journal)
         (λ list. log_of H.TreeHash.hash list ≡ Ok contents.state) } by { Prim.hlevel props },
+    ghost shown: { IfSome (records journal) (λ list.
+        shown_with (view_in contents.state) list ≡ contents.state) } by { Prim.hlevel props },
 }
 
 // The same bytes into an empty byte string, which stays empty where memory is refused.
@@ -55,7 +58,8 @@ fn copy(bytes: &Bytes, out: &mut Bytes) -> Result<(), Memory>
 
 impl<H: TreeHash, D: Disk> Log<H, D> {
     ghost use Rattle.issuance_log.specs.Words.{log_disk, log_records, log_end, log_broken};
-    ghost use Rattle.issuance_log.specs.Words.{log_state, view_of, LogAppends};
+    ghost use Rattle.issuance_log.specs.Words.{log_state, told_state, view_of, LogAppends};
+    ghost use Rattle.issuance_log.specs.Words.{LogStays};
 
     /// Opens the log in a journal. Its records are read and tested one by one.
     ///
@@ -107,7 +111,7 @@ impl<H: TreeHash, D: Disk> Log<H, D> {
         requires { matches H.hash entry.now spki.now ≡ true }
         ensures appends { LogAppends (entry_record entry.now spki.now)
             (with_item entry.now spki.now (log_state self.old)) self.old self.new result }
-        ensures index { IfOk result (λ index. index ≡ length (log_state self.old).entries) }
+        ensures index { IfOk result (λ index. index ≡ (view_of self.old).size) }
         ensures answer { ItemKeepsTo (add_refusal (view_of self.old) (log_broken self.old)
             (log_end self.old) entry.now spki.now) result }
         ensures valid { add_refusal (view_of self.old) (log_broken self.old)
@@ -140,17 +144,17 @@ impl<H: TreeHash, D: Disk> Log<H, D> {
     /// before answers `Append(Broken)`.
     #[tactic(auto, unfolding(crate::specs::Refusals::mark_refusal))]
     pub fn mark(&mut self) -> Result<(u64, u64), LogError>
-        ensures appends { LogAppends (landmark_record (length (log_state self.old).entries))
+        ensures appends { LogAppends (landmark_record (view_of self.old).size)
             (with_mark (log_state self.old)) self.old self.new result }
         ensures number { IfOk result
-            (λ landmark. landmark.0 ≡ length (log_state self.old).marks + 1) }
-        ensures size { IfOk result (λ landmark. landmark.1 ≡ length (log_state self.old).entries) }
+            (λ landmark. landmark.0 ≡ length (view_of self.old).marks + 1) }
+        ensures size { IfOk result (λ landmark. landmark.1 ≡ (view_of self.old).size) }
         ensures answer { MarkKeepsTo
             (mark_refusal (view_of self.old) (log_broken self.old) (log_end self.old)) result }
         ensures valid { mark_refusal (view_of self.old) (log_broken self.old) (log_end self.old)
             ≡ None → IfSome (log_records self.old)
             (λ list. log_of H.hash
-            (list ++ landmark_record (length (log_state self.old).entries) ∷ [])
+            (list ++ landmark_record (view_of self.old).size ∷ [])
             ≡ Ok (with_mark (log_state self.old))) }
     {
         let size = self.contents.len() as u64;
@@ -166,9 +170,9 @@ impl<H: TreeHash, D: Disk> Log<H, D> {
 
     /// How many entries the log has, the null entry among them.
     pub fn size(&self) -> u64
-        ensures value { result ≡ length (log_state self.now).entries }
+        ensures value { result ≡ (view_of self.now).size }
         ensures some { 1 ≤ result }
-        ensures few { result ≤ (log_state self.now).settings.limit }
+        ensures few { result ≤ (view_of self.now).settings.limit }
     {
         self.contents.len() as u64
     }
@@ -182,8 +186,17 @@ impl<H: TreeHash, D: Disk> Log<H, D> {
         let _ = self.contents.len();
     }
 
+    /// What holds of every log whose disk tells its records: the clause says it, and the call does
+    /// nothing. Its items are the first ones in the records, as many as it has entries. So it is
+    /// also behind an append that failed, where the disk may tell one record more.
+    pub fn told(&self)
+        ensures { IfSome (told_state self.now) (λ s. s ≡ log_state self.now) }
+    {
+        let _ = self.contents.len();
+    }
+
     pub fn settings(&self) -> &LogSettings
-        ensures value { result.now ≡ (log_state self.now).settings }
+        ensures value { result.now ≡ (view_of self.now).settings }
         ensures allowed { AreAllowed result.now.max_active result.now.limit }
     {
         self.contents.settings()
@@ -192,8 +205,8 @@ impl<H: TreeHash, D: Disk> Log<H, D> {
     /// The sizes at the landmarks, from the first to the last. They rise strictly, and none is
     /// above the size of the log.
     pub fn marks(&self) -> &[u64]
-        ensures value { result.now ≡ (log_state self.now).marks }
-        ensures rising { AreRising 0 (length (log_state self.now).entries) result.now }
+        ensures value { result.now ≡ (view_of self.now).marks }
+        ensures rising { AreRising 0 (view_of self.now).size result.now }
     {
         self.contents.marks()
     }
@@ -208,11 +221,12 @@ impl<H: TreeHash, D: Disk> Log<H, D> {
     /// The entry at an index and its key, in the place of what the two byte strings held.
     ///
     /// Errors, in the order of the tests: `NoSuchEntry` where the index isn't below the size;
-    /// `Memory`. After a refusal both byte strings are empty.
+    /// `Memory`. After a refusal both byte strings are empty. The disk is only looked at, and the
+    /// log shows what it showed before.
     #[tactic(auto, unfolding(crate::specs::Refusals::item_at))]
     pub fn entry(&mut self, index: u64, entry: &mut Bytes, spki: &mut Bytes) -> Result<(), LogError>
         ensures item { GivesItem (item_at (log_state self.old) index) result entry.new spki.new }
-        ensures same { self.new ≡ self.old }
+        ensures stays { LogStays self.old self.new }
     {
         entry.truncate(0);
         spki.truncate(0);

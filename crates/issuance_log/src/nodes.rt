@@ -1,7 +1,7 @@
 //! The tree over the entries of a log.
 
-ghost use Rattle.std.specs.Prelude.{◌≡◌, length, map};
-ghost use Rattle.issuance_log.specs.Words.{log_state};
+ghost use Rattle.std.specs.Prelude.{map};
+ghost use Rattle.issuance_log.specs.Words.{LogStays, log_disk, log_state, view_of};
 ghost use Rattle.tree_core.specs.Tree.{leaf_hash};
 
 use crate::Log;
@@ -11,27 +11,29 @@ use tree_core::TreeHash;
 use tree_proofs::Nodes;
 
 /// A log is the nodes of the tree over its entries. It keeps the hash of each full subtree, looks
-/// it up each time it is asked for, and never fails. All of the log stays as it was.
+/// it up each time it is asked for, and never fails. Its disk is only looked at, and it shows what
+/// it showed before.
 impl<H: TreeHash, D: Disk> Nodes for Log<H, D> {
-    ghost use Rattle.std.specs.Prelude.{Some, refl};
-    ghost use Rattle.std.proofs.Common.{sym, ◌∙◌};
+    ghost use Rattle.std.specs.Prelude.{Some};
+    ghost use Rattle.std.proofs.Common.{sym};
     ghost use Rattle.std.proofs.lemmas.List.{length-map};
+    ghost use Rattle.issuance_log.specs.Staying.{stays_alone, stays_both};
 
     type H = H;
 
     ghost leaves = { λ log. Some (map (leaf_hash H.hash) (log_state log).entries) };
 
-    ghost count = { λ log. length (log_state log).entries };
+    ghost count = { λ log. (view_of log).size };
 
     ghost faults = { λ _. 0 };
 
-    ghost stays = { λ old new. new ≡ old };
+    ghost stays = { λ old new. LogStays old new };
 
     ghost counted = { λ log. sym (length-map (log_state log).entries (leaf_hash H.hash)) };
 
-    ghost stays_before = { λ _. refl };
+    ghost stays_before = { λ log. stays_alone log (D.Disk.only_now (log_disk log)) };
 
-    ghost stays_on = { λ _ _ _ first second. second ∙ first };
+    ghost stays_on = { λ a b c first second. stays_both a b c first second };
 
     fn size(&self) -> u64 {
         Log::size(self)

@@ -2,7 +2,7 @@
 
 ghost use Rattle.std.specs.Prelude.{◌≡◌, ◌<◌, ◌^◌, [], ◌∷◌};
 ghost use Rattle.byte_forms.specs.Readings.{Gives};
-ghost use Rattle.issuance_log.specs.Words.{log_state};
+ghost use Rattle.issuance_log.specs.Words.{LogStays, log_state};
 ghost use Rattle.mtc_answers.specs.Answers.{stop_ending, ending_of};
 ghost use Rattle.mtc_answers.specs.Endings.{Replies};
 ghost use Rattle.mtc_answers.specs.Served.{HasServed};
@@ -96,7 +96,7 @@ pub(crate) fn certificate<'a, H: TreeHash, D: Disk>(
     ensures reply { Replies
         (exactly (cert_reply H.hash index start end signatures.now (log_state log.old)))
         (ending_of result) }
-    ensures same { log.new ≡ log.old }
+    ensures stays { LogStays log.old log.new }
 {
     match authority_core::cert(alloc, log, index, start, end, signatures.as_slice()) {
         Ok(text) => Ok(Answer {
@@ -115,7 +115,7 @@ pub(crate) fn light_certificate<'a, H: TreeHash, D: Disk>(
 ) -> Result<Answer, Stop<'a>>
     ensures reply { Replies (exactly (light_reply H.hash index (log_state log.old)))
         (ending_of result) }
-    ensures same { log.new ≡ log.old }
+    ensures stays { LogStays log.old log.new }
 {
     match authority_core::light_cert(alloc, log, index) {
         Ok(text) => Ok(Answer {

@@ -1,7 +1,7 @@
 //! The commands `checkpoint` and `entries`: what a log holds.
 
 ghost use Rattle.std.specs.Prelude.{◌≡◌, ◌<◌, ◌≤◌, ◌++◌, length, IfOk, OnOk};
-ghost use Rattle.issuance_log.specs.Words.{log_state};
+ghost use Rattle.issuance_log.specs.Words.{LogStays, log_state, view_of};
 ghost use Rattle.mtc_answers.specs.Answers.{stop_ending, ending_of, replied};
 ghost use Rattle.mtc_answers.specs.Endings.{Replies};
 ghost use Rattle.mtc_answers.specs.Wanted.{exactly};
@@ -25,7 +25,7 @@ pub fn checkpoint<'a, H: TreeHash, D: Disk>(
 ) -> Result<Answer, Stop<'a>>
     ensures reply { Replies (exactly (checkpoint_reply H.hash (log_state log.old).entries))
         (ending_of result) }
-    ensures same { log.new ≡ log.old }
+    ensures stays { LogStays log.old log.new }
 {
     let size = log.size();
     let root = root_of(log, size);
@@ -51,9 +51,9 @@ fn read_item<H: TreeHash, D: Disk>(
     entry: &mut Bytes,
     key: &mut Bytes,
 ) -> Result<(), Memory>
-    requires { index < length (log_state log.old).entries }
+    requires { index < (view_of log.old).size }
     ensures item { OnOk result (IsItemAt (log_state log.old) index entry.new key.new) }
-    ensures same { log.new ≡ log.old }
+    ensures stays { LogStays log.old log.new }
 {
     log.sound();
     match log.entry(index, entry, key) {
@@ -72,10 +72,10 @@ fn put_item<H: TreeHash, D: Disk>(
     key: &mut Bytes,
     out: &mut Bytes,
 ) -> Result<(), Memory>
-    requires { index < length (log_state log.old).entries }
+    requires { index < (view_of log.old).size }
     ensures text { OnOk result
         (out.new ≡ out.old ++ listed_text (items_of (log_state log.old)) index) }
-    ensures same { log.new ≡ log.old }
+    ensures stays { LogStays log.old log.new }
 {
     read_item(log, index, entry, key)?;
     put_vec16(out, entry.as_slice())?;
@@ -88,9 +88,9 @@ fn items<H: TreeHash, D: Disk>(
     log: &mut Log<H, D>,
     count: u64,
 ) -> Result<Bytes, Memory>
-    requires { count ≤ length (log_state log.old).entries }
+    requires { count ≤ (view_of log.old).size }
     ensures text { IfOk result (λ text. text ≡ file_text (items_of (log_state log.old)) count) }
-    ensures same { log.new ≡ log.old }
+    ensures stays { LogStays log.old log.new }
 {
     let mut out = Bytes::new(alloc);
     let mut entry = Bytes::new(alloc);
@@ -108,7 +108,7 @@ pub fn entries<'a, H: TreeHash, D: Disk>(
     size: u64,
 ) -> Result<Answer, Stop<'a>>
     ensures reply { Replies (exactly (entries_reply size (log_state log.old))) (ending_of result) }
-    ensures same { log.new ≡ log.old }
+    ensures stays { LogStays log.old log.new }
 {
     if log.size() < size {
         return Err(too_many(log.size()));

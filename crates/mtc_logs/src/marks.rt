@@ -1,7 +1,7 @@
 //! The commands `landmark` and `landmarks`: a landmark more, and the list of the active ones.
 
 ghost use Rattle.std.specs.Prelude.{◌≡◌, IfOk};
-ghost use Rattle.issuance_log.specs.Words.{log_state};
+ghost use Rattle.issuance_log.specs.Words.{LogStays, log_state};
 ghost use Rattle.mtc_answers.specs.Answers.{ending_of, stop_ending};
 ghost use Rattle.mtc_answers.specs.Endings.{Replies};
 ghost use Rattle.mtc_answers.specs.Wanted.{exactly};
@@ -80,7 +80,7 @@ pub fn list_landmarks<'a, H: TreeHash, D: Disk>(
     log: &mut Log<H, D>,
 ) -> Result<Answer, Stop<'a>>
     ensures reply { Replies (exactly (landmarks_reply (log_state log.old))) (ending_of result) }
-    ensures same { log.new ≡ log.old }
+    ensures stays { LogStays log.old log.new }
 {
     let landmarks = landmarks_in(alloc, log)?;
     Ok(Answer {

@@ -1,8 +1,8 @@
 //! The commands `consist` and `subtree`: requests to a cosigner of a log.
 
-ghost use Rattle.std.specs.Prelude.{◌≡◌, ◌<◌, ◌≤◌, true, length, IfOk};
+ghost use Rattle.std.specs.Prelude.{◌≡◌, ◌<◌, ◌≤◌, true, IfOk};
 ghost use Rattle.cosigner_core.specs.Requests.{advance_text, subtree_text};
-ghost use Rattle.issuance_log.specs.Words.{log_state};
+ghost use Rattle.issuance_log.specs.Words.{LogStays, log_state, view_of};
 ghost use Rattle.tree_core.specs.Subtree.{is_subtree};
 ghost use Rattle.mtc_answers.specs.Answers.{ending_of};
 ghost use Rattle.mtc_answers.specs.Endings.{Replies};
@@ -28,10 +28,10 @@ fn advance_request<H: TreeHash, D: Disk>(
     new: u64,
 ) -> Result<Bytes, Memory>
     requires more { old < new }
-    requires within { new ≤ length (log_state log.old).entries }
+    requires within { new ≤ (view_of log.old).size }
     ensures text { IfOk result (λ text. text
         ≡ advance_text (advance_by_log H.hash (log_state log.old) old new)) }
-    ensures same { log.new ≡ log.old }
+    ensures stays { LogStays log.old log.new }
 {
     let root = root_of(log, new);
     let proof = growth_of(log, old, new);
@@ -48,7 +48,7 @@ pub fn consist<'a, H: TreeHash, D: Disk>(
 ) -> Result<Answer, Stop<'a>>
     ensures reply { Replies (exactly (consist_reply H.hash old new (log_state log.old)))
         (ending_of result) }
-    ensures same { log.new ≡ log.old }
+    ensures stays { LogStays log.old log.new }
 {
     if new <= old {
         return Err(refuse(Stopped::NotAllowed, Reason::named("NothingNew")));
@@ -72,10 +72,10 @@ fn subtree_request<H: TreeHash, D: Disk>(
 ) -> Result<Bytes, Memory>
     requires valid { is_subtree start end ≡ true }
     requires inside { end ≤ size }
-    requires within { size ≤ length (log_state log.old).entries }
+    requires within { size ≤ (view_of log.old).size }
     ensures text { IfOk result (λ text. text
         ≡ subtree_text (subtree_of H.hash (log_state log.old) start end size)) }
-    ensures same { log.new ≡ log.old }
+    ensures stays { LogStays log.old log.new }
 {
     let hash = hash_of(log, start, end);
     let proof = proof_of(log, start, end, size);
@@ -93,7 +93,7 @@ pub fn subtree<'a, H: TreeHash, D: Disk>(
 ) -> Result<Answer, Stop<'a>>
     ensures reply { Replies (exactly (subtree_reply H.hash start end size (log_state log.old)))
         (ending_of result) }
-    ensures same { log.new ≡ log.old }
+    ensures stays { LogStays log.old log.new }
 {
     if !subtree_ok(start, end) {
         return Err(refuse(Stopped::NotAllowed, Reason::named("BadSubtree")));

@@ -1,7 +1,7 @@
 //! Hashes and proofs over the first entries of a log.
 
-ghost use Rattle.std.specs.Prelude.{◌≡◌, ◌<◌, ◌≤◌, true, length, take};
-ghost use Rattle.issuance_log.specs.Words.{log_state};
+ghost use Rattle.std.specs.Prelude.{◌≡◌, ◌<◌, ◌≤◌, true, take};
+ghost use Rattle.issuance_log.specs.Words.{LogStays, log_state, view_of};
 ghost use Rattle.tree_core.specs.Path.{part_of};
 ghost use Rattle.tree_core.specs.Subtree.{is_subtree};
 ghost use Rattle.tree_core.specs.Tree.{tree_hash};
@@ -16,9 +16,9 @@ use tree_proofs::{Path, node_of};
 // The hash of the subtree `[start, end)` of the entries.
 pub fn hash_of<H: TreeHash, D: Disk>(log: &mut Log<H, D>, start: u64, end: u64) -> [u8; 32]
     requires valid { is_subtree start end ≡ true }
-    requires within { end ≤ length (log_state log.old).entries }
+    requires within { end ≤ (view_of log.old).size }
     ensures hash { result ≡ tree_hash H.hash (part_of (log_state log.old).entries start end) }
-    ensures same { log.new ≡ log.old }
+    ensures stays { LogStays log.old log.new }
 {
     match node_of(log, start, end) {
         Ok(hash) => hash,
@@ -29,9 +29,9 @@ pub fn hash_of<H: TreeHash, D: Disk>(log: &mut Log<H, D>, start: u64, end: u64) 
 // The tree hash of the first `size` entries (RFC 9162, section 2.1.1).
 pub fn root_of<H: TreeHash, D: Disk>(log: &mut Log<H, D>, size: u64) -> [u8; 32]
     requires some { 0 < size }
-    requires within { size ≤ length (log_state log.old).entries }
+    requires within { size ≤ (view_of log.old).size }
     ensures hash { result ≡ tree_hash H.hash (take size (log_state log.old).entries) }
-    ensures same { log.new ≡ log.old }
+    ensures stays { LogStays log.old log.new }
 {
     hash_of(log, 0, size)
 }
@@ -40,9 +40,9 @@ pub fn root_of<H: TreeHash, D: Disk>(log: &mut Log<H, D>, size: u64) -> [u8; 32]
 pub fn proof_of<H: TreeHash, D: Disk>(log: &mut Log<H, D>, start: u64, end: u64, size: u64) -> Path
     requires valid { is_subtree start end ≡ true }
     requires inside { end ≤ size }
-    requires within { size ≤ length (log_state log.old).entries }
+    requires within { size ≤ (view_of log.old).size }
     ensures proof { result ≡ prefix_proof H.hash (log_state log.old).entries start end size }
-    ensures same { log.new ≡ log.old }
+    ensures stays { LogStays log.old log.new }
 {
     let mut proof = Path::new();
     match tree_proofs::consist(log, start, end, size, &mut proof) {
@@ -55,9 +55,9 @@ pub fn proof_of<H: TreeHash, D: Disk>(log: &mut Log<H, D>, start: u64, end: u64,
 // to prove.
 pub fn growth_of<H: TreeHash, D: Disk>(log: &mut Log<H, D>, old: u64, new: u64) -> Path
     requires more { old < new }
-    requires within { new ≤ length (log_state log.old).entries }
+    requires within { new ≤ (view_of log.old).size }
     ensures proof { result ≡ growth_at H.hash (log_state log.old).entries old new }
-    ensures same { log.new ≡ log.old }
+    ensures stays { LogStays log.old log.new }
 {
     if old == 0 {
         Path::new()

@@ -1,6 +1,6 @@
 //! Issuing: the entry of a request is added to the log.
 
-ghost use Rattle.std.specs.Prelude.{◌≡◌, ◌≢◌, ◌++◌, ◌∷◌, [], length, slice_index_or, None, Ok, Err};
+ghost use Rattle.std.specs.Prelude.{◌≡◌, ◌≢◌, ◌++◌, ◌∷◌, [], slice_index_or, None, Ok, Err};
 ghost use Rattle.std.specs.Prelude.{IfOk, IfSome};
 ghost use Rattle.issuance_log.specs.Folds.{log_of};
 ghost use Rattle.issuance_log.specs.declared.error.LogError.TheVariants.{Memory as NoMemory};
@@ -33,7 +33,7 @@ pub fn issue<H: TreeHash, D: Disk>(
 ) -> Result<u64, IssueError>
     ensures appends { LogAppends (issued_record H.hash (log_state log.old) request.now)
         (issued_log H.hash (log_state log.old) request.now) log.old log.new (of_log result) }
-    ensures index { IfOk result (λ index. index ≡ length (log_state log.old).entries) }
+    ensures index { IfOk result (λ index. index ≡ (view_of log.old).size) }
     ensures own { IfOk result (λ index. IsOwnEntry (log_state log.new).settings.id
         (slice_index_or (log_state log.new).entries index [])) }
     ensures answer { KeepsToOrMemory

@@ -1,7 +1,7 @@
 //! Certificates of the entries of a log, in any subtree of it and with signatures.
 
-ghost use Rattle.std.specs.Prelude.{◌≡◌, IfOk};
-ghost use Rattle.issuance_log.specs.Words.{log_state, view_of};
+ghost use Rattle.std.specs.Prelude.{IfOk};
+ghost use Rattle.issuance_log.specs.Words.{LogStays, log_state, view_of};
 ghost use Rattle.mtc_proof.specs.Proofs.{AreSignatures};
 ghost use Rattle.authority_core.specs.Acceptance.{StoresAccept};
 ghost use Rattle.authority_core.specs.Certificates.{cert_refusal, IsWritten, KeepsToRefusal};
@@ -19,8 +19,8 @@ const MOST_SIGNATURES: usize = 65_535;
 
 /// Writes the certificate of an entry: its fields, its key, its index as the serial number, and as
 /// the signature its path in the subtree `[start, end)` of the log, with these signatures of
-/// cosigners, or none (the draft on Merkle Tree Certificates, where it defines MTCProof). The log
-/// stays as it was.
+/// cosigners, or none (the draft on Merkle Tree Certificates, where it defines MTCProof). The disk
+/// of the log is only looked at, and the log shows what it showed before.
 ///
 /// Each store that is set up for the log and this entry accepts it, at each moment of the entry's
 /// validity. It is so where the store holds no other hash for the subtree, and trusts it with the
@@ -44,7 +44,7 @@ pub fn cert<H: TreeHash, D: Disk>(
         (IsWritten H.hash (log_state log.old) index start end signatures.now) }
     ensures accepted { IfOk result
         (StoresAccept H.hash (log_state log.old) index start end signatures.now) }
-    ensures same { log.new ≡ log.old }
+    ensures stays { LogStays log.old log.new }
 {
     if log.size() <= index {
         return Err(WriteError::NoSuchEntry);

@@ -3,7 +3,7 @@
 ghost use Rattle.std.specs.Prelude.{◌≡◌, ◌^◌, ◌<◌, ◌≤◌, length, true, IfOk};
 ghost use Rattle.cert_fields.specs.Given.{given};
 ghost use Rattle.issuance_log.specs.Records.{IsShort};
-ghost use Rattle.issuance_log.specs.Words.{log_state};
+ghost use Rattle.issuance_log.specs.Words.{LogStays, log_state, view_of};
 ghost use Rattle.log_entry.specs.Matching.{matches};
 ghost use Rattle.log_entry.specs.Views.{tbs_parts};
 ghost use Rattle.mtc_proof.specs.Proofs.{AreSignatures};
@@ -81,14 +81,14 @@ pub fn written<H: TreeHash, D: Disk>(
     requires valid { is_subtree start end ≡ true }
     requires from { start ≤ index }
     requires below { index < end }
-    requires within { end ≤ length (log_state log.old).entries }
+    requires within { end ≤ (view_of log.old).size }
     requires signed { AreSignatures signatures.now }
     requires short { length signatures.now < 2 ^ 16 }
     ensures written { IfOk result
         (IsWritten H.hash (log_state log.old) index start end signatures.now) }
     ensures accepted { IfOk result
         (StoresAccept H.hash (log_state log.old) index start end signatures.now) }
-    ensures same { log.new ≡ log.old }
+    ensures stays { LogStays log.old log.new }
 {
     log.sound();
     let proof = proof_of(alloc, log, index, start, end, signatures)?;

@@ -1,7 +1,7 @@
 //! Certificates of the entries of a log by its landmarks, without signatures.
 
-ghost use Rattle.std.specs.Prelude.{◌≡◌, length, IfOk, IfSome};
-ghost use Rattle.issuance_log.specs.Words.{log_state, view_of};
+ghost use Rattle.std.specs.Prelude.{◌≡◌, IfOk, IfSome};
+ghost use Rattle.issuance_log.specs.Words.{LogStays, log_state, view_of};
 ghost use Rattle.authority_core.specs.Acceptance.{StoresAcceptLightly};
 ghost use Rattle.authority_core.specs.Certificates.{covering_in, HoldsEntry, IsLightlyWritten};
 ghost use Rattle.authority_core.specs.Certificates.{KeepsToLightRefusal, light_refusal};
@@ -23,7 +23,7 @@ fn covering_subtree<H: TreeHash, D: Disk>(
 ) -> Result<Option<Span>, Memory>
     ensures exact { IfOk result (λ span. span ≡ covering_in (view_of log.now) index) }
     ensures holds { IfOk result (λ span. IfSome span
-        (HoldsEntry (length (log_state log.now).entries) index)) }
+        (HoldsEntry (view_of log.now).size index)) }
 {
     log.sound();
     let landmarks = of_marks(alloc, log.marks(), log.settings().max_active)?;
@@ -33,7 +33,7 @@ fn covering_subtree<H: TreeHash, D: Disk>(
 /// Writes the certificate of an entry that needs no signature: its fields, its key, its index as
 /// the serial number, and as the signature its path in the subtree that holds it, of the least
 /// landmark of the log above it (the draft on Merkle Tree Certificates, where it defines
-/// landmarks). The log stays as it was.
+/// landmarks). The disk of the log is only looked at, and the log shows what it showed before.
 ///
 /// Each store for the log that trusts this subtree with the log's hash, and doesn't revoke the
 /// index, accepts it at each moment of the entry's validity.
@@ -50,7 +50,7 @@ pub fn light_cert<H: TreeHash, D: Disk>(
     ensures answer { KeepsToLightRefusal (light_refusal (view_of log.old) index) result }
     ensures written { IfOk result (IsLightlyWritten H.hash (log_state log.old) index) }
     ensures accepted { IfOk result (StoresAcceptLightly H.hash (log_state log.old) index) }
-    ensures same { log.new ≡ log.old }
+    ensures stays { LogStays log.old log.new }
 {
     if log.size() <= index {
         return Err(WriteError::NoSuchEntry);

@@ -2,7 +2,7 @@
 
 ghost use Rattle.std.specs.Prelude.{◌≡◌, ◌^◌, ◌<◌, ◌≤◌, length, true, IfOk};
 ghost use Rattle.tls_wire.specs.Spelling.{AreHashes};
-ghost use Rattle.issuance_log.specs.Words.{log_state};
+ghost use Rattle.issuance_log.specs.Words.{LogStays, log_state, view_of};
 ghost use Rattle.mtc_proof.specs.Proofs.{AreSignatures, IsProof, proof_text};
 ghost use Rattle.tree_core.specs.Subtree.{is_subtree};
 ghost use Rattle.authority_core.specs.Certificates.{proof_for};
@@ -37,7 +37,7 @@ pub fn proof_of<H: TreeHash, D: Disk>(
     requires valid { is_subtree start end ≡ true }
     requires from { start ≤ index }
     requires below { index < end }
-    requires within { end ≤ length (log_state log.old).entries }
+    requires within { end ≤ (view_of log.old).size }
     requires signed { AreSignatures signatures.now }
     requires short { length signatures.now < 2 ^ 16 }
     ensures proof { IfOk result (λ bytes. bytes
@@ -45,7 +45,7 @@ pub fn proof_of<H: TreeHash, D: Disk>(
     ensures fits { IfOk result (λ _. IsProof
         (proof_for H.hash (log_state log.old) index start end signatures.now)) }
     ensures few { IfOk result (λ bytes. length bytes ≤ 200000) }
-    ensures same { log.new ≡ log.old }
+    ensures stays { LogStays log.old log.new }
 {
     let mut path = Path::new();
     match include(log, index, start, end, &mut path) {

@@ -1,5 +1,5 @@
 use Rattle.std.proofs.Common.{◌≡◌}
-use Rattle.issuance_log.specs.Words.{log_state}
+use Rattle.issuance_log.specs.Words.{LogStays, log_state}
 use Rattle.entry_list.specs.Items.{file_text}
 use Rattle.mtc_logs.specs.LogOutcomes.{items_of}
 use Rattle.mtc_logs.proofs.checkpoint.items.Given as goal
@@ -7,6 +7,6 @@ use Rattle.mtc_logs.proofs.checkpoint.items.Given as goal
 -- the items so far were written
 abbrev pub invariant-loop-index : goal.invariant-loop-index
 invariant-loop-index g l = record {
-  same : l.log ≡ l.initial.log;
-  text : l.out ≡ file_text (items_of (log_state l.log)) l.index;
+  stays : LogStays l.initial.log l.log;
+  text : l.out ≡ file_text (items_of (log_state l.initial.log)) l.index;
 }

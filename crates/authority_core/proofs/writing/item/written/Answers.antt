@@ -8,8 +8,9 @@ use Rattle.authority_core.proofs.writing.item.written.Goals as goal
 pub certificate_of-requires-clause-belongs : goal.certificate_of-requires-clause-belongs
 certificate_of-requires-clause-belongs g c =
     let log = c.args.log.now in
-    let found = subst (λ l. item_at (log_state l) c.args.index
-    ≡ Ok (c.entry.new.entry, c.entry.new.spki)) c.proof_of.ensures.same c.in-Ok.ensures.item in
+    let found = subst (λ s. item_at s c.args.index
+    ≡ Ok (c.entry.new.entry, c.entry.new.spki)) c.proof_of.ensures.stays.state
+    c.in-Ok.ensures.item in
     let item = item_given g.H.TreeHash.hash (log_state log) c.args.index c.entry.new.entry
     c.entry.new.spki c.sound.ensures c.requires.some (omega arith) found in
     rw (c.as_slice.ensures, c.as_slice-in-Ok.ensures) item.belongs
@@ -17,8 +18,9 @@ certificate_of-requires-clause-belongs g c =
 pub certificate_of-requires-clause-short_entry : goal.certificate_of-requires-clause-short_entry
 certificate_of-requires-clause-short_entry g c =
     let log = c.args.log.now in
-    let found = subst (λ l. item_at (log_state l) c.args.index
-    ≡ Ok (c.entry.new.entry, c.entry.new.spki)) c.proof_of.ensures.same c.in-Ok.ensures.item in
+    let found = subst (λ s. item_at s c.args.index
+    ≡ Ok (c.entry.new.entry, c.entry.new.spki)) c.proof_of.ensures.stays.state
+    c.in-Ok.ensures.item in
     let item = item_given g.H.TreeHash.hash (log_state log) c.args.index c.entry.new.entry
     c.entry.new.spki c.sound.ensures c.requires.some (omega arith) found in
     rw c.as_slice.ensures item.short_entry
@@ -26,8 +28,9 @@ certificate_of-requires-clause-short_entry g c =
 pub certificate_of-requires-clause-short_key : goal.certificate_of-requires-clause-short_key
 certificate_of-requires-clause-short_key g c =
     let log = c.args.log.now in
-    let found = subst (λ l. item_at (log_state l) c.args.index
-    ≡ Ok (c.entry.new.entry, c.entry.new.spki)) c.proof_of.ensures.same c.in-Ok.ensures.item in
+    let found = subst (λ s. item_at s c.args.index
+    ≡ Ok (c.entry.new.entry, c.entry.new.spki)) c.proof_of.ensures.stays.state
+    c.in-Ok.ensures.item in
     let item = item_given g.H.TreeHash.hash (log_state log) c.args.index c.entry.new.entry
     c.entry.new.spki c.sound.ensures c.requires.some (omega arith) found in
     rw c.as_slice-in-Ok.ensures item.short_key
@@ -35,8 +38,9 @@ certificate_of-requires-clause-short_key g c =
 pub returns-in-Ok-clause-written : goal.returns-in-Ok-clause-written
 returns-in-Ok-clause-written g c =
     let log = c.args.log.now in
-    let found = subst (λ l. item_at (log_state l) c.args.index
-    ≡ Ok (c.entry.new.entry, c.entry.new.spki)) c.proof_of.ensures.same c.in-Ok.ensures.item in
+    let found = subst (λ s. item_at s c.args.index
+    ≡ Ok (c.entry.new.entry, c.entry.new.spki)) c.proof_of.ensures.stays.state
+    c.in-Ok.ensures.item in
     let same = item_is (log_state log) c.args.index c.entry.new.entry c.entry.new.spki (omega arith)
     found in
     written_so c.certificate_of.result g.H.TreeHash.hash (log_state log) c.args.index c.args.start
@@ -47,8 +51,9 @@ returns-in-Ok-clause-written g c =
 pub returns-in-Ok-clause-accepted : goal.returns-in-Ok-clause-accepted
 returns-in-Ok-clause-accepted g c =
     let log = c.args.log.now in
-    let found = subst (λ l. item_at (log_state l) c.args.index
-    ≡ Ok (c.entry.new.entry, c.entry.new.spki)) c.proof_of.ensures.same c.in-Ok.ensures.item in
+    let found = subst (λ s. item_at s c.args.index
+    ≡ Ok (c.entry.new.entry, c.entry.new.spki)) c.proof_of.ensures.stays.state
+    c.in-Ok.ensures.item in
     let same = item_is (log_state log) c.args.index c.entry.new.entry c.entry.new.spki (omega arith)
     found in
     accepts_so c.certificate_of.result g.H.TreeHash.hash (log_state log) c.args.index c.args.start

@@ -1,12 +1,13 @@
-use Rattle.std.proofs.Common.{rules, refl, sym, ◌∙◌, arith}
-use Rattle.journal_core.specs.Words.{disk_of}
+use Rattle.std.proofs.Common.{rules, IfSome, Ok, ◌≡◌, refl, subst, sym, ◌∙◌, arith}
+use Rattle.journal_core.specs.Words.{disk_of, records}
 use Rattle.journal_core.proofs.Appends.{all_kept, untouched_moment, untouched_after}
-use Rattle.issuance_log.specs.Folds.{with_item}
+use Rattle.issuance_log.specs.Folds.{log_of, with_item}
 use Rattle.issuance_log.specs.Records.{entry_record}
 use Rattle.issuance_log.specs.Words.{log_records, log_broken, log_end, log_state}
 use Rattle.issuance_log.specs.declared.error.LogError.TheVariants.{TooLarge}
 use Rattle.issuance_log.proofs.Adds.{room_of, record_some, record_few, added_to, added_unrefused}
 use Rattle.issuance_log.proofs.Adds.{agrees_behind, same_item, moment_is, after_is, left_alone}
+use Rattle.issuance_log.proofs.Shown.{IsShown, agrees_shown, refused_agrees, refused_shown}
 use Rattle.issuance_log.proofs.log.Log.add.Goals as goal
 
 pub returns-in_err-record-clause-valid : goal.returns-in_err-record-clause-valid
@@ -93,17 +94,36 @@ returns-clause-appends g c =
     }
 
 pub invariant_of-self-2 : goal.invariant_of-self-2
-invariant_of-self-2 g c = record {
-  agrees = λ sound.
-      let log = c.args.self.now in
-      let item = c.in_ok-item.ensures in
-      agrees_behind g.H.TreeHash.hash (log_records log) _ c.as_slice.result.now
-      (entry_record c.args.entry.now c.args.spki.now)
-      (with_item c.args.entry.now c.args.spki.now (log_state log)) c.push.new.self.state
-      c.in_ok-append.ensures.leaves.records (c.as_slice.ensures
-      ∙ c.in_ok-record.ensures) (c.push.ensures
-      ∙ same_item _ _ _ _ _ _ item.entry item.key item.same)
-      (added_to g.H.TreeHash.hash (log_state log) c.args.entry.now c.args.spki.now c.requires
-      (log_records log) (log.agrees c.in_ok-append.ensures.leaves.was_sound)
-      (room_of _ _ (sym c.if-is_full.ensures.full)) c.if-entry-spki-gt-MAX_ITEM.false);
-}
+invariant_of-self-2 g c =
+    let log = c.args.self.now in
+    let item = c.in_ok-item.ensures in
+    let now = agrees_behind g.H.TreeHash.hash (log_records log) _ c.as_slice.result.now
+    (entry_record c.args.entry.now c.args.spki.now)
+    (with_item c.args.entry.now c.args.spki.now (log_state log)) c.push.new.self.state
+    c.in_ok-append.ensures.leaves.records (c.as_slice.ensures
+    ∙ c.in_ok-record.ensures) (c.push.ensures
+    ∙ same_item _ _ _ _ _ _ item.entry item.key item.same)
+    (added_to g.H.TreeHash.hash (log_state log) c.args.entry.now c.args.spki.now c.requires
+    (log_records log) (log.agrees c.in_ok-append.ensures.leaves.was_sound)
+    (room_of _ _ (sym c.if-is_full.ensures.full)) c.if-entry-spki-gt-MAX_ITEM.false) in
+    record {
+      agrees = λ sound. now;
+      shown = agrees_shown g.H.TreeHash.hash c.push.new.self.state _ now;
+    }
+
+pub invariant_of-self-in-Break-branch-3 : goal.invariant_of-self-in-Break-branch-3
+invariant_of-self-in-Break-branch-3 g c =
+    let log = c.args.self.now in
+    let h = g.H.TreeHash.hash in
+    let body = c.as_slice.result.now in
+    let new = c.append.new.self in
+    let append = c.append.ensures in
+    let same = sym c.in_ok-item.ensures.same in
+    record {
+      agrees = λ sound. subst (λ s. IfSome (records new) (λ list. log_of h list ≡ Ok s)) same
+          (refused_agrees h (log_state log) body log.journal new c.append.result (search rules)
+          append.leaves log.agrees sound);
+      shown = subst (λ s. IsShown s (records new)) same
+          (refused_shown (log_state log) body log.journal new c.append.result (search rules)
+          append.leaves append.broken append.told append.as_read log.shown);
+    }

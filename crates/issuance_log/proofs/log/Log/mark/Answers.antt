@@ -1,7 +1,7 @@
-use Rattle.std.proofs.Common.{rules, ◌≡◌, ◌<◌, length, ap, sym, subst, ◌∙◌, arith}
-use Rattle.journal_core.specs.Words.{disk_of}
+use Rattle.std.proofs.Common.{rules, IfSome, Ok, ◌≡◌, ◌<◌, length, ap, sym, subst, ◌∙◌, arith}
+use Rattle.journal_core.specs.Words.{disk_of, records}
 use Rattle.journal_core.proofs.Appends.{all_kept}
-use Rattle.issuance_log.specs.Folds.{LogState, with_mark}
+use Rattle.issuance_log.specs.Folds.{LogState, log_of, with_mark}
 use Rattle.issuance_log.specs.Marks.{last_mark}
 use Rattle.issuance_log.specs.Records.{landmark_record}
 use Rattle.issuance_log.specs.Words.{log_records, log_broken, log_end, log_state}
@@ -9,6 +9,7 @@ use Rattle.issuance_log.proofs.Adds.{above_last, marked_to, marked_unrefused, ag
 use Rattle.issuance_log.proofs.Adds.{moment_is, after_is}
 use Rattle.issuance_log.proofs.Growth.{size_fits}
 use Rattle.issuance_log.proofs.Spelled.{length-landmark}
+use Rattle.issuance_log.proofs.Shown.{IsShown, agrees_shown, refused_agrees, refused_shown}
 use Rattle.issuance_log.proofs.log.Log.mark.Goals as goal
 
 pub returns-in_err-body-clause-valid : goal.returns-in_err-body-clause-valid
@@ -88,18 +89,37 @@ returns-clause-appends g c =
     }
 
 pub invariant_of-self-2 : goal.invariant_of-self-2
-invariant_of-self-2 g c = record {
-  agrees = λ sound.
-      let log = c.args.self.now in
-      let h = g.H.TreeHash.hash in
-      let grown = c.in_ok-append.ensures.leaves in
-      agrees_behind h (log_records log) _ c.as_slice.result.now
-      (landmark_record (length (log_state log).entries)) (with_mark (log_state log))
-      c.push_mark.new.self.state grown.records (c.as_slice.ensures ∙ c.in_ok-body.ensures
-      ∙ ap landmark_record c.len-size.ensures.value) (c.push_mark.ensures
-      ∙ ap with_mark c.prepare_mark.ensures.same)
-      (marked_to h (log_state log) (log_records log) (log.agrees grown.was_sound)
-      (size_fits h (log_state log) c.last_mark.ensures.sound)
-      (above_last h (log_state log) c.last_mark.result c.len-size.result c.last_mark.ensures.value
-      c.len-size.ensures.value c.if-last_mark-size.false c.last_mark.ensures.sound));
-}
+invariant_of-self-2 g c =
+    let log = c.args.self.now in
+    let h = g.H.TreeHash.hash in
+    let grown = c.in_ok-append.ensures.leaves in
+    let now = agrees_behind h (log_records log) _ c.as_slice.result.now
+    (landmark_record (length (log_state log).entries)) (with_mark (log_state log))
+    c.push_mark.new.self.state grown.records (c.as_slice.ensures ∙ c.in_ok-body.ensures
+    ∙ ap landmark_record c.len-size.ensures.value) (c.push_mark.ensures
+    ∙ ap with_mark c.prepare_mark.ensures.same)
+    (marked_to h (log_state log) (log_records log) (log.agrees grown.was_sound)
+    (size_fits h (log_state log) c.last_mark.ensures.sound)
+    (above_last h (log_state log) c.last_mark.result c.len-size.result c.last_mark.ensures.value
+    c.len-size.ensures.value c.if-last_mark-size.false c.last_mark.ensures.sound)) in
+    record {
+      agrees = λ sound. now;
+      shown = agrees_shown h c.push_mark.new.self.state _ now;
+    }
+
+pub invariant_of-self-in-Break-branch-3 : goal.invariant_of-self-in-Break-branch-3
+invariant_of-self-in-Break-branch-3 g c =
+    let log = c.args.self.now in
+    let h = g.H.TreeHash.hash in
+    let body = c.as_slice.result.now in
+    let new = c.append.new.self in
+    let append = c.append.ensures in
+    let same = sym c.prepare_mark.ensures.same in
+    record {
+      agrees = λ sound. subst (λ s. IfSome (records new) (λ list. log_of h list ≡ Ok s)) same
+          (refused_agrees h (log_state log) body log.journal new c.append.result (search rules)
+          append.leaves log.agrees sound);
+      shown = subst (λ s. IsShown s (records new)) same
+          (refused_shown (log_state log) body log.journal new c.append.result (search rules)
+          append.leaves append.broken append.told append.as_read log.shown);
+    }

@@ -1,0 +1,8 @@
+use Rattle.issuance_log.proofs.Shown.{shown_longer, shown_so}
+use Rattle.issuance_log.proofs.laws.records_tell_the_items.Goals as goal
+
+pub returns-clause-whole : goal.returns-clause-whole
+returns-clause-whole c = shown_so
+
+pub returns-clause-longer : goal.returns-clause-longer
+returns-clause-longer c = shown_longer

@@ -1,0 +1,22 @@
+-- What is said of a log where its disk tells the records: its items are the first ones in these, as
+-- many as it shows over every disk.
+use Rattle.std.specs.Prelude.{List, [], ◌∷◌, map, take, flat_map, option_to_list}
+use Rattle.byte_forms.specs.Types.{Text}
+use Rattle.issuance_log.specs.Folds.{LogState, LogView, null_entry}
+use Rattle.issuance_log.specs.Records.{item_in}
+
+-- The items in the records of a log, in their order: the null entry, without a key, and that of
+-- each Entry behind the first record.
+abbrev pub recorded_items : List Text → List (Text × Text)
+recorded_items [] = []
+recorded_items (first ∷ bodies) =
+    (null_entry, []) ∷ flat_map (λ body. option_to_list (item_in body)) bodies
+
+-- The log that shows this over every disk, with the first items in these records.
+abbrev pub shown_with : LogView → List Text → LogState
+shown_with v list = record {
+  settings = v.settings;
+  entries = take v.size (map (λ item. item.0) (recorded_items list));
+  keys = take v.size (map (λ item. item.1) (recorded_items list));
+  marks = v.marks;
+}
