@@ -8,6 +8,7 @@ mod FailedCalls
 mod FirstEntries
 mod GrownDisks
 mod Judged
+mod Looked
 mod Opened
 mod ReadImages
 mod Requested

@@ -1,17 +1,17 @@
 //! What a cosigner does in a round.
 
 ghost use Rattle.std.specs.Prelude.{◌≡◌, ◌<◌, length, IfOk};
-ghost use Rattle.issuance_log.specs.Words.{log_state};
+ghost use Rattle.issuance_log.specs.Words.{LogStays, log_state};
 ghost use Rattle.fleet.specs.CosignerViews.{cosigner_shown};
 ghost use Rattle.fleet.specs.Played.{holding_all};
 ghost use Rattle.fleet.specs.Trios.{IsSigned};
 
 use crate::cosigner_node::CosignerNode;
 use crate::ids::{LOG, id_of};
-use crate::tree::{proof_from, root_of};
+use crate::tree::root_and_proof;
 use crate::turns::Turn;
 use cosigner_core::{AdvanceRequest, SubtreeRequest};
-use disk_core::MemDisk;
+use disk_core::Disk;
 use hss_core::SigBuf;
 use issuance_log::Log;
 use mtc_io::{Bytes, Memory};
@@ -20,47 +20,46 @@ use tls_wire::{put_vec8, put_vec16};
 use tree_core::TreeHash;
 
 /// The cosigner holds the root of the log.
-pub(crate) fn advanced<H: TreeHash>(
+pub(crate) fn advanced<H: TreeHash, D: Disk>(
     alloc: Global,
     node: CosignerNode<H>,
-    log: &mut Log<H, MemDisk>,
+    log: &mut Log<H, D>,
     turn: Turn,
 ) -> Result<CosignerNode<H>, Memory>
     requires { (cosigner_shown node).held.size < length (log_state log.old).entries }
     ensures state { IfOk result (λ it. cosigner_shown it
         ≡ holding_all H.hash (log_state log.old) (cosigner_shown node)) }
-    ensures same { log.new ≡ log.old }
+    ensures stays { LogStays log.old log.new }
 {
     let id = id_of(alloc, LOG)?;
     let (held, _) = node.cosigner.held();
-    let proof = proof_from(log, held);
     let size = log.size();
-    let root = root_of(log);
+    let (root, proof) = root_and_proof(log, held);
     let request = AdvanceRequest {
         log: id.as_bytes(),
         size,
         root,
         proof: proof.as_slice(),
     };
-    node.advance(alloc, &request, turn)
+    let node = node.advance(alloc, &request, turn)?;
+    Ok(node)
 }
 
 /// The cosigner signs all of the log, and its signature is put behind the others.
-pub(crate) fn signed<H: TreeHash>(
+pub(crate) fn signed<H: TreeHash, D: Disk>(
     alloc: Global,
     node: CosignerNode<H>,
-    log: &mut Log<H, MemDisk>,
+    log: &mut Log<H, D>,
     turn: Turn,
     signatures: &mut Bytes,
 ) -> Result<CosignerNode<H>, Memory>
     ensures state { IfOk result (λ it. IsSigned H.hash (log_state log.old) turn
         (cosigner_shown node) (cosigner_shown it) signatures.old signatures.new) }
-    ensures same { log.new ≡ log.old }
+    ensures stays { LogStays log.old log.new }
 {
     let id = id_of(alloc, LOG)?;
     let size = log.size();
-    let proof = proof_from(log, size);
-    let hash = root_of(log);
+    let (hash, proof) = root_and_proof(log, size);
     let request = SubtreeRequest {
         log: id.as_bytes(),
         start: 0,

@@ -1,24 +1,24 @@
 //! Certificates without signatures.
 
-ghost use Rattle.std.specs.Prelude.{◌≡◌};
+ghost use Rattle.issuance_log.specs.Words.{LogStays};
 
 use crate::ids::{LOG, id_of};
 use crate::requests::NOT_BEFORE;
 use authority_core::light_cert;
 use cert_names::log_name;
-use disk_core::MemDisk;
+use disk_core::Disk;
 use issuance_log::Log;
 use landmarks::{Landmarks, active, of_marks, subtrees};
 use mtc_io::{Bytes, Failed, Memory};
 use policy_core::{Cosigners, Revoked, Rules, Store, Subtrees, Trusted};
 use relying_party::judge;
 use std::alloc::Global;
-use tree_core::{Span, TreeHash, subtree_ok};
+use tree_core::{Cover, Span, TreeHash, subtree_ok};
 use tree_proofs::node_of;
 
 // A subtree of the log with its hash.
-fn trusted<H: TreeHash>(log: &mut Log<H, MemDisk>, span: Span) -> Result<Trusted, Memory>
-    ensures { log.new ≡ log.old }
+fn trusted<H: TreeHash, D: Disk>(log: &mut Log<H, D>, span: Span) -> Result<Trusted, Memory>
+    ensures { LogStays log.old log.new }
 {
     // The subtrees of a landmark are subtrees of the log.
     if !subtree_ok(span.start, span.end) || log.size() < span.end {
@@ -34,35 +34,49 @@ fn trusted<H: TreeHash>(log: &mut Log<H, MemDisk>, span: Span) -> Result<Trusted
     }
 }
 
+// Puts the subtrees of a cover behind others.
+fn put_cover<H: TreeHash, D: Disk>(
+    log: &mut Log<H, D>,
+    cover: &Cover,
+    trust: &mut Vec<Trusted>,
+) -> Result<(), Memory>
+    ensures { LogStays log.old log.new }
+{
+    let first = trusted(log, cover.first)?;
+    trust.push(first)?;
+    let Some(span) = cover.second else {
+        return Ok(());
+    };
+    let second = trusted(log, span)?;
+    trust.push(second)?;
+    Ok(())
+}
+
 // The subtrees of all active landmarks, from the oldest.
-fn active_subtrees<H: TreeHash>(
+fn active_subtrees<H: TreeHash, D: Disk>(
     alloc: Global,
-    log: &mut Log<H, MemDisk>,
+    log: &mut Log<H, D>,
     landmarks: &Landmarks,
 ) -> Result<Subtrees, Memory>
-    ensures { log.new ≡ log.old }
+    ensures { LogStays log.old log.new }
 {
     let mut trust = Vec::new(alloc);
     let numbers = active(landmarks);
     for number in numbers.start..numbers.end {
-        let cover = subtrees(landmarks, number);
-        trust.push(trusted(log, cover.first)?)?;
-        if let Some(second) = cover.second {
-            trust.push(trusted(log, second)?)?;
-        }
+        put_cover(log, &subtrees(landmarks, number), &mut trust)?;
     }
     Ok(Subtrees::from_vec(trust))
 }
 
 // The landmarks of the log.
-fn landmarks_of<H: TreeHash>(alloc: Global, log: &Log<H, MemDisk>) -> Result<Landmarks, Memory> {
+fn landmarks_of<H: TreeHash, D: Disk>(alloc: Global, log: &Log<H, D>) -> Result<Landmarks, Memory> {
     log.sound();
     of_marks(alloc, log.marks(), log.settings().max_active)
 }
 
 // The store that trusts the active subtrees of the log, and no cosigner.
-fn landmark_store<H: TreeHash>(alloc: Global, log: &mut Log<H, MemDisk>) -> Result<Store, Memory>
-    ensures { log.new ≡ log.old }
+fn landmark_store<H: TreeHash, D: Disk>(alloc: Global, log: &mut Log<H, D>) -> Result<Store, Memory>
+    ensures { LogStays log.old log.new }
 {
     let landmarks = landmarks_of(alloc, log)?;
     let id = id_of(alloc, LOG)?;
@@ -78,11 +92,11 @@ fn landmark_store<H: TreeHash>(alloc: Global, log: &mut Log<H, MemDisk>) -> Resu
 
 /// The certificate of the newest entry without signatures, where it is accepted by the active
 /// subtrees alone.
-pub(crate) fn light_certificate<H: TreeHash>(
+pub(crate) fn light_certificate<H: TreeHash, D: Disk>(
     alloc: Global,
-    log: &mut Log<H, MemDisk>,
+    log: &mut Log<H, D>,
 ) -> Result<Option<Bytes>, Memory>
-    ensures { log.new ≡ log.old }
+    ensures { LogStays log.old log.new }
 {
     let store = landmark_store(alloc, log)?;
     let newest = log.size() - 1;

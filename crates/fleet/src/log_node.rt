@@ -16,3 +16,12 @@ pub(crate) struct LogNode<H: TreeHash> {
     ghost stands: { IsLogDisk H.TreeHash.hash (log_state log) (log_disk log) } by { IsLogDisk-prop
         H.TreeHash.hash (log_state log) (log_disk log) },
 }
+
+/// The log, whose device was only looked at.
+pub(crate) fn looked_at<H: TreeHash>(log: Log<H, MemDisk>) -> LogNode<H>
+    requires sound { log_broken log ≡ false }
+    requires stands { IsLogDisk H.hash (log_state log) (log_disk log) }
+    ensures { log_state result.log ≡ log_state log }
+{
+    LogNode { log }
+}

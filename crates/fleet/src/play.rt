@@ -11,7 +11,7 @@ ghost use Rattle.fleet.specs.Views.{shown};
 
 use crate::cosigner_trio::Trio;
 use crate::light::light_certificate;
-use crate::log_node::LogNode;
+use crate::log_node::{LogNode, looked_at};
 use crate::nodes::FleetNodes;
 use crate::round::Round;
 use crate::store::one_accepted;
@@ -31,10 +31,11 @@ fn put_light<H: TreeHash>(
     ensures { IfOk result (λ it. log_shown it ≡ log_shown log) }
 {
     let mut inner = log.log;
-    if let Some(cert) = light_certificate(alloc, &mut inner)? {
+    let newest = light_certificate(alloc, &mut inner)?;
+    if let Some(cert) = newest {
         light.push(cert)?;
     }
-    Ok(LogNode { log: inner })
+    Ok(looked_at(inner))
 }
 
 // One certificate more.
@@ -68,7 +69,7 @@ fn certificate<H: TreeHash>(
     let Ok(bytes) = cert(alloc, &mut inner, index, 0, size, signatures.as_slice()) else {
         return Err(Memory);
     };
-    Ok((LogNode { log: inner }, bytes))
+    Ok((looked_at(inner), bytes))
 }
 
 impl<H: TreeHash> FleetNodes<H> {

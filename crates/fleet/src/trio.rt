@@ -9,7 +9,7 @@ ghost use Rattle.fleet.specs.Trios.{AreNew, HaveAdvanced, HaveSigned, IsSigned};
 use crate::cosigner_node::CosignerNode;
 use crate::cosigner_trio::Trio;
 use crate::cosigners::{advanced, signed};
-use crate::log_node::LogNode;
+use crate::log_node::{LogNode, looked_at};
 use crate::turns::{Three, Turn};
 use mtc_io::{Bytes, Memory};
 use std::alloc::Global;
@@ -29,7 +29,7 @@ fn advanced_on<H: TreeHash>(
 {
     let mut inner = log.log;
     let node = advanced(alloc, node, &mut inner, turn)?;
-    Ok((node, LogNode { log: inner }))
+    Ok((node, looked_at(inner)))
 }
 
 // The cosigner signs all of the log, which stays as it was.
@@ -46,7 +46,7 @@ fn signed_on<H: TreeHash>(
 {
     let mut inner = log.log;
     let node = signed(alloc, node, &mut inner, turn, signatures)?;
-    Ok((node, LogNode { log: inner }))
+    Ok((node, looked_at(inner)))
 }
 
 impl<H: TreeHash> Trio<H> {

@@ -1,10 +1,21 @@
-use Rattle.std.proofs.Common.{ℕ, subst}
+use Rattle.std.proofs.Common.{◌∙◌, ℕ, subst}
 use Rattle.byte_forms.specs.Types.{Text}
+use Rattle.issuance_log.specs.Words.{log_disk, log_state}
 use Rattle.authority_core.specs.Certificates.{IsWritten}
 use Rattle.fleet.specs.LogNodes.{log_shown}
 use Rattle.fleet.specs.Stores.{StoresAcceptNow}
 use Rattle.fleet.proofs.Accepting.{accepts_now}
+use Rattle.fleet.proofs.Looked.{still_stands}
 use Rattle.fleet.proofs.play.certificate.Goals as goal
+
+pub looked_at-requires-clause-sound : goal.looked_at-requires-clause-sound
+looked_at-requires-clause-sound g c = c.in-Ok.ensures.stays.broken ∙ c.args.log.sound
+
+pub looked_at-requires-clause-stands : goal.looked_at-requires-clause-stands
+looked_at-requires-clause-stands g c = still_stands g.H.TreeHash.hash (log_state c.args.log.log) _
+    (log_disk c.args.log.log) _ c.in-Ok.ensures.stays.state
+    c.in-Ok.ensures.stays.looks.told c.in-Ok.ensures.stays.looks.crash
+    c.args.log.stands
 
 pub returns-clause-written : goal.returns-clause-written
 returns-clause-written g c =
