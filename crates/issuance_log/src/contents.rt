@@ -1,7 +1,8 @@
 //! What the records of a journal make of a log, with the nodes of the tree over its entries.
 
-ghost use Rattle.std.specs.Prelude.{◌≡◌, ◌<◌, ◌≤◌, [], ◌∷◌, ◌++◌, length, map, nat_lt, not};
-ghost use Rattle.std.specs.Prelude.{option_and_then, vec_len, vec_capacity, IfOk, OnOk};
+ghost use Rattle.std.specs.Prelude.{◌≡◌, ◌+◌, ◌*◌, ◌^◌, ◌<◌, ◌≤◌, [], ◌∷◌, ◌++◌, length, map};
+ghost use Rattle.std.specs.Prelude.{nat_lt, not, option_and_then, vec_len, vec_capacity, IfOk};
+ghost use Rattle.std.specs.Prelude.{OnOk};
 ghost use Rattle.issuance_log.specs.Folds.{begun_log, new_log, next_log, with_entry, with_item};
 ghost use Rattle.issuance_log.specs.Folds.{with_landmark, with_mark};
 ghost use Rattle.issuance_log.specs.Marks.{last_mark, AreRising};
@@ -9,17 +10,18 @@ ghost use Rattle.issuance_log.specs.Records.{IsShort, mark_in};
 ghost use Rattle.issuance_log.specs.Settings.{AreAllowed};
 ghost use Rattle.issuance_log.specs.Results.{LogFinds, LogTakes};
 ghost use Rattle.issuance_log.specs.Sound.{IsItem, IsSound};
-ghost use Rattle.tree_core.specs.Tree.{leaf_hash};
+ghost use Rattle.tree_core.specs.Path.{part_of};
+ghost use Rattle.tree_core.specs.Tree.{leaf_hash, root_of};
 
 use crate::error::RecordError;
 use crate::items::{Items, NULL_ENTRY};
 use crate::record::{read_item, read_mark, read_settings};
 use crate::settings::LogSettings;
+use crate::tree::Tree;
 use log_entry::key_matches;
 use mtc_io::{Bytes, Memory};
 use std::alloc::Global;
 use std::marker::Model;
-use tree_cache::Cache;
 use tree_core::{TreeHash, leaf};
 
 /// An entry and its key, for which there is room in a log.
@@ -37,8 +39,8 @@ pub(crate) struct Contents<H: TreeHash> {
     settings: LogSettings,
     items: Items,
     marks: Vec<u64>,
-    nodes: Cache<H>,
-    ghost hashed: { nodes.leaves ≡ map (leaf_hash H.TreeHash.hash) items.entries.items },
+    tree: Tree<H>,
+    ghost hashed: { tree.leaves ≡ map (leaf_hash H.TreeHash.hash) items.entries.items },
 }
 
 impl<H: TreeHash> Model for Contents<H> {
@@ -55,7 +57,7 @@ impl<H: TreeHash> Model for Contents<H> {
         keys = c.items.keys.items;
         marks = c.marks.items;
       };
-      spare = min c.nodes.spare
+      spare = min c.tree.spare
           (min (vec_capacity c.items.entries - vec_len c.items.entries)
           (vec_capacity c.items.keys - vec_len c.items.keys));
       mark_spare = vec_capacity c.marks - vec_len c.marks;
@@ -96,14 +98,15 @@ impl<H: TreeHash> Contents<H> {
         ensures { IfOk result (λ c. c.state ≡ new_log settings) }
     {
         let items = Items::begin(alloc)?;
-        let mut nodes = Cache::new(alloc);
-        nodes.push(&leaf::<H>(&NULL_ENTRY))?;
+        let mut tree = Tree::new(alloc);
+        tree.reserve()?;
+        tree.push(&leaf::<H>(&NULL_ENTRY));
         Ok(Contents {
             alloc,
             settings,
             items,
             marks: Vec::new(alloc),
-            nodes,
+            tree,
         })
     }
 
@@ -208,11 +211,15 @@ impl<H: TreeHash> Contents<H> {
         self.items.keys()
     }
 
-    /// The nodes over the leaf hashes of the entries, each at its index.
-    pub(crate) fn nodes(&self) -> &Cache<H>
-        ensures { result.now.leaves ≡ map (leaf_hash H.hash) self.now.state.entries }
+    /// The hash of the `2^level` entries from `place * 2^level` on. The log stays as it was.
+    pub(crate) fn node_at(&mut self, level: u32, place: u64) -> [u8; 32]
+        requires { (place + 1) * 2 ^ level ≤ length self.old.state.entries }
+        ensures node { result ≡ root_of H.hash
+            (part_of (map (leaf_hash H.hash) self.old.state.entries)
+            (place * 2 ^ level) ((place + 1) * 2 ^ level)) }
+        ensures same { self.new.state ≡ self.old.state }
     {
-        &self.nodes
+        self.tree.node_at(level, place)
     }
 
     /// A copy of an item, and room for it. The log stays as it was.
@@ -227,7 +234,7 @@ impl<H: TreeHash> Contents<H> {
             key: Bytes::copy_of(self.alloc, key)?,
         };
         self.items.reserve()?;
-        self.nodes.reserve(1)?;
+        self.tree.reserve()?;
         Ok(item)
     }
 
@@ -238,10 +245,7 @@ impl<H: TreeHash> Contents<H> {
         requires item { IsItem H.hash item.entry item.key }
         ensures { self.new.state ≡ with_item item.entry item.key self.old.state }
     {
-        match self.nodes.push(&leaf::<H>(item.entry.as_slice())) {
-            Ok(()) => {}
-            Err(Memory) => unreachable!(),
-        }
+        self.tree.push(&leaf::<H>(item.entry.as_slice()));
         self.items.push(item.entry, item.key);
     }
 

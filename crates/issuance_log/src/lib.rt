@@ -9,8 +9,9 @@
 //! What the records of a journal make of a log is one function of them. A log keeps to it: unless
 //! an append has failed, its settings, items and landmarks are what the records on its disk make.
 //!
-//! A log is the [`Nodes`](tree_proofs::Nodes) of the tree over its entries: it keeps the hash of
-//! each full subtree in a [`Cache`](tree_cache::Cache).
+//! A log is the [`Nodes`](tree_proofs::Nodes) of the tree over its entries: it keeps the leaf
+//! hashes, and from the first node on that is asked for, the hash of each full subtree in a
+//! [`Cache`](tree_cache::Cache).
 #![tactic(auto)]
 
 mod contents;
@@ -24,6 +25,7 @@ mod nodes;
 mod reading;
 mod record;
 mod settings;
+mod tree;
 
 pub use creation::{create, pack};
 pub use error::{LogError, LogOpenError, LogRefused};

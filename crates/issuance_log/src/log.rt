@@ -1,14 +1,15 @@
 //! A log that is open for more entries.
 
-ghost use Rattle.std.specs.Prelude.{◌≡◌, ◌≤◌, ◌<◌, ◌+◌, ◌++◌, [], ◌∷◌, length, map, true, false};
-ghost use Rattle.std.specs.Prelude.{None, Ok, IfSome, IfOk, IfErr, OnOk, OnErr};
+ghost use Rattle.std.specs.Prelude.{◌≡◌, ◌≤◌, ◌<◌, ◌+◌, ◌*◌, ◌^◌, ◌++◌, [], ◌∷◌, length, map};
+ghost use Rattle.std.specs.Prelude.{true, false, None, Ok, IfSome, IfOk, IfErr, OnOk, OnErr};
 ghost use Rattle.std.proofs.Props.{props};
 ghost use Rattle.disk_core.specs.Moments.{Looks};
 ghost use Rattle.journal_core.specs.Format.{StandsFor, end_behind};
 ghost use Rattle.journal_core.specs.Words.{is_broken, records, AllStandFor};
 ghost use Rattle.issuance_log.specs.Folds.{log_of, view_in, with_item, with_mark};
 ghost use Rattle.log_entry.specs.Matching.{matches};
-ghost use Rattle.tree_core.specs.Tree.{leaf_hash};
+ghost use Rattle.tree_core.specs.Path.{part_of};
+ghost use Rattle.tree_core.specs.Tree.{leaf_hash, root_of};
 ghost use Rattle.issuance_log.specs.Openings.{LogCountsNoOther, HasLogCause, log_read};
 ghost use Rattle.issuance_log.specs.Marks.{AreRising};
 ghost use Rattle.issuance_log.specs.Records.{entry_record, landmark_record};
@@ -27,7 +28,6 @@ use disk_core::Disk;
 use journal_core::{Journal, Opening, Refused};
 use mtc_io::{Bytes, Memory};
 use std::alloc::Global;
-use tree_cache::Cache;
 use tree_core::TreeHash;
 
 // An entry and its key have at most so many bytes together.
@@ -211,11 +211,16 @@ impl<H: TreeHash, D: Disk> Log<H, D> {
         self.contents.marks()
     }
 
-    // The nodes over the leaf hashes of the entries, each at its index.
-    pub(crate) fn nodes(&self) -> &Cache<H>
-        ensures { result.now.leaves ≡ map (leaf_hash H.hash) (log_state self.now).entries }
+    // The hash of the `2^level` entries from `place * 2^level` on. The disk is not called, and the
+    // log shows what it showed before.
+    pub(crate) fn node_at(&mut self, level: u32, place: u64) -> [u8; 32]
+        requires { (place + 1) * 2 ^ level ≤ (view_of self.old).size }
+        ensures node { result ≡ root_of H.hash
+            (part_of (map (leaf_hash H.hash) (log_state self.old).entries)
+            (place * 2 ^ level) ((place + 1) * 2 ^ level)) }
+        ensures stays { LogStays self.old self.new }
     {
-        self.contents.nodes()
+        self.contents.node_at(level, place)
     }
 
     /// The entry at an index and its key, in the place of what the two byte strings held.

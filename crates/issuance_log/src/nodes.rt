@@ -10,9 +10,9 @@ use mtc_io::Failed;
 use tree_core::TreeHash;
 use tree_proofs::Nodes;
 
-/// A log is the nodes of the tree over its entries. It keeps the hash of each full subtree, looks
-/// it up each time it is asked for, and never fails. Its disk is only looked at, and it shows what
-/// it showed before.
+/// A log is the nodes of the tree over its entries. When the first one is asked for it makes the
+/// hash of each full subtree, and keeps them; behind that it looks them up. It never fails. Its
+/// disk is only looked at, and it shows what it showed before.
 impl<H: TreeHash, D: Disk> Nodes for Log<H, D> {
     ghost use Rattle.std.specs.Prelude.{Some};
     ghost use Rattle.std.proofs.Common.{sym};
@@ -40,6 +40,6 @@ impl<H: TreeHash, D: Disk> Nodes for Log<H, D> {
     }
 
     fn node(&mut self, level: u32, place: u64) -> Result<[u8; 32], Failed> {
-        Ok(self.nodes().node_at(level, place))
+        Ok(self.node_at(level, place))
     }
 }
