@@ -1,8 +1,7 @@
 -- Records that are taken one by one behind the first record of a log.
-use Rattle.std.proofs.Common.{◌≡◌, ℕ, suc, ◌+◌, ◌<◌, ◌≤◌, ◌==◌, ◌&&◌, nat_lt, Bool, true, false}
+use Rattle.std.proofs.Common.{◌≡◌, ℕ, ◌+◌, ◌<◌, ◌≤◌, ◌==◌, ◌&&◌, nat_lt, Bool, true, false}
 use Rattle.std.proofs.Common.{List, [], ◌∷◌, ◌++◌, length, drop, get_or, Option, Some, None, Result}
-use Rattle.std.proofs.Common.{Ok, Err, IfOk, is_ok, option_map, option_and_then, refl, ap, sym, ◌∙◌}
-use Rattle.std.proofs.Common.{arith}
+use Rattle.std.proofs.Common.{Ok, Err, IfOk, is_ok, option_map, refl, ap, sym, ◌∙◌}
 use Rattle.std.specs.Prelude.{if◌then◌else◌}
 use Rattle.byte_forms.specs.Types.{Text, HashFunction}
 use Rattle.byte_forms.specs.Readings.{◌>>=◌, some_or}
@@ -11,7 +10,7 @@ use Rattle.journal_core.specs.Folds.{Fold, state_behind, taken_from}
 use Rattle.journal_core.proofs.Bodies.{none_left, rest_at}
 use Rattle.log_entry.specs.Matching.{matches}
 use Rattle.issuance_log.specs.Folds.{LogState, begun_log, changed, log_behind, log_fold, log_of}
-use Rattle.issuance_log.specs.Folds.{new_log, next_log, with_entry, with_item, with_landmark}
+use Rattle.issuance_log.specs.Folds.{new_log, next_log, with_item}
 use Rattle.issuance_log.specs.Folds.{with_mark}
 use Rattle.issuance_log.specs.Marks.{last_mark}
 use Rattle.issuance_log.specs.Records.{item_in, mark_in, settings_in}

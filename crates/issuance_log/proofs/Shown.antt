@@ -4,15 +4,15 @@ use Rattle.std.proofs.Common.{take, Option, Some, None, IfSome, option_map, Ok, 
 use Rattle.std.proofs.Common.{subst, ◌∙◌, inl, inr, arith}
 use Rattle.std.specs.Prelude.{◌↔◌, Bool, true, false, map, flat_map, option_to_list, is_ok}
 use Rattle.std.specs.Prelude.{is_some, Result, Err, IsErrOf, IsTrue}
-use Rattle.std.proofs.lemmas.List.{append_assoc, append-nil, length-map, length-take, map-append}
-use Rattle.std.proofs.lemmas.List.{take-append-le, take_all}
+use Rattle.std.proofs.lemmas.List.{append_assoc, append-nil, length-append, length-map, length-take}
+use Rattle.std.proofs.lemmas.List.{map-append, take-append-le, take_all}
 use Rattle.std.proofs.lemmas.Grind.{flat_map-append}
 use Rattle.byte_forms.specs.Types.{Text, HashFunction}
 use Rattle.byte_forms.specs.Readings.{some_or}
 use Rattle.byte_forms.proofs.Steps.{bind_ok, ok_is, some_or_ok}
 use Rattle.disk_core.specs.declared.disk.Disk.{Ghosts}
 use Rattle.journal_core.specs.Folds.{taken_from}
-use Rattle.journal_core.specs.Format.{StandsFor, StandsForEither, records_of}
+use Rattle.journal_core.specs.Format.{StandsForEither, records_of}
 use Rattle.journal_core.specs.Words.{AppendLeaves, disk_of, is_broken, records}
 use Rattle.journal_core.specs.declared.error.AppendError.{AppendError}
 use Rattle.journal_core.specs.declared.error.AppendError.TheVariants.{Broken, Failed, Full}
@@ -22,9 +22,11 @@ use Rattle.log_entry.specs.Matching.{matches}
 use Rattle.issuance_log.specs.Folds.{LogState, LogView, changed, log_fold, log_of, new_log}
 use Rattle.issuance_log.specs.Folds.{next_log, null_entry, view_in, with_item, with_mark}
 use Rattle.issuance_log.specs.Marks.{last_mark}
-use Rattle.issuance_log.specs.Records.{item_in, mark_in}
+use Rattle.issuance_log.specs.Records.{IsShort, entry_record, item_in, landmark_record}
+use Rattle.issuance_log.specs.Records.{mark_in}
 use Rattle.issuance_log.specs.Shown.{recorded_items, shown_with}
 use Rattle.issuance_log.proofs.Behind.{only_begins, when}
+use Rattle.issuance_log.proofs.Spelled.{item_again, mark_alone}
 
 -- the entries and the keys of items
 abbrev pub entries_of : List (Text × Text) → List Text
@@ -152,6 +154,50 @@ pub shown_longer : (v : LogView) (list : List Text) (body : Text)
 shown_longer v list body few = same_shown v _ _ _ _
     (first_same (λ item. item.0) v.size list body few)
     (first_same (λ item. item.1) v.size list body few)
+
+-- the record of an item has it behind the others
+recorded_item : (list : List Text) (entry key : Text) → IsShort entry → IsShort key
+    → 1 ≤ length (recorded_items list)
+    → recorded_items (list ++ entry_record entry key ∷ [])
+    ≡ recorded_items list ++ (entry, key) ∷ []
+recorded_item [] entry key few_entry few_key some = absurd (omega arith)
+recorded_item (first ∷ bodies) entry key few_entry few_key some =
+    ap (λ l. (null_entry, []) ∷ l)
+    (flat_map-append (λ b. option_to_list (item_in b)) bodies (entry_record entry key ∷ []))
+    ∙ ap (λ o. recorded_items (first ∷ bodies) ++ (option_to_list o ++ []))
+    (item_again entry key few_entry few_key)
+
+-- that of a landmark has none
+pub recorded_mark : (list : List Text) (size : ℕ) → 1 ≤ length (recorded_items list)
+    → recorded_items (list ++ landmark_record size ∷ []) ≡ recorded_items list
+recorded_mark [] size some = absurd (omega arith)
+recorded_mark (first ∷ bodies) size some =
+    ap (λ l. (null_entry, []) ∷ l)
+    (flat_map-append (λ b. option_to_list (item_in b)) bodies (landmark_record size ∷ []))
+    ∙ ap (λ o. recorded_items (first ∷ bodies) ++ (option_to_list o ++ [])) (mark_alone size)
+    ∙ append-nil (recorded_items (first ∷ bodies))
+
+one_more : (f : Text × Text → Text) (n : ℕ) (items more : List (Text × Text)) (x : Text × Text)
+    → n ≡ length items → more ≡ items ++ x ∷ []
+    → take (n + 1) (map f more) ≡ take n (map f items) ++ f x ∷ []
+one_more f n items more x size is =
+    let count = length-map items f in
+    let counts : length (map f (items ++ x ∷ [])) ≡ length items + 1 =
+    length-map (items ++ x ∷ []) f ∙ length-append items (x ∷ []) in
+    ap (λ l. take (n + 1) (map f l)) is
+    ∙ take_all (n + 1) (map f (items ++ x ∷ [])) (omega arith) ∙ map-append f items (x ∷ [])
+    ∙ ap (λ l. l ++ f x ∷ []) (sym (take_all n (map f items) (omega arith)))
+
+-- the record of an item behind as many items as are shown
+pub shown_added : (v : LogView) (list : List Text) (entry key : Text) → IsShort entry → IsShort key
+    → 1 ≤ v.size → v.size ≡ length (recorded_items list)
+    → shown_with (record v { size = v.size + 1 }) (list ++ entry_record entry key ∷ [])
+    ≡ with_item entry key (shown_with v list)
+shown_added v list entry key few_entry few_key some size =
+    let more = recorded_item list entry key few_entry few_key (omega arith) in
+    same_shown v _ _ _ _
+    (one_more (λ item. item.0) v.size (recorded_items list) _ (entry, key) size more)
+    (one_more (λ item. item.1) v.size (recorded_items list) _ (entry, key) size more)
 
 -- and stays so with a record more
 still_shown : (s : LogState) (list : List Text) (body : Text) → shown_with (view_in s) list ≡ s

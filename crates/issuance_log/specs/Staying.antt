@@ -14,6 +14,7 @@ module _ {H D : Type 0} {hashes : Hashes H} {g : Ghosts D} where
       → g.may_leave (log_disk log) c) → LogStays log log
   stays_alone log only_now = record {
     looks = no_look g (log_disk log) only_now;
+    fine = refl;
     state = refl;
     records = refl;
     end = refl;
@@ -25,6 +26,7 @@ module _ {H D : Type 0} {hashes : Hashes H} {g : Ghosts D} where
       → LogStays old new
   stays_both old mid new first second = record {
     looks = looked_on g (log_disk old) (log_disk mid) (log_disk new) first.looks second.looks;
+    fine = second.fine ∙ first.fine;
     state = second.state ∙ first.state;
     records = second.records ∙ first.records;
     end = second.end ∙ first.end;

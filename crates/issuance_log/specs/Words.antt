@@ -49,10 +49,11 @@ module _ {H D : Type 0} {hashes : Hashes H} {g : Ghosts D} where
   abbrev pub told_state : Log H D hashes g → Option LogState
   told_state log = option_map (shown_with (view_of log)) (log_records log)
 
-  -- The disk was only looked at. The log shows what it showed, with the same records and the same
-  -- end, and is broken where it was.
+  -- The disk was only looked at, and no call of it failed. The log shows what it showed, with the
+  -- same records and the same end, and is broken where it was.
   pub record LogStays (old new : Log H D hashes g) : Type 0 where
     pub looks : Looks g (log_disk old) (log_disk new)
+    pub fine : g.faults (log_disk new) ≡ g.faults (log_disk old)
     pub state : log_state new ≡ log_state old
     pub records : log_records new ≡ log_records old
     pub end : log_end new ≡ log_end old

@@ -1,11 +1,12 @@
 //! Laws of a log's records: the clauses are the laws, and the functions do nothing.
 
-ghost use Rattle.std.specs.Prelude.{◌≡◌, ◌<◌, ◌≤◌, ◌^◌, ℕ, List, [], ◌∷◌, ◌++◌, length, Some, Ok};
+ghost use Rattle.std.specs.Prelude.{◌≡◌, ◌+◌, ◌<◌, ◌≤◌, ◌^◌, ℕ, List, [], ◌∷◌, ◌++◌, length};
+ghost use Rattle.std.specs.Prelude.{Some, Ok};
 ghost use Rattle.byte_forms.specs.Types.{Text, HashFunction};
 ghost use Rattle.byte_forms.specs.Places.{IsBytes};
 ghost use Rattle.journal_core.specs.Format.{StandsFor};
 ghost use Rattle.issuance_log.specs.Folds.{LogState, LogView, begun_log, next_log, log_behind};
-ghost use Rattle.issuance_log.specs.Folds.{log_of, view_in};
+ghost use Rattle.issuance_log.specs.Folds.{log_of, view_in, with_item};
 ghost use Rattle.issuance_log.specs.Openings.{FoundLog, log_read};
 ghost use Rattle.issuance_log.specs.Records.{IsShort, entry_record, item_in, landmark_record};
 ghost use Rattle.issuance_log.specs.Records.{mark_in, settings_in};
@@ -53,13 +54,20 @@ pub fn logs_are_read_from_their_journals()
 {}
 
 /// A log that records make is what it shows over every disk, with the first items in the records.
-/// It stays so where a record more stands behind them.
+/// It stays so where a record more stands behind them. Where all of the items are shown, the record
+/// of an item adds this one, and that of a landmark adds none.
 pub fn records_tell_the_items()
     ensures whole { (h : HashFunction) (list : List Text) (s : LogState) → log_of h list ≡ Ok s
         → shown_with (view_in s) list ≡ s }
     ensures longer { (v : LogView) (list : List Text) (body : Text)
         → v.size ≤ length (recorded_items list)
         → shown_with v (list ++ body ∷ []) ≡ shown_with v list }
+    ensures added { (v : LogView) (list : List Text) (entry key : Text) → IsShort entry
+        → IsShort key → 1 ≤ v.size → v.size ≡ length (recorded_items list)
+        → shown_with (record v { size = v.size + 1 }) (list ++ entry_record entry key ∷ [])
+        ≡ with_item entry key (shown_with v list) }
+    ensures marked { (list : List Text) (size : ℕ) → 1 ≤ length (recorded_items list)
+        → recorded_items (list ++ landmark_record size ∷ []) ≡ recorded_items list }
 {}
 
 /// Records make a log exactly where the first one has settings, and the others may stand behind

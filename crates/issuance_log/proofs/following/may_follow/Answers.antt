@@ -1,5 +1,4 @@
-use Rattle.std.proofs.Common.{◌++◌, [], ◌∷◌, Bool, ap, sym, ◌∙◌, arith}
-use Rattle.byte_forms.specs.Types.{Text}
+use Rattle.std.proofs.Common.{◌++◌, [], ◌∷◌, ap, sym, ◌∙◌, arith}
 use Rattle.mtc_io.specs.declared.fault.Memory.{Memory}
 use Rattle.issuance_log.specs.Folds.{log_behind, log_fold, next_log}
 use Rattle.issuance_log.proofs.Behind.{follows_on, follows_not, last_tried, was_not, was_taken}

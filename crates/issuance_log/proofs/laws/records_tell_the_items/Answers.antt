@@ -1,4 +1,4 @@
-use Rattle.issuance_log.proofs.Shown.{shown_longer, shown_so}
+use Rattle.issuance_log.proofs.Shown.{recorded_mark, shown_added, shown_longer, shown_so}
 use Rattle.issuance_log.proofs.laws.records_tell_the_items.Goals as goal
 
 pub returns-clause-whole : goal.returns-clause-whole
@@ -6,3 +6,9 @@ returns-clause-whole c = shown_so
 
 pub returns-clause-longer : goal.returns-clause-longer
 returns-clause-longer c = shown_longer
+
+pub returns-clause-added : goal.returns-clause-added
+returns-clause-added c = shown_added
+
+pub returns-clause-marked : goal.returns-clause-marked
+returns-clause-marked c = recorded_mark

@@ -8,6 +8,7 @@ returns-clause-stays g c =
     let disk = log_disk c.args.self.now in
     record {
       looks = no_look g.D.Disk disk (g.met.D.Disk.only_now disk);
+      fine = refl;
       state = c.node_at.ensures.same;
       records = refl;
       end = refl;
