@@ -4,6 +4,8 @@
 #[cfg(test)]
 mod disks;
 #[cfg(test)]
+mod ends;
+#[cfg(test)]
 mod files;
 #[cfg(test)]
 mod journals;

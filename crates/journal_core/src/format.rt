@@ -10,16 +10,16 @@ use std::alloc::Global;
 pub const MAX_BODY: usize = 131_072;
 
 /// The first bytes of a journal: `mtc-journal/v1`, 0A, 00.
-pub(crate) const HEADER: [u8; 16] = *b"mtc-journal/v1\n\0";
+pub const HEADER: [u8; 16] = *b"mtc-journal/v1\n\0";
 
-// Room for the first write of a new file with the longest body.
-pub(crate) const ROOM: usize = 131_094;
+/// The most bytes of one write to a journal: of the first one of a new file, with the longest body.
+pub const LONGEST_WRITE: usize = 131_094;
 
 /// The buffer of a journal, which is all the memory that it takes.
 pub(crate) fn buffer(alloc: Global) -> Result<Vec<u8>, Memory>
     ensures { IfOk result (λ v. length v.items ≡ 131094) }
 {
-    Ok(vec![in alloc; 0; ROOM]?)
+    Ok(vec![in alloc; 0; LONGEST_WRITE]?)
 }
 
 // A piece into the buffer, behind what is there before a place.

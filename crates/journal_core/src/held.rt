@@ -6,7 +6,7 @@ ghost use Rattle.disk_core.specs.Disk.{part};
 ghost use Rattle.disk_core.specs.Moments.{Looks};
 ghost use Rattle.journal_core.specs.Windows.{Holds};
 
-use crate::format::ROOM;
+use crate::format::LONGEST_WRITE;
 use crate::window::Window;
 use disk_core::{Disk, look_at};
 use mtc_io::Failed;
@@ -53,7 +53,7 @@ pub(crate) fn hold<D: Disk>(
     if window.from <= place && place + count as u64 <= window.to {
         return Ok((place - window.from) as usize);
     }
-    let length = (size - place).min(ROOM as u64) as usize;
+    let length = (size - place).min(LONGEST_WRITE as u64) as usize;
     window.from = place;
     window.to = place;
     read_front(disk, place, length, &mut window.buffer)?;

@@ -22,10 +22,10 @@ mod window;
 
 pub use error::{AppendError, OpenError, Refused, StartError};
 pub use first_record::{FirstRecord, start};
-pub use format::MAX_BODY;
+pub use format::{HEADER, LONGEST_WRITE, MAX_BODY};
 pub use journal::Journal;
 pub use laws::{
     a_file_stands_for_one_list_at_most, files_are_read_by_their_records,
-    images_are_read_by_their_records,
+    images_are_read_by_their_records, writes_have_a_longest,
 };
 pub use opening::Opening;

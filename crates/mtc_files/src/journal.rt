@@ -1,6 +1,7 @@
 //! The file of a journal: how it is opened, made, locked and synced.
 
-use std::fs::{self, File};
+use journal_core::{HEADER, LONGEST_WRITE};
+use std::fs::{self, File, OpenFile};
 use std::io::{self, ErrorKind};
 use std::os::fd::AsRawFd;
 use std::os::unix::fs::{FileExt, MetadataExt, OpenOptionsExt};
@@ -11,16 +12,15 @@ use std::rt::Files;
 const OWNER_ALONE: u32 = 0o600;
 // The descriptors of the standard streams are those up to this one, that of standard error.
 const LAST_STREAM: i32 = 2;
-// The first bytes of a journal.
-const HEADER: [u8; 16] = *b"mtc-journal/v1\n\0";
-// So many bytes at its end are written again at each opening, 33 pieces: all that a command may
-// have written behind the last sync that answered Ok. Behind that sync it writes one record, and no
-// more where a call fails. A new journal's first write has at most 131,094 bytes, with a body of
-// 131,072. A later record's has 131,077, and so far at most the file goes on behind the closed
-// gate: a gate that was just opened stands at most 131,078 bytes before the end.
+// So many bytes at the end of a journal are written again at each opening, in pieces: all that a
+// command may have written behind the last sync that answered Ok. Behind that sync it writes one
+// record, and no more where a call fails. No write is longer than a journal's longest, of 131,094
+// bytes, which is the first one of a new file. A later record's has at most 131,077, and so far at
+// most the file goes on behind the closed gate: a gate that was just opened stands at most 131,078
+// bytes before the end.
 const TAIL: u64 = PIECES * PIECE as u64;
 
-const PIECES: u64 = 33;
+const PIECES: u64 = ((LONGEST_WRITE + PIECE - 1) / PIECE) as u64;
 
 const PIECE: usize = 4096;
 
@@ -41,21 +41,38 @@ pub fn create_empty<R: Files>(files: &R, name: &str) -> io::Result<R::File> {
 }
 
 /// Locks an open file for this process alone, without waiting, and syncs it and the folder of its
-/// name. The name has to lead to the file that was locked. The last bytes of a journal are written
-/// again before the sync, as they are, so that it carries them to the disk also where the sync of
-/// an earlier command failed. The lock is held until the file is closed.
+/// name. The name has to lead to the file that was locked. The end of a journal is written again
+/// before the sync, so that it carries these bytes to the disk also where the sync of an earlier
+/// command failed. The lock is held until the file is closed.
 pub fn lock_and_sync<R: Files<File = File>>(files: &R, file: File, name: &str) -> io::Result<File> {
     let file = move_off_streams(file)?;
     file.try_lock()?;
     if !leads_to(files, name, &file)? {
         return Err(io::Error::from(ErrorKind::NotFound));
     }
-    if begins_as_journal(&file)? {
-        write_tail_again(&file)?;
-    }
+    write_end_again(&file)?;
     file.sync_all()?;
     sync_folder(files, name)?;
     Ok(file)
+}
+
+/// Writes the last bytes of a journal again, as they are read, up to the end that it has now. A
+/// system may take a page for written whose sync has failed, and keep it in memory: behind this the
+/// next sync has to write it, or fails. A file that doesn't begin as a journal isn't written.
+pub fn write_end_again<F: OpenFile + FileExt>(file: &F) -> io::Result<()> {
+    let length = file.metadata()?.len();
+    if !begins_as_journal(file, length)? {
+        return Ok(());
+    }
+    let mut place = length.saturating_sub(TAIL);
+    let mut piece = [0; PIECE];
+    for _ in 0..PIECES {
+        let size = length.saturating_sub(place).min(PIECE as u64) as usize;
+        file.read_exact_at(&mut piece[..size], place)?;
+        file.write_all_at(&piece[..size], place)?;
+        place = place.saturating_add(size as u64);
+    }
+    Ok(())
 }
 
 // A standard stream that was closed at the start leaves its descriptor to the file that is opened
@@ -75,28 +92,13 @@ fn leads_to<R: Files>(files: &R, name: &str, file: &File) -> io::Result<bool> {
 }
 
 // Whether the file begins with the header: no other file is written.
-fn begins_as_journal(file: &File) -> io::Result<bool> {
+fn begins_as_journal(file: &impl FileExt, length: u64) -> io::Result<bool> {
     let mut first = [0; HEADER.len()];
-    if file.metadata()?.len() < HEADER.len() as u64 {
+    if length < HEADER.len() as u64 {
         return Ok(false);
     }
     file.read_exact_at(&mut first, 0)?;
     Ok(first == HEADER)
-}
-
-// Writes the last bytes again, as they are read. A system may take a page for written whose sync
-// has failed, and keep it in memory: from now on the next sync has to write it, or fails.
-fn write_tail_again(file: &File) -> io::Result<()> {
-    let length = file.metadata()?.len();
-    let mut place = length.saturating_sub(TAIL);
-    let mut piece = [0; PIECE];
-    for _ in 0..PIECES {
-        let size = length.saturating_sub(place).min(PIECE as u64) as usize;
-        file.read_exact_at(&mut piece[..size], place)?;
-        file.write_all_at(&piece[..size], place)?;
-        place = place.saturating_add(size as u64);
-    }
-    Ok(())
 }
 
 // Syncs the folder in which the name stands.

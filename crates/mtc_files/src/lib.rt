@@ -5,3 +5,4 @@ mod file_room;
 mod journal;
 
 pub use file_room::FileRoom;
+pub use journal::write_end_again;
