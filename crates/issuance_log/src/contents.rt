@@ -1,8 +1,8 @@
 //! What the records of a journal make of a log, with the nodes of the tree over its entries.
 
 ghost use Rattle.std.specs.Prelude.{◌≡◌, ◌+◌, ◌*◌, ◌^◌, ◌<◌, ◌≤◌, [], ◌∷◌, ◌++◌, length, map};
-ghost use Rattle.std.specs.Prelude.{nat_lt, not, option_and_then, vec_len, vec_capacity, IfOk};
-ghost use Rattle.std.specs.Prelude.{OnOk};
+ghost use Rattle.std.specs.Prelude.{nat_lt, not, option_and_then, take, vec_len, vec_capacity};
+ghost use Rattle.std.specs.Prelude.{IfOk, OnOk};
 ghost use Rattle.issuance_log.specs.Folds.{begun_log, new_log, next_log, with_entry, with_item};
 ghost use Rattle.issuance_log.specs.Folds.{with_landmark, with_mark};
 ghost use Rattle.issuance_log.specs.Marks.{last_mark, AreRising};
@@ -14,7 +14,7 @@ ghost use Rattle.tree_core.specs.Path.{part_of};
 ghost use Rattle.tree_core.specs.Tree.{leaf_hash, root_of};
 
 use crate::error::RecordError;
-use crate::items::{Items, NULL_ENTRY};
+use crate::items::Items;
 use crate::record::{read_item, read_mark, read_settings};
 use crate::settings::LogSettings;
 use crate::tree::Tree;
@@ -22,7 +22,7 @@ use log_entry::key_matches;
 use mtc_io::{Bytes, Memory};
 use std::alloc::Global;
 use std::marker::Model;
-use tree_core::{TreeHash, leaf};
+use tree_core::TreeHash;
 
 /// An entry and its key, for which there is room in a log.
 #[derive(Drop)]
@@ -40,11 +40,14 @@ pub(crate) struct Contents<H: TreeHash> {
     items: Items,
     marks: Vec<u64>,
     tree: Tree<H>,
-    ghost hashed: { tree.leaves ≡ map (leaf_hash H.TreeHash.hash) items.entries.items },
+    ghost behind: { length tree.leaves ≤ length items.entries.items },
+    ghost lags: { tree.leaves
+        ≡ take (length tree.leaves) (map (leaf_hash H.TreeHash.hash) items.entries.items) },
+    ghost roomy: { length items.entries.items ≤ length tree.leaves + tree.spare },
 }
 
 impl<H: TreeHash> Model for Contents<H> {
-    ghost use Rattle.std.specs.Prelude.{◌-◌, min, vec_len, vec_capacity};
+    ghost use Rattle.std.specs.Prelude.{◌+◌, ◌-◌, length, min, vec_len, vec_capacity};
     ghost use Rattle.issuance_log.specs.Folds.{LogContents};
     ghost use Rattle.issuance_log.specs.Sound.{IsSound};
 
@@ -57,7 +60,7 @@ impl<H: TreeHash> Model for Contents<H> {
         keys = c.items.keys.items;
         marks = c.marks.items;
       };
-      spare = min c.tree.spare
+      spare = min (length c.tree.leaves + c.tree.spare - length c.items.entries.items)
           (min (vec_capacity c.items.entries - vec_len c.items.entries)
           (vec_capacity c.items.keys - vec_len c.items.keys));
       mark_spare = vec_capacity c.marks - vec_len c.marks;
@@ -99,8 +102,7 @@ impl<H: TreeHash> Contents<H> {
     {
         let items = Items::begin(alloc)?;
         let mut tree = Tree::new(alloc);
-        tree.reserve()?;
-        tree.push(&leaf::<H>(&NULL_ENTRY));
+        tree.reserve(0)?;
         Ok(Contents {
             alloc,
             settings,
@@ -219,7 +221,7 @@ impl<H: TreeHash> Contents<H> {
             (place * 2 ^ level) ((place + 1) * 2 ^ level)) }
         ensures same { self.new.state ≡ self.old.state }
     {
-        self.tree.node_at(level, place)
+        self.tree.node_at(self.items.entries(), level, place)
     }
 
     /// A copy of an item, and room for it. The log stays as it was.
@@ -234,7 +236,7 @@ impl<H: TreeHash> Contents<H> {
             key: Bytes::copy_of(self.alloc, key)?,
         };
         self.items.reserve()?;
-        self.tree.reserve()?;
+        self.tree.reserve(self.items.len() as u64)?;
         Ok(item)
     }
 
@@ -245,7 +247,6 @@ impl<H: TreeHash> Contents<H> {
         requires item { IsItem H.hash item.entry item.key }
         ensures { self.new.state ≡ with_item item.entry item.key self.old.state }
     {
-        self.tree.push(&leaf::<H>(item.entry.as_slice()));
         self.items.push(item.entry, item.key);
     }
 
