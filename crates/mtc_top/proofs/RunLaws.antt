@@ -33,9 +33,10 @@ use Rattle.mtc_top.specs.Outcome.{spoken_rules}
 use Rattle.mtc_top.specs.Run.{journals, HasRun}
 use Rattle.mtc_top.specs.RunLaws.{FrontsAreRuns, Heard, RunShows, RunSteps, is_heard}
 use Rattle.mtc_top.proofs.Runs.{reply_code}
-use Rattle.mtc_top.proofs.Commands.{IsNewAt, spoken_new, spoken_records}
+use Rattle.mtc_top.proofs.Commands.{spoken_records}
 use Rattle.mtc_top.proofs.Nodes.{kept_ends, failed_ends, made_ends, heard_dec, file_stands}
 use Rattle.mtc_top.proofs.Nodes.{none_stands, some_image}
+use Rattle.mtc_top.proofs.Opened.{IsNewAt, spoken_new}
 
 -- where nothing was appended, no byte went out
 pub took_none : (old new : Option (List ℕ)) → Appends old new [] → TookSome old new → ⊥

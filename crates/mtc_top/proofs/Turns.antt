@@ -35,9 +35,8 @@ use Rattle.mtc_top.specs.Run.{journals}
 use Rattle.mtc_top.specs.RunLaws.{Heard, RunSteps}
 use Rattle.mtc_top.specs.Outcome.{spoken_rules}
 use Rattle.mtc_top.specs.Nodes.{records_left}
-use Rattle.mtc_top.proofs.Commands.{IsNewAt, spoken_new}
 use Rattle.mtc_top.proofs.Nodes.{no_file_stands, one_list, some_image}
-use Rattle.mtc_top.proofs.Opened.{Finds, IsFound, spoken_finds}
+use Rattle.mtc_top.proofs.Opened.{Finds, IsFound, IsNewAt, spoken_finds, spoken_new}
 use Rattle.mtc_top.proofs.RunLaws.{front_none, run_heard, run_steps, took_none}
 
 -- ---- the journals of a run
