@@ -11,7 +11,7 @@ use Rattle.journal_core.specs.declared.error.OpenError.TheVariants as open_error
 use Rattle.cosigner_core.specs.Folds.{CosignerState}
 use Rattle.cosigner_core.specs.Openings.{FoundCosigner, HasCosignerCause, cosigner_read}
 use Rattle.cosigner_core.specs.declared.error.CosignerOpenError.{CosignerOpenError}
-use Rattle.cosigner_core.specs.declared.error.CosignerOpenError.TheVariants.{BadRecord, Open}
+use Rattle.cosigner_core.specs.declared.error.CosignerOpenError.TheVariants.{Open}
 use Rattle.mtc_answers.specs.Answers.{no_memory, refused, replied, room_failed}
 use Rattle.mtc_answers.specs.Steps.{Outcome, answers, with_form}
 use Rattle.mtc_answers.specs.Works.{HasWorkedOn}
@@ -53,12 +53,6 @@ module _ (h : HashFunction) (name : Text) (says : FoundCosigner → Outcome) whe
     pub refused_says : (why : CosignerOpenError) → HasCosignerCause g h old new why
         → HasWorkedOn g name (cosigner_bytes_say h name says) old new
         (cosigner_open_ending name why)
-    refused_says (BadRecord number) is = no_cosigner (BadRecord number) is
-    refused_says (Open open_error.NotJournal) is = no_cosigner (Open open_error.NotJournal) is
-    refused_says (Open (open_error.BadLength place)) is =
-        no_cosigner (Open (open_error.BadLength place)) is
-    refused_says (Open (open_error.CutShort place)) is =
-        no_cosigner (Open (open_error.CutShort place)) is
     refused_says (Open open_error.Failed) is = not_opened g name
         (cosigner_bytes_say h name says) old new
         looks (room_failed name)
@@ -66,3 +60,4 @@ module _ (h : HashFunction) (name : Text) (says : FoundCosigner → Outcome) whe
     refused_says (Open open_error.Memory) is = not_opened g name
         (cosigner_bytes_say h name says) old new
         looks no_memory (record { plain = tt; later = looks.faults; fault = tt }) tt tt
+    refused_says why is = no_cosigner why is

@@ -17,9 +17,7 @@ use Rattle.cosigner_core.specs.Words.{CosignerAppends, CosignerLeaves, cosigner_
 use Rattle.cosigner_core.specs.Words.{cosigner_disk, cosigner_end, cosigner_records, cosigner_state}
 use Rattle.cosigner_core.specs.declared.cosigner.Cosigner.{Cosigner}
 use Rattle.cosigner_core.specs.declared.error.CosignError.{CosignError}
-use Rattle.cosigner_core.specs.declared.error.CosignError.TheVariants.{WrongLog, NotNewer}
-use Rattle.cosigner_core.specs.declared.error.CosignError.TheVariants.{BadSubtree, Beyond, BadProof}
-use Rattle.cosigner_core.specs.declared.error.CosignError.TheVariants.{Exhausted, Append}
+use Rattle.cosigner_core.specs.declared.error.CosignError.TheVariants.{Append}
 use Rattle.mtc_answers.specs.Answers.{refused, replied, said, stopped_code}
 use Rattle.mtc_answers.specs.Steps.{Outcome}
 use Rattle.mtc_answers.specs.Valid.{AddsValid}
@@ -82,21 +80,13 @@ module _ {H D : Type 0} {hashes : Hashes H} {g : Ghosts D} (name : Text)
 
   pub step_refused : (why : CosignError) → CosignerAppends body next old new (Err why)
       → CosignKeepsTo met (Err why) → HasWorkedOnCosigner name says old new (step_ending name why)
-  step_refused WrongLog made is = untaken WrongLog is made.leaves.disk (inl refl)
-  step_refused (NotNewer held) made is = untaken (NotNewer held) is made.leaves.disk (inl refl)
-  step_refused BadSubtree made is = untaken BadSubtree is made.leaves.disk (inl refl)
-  step_refused (Beyond held) made is = untaken (Beyond held) is made.leaves.disk (inl refl)
-  step_refused BadProof made is = untaken BadProof is made.leaves.disk (inl refl)
-  step_refused Exhausted made is = untaken Exhausted is made.leaves.disk (inl refl)
-  step_refused (Append append_error.Full) made is =
-      untaken (Append append_error.Full) is made.leaves.disk (inr refl)
-  step_refused (Append append_error.Broken) made is =
-      untaken (Append append_error.Broken) is made.leaves.disk (inr refl)
   step_refused (Append append_error.Failed) made is =
       says_so g name (cosigner_records old) (cosigner_disk old) (cosigner_disk new) _ _ _
       (same_says None is)
       (failed_on g name (cosigner_records old) (cosigner_disk old) (cosigner_disk new) body text
       made.leaves.cause made.count (made.any_moment ready.sound) (made.afterwards ready.sound))
+  step_refused (Append other) made is = untaken (Append other) is made.leaves.disk (inr refl)
+  step_refused other made is = untaken other is made.leaves.disk (inl refl)
 
   -- the records with that of a step that isn't refused make a cosigner
   made_valid : (h : HashFunction) (list : List Text) (found : Option CosignError)

@@ -70,19 +70,14 @@ module _ {H D : Type 0} {hashes : Hashes H} {g : Ghosts D} (h : HashFunction) (r
   pub refused_so : (why : IssueError) → HasIssued (of_log (Err why))
       → KeepsToOrMemory refusal (of_log (Err why))
       → HasWorkedOnLog name (issue_says h r) old new (issue_ending name why)
-  refused_so (Log Full) run is = told Full is run.leaves.disk
-  refused_so (Log TooLarge) run is = told TooLarge is run.leaves.disk
   refused_so (Log NoSuchEntry) run is = absurd is
   refused_so (Log NothingNew) run is = absurd is
-  refused_so (Log (Append append_error.Full)) run is =
-      told (Append append_error.Full) is run.leaves.disk
-  refused_so (Log (Append append_error.Broken)) run is =
-      told (Append append_error.Broken) is run.leaves.disk
   refused_so (Log (Append append_error.Failed)) run is =
       failed_so outcome_by refusal_by name old new ready body line (issued_log h (log_state old) r)
       (λ list. refl) is run
   refused_so (Log Memory) run is =
       starved_so outcome_by refusal_by name old new ready run.leaves.disk
+  refused_so (Log other) run is = told other is run.leaves.disk
 
   -- a log that no append has broken doesn't refuse an entry as a broken one
   first : (full large over : Bool)
@@ -118,9 +113,5 @@ module _ {H D : Type 0} {hashes : Hashes H} {g : Ghosts D} (h : HashFunction) (r
       → (failed why ≢ failed (Log Memory) → refusal ≡ None
       → IfSome (log_records old) IsSoundBehind)
       → StaysLog h (issue_says h r) old new
-  refused_valid (Log Full) run sound = issued_valid (sound (λ is. absurd cc))
-  refused_valid (Log TooLarge) run sound = issued_valid (sound (λ is. absurd cc))
-  refused_valid (Log NoSuchEntry) run sound = issued_valid (sound (λ is. absurd cc))
-  refused_valid (Log NothingNew) run sound = issued_valid (sound (λ is. absurd cc))
-  refused_valid (Log (Append why)) run sound = issued_valid (sound (λ is. absurd cc))
   refused_valid (Log Memory) run sound = inl (inl run.leaves.disk)
+  refused_valid (Log other) run sound = issued_valid (sound (λ is. absurd cc))

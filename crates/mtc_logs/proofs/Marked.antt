@@ -57,18 +57,15 @@ module _ {H D : Type 0} {hashes : Hashes H} {g : Ghosts D} (name : Text)
   pub refused_so : (why : LogError) → MayRefuseMark why → HasMarked (Err why)
       → MarkKeepsTo refusal (Err why) → HasWorkedOnLog name landmark_says old new
       (mark_ending name why)
-  refused_so Full may run is = absurd is
-  refused_so TooLarge may run is = absurd is
-  refused_so NoSuchEntry may run is = absurd is
   refused_so NothingNew may run is = told NothingNew (λ e. absurd cc) is run.leaves.disk
   refused_so (Append append_error.Full) may run is =
       told (Append append_error.Full) (λ e. absurd cc) is run.leaves.disk
-  refused_so (Append append_error.Broken) may run is = absurd may
   refused_so (Append append_error.Failed) may run is =
       failed_so outcome_by refusal_by name old new ready body (next_line (log_state old))
       (with_mark (log_state old)) (λ list. refl) is run
   refused_so Memory may run is =
       starved_so outcome_by refusal_by name old new ready run.leaves.disk
+  refused_so other may run is = absurd may
 
   -- a log that no append has broken doesn't refuse a landmark as a broken one
   first : (nothing over : Bool)
@@ -84,12 +81,9 @@ module _ {H D : Type 0} {hashes : Hashes H} {g : Ghosts D} (name : Text)
   may_refuse Full is = absurd is
   may_refuse TooLarge is = absurd is
   may_refuse NoSuchEntry is = absurd is
-  may_refuse NothingNew is = tt
-  may_refuse (Append append_error.Full) is = tt
   may_refuse (Append append_error.Broken) is =
       first _ _ (sym (ap (λ broken. refusal_by broken (log_end old)) ready.sound) ∙ is)
-  may_refuse (Append append_error.Failed) is = tt
-  may_refuse Memory is = tt
+  may_refuse other is = tt
 
   -- the record makes a log with those before it
   module _ (h : HashFunction) where

@@ -9,7 +9,7 @@ use Rattle.journal_core.specs.declared.error.OpenError.TheVariants as open_error
 use Rattle.issuance_log.specs.Folds.{LogState}
 use Rattle.issuance_log.specs.Openings.{HasLogCause, log_read}
 use Rattle.issuance_log.specs.declared.error.LogOpenError.{LogOpenError}
-use Rattle.issuance_log.specs.declared.error.LogOpenError.TheVariants.{BadRecord, Open}
+use Rattle.issuance_log.specs.declared.error.LogOpenError.TheVariants.{Open}
 use Rattle.mtc_answers.specs.Answers.{no_memory, refused, replied, room_failed}
 use Rattle.mtc_answers.specs.Steps.{with_form}
 use Rattle.mtc_answers.specs.Works.{HasWorkedOn}
@@ -43,15 +43,10 @@ module _ (h : HashFunction) (name : Text) (work : Work) where
     -- a log that wasn't opened
     pub refused_says : (why : LogOpenError) → HasLogCause g h old new why
         → HasWorkedOn g name (log_bytes_say h name work) old new (log_open_ending name why)
-    refused_says (BadRecord number) is = no_log (BadRecord number) is
-    refused_says (Open open_error.NotJournal) is = no_log (Open open_error.NotJournal) is
-    refused_says (Open (open_error.BadLength place)) is =
-        no_log (Open (open_error.BadLength place)) is
-    refused_says (Open (open_error.CutShort place)) is =
-        no_log (Open (open_error.CutShort place)) is
     refused_says (Open open_error.Failed) is =
         not_opened g name (log_bytes_say h name work) old new looks (room_failed name)
         (record { plain = tt; later = looks.faults; fault = (is, inl refl) }) tt tt
     refused_says (Open open_error.Memory) is =
         not_opened g name (log_bytes_say h name work) old new looks no_memory
         (record { plain = tt; later = looks.faults; fault = tt }) tt tt
+    refused_says why is = no_log why is

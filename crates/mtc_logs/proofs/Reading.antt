@@ -7,12 +7,7 @@ use Rattle.mtc_room.specs.declared.room.Room.{Ghosts as Rooms}
 use Rattle.authority_core.specs.Files.{request_of}
 use Rattle.authority_core.specs.Requests.{RequestParts}
 use Rattle.authority_core.specs.declared.requests.error.RequestError.{RequestError}
-use Rattle.authority_core.specs.declared.requests.error.RequestError.TheVariants.{NotToml}
-use Rattle.authority_core.specs.declared.requests.error.RequestError.TheVariants.{UnknownKey}
-use Rattle.authority_core.specs.declared.requests.error.RequestError.TheVariants.{Missing, Memory}
-use Rattle.authority_core.specs.declared.requests.error.RequestError.TheVariants.{BadValue}
-use Rattle.authority_core.specs.declared.requests.error.RequestError.TheVariants.{DatesReversed}
-use Rattle.authority_core.specs.declared.requests.error.RequestError.TheVariants.{NoNames}
+use Rattle.authority_core.specs.declared.requests.error.RequestError.TheVariants.{Memory}
 use Rattle.mtc_answers.specs.Answers.{no_memory, refused, replied}
 use Rattle.mtc_answers.specs.Served.{GivesBack, HasDone}
 use Rattle.mtc_answers.specs.Steps.{Files, answers, with_form}
@@ -65,10 +60,5 @@ module _ {R S D : Type 0} (rooms : Rooms R S D) (disks : Disks D) (h : HashFunct
   pub unread : (why : RequestError) → (why ≢ Memory → request_of bytes ≡ Err why)
       → HasDone rooms disks ⊥ (journal ∷ file ∷ []) (journal ∷ [])
       (issue_outcome h journal file (rooms.file old)) old new (request_ending file why)
-  unread NotToml read = no_request NotToml (read (λ e. absurd cc))
-  unread UnknownKey read = no_request UnknownKey (read (λ e. absurd cc))
-  unread (Missing field) read = no_request (Missing field) (read (λ e. absurd cc))
-  unread (BadValue field) read = no_request (BadValue field) (read (λ e. absurd cc))
-  unread DatesReversed read = no_request DatesReversed (read (λ e. absurd cc))
-  unread NoNames read = no_request NoNames (read (λ e. absurd cc))
   unread Memory read = stopped rooms disks _ _ _ old new back only_now no_memory tt tt
+  unread other read = no_request other (read (λ e. absurd cc))

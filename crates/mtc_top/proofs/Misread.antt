@@ -10,10 +10,9 @@ use Rattle.journal_core.specs.Format.{end_behind}
 use Rattle.mtc_io.specs.declared.sink.Sink.{Ghosts as Sinks}
 use Rattle.mtc_room.specs.Room.{TellsFile}
 use Rattle.mtc_room.specs.declared.room.Room.{Ghosts as Rooms}
-use Rattle.mtc_words.specs.Commands.{CommandValue, advance, audit, cert, checkpoint, consist}
-use Rattle.mtc_words.specs.Commands.{cosign, entries, export, init_cosigner, init_log, issue}
-use Rattle.mtc_words.specs.Commands.{keygen, landmark, landmarks, light_cert, member, show}
-use Rattle.mtc_words.specs.Commands.{subtree, trust_landmarks, verify}
+use Rattle.mtc_words.specs.Commands.{CommandValue, advance, cert, checkpoint, consist, cosign}
+use Rattle.mtc_words.specs.Commands.{entries, export, issue, landmark, landmarks, light_cert}
+use Rattle.mtc_words.specs.Commands.{subtree}
 use Rattle.mtc_words.specs.Words.{command_of, known_word}
 use Rattle.mtc_words.specs.declared.error.WordError.{WordError}
 use Rattle.authority_core.specs.Files.{request_of}
@@ -102,21 +101,12 @@ if_two false x y one two = two
 
 mark_two : (why : LogError) → NotTwo (mark_refused why)
 mark_two log_error.NothingNew = four_two
-mark_two log_error.Full = nine_two
-mark_two log_error.TooLarge = nine_two
-mark_two log_error.NoSuchEntry = nine_two
-mark_two (log_error.Append cause) = nine_two
-mark_two log_error.Memory = nine_two
+mark_two other = nine_two
 
 write_two : (why : WriteError) → NotTwo (cert_refused why)
-write_two write_error.NoSuchEntry = four_two
-write_two write_error.NullEntry = four_two
-write_two write_error.BadSubtree = four_two
-write_two write_error.Outside = four_two
-write_two (write_error.Beyond size) = four_two
-write_two write_error.NotCovered = four_two
 write_two write_error.TooManySignatures = nine_two
 write_two write_error.Memory = nine_two
+write_two other = four_two
 
 cert_two : (why : Option WriteError) (text : List ℕ) → NotTwo (cert_replies why text)
 cert_two None text = zero_two
@@ -125,13 +115,8 @@ cert_two (Some why) text = write_two why
 step_two : (found : FoundCosigner) (body text : List ℕ) (why : Option CosignError)
     → NeverTwo (stepped found body text why)
 step_two found body text None = λ reply. exact_two _ reply zero_two
-step_two found body text (Some cosign_error.WrongLog) = λ reply. exact_two _ reply four_two
-step_two found body text (Some (cosign_error.NotNewer held)) = λ reply. exact_two _ reply four_two
-step_two found body text (Some cosign_error.BadSubtree) = λ reply. exact_two _ reply four_two
-step_two found body text (Some (cosign_error.Beyond held)) = λ reply. exact_two _ reply four_two
-step_two found body text (Some cosign_error.BadProof) = λ reply. exact_two _ reply four_two
-step_two found body text (Some cosign_error.Exhausted) = λ reply. exact_two _ reply four_two
 step_two found body text (Some (cosign_error.Append why)) = λ reply. exact_two _ reply nine_two
+step_two found body text (Some other) = λ reply. exact_two _ reply four_two
 
 export_two : (found : FoundCosigner) → NeverTwo (export_says found)
 export_two found =
@@ -298,17 +283,7 @@ module _ (h : HashFunction) where
         only_bytes (file ∷ []) 16777216 file (files file) _
         (λ b. only_form signatures_fault_text file (signatures_in b) _
         (λ signatures. of_log journal (Cert index start end signatures) same reads))
-    log_only settings (member file) opens reads = absurd opens
-    log_only settings (show file) opens reads = absurd opens
-    log_only settings (verify certificate store moment) opens reads = absurd opens
-    log_only settings (init_log journal id active limit) opens reads = absurd opens
-    log_only settings (keygen height width file) opens reads = absurd opens
-    log_only settings (init_cosigner journal id log height width file) opens reads = absurd opens
-    log_only settings (advance journal request) opens reads = absurd opens
-    log_only settings (cosign journal request) opens reads = absurd opens
-    log_only settings (export journal) opens reads = absurd opens
-    log_only settings (trust_landmarks list active items) opens reads = absurd opens
-    log_only settings (audit certificate store moment items kept) opens reads = absurd opens
+    log_only settings other opens reads = absurd opens
 
     cosigner_only : (settings : CosignerSettings) (public : List ℕ) (command : CommandValue)
         → Opens (Cosigner settings public) name command → CosignersRead (files name)
@@ -327,25 +302,7 @@ module _ (h : HashFunction) where
     cosigner_only settings public (export journal) same reads =
         none_only [] (cosigner_outcome h journal (files journal) export_says)
         (of_cosigner journal export_says same reads export_two)
-    cosigner_only settings public (member file) opens reads = absurd opens
-    cosigner_only settings public (show file) opens reads = absurd opens
-    cosigner_only settings public (verify certificate store moment) opens reads = absurd opens
-    cosigner_only settings public (init_log journal id active limit) opens reads = absurd opens
-    cosigner_only settings public (issue journal request) opens reads = absurd opens
-    cosigner_only settings public (checkpoint journal) opens reads = absurd opens
-    cosigner_only settings public (entries journal size) opens reads = absurd opens
-    cosigner_only settings public (consist journal old new) opens reads = absurd opens
-    cosigner_only settings public (subtree journal start end size) opens reads = absurd opens
-    cosigner_only settings public (keygen height width file) opens reads = absurd opens
-    cosigner_only settings public (init_cosigner journal id log height width file) opens reads =
-        absurd opens
-    cosigner_only settings public (landmark journal) opens reads = absurd opens
-    cosigner_only settings public (landmarks journal) opens reads = absurd opens
-    cosigner_only settings public (light_cert journal index) opens reads = absurd opens
-    cosigner_only settings public (trust_landmarks list active items) opens reads = absurd opens
-    cosigner_only settings public (cert journal index start end file) opens reads = absurd opens
-    cosigner_only settings public (audit certificate store moment items kept) opens reads =
-        absurd opens
+    cosigner_only settings public other opens reads = absurd opens
 
 module _ {R S D O E : Type 0} (h : HashFunction) (rooms : Rooms R S D) (disks : Disks D)
     (outs : Sinks O) (errs : Sinks E) (image : ReadsImage disks) (only : OnlyNow disks)

@@ -16,8 +16,7 @@ use Rattle.mtc_words.specs.Words.{command_of}
 use Rattle.mtc_answers.specs.Answers.{Reply, out_of, refused, said, status_of, stopped_code}
 use Rattle.mtc_answers.specs.declared.answer.Said.TheVariants.{Done}
 use Rattle.mtc_answers.specs.declared.answer.Stopped.{Stopped}
-use Rattle.mtc_answers.specs.declared.answer.Stopped.TheVariants.{BadForm, BadWords, Beyond}
-use Rattle.mtc_answers.specs.declared.answer.Stopped.TheVariants.{Missing, NotAllowed}
+use Rattle.mtc_answers.specs.declared.answer.Stopped.TheVariants.{BadWords}
 use Rattle.mtc_answers.specs.Made.{Journaled, appended, reads, started, images_at, images_since}
 use Rattle.mtc_answers.specs.Made.{moment_at}
 use Rattle.mtc_answers.specs.Served.{Journals, IsOther, OfEach, done_with, first_journaled}
@@ -82,10 +81,7 @@ now_of g only (Some d) c is = only d c is
 -- a refusal has another status than 0
 no_stop : (why : Stopped) → stopped_code why ≡ 0 → ⊥
 no_stop BadWords is = omega (arith, is)
-no_stop BadForm is = omega (arith, is)
-no_stop NotAllowed is = omega (arith, is)
-no_stop Missing is = omega (arith, is)
-no_stop Beyond is = omega (arith, is)
+no_stop other is = omega (arith, is)
 
 module _ {R S D O E : Type 0} (h : HashFunction) (rooms : Rooms R S D) (disks : Disks D)
     (outs : Sinks O) (errs : Sinks E) (old : R) (turn : Turn R O E)

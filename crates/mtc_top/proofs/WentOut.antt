@@ -16,11 +16,8 @@ use Rattle.mtc_top.specs.Nodes.{stopped}
 
 -- the records that an end hands out
 abbrev pub out_by : End → List (List ℕ)
-out_by same = []
-out_by (stopped kept) = []
-out_by (begun kept body) = []
-out_by (has_settled kept body) = []
 out_by (has_handed kept body) = body ∷ []
+out_by other = []
 
 pending_front : (list : List (List ℕ)) (p : Option (List ℕ)) → Begins list (with_pending list p)
 pending_front list None = ([], append-nil list)
@@ -54,11 +51,9 @@ module _ (s : HistoryState) (few : AreAtMost (length s.settled) s.handed) where
   pub moment_hands : (did : Journaled) (e : End) → IsUnsettled did e
       → handed_bodies (end_state e s) ≡ handed_bodies s
   moment_hands did same is = refl
-  moment_hands did (stopped kept) is = absurd is
   moment_hands did (begun kept body) is =
       same_handed s (stop kept s).settled few (stop_front kept s)
-  moment_hands did (has_settled kept body) is = absurd is
-  moment_hands did (has_handed kept body) is = absurd is
+  moment_hands did other is = absurd is
 
 -- ---- whether a run added a record to the journal of a name
 
