@@ -189,31 +189,9 @@ module _ {R S D O E : Type 0} (h : List ℕ → List ℕ) (rooms : Rooms R S D) 
         silent_none (λ is. omega (arith, one, is)) (λ is. omega (arith, one, is))
         (λ is. omega (arith, one, is)) (λ is. omega (arith, one, is))
 
-    other_code : (n : ℕ) → status ≡ n → n ≢ 0 → n ≢ 3 → n ≢ 6 → n ≢ 10 → ⊥
-    other_code n is not0 not3 not6 not10 = silent_none (λ z. not0 (sym is ∙ z))
-        (λ z. not3 (sym is ∙ z)) (λ z. not6 (sym is ∙ z)) (λ z. not10 (sym is ∙ z))
-
     not_early : IsEarly status → ⊥
-    not_early early = elim early [
-      | inl is1 ↦ other_code 1 is1 (λ z. omega (arith, z)) (λ z. omega (arith, z))
-          (λ z. omega (arith, z)) (λ z. omega (arith, z))
-      | inr rest ↦ elim rest [
-        | inl is2 ↦ other_code 2 is2 (λ z. omega (arith, z)) (λ z. omega (arith, z))
-            (λ z. omega (arith, z)) (λ z. omega (arith, z))
-        | inr rest' ↦ elim rest' [
-          | inl is5 ↦ absurd (not_failed some is5)
-          | inr rest'' ↦ elim rest'' [
-            | inl is7 ↦ other_code 7 is7 (λ z. omega (arith, z)) (λ z. omega (arith, z))
-                (λ z. omega (arith, z)) (λ z. omega (arith, z))
-            | inr last ↦ elim last [
-              | inl is8 ↦ absurd (not_wanting some is8)
-              | inr is9 ↦ other_code 9 is9 (λ z. omega (arith, z)) (λ z. omega (arith, z))
-                  (λ z. omega (arith, z)) (λ z. omega (arith, z))
-            ]
-          ]
-        ]
-      ]
-    ]
+    not_early early = silent_none (λ z. omega (arith, z, early)) (λ z. omega (arith, z, early))
+        (λ z. omega (arith, z, early)) (λ z. omega (arith, z, early))
 
     front_is_run : (failed : O) (told : E) (text : List ℕ) → Prints outs out out' text
         → PrintsFront outs out failed text → Rose (outs.faults out) (outs.faults failed)
@@ -308,10 +286,7 @@ module _ {R S D O E : Type 0} (h : List ℕ → List ℕ) (rooms : Rooms R S D) 
       as_read = λ n first stands. file_stands disks n first _ _ image (file name) stands;
       later = kept.later;
       recorded = λ list body of some. absurd (none some);
-      begins = λ done. elim done [
-        | inl zero_ ↦ absurd (omega (arith, is, zero_))
-        | inr six ↦ absurd (omega (arith, is, six))
-      ];
+      begins = λ done. absurd (omega (arith, is, done));
     }
 
     failed_steps : status ≡ 5 → (went → ⊥) → (name : List ℕ) (did : Journaled)
@@ -322,10 +297,7 @@ module _ {R S D O E : Type 0} (h : List ℕ → List ℕ) (rooms : Rooms R S D) 
       as_read = λ n first stands. file_stands disks n first _ _ image (file name) stands;
       later = made.later;
       recorded = λ list body of some. absurd (none some);
-      begins = λ done. elim done [
-        | inl zero_ ↦ absurd (omega (arith, is, zero_))
-        | inr six ↦ absurd (omega (arith, is, six))
-      ];
+      begins = λ done. absurd (omega (arith, is, done));
     }
 
     abbrev MadeEarly : List ℕ → Journaled → Type 0
