@@ -1,7 +1,6 @@
 -- A command that reads a request first.
-use Rattle.std.proofs.Common.{◌≡◌, ◌≤◌, ℕ, List, [], ◌∷◌, Option, Some, Result, Ok, Err, length}
-use Rattle.std.proofs.Common.{Bool, codes, nat_lt, false, true, if◌then◌else◌, None, inl, inr, refl}
-use Rattle.std.proofs.Common.{sym, subst, ap, ◌∙◌, arith, option_map}
+use Rattle.std.proofs.Common.{◌≡◌, ◌≤◌, ℕ, List, [], Option, Some, Result, Ok, Err, length}
+use Rattle.std.proofs.Common.{Bool, false, inl, inr, refl, sym, subst, ap, ◌∙◌, arith}
 use Rattle.std.proofs.lemmas.Grind.{common_steps}
 use Rattle.byte_forms.specs.Types.{HashFunction, Text}
 use Rattle.disk_core.specs.declared.disk.Disk.{Ghosts as Disks}
@@ -15,22 +14,12 @@ use Rattle.cosigner_core.specs.declared.error.CosignError.TheVariants.{Append}
 use Rattle.cosigner_core.specs.declared.fault.FormError.{FormError}
 use Rattle.mtc_answers.specs.Answers.{Ending, refused, replied, reason_text}
 use Rattle.mtc_answers.specs.Served.{GivesBack, HasDone}
-use Rattle.mtc_answers.specs.Steps.{Outcome, answers, stops_at, with_bytes, with_form}
+use Rattle.mtc_answers.specs.Steps.{Outcome, answers, with_bytes, with_form}
 use Rattle.mtc_answers.specs.declared.answer.Stopped.TheVariants.{BadForm}
-use Rattle.mtc_answers.specs.declared.answer.Stopped.TheVariants.{Beyond as OverLimit}
+use Rattle.mtc_answers.proofs.Inputs.{bytes_read}
 use Rattle.mtc_answers.proofs.Made.{OnlyNow}
 use Rattle.mtc_answers.proofs.Served.{behind, stopped}
 use Rattle.mtc_cosigner.specs.CosignerOutcomes.{form_fault_text}
-
--- a file that is there and short enough is read
-pub read_so : (file : Text) (found : Option Text) (bytes : Text) (next : Text → Outcome)
-    → found ≡ Some bytes → length bytes ≤ 16777216
-    → with_bytes 16777216 file found next ≡ next bytes
-read_so file found bytes next is few =
-    let short : nat_lt 16777216 (length bytes) ≡ false = grind (arith, common_steps) in
-    ap (λ x. with_bytes 16777216 file x next) is
-    ∙ ap (λ (over : Bool). if over then stops_at OverLimit file (codes "TooLong") else next bytes)
-    short
 
 module _ {F : Type 0} (read : Text → Result F FormError) (next : F → Outcome) (file : Text) where
   -- the outcome of a command that begins with a request
@@ -40,13 +29,13 @@ module _ {F : Type 0} (read : Text → Result F FormError) (next : F → Outcome
 
   pub asked_so : (found : Option Text) (bytes : Text) (r : F) → found ≡ Some bytes
       → length bytes ≤ 16777216 → read bytes ≡ Ok r → asks found ≡ next r
-  asked_so found bytes r is few form = read_so file found bytes _ is few
+  asked_so found bytes r is few form = bytes_read 16777216 file found bytes _ is few
       ∙ ap (λ x. with_form form_fault_text file x next) form
 
   refused_so : (found : Option Text) (bytes : Text) (why : FormError) → found ≡ Some bytes
       → length bytes ≤ 16777216 → read bytes ≡ Err why
       → asks found ≡ answers (refused BadForm (Some file) (form_fault_text why))
-  refused_so found bytes why is few form = read_so file found bytes _ is few
+  refused_so found bytes why is few form = bytes_read 16777216 file found bytes _ is few
       ∙ ap (λ x. with_form form_fault_text file x next) form
 
   -- a file that is no request

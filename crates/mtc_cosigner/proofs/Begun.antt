@@ -7,9 +7,9 @@ use Rattle.lms_core.specs.declared.heights.LmsType.{LmsType}
 use Rattle.cosigner_core.specs.Records.{cosigner_record}
 use Rattle.cosigner_core.specs.declared.settings.CosignerSettings.{CosignerSettings}
 use Rattle.mtc_answers.specs.Steps.{Files, Outcome, starts, with_fresh}
+use Rattle.mtc_answers.proofs.Inputs.{bytes_read}
 use Rattle.mtc_cosigner.specs.InitOutcome.{init_cosigner_outcome, init_says}
 use Rattle.mtc_cosigner.specs.KeygenOutcome.{lms_type, ots_type, public_line, with_secret}
-use Rattle.mtc_cosigner.proofs.Asked.{read_so}
 
 -- a secret of the right length is taken
 taken : (file secret : Text) (next : Outcome) → length secret ≡ 48
@@ -46,5 +46,5 @@ asked_so journal id log file height width files bytes other at lms ots tall wide
     there
     ∙ ap (init_says journal (settings id log (lms_type height) (ots_type width)) file
     (files journal)) same
-    ∙ sym (read_so file (files file) bytes (init_says journal
+    ∙ sym (bytes_read 16777216 file (files file) bytes (init_says journal
     (settings id log (lms_type height) (ots_type width)) file (files journal)) is few)

@@ -1,9 +1,10 @@
 -- An audit of a certificate that a landmark or a handed out signature backs.
 use Rattle.std.proofs.Common.{◌≡◌, ◌⊎◌, inl, inr, ℕ, zero, suc, ◌+◌, ◌<◌, true, false, Bool}
 use Rattle.std.proofs.Common.{List, [], ◌∷◌, length, Option, None, Some, Result, refl, sym}
-use Rattle.std.proofs.Common.{codes, subst, ap, ◌∙◌, arith, get_or, not, ◌&&◌, ◌==◌, is_some}
-use Rattle.std.proofs.lemmas.Bool.{le-ltb, lt-ltb}
-use Rattle.std.proofs.lemmas.Bool.Decides.{eqb_tells}
+use Rattle.std.proofs.Common.{subst, ap, ◌∙◌, arith, get_or, not, ◌&&◌, ◌==◌, is_some}
+use Rattle.std.proofs.lemmas.Bool.{eq-eqb, lt-ltb, or_right, true≢false}
+use Rattle.std.proofs.lemmas.Bool.Decides.{leb_tells}
+use Rattle.std.proofs.lemmas.List.Sums.{fails_before_first}
 use Rattle.std.proofs.lemmas.Slice.Eq.{bytes_eq-Decides}
 use Rattle.std.specs.List.{position, position_or_len}
 use Rattle.std.proofs.Common.{◌++◌, ◌||◌, Ok, slice_get}
@@ -34,9 +35,9 @@ use Rattle.node_history.proofs.Steps.{some_is}
 use Rattle.world_core.specs.Audit.{AuditCase, has_own, is_counted, is_counted_as, is_recorded}
 use Rattle.world_core.specs.Audit.{is_recorded_by, is_sign_of, is_supported, some_place}
 use Rattle.mtc_answers.specs.Answers.{Reply, said, refused, out_of, status_of}
-use Rattle.mtc_answers.specs.Steps.{Files, Outcome, stops_at, with_bytes, with_form}
-use Rattle.mtc_answers.specs.declared.answer.Stopped.TheVariants.{Beyond}
+use Rattle.mtc_answers.specs.Steps.{Files, Outcome, with_form}
 use Rattle.mtc_answers.specs.Wanted.{Meets}
+use Rattle.mtc_answers.proofs.Inputs.{bytes_read}
 use Rattle.mtc_answers.proofs.Made.{OnlyNow, ReadsImage}
 use Rattle.mtc_monitor.specs.AuditOutcome.{InputFile, audit_by, audit_outcome, audit_says}
 use Rattle.mtc_monitor.specs.AuditOutcome.{audit_cert_says, audit_export_says, audit_items_say}
@@ -55,11 +56,8 @@ use Rattle.mtc_top.proofs.Exports.{exports_hold}
 input_there : (limit : ℕ) (name : List ℕ) (files : Files) (next : InputFile → Outcome)
     (text : List ℕ) → HoldsText files name limit text
     → with_input limit name files next ≡ next (record { name = name; text = text })
-input_there limit name files next text holds =
-    ap (λ (o : Option (List ℕ)). with_bytes limit name o
-    (λ t. next (record { name = name; text = t }))) holds.there
-    ∙ ap (λ (b : Bool). if b then stops_at Beyond name (codes "TooLong")
-    else next (record { name = name; text = text })) (le-ltb limit (length text) holds.few)
+input_there limit name files next text holds = bytes_read limit name (files name) text
+    (λ t. next (record { name = name; text = t })) holds.there holds.few
 
 audit_asked : (h : HashFunction) (files : Files) (cert store : List ℕ) (moment : ℕ)
     (entries kept : List ℕ) (x : AuditCase) → IsAuditOf h files cert store moment entries kept x
@@ -91,17 +89,11 @@ audit_asked h files cert store moment entries kept x is =
 module _ {X : Type 0} (p : X → Bool) where
   place_within : (xs : List X) (i : ℕ) (x : X) → i < length xs → get_or xs i x ≡ x → p x ≡ true
       → position_or_len p xs < length xs
-  place_within [] i x within is passes = absurd (omega arith)
-  place_within (y ∷ ys) zero x within is passes =
-      subst (λ (b : Bool). (if not b then 1 + position_or_len p ys else 0) < suc (length ys))
-      (sym (ap p is ∙ passes)) (omega arith)
-  place_within (y ∷ ys) (suc i) x within is passes =
-      either (p y) (place_within ys i x (omega arith) is passes)
-    where
-      either : (b : Bool) → position_or_len p ys < length ys
-          → (if not b then 1 + position_or_len p ys else 0) < suc (length ys)
-      either true rest = omega arith
-      either false rest = omega (arith, rest)
+  place_within xs i x within is passes = elim (leb_tells (length xs) (position_or_len p xs)) [
+    | inl none ↦ absurd (true≢false (sym (ap p is ∙ passes)
+        ∙ fails_before_first p xs i x (omega (arith, within, none.1))))
+    | inr some ↦ some.1
+  ]
 
   found_place : (xs : List X) (x : X) → Contains xs x → p x ≡ true
       → is_some (position p xs) ≡ true
@@ -114,19 +106,14 @@ all_three : (a b c : Bool) → a ≡ true → b ≡ true → c ≡ true → (a &
 all_three a b c one two three =
     ap (λ (x : Bool). x && (b && c)) one ∙ ap (λ (x : Bool). x && c) two ∙ three
 
-same_number : (n : ℕ) → (n == n) ≡ true
-same_number n = elim (eqb_tells n n) [
-  | inl same ↦ same.0
-  | inr differ ↦ absurd (differ.1 refl)
-]
-
 same_text : (t : List ℕ) → bytes_eq t t ≡ true
 same_text t = (bytes_eq-Decides t t).1 refl
 
 signed_hash : (a : Accepted) (index : ℕ) (proof : List (List ℕ))
     → is_sign_of a (Sign index a.start a.end a.hash proof) ≡ true
 signed_hash a index proof = all_three (a.start == a.start) (a.end == a.end)
-    (bytes_eq a.hash a.hash) (same_number a.start) (same_number a.end) (same_text a.hash)
+    (bytes_eq a.hash a.hash) (eq-eqb a.start a.start refl) (eq-eqb a.end a.end refl)
+    (same_text a.hash)
 
 recorded_so : (store : Store) (a : Accepted) (set : ℕ) (e : Export) (index : ℕ)
     (proof : List (List ℕ)) → e.log ≡ store.log → is_counted store set e ≡ true
@@ -142,10 +129,6 @@ recorded_so store a set e index proof log counts there =
 
 -- ---- the store counts the cosigner of an export
 
-true_last : (b : Bool) → (b || true) ≡ true
-true_last true = refl
-true_last false = refl
-
 some_there : {A : Type 0} (passes : ℕ → A → Bool) (place i : ℕ) (xs : List A) (x : A)
     → slice_get xs i ≡ Some x → passes (place + i) x ≡ true → some_place passes place xs ≡ true
 some_there {A} passes place i [] x is passed = let wrong : None ≡ Some x = is in absurd cc
@@ -156,9 +139,8 @@ some_there {A} passes place zero (y ∷ ys) x is passed =
     (ap (passes place) same ∙ subst (λ (n : ℕ). passes n x ≡ true) here passed)
 some_there {A} passes place (suc i) (y ∷ ys) x is passed =
     let later : place + suc i ≡ place + 1 + i = omega arith in
-    ap (λ (b : Bool). passes place y || b) (some_there passes (place + 1) i ys x is
-    (subst (λ (n : ℕ). passes n x ≡ true) later passed))
-    ∙ true_last (passes place y)
+    or_right (passes place y) (some_place passes (place + 1) ys) (some_there passes (place + 1) i ys
+    x is (subst (λ (n : ℕ). passes n x ≡ true) later passed))
 
 counted_so : (store : Store) (set : ℕ) (e : Export) (id key : List ℕ) → e.cosigner ≡ id
     → e.public ≡ key → HasCounted store set id key → is_counted store set e ≡ true

@@ -34,7 +34,7 @@ use Rattle.mtc_top.proofs.Courses.{Fronts, Goes, RunGoes, course_goes, course_he
 use Rattle.mtc_top.proofs.Courses.{fronts_on, grown_at, later_on}
 use Rattle.mtc_top.proofs.Nodes.{Allows, hand_on, heard_dec, one_list, settle_on, some_image}
 use Rattle.mtc_top.proofs.Nodes.{tail_is}
-use Rattle.mtc_top.proofs.Turns.{found_at, held_rules, held_stands}
+use Rattle.mtc_top.proofs.Turns.{found_at, heard_held, held_rules, held_stands}
 use Rattle.mtc_top.proofs.WentOut.{end_hands, find_added}
 
 -- ---- a front of records makes a log or a cosigner
@@ -64,7 +64,7 @@ module _ {S E : Type 0} (fold : Fold S E) where
         ap (λ (r : Result S ℕ). r >>= λ (u : S). taken_from fold 1 u xs) step.1 ∙ rest.1,
       )
 
-made_so : {S : Type 0} (r : Result S ℕ) → IsOk r → (s : S) × (r ≡ Ok s)
+pub made_so : {S : Type 0} (r : Result S ℕ) → IsOk r → (s : S) × (r ≡ Ok s)
 made_so (Ok s) is = (s, refl)
 made_so (Err k) is = absurd cc
 
@@ -81,9 +81,6 @@ pub no_records : (h : HashFunction) → AreRecords h [] → ⊥
 unfolding state_behind
 no_records h (inl is) = absurd cc
 no_records h (inr is) = absurd cc
-
-cons_head : (x y : List ℕ) (xs ys : List (List ℕ)) → x ∷ xs ≡ y ∷ ys → x ≡ y
-cons_head x y xs ys is = cc
 
 -- ---- steps that settle records, and hand none out
 
@@ -213,9 +210,7 @@ module _ {R S D O E : Type 0} (h : HashFunction) (rooms : Rooms R S D) (disks : 
         one_handed [] body of among heard same = absurd (no_records h of)
         one_handed (x ∷ front) body of among heard same =
             let tails : front ++ body ∷ [] ≡ others
-            = tail_is first (front ++ body ∷ []) others
-            (ap (λ (y : List ℕ). y ∷ (front ++ body ∷ [])) (sym (cons_head x first
-            (front ++ body ∷ []) others same)) ∙ same) in
+            = tail_is x first (front ++ body ∷ []) others same in
             let all = subst (λ (l : List (List ℕ)). AreRecords h (first ∷ l)) (sym tails) records in
             let was = all_settled h start first begins front
             (front_records h first front (body ∷ []) all) in
@@ -244,17 +239,6 @@ module _ {R S D O E : Type 0} (h : HashFunction) (rooms : Rooms R S D) (disks : 
               settled = settled_is;
             }
 
-        abbrev added_held : (list : List (List ℕ)) (body : List ℕ)
-            → DidWith h rooms disks outs errs old turn name (appended list body)
-            → HasHeld h rooms disks outs errs name old turn (list ++ body ∷ [])
-        added_held list body among = record {
-          did = appended list body;
-          among = among;
-          held = refl;
-          no_failure = held.no_failure;
-          no_want = held.no_want;
-        }
-
         first_goes : FirstGoes
         first_goes = elim (find_added (journals h rooms disks outs errs turn.words old turn.room
             turn.out turn.out_after turn.err turn.err_after) name) [
@@ -269,7 +253,8 @@ module _ {R S D O E : Type 0} (h : HashFunction) (rooms : Rooms R S D) (disks : 
                         turn (appended list body) tells added.1.1 in
                         one_handed list body
                         (spoken_records h (command_of turn.words) list found.valid) added.1.1 heard
-                        (same_list (list ++ body ∷ []) (added_held list body added.1.1)))
+                        (same_list (list ++ body ∷ []) (heard_held h rooms disks outs errs old turn
+                        run heard name list body added.1.1)))
                   ]
             ]
 

@@ -25,7 +25,6 @@ use Rattle.cosigner_core.specs.declared.error.CosignerOpenError.{CosignerOpenErr
 use Rattle.cosigner_core.specs.declared.settings.CosignerSettings.{CosignerSettings}
 use Rattle.cosigner_core.specs.declared.step.Step.{Step}
 use Rattle.cosigner_core.proofs.ExportAgain.{export_again}
-use Rattle.mtc_answers.specs.Made.{images_at}
 use Rattle.mtc_answers.specs.Steps.{Files, Outcome, stops_at, with_file, with_form}
 use Rattle.mtc_answers.specs.Wanted.{Meets}
 use Rattle.mtc_answers.specs.declared.answer.Stopped.TheVariants.{Missing}
@@ -43,7 +42,8 @@ use Rattle.mtc_top.specs.ExportLaws.{ExportsHoldTheSteps, HasExported}
 use Rattle.mtc_top.specs.Outcome.{spoken_outcome}
 use Rattle.mtc_top.specs.RunLaws.{Heard}
 use Rattle.mtc_top.proofs.Recovered.{handed_stand, last, read_again}
-use Rattle.mtc_top.proofs.Turns.{file_bytes, heard_run, not_refused, printed_so}
+use Rattle.mtc_top.proofs.Turns.{file_bytes, heard_run, not_refused, printed_so, told_file}
+use Rattle.mtc_top.proofs.Turns.{told_image}
 
 -- ---- the steps of records
 
@@ -106,11 +106,6 @@ read_cosigner : (h : HashFunction) (start : NodeStart) (settings : CosignerSetti
 read_cosigner h start settings public bytes list is read =
     subst (λ (n : NodeStart). IsReadAs h n bytes list) is read
 
-file_image : {D : Type 0} (g : Disks D) (file : Option (List ℕ)) (x : Option D) (c : List ℕ)
-    → ReadsImage g → TellsFile g.told file x → file ≡ Some c → images_at g x c
-file_image g file None c image tells is = absurd cc
-file_image g file (Some d) c image tells is = image d c (tells.0 ∙ is)
-
 module _ {R S D O E : Type 0} (h : HashFunction) (rooms : Rooms R S D) (disks : Disks D)
     (outs : Sinks O) (errs : Sinks E) (image : ReadsImage disks) (only : OnlyNow disks)
     (told : (room : R) (name : List ℕ) → rooms.tells room
@@ -164,8 +159,8 @@ module _ {R S D O E : Type 0} (h : HashFunction) (rooms : Rooms R S D) (disks : 
         = (
           c,
           (
-            file_image disks (rooms.file new name) (rooms.device new name) c image
-                tells_file there,
+            told_image disks (rooms.device new name) c image
+                (told_file disks (rooms.file new name) (rooms.device new name) tells_file ∙ there),
             stands.0,
           ),
         ) in

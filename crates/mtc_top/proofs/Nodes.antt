@@ -100,8 +100,8 @@ either_node n first list body c s either = elim either [
 pub one_list : (c : List ℕ) (xs ys : List (List ℕ)) → StandsFor c xs → StandsFor c ys → xs ≡ ys
 one_list c xs ys one two = sym (records_of-stands c xs one) ∙ records_of-stands c ys two
 
-pub tail_is : (x : List ℕ) (xs ys : List (List ℕ)) → x ∷ xs ≡ x ∷ ys → xs ≡ ys
-tail_is x xs ys is = cc
+pub tail_is : (x y : List ℕ) (xs ys : List (List ℕ)) → x ∷ xs ≡ y ∷ ys → xs ≡ ys
+tail_is x y xs ys is = cc
 
 pub valid_pending : (h : HashFunction) (start : NodeStart) (list : List (List ℕ))
     (p : Option (List ℕ)) → may_follow h start list ≡ true
@@ -116,10 +116,10 @@ pub valid_image : (h : HashFunction) (n : HistoryState) (first c : List ℕ)
     → StandsFor c (first ∷ bodies) → may_follow h n.start bodies ≡ true
 valid_image h n first c bodies is of stands = elim of [
   | inl settled ↦ subst (λ (l : List (List ℕ)). may_follow h n.start l ≡ true)
-      (tail_is first n.settled bodies
+      (tail_is first first n.settled bodies
       (one_list c (first ∷ n.settled) (first ∷ bodies) settled stands)) is.settled
   | inr pending ↦ subst (λ (l : List (List ℕ)). may_follow h n.start l ≡ true)
-      (tail_is first (with_pending n.settled n.pending) bodies
+      (tail_is first first (with_pending n.settled n.pending) bodies
       (one_list c (first ∷ with_pending n.settled n.pending) (first ∷ bodies) pending stands))
       (valid_pending h n.start n.settled n.pending is.settled is.pending)
 ]

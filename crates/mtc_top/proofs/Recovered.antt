@@ -1,6 +1,6 @@
 -- What may be recovered of a node's journal behind a course.
 use Rattle.std.proofs.Common.{◌≡◌, ◌⊎◌, inl, inr, ℕ, true, List, [], ◌∷◌, ◌++◌, Option, None, Some}
-use Rattle.std.proofs.Common.{Result, Ok, Err, refl, sym, subst, ap, ◌∙◌, rules}
+use Rattle.std.proofs.Common.{Result, Ok, refl, sym, subst, ap, ◌∙◌}
 use Rattle.std.proofs.lemmas.List.{append-nil}
 use Rattle.std.specs.Prelude.{IsOk, is_ok}
 use Rattle.byte_forms.specs.Places.{IsBytes}
@@ -17,7 +17,6 @@ use Rattle.cosigner_core.proofs.Behind.{once_each}
 use Rattle.issuance_log.specs.Folds.{LogState, log_of}
 use Rattle.issuance_log.specs.Settings.{Settings}
 use Rattle.issuance_log.proofs.Behind.{begins_so}
-use Rattle.mtc_answers.specs.Made.{images_at}
 use Rattle.mtc_answers.proofs.Made.{OnlyNow, ReadsImage}
 use Rattle.node_history.specs.Laws.{Begins, IsSoundNode}
 use Rattle.node_history.specs.Nodes.{HistoryState, fresh_node, with_pending}
@@ -37,11 +36,11 @@ use Rattle.mtc_top.specs.CourseLaws.{RecoveredListsGrow}
 use Rattle.mtc_top.specs.Courses.{Link, IsBegun, IsCourse, IsReached, IsRecovered, WasHeld}
 use Rattle.mtc_top.specs.Courses.{WentOut, images_in}
 use Rattle.mtc_top.specs.Nodes.{StandsForNode}
-use Rattle.mtc_top.proofs.Begun.{begun_goes, begun_held, no_records}
+use Rattle.mtc_top.proofs.Begun.{begun_goes, begun_held, made_so, no_records}
 use Rattle.mtc_top.proofs.Commands.{spoken_records}
 use Rattle.mtc_top.proofs.Courses.{IsLater, Goes, start_of}
-use Rattle.mtc_top.proofs.Turns.{all_held, held_rules}
-use Rattle.mtc_top.proofs.Nodes.{one_list, some_image, valid_pending}
+use Rattle.mtc_top.proofs.Turns.{all_held, held_rules, told_file, told_image}
+use Rattle.mtc_top.proofs.Nodes.{one_list, some_image, tail_is, valid_pending}
 
 -- ---- the list of an image
 
@@ -107,22 +106,15 @@ some_list s first c of = elim of [
   | inr pending ↦ (with_pending s.settled s.pending, pending)
 ]
 
-made_log : (r : Result LogState ℕ) → IsOk r → (s : LogState) × (r ≡ Ok s)
-made_log (Ok s) is = (s, refl)
-made_log (Err k) is = absurd (grind (rules, is))
-
 -- a node that began as a log has one
 log_found : (h : HashFunction) (start : NodeStart) (settings : Settings) (first : List ℕ)
     (list : List (List ℕ)) → start ≡ Log settings → StartsWith start first
     → AreOfNode h start first list → (t : LogState) × (log_of h list ≡ Ok t)
 log_found h (Log settings') settings first list is begins of =
-    made_log (log_of h list) (subst (λ (l : List (List ℕ)). IsOk (log_of h l)) (sym of.is)
+    made_so (log_of h list) (subst (λ (l : List (List ℕ)). IsOk (log_of h l)) (sym of.is)
     (ap (λ (r : Result LogState ℕ). is_ok r) (begins_so h first settings' of.others begins)
     ∙ of.valid))
 log_found h (Cosigner settings' public) settings first list is begins of = absurd cc
-
-cons_both : (x y : List ℕ) (xs ys : List (List ℕ)) → x ∷ xs ≡ y ∷ ys → xs ≡ ys
-cons_both x y xs ys is = cc
 
 keys_of : (h : HashFunction) (start : NodeStart) (settings : CosignerSettings)
     (public : List ℕ) (bodies : List (List ℕ)) → start ≡ Cosigner settings public
@@ -187,14 +179,10 @@ module _ {R S D O E : Type 0} (h : HashFunction) (rooms : Rooms R S D) (disks : 
         (subst (λ (s : NodeStart). StartsWith s first) (sym (same_start last)) begun.starts)
         (last.at.stands c (elim is [
           | inl left ↦ left
-          | inr tells ↦ told_image (rooms.file new name) (rooms.device new name)
-              (told new name last.at.tells) tells
+          | inr tells ↦ told_image disks (rooms.device new name) c image
+              (told_file disks (rooms.file new name) (rooms.device new name)
+              (told new name last.at.tells) ∙ tells)
         ])))
-      where
-        told_image : (file : Option (List ℕ)) (x : Option D) → TellsFile disks.told file x
-            → file ≡ Some c → images_at disks x c
-        told_image file None tells same = absurd cc
-        told_image file (Some d) tells same = image d c (tells.0 ∙ same)
 
     pub held_front : (list found : List (List ℕ))
         → WasHeld h rooms disks outs errs name begins links list
@@ -226,7 +214,7 @@ module _ {R S D O E : Type 0} (h : HashFunction) (rooms : Rooms R S D) (disks : 
       let of = node_list name start first begins new links begun course (record0 ∷ bodies) found in
       keys_of h start settings public bodies is
       (subst (λ (l : List (List ℕ)). may_follow h start l ≡ true)
-      (sym (cons_both record0 first bodies of.others of.is)) of.valid)
+      (sym (tail_is record0 first bodies of.others of.is)) of.valid)
 
   pub one_message : KeysSignOneMessage h rooms disks outs errs
   one_message name start first begins new links begun course settings public is list other body

@@ -2,7 +2,6 @@
 use Rattle.std.proofs.Common.{◌≡◌, ◌≢◌, ◌≤◌, ◌<◌, ◌⊎◌, inl, inr, ℕ, List, [], ◌∷◌, ◌++◌, Option}
 use Rattle.std.proofs.Common.{None, Some, IsErr, codes, length, take, refl, sym, ap, subst, ◌∙◌}
 use Rattle.std.proofs.Common.{arith, rules, length-take, take_all}
-use Rattle.std.proofs.Math.Seq.{take-length}
 use Rattle.std.proofs.lemmas.Bool.Decides.{eqb_tells, leb_tells}
 use Rattle.std.proofs.lemmas.List.{append_cancel_left, take-take}
 use Rattle.std.specs.Io.KnownBytes.{Appends}
@@ -10,6 +9,7 @@ use Rattle.disk_core.specs.declared.disk.Disk.{Ghosts as Disks}
 use Rattle.mtc_io.specs.Counts.{Rose}
 use Rattle.mtc_io.specs.Streams.{AppendsPrefix}
 use Rattle.mtc_io.specs.declared.sink.Sink.{Ghosts as Sinks}
+use Rattle.mtc_io.proofs.Streams.{prefix_whole}
 use Rattle.mtc_room.specs.Room.{TellsFile}
 use Rattle.mtc_room.specs.declared.room.Room.{Ghosts as Rooms}
 use Rattle.journal_core.specs.Format.{StandsFor}
@@ -53,11 +53,6 @@ unheard : (status n : ℕ) (old new : Option (List ℕ)) → status ≡ n → 0 
     → (TookSome old new → ⊥) → (status ≡ 0) ⊎ TookSome old new → ⊥
 unheard status n old new is some none (inl zero_) = omega (arith, is, some, zero_)
 unheard status n old new is some none (inr took) = none took
-
-whole_front : (old new : Option (List ℕ)) (text : List ℕ) → Appends old new text
-    → AppendsPrefix old new text
-whole_front old new text whole =
-    (length text, subst (Appends old new) (sym (take-length text)) whole)
 
 -- a front of a front
 take_both : (j k : ℕ) (l : List ℕ) → (n : ℕ) × (take j (take k l) ≡ take n l)
@@ -137,7 +132,7 @@ module _ {R S D O E : Type 0} (h : List ℕ → List ℕ) (rooms : Rooms R S D) 
         record {
           reply = a.reply;
           is = a.is;
-          front = whole_front _ _ _ a.text;
+          front = prefix_whole _ _ _ a.text;
           whole = λ other. (a.code, a.text);
           made = a.made;
           began = a.began;

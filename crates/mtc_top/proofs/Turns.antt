@@ -151,12 +151,12 @@ left_stands (started body) list before now since is made c at =
     subst (StandsFor c) (some_is (body ∷ []) list is) (made c at)
 
 -- what a device tells is an image, and what the room tells of the file
-told_image : {D : Type 0} (g : Disks D) (x : Option D) (c : List ℕ) → ReadsImage g
+pub told_image : {D : Type 0} (g : Disks D) (x : Option D) (c : List ℕ) → ReadsImage g
     → told_at g x ≡ Some c → images_at g x c
 told_image g None c image is = no_some c is
 told_image g (Some d) c image is = image d c is
 
-told_file : {D : Type 0} (g : Disks D) (file : Option (List ℕ)) (x : Option D)
+pub told_file : {D : Type 0} (g : Disks D) (file : Option (List ℕ)) (x : Option D)
     → TellsFile g.told file x → told_at g x ≡ file
 told_file g file None tells = sym tells
 told_file g file (Some d) tells = tells.0
