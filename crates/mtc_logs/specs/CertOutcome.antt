@@ -15,7 +15,6 @@ use Rattle.mtc_proof.specs.declared.fault.ProofError.{ProofError}
 use Rattle.mtc_proof.specs.declared.fault.ProofError.TheVariants.{Short, HashLength, Trailing}
 use Rattle.mtc_proof.specs.declared.fault.ProofError.TheVariants.{EmptyId}
 use Rattle.issuance_log.specs.Folds.{LogState, view_in}
-use Rattle.issuance_log.specs.Openings.{FoundLog}
 use Rattle.authority_core.specs.Certificates.{cert_refusal, covering_in, light_refusal, parts_with}
 use Rattle.authority_core.specs.Certificates.{proof_for}
 use Rattle.authority_core.specs.declared.writing.error.WriteError.{WriteError}
@@ -24,7 +23,6 @@ use Rattle.tree_core.specs.declared.spans.Span.{Span}
 use Rattle.mtc_answers.specs.declared.answer.Said.TheVariants.{Done}
 use Rattle.mtc_answers.specs.declared.answer.Stopped.TheVariants.{Beyond, BadForm}
 use Rattle.mtc_answers.specs.Answers.{Reply, Ending, replied, no_memory, said, refused}
-use Rattle.mtc_answers.specs.Steps.{Outcome, answers_on}
 use Rattle.mtc_logs.specs.LogOutcomes.{beyond, not_allowed}
 
 -- Why bytes are no signatures.
@@ -90,10 +88,3 @@ light_text h index s (Some span) = certificate_in h index span.start span.end []
 abbrev pub light_reply : HashFunction → ℕ → LogState → Reply
 light_reply h index s = cert_replies (light_refusal (view_in s) index)
     (light_text h index s (covering_in (view_in s) index))
-
-abbrev pub light_says : HashFunction → ℕ → FoundLog → Outcome
-light_says h index found = answers_on found.records (light_reply h index found.state)
-
-abbrev pub cert_says : HashFunction → ℕ → ℕ → ℕ → Text → FoundLog → Outcome
-cert_says h index start end signatures found =
-    answers_on found.records (cert_reply h index start end signatures found.state)

@@ -71,6 +71,3 @@ log_landmarks s = landmarks_of s.marks s.settings.max_active
 -- Their list.
 abbrev pub landmarks_reply : LogState → Reply
 landmarks_reply s = said Done (list_text (log_landmarks s))
-
-abbrev pub landmarks_says : FoundLog → Outcome
-landmarks_says found = answers_on found.records (landmarks_reply found.state)

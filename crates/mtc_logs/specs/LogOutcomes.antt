@@ -8,13 +8,12 @@ use Rattle.tls_wire.specs.Anchors.{text_of}
 use Rattle.tree_core.specs.Tree.{tree_hash}
 use Rattle.entry_list.specs.Items.{ItemLists, file_text}
 use Rattle.issuance_log.specs.Folds.{LogState}
-use Rattle.issuance_log.specs.Openings.{FoundLog}
 use Rattle.issuance_log.specs.Records.{settings_record}
 use Rattle.issuance_log.specs.Settings.{Settings}
 use Rattle.mtc_answers.specs.declared.answer.Said.TheVariants.{Done}
 use Rattle.mtc_answers.specs.declared.answer.Stopped.TheVariants.{NotAllowed}
 use Rattle.mtc_answers.specs.Answers.{Reply, said, refused}
-use Rattle.mtc_answers.specs.Steps.{Outcome, Files, answers_on, starts, with_fresh}
+use Rattle.mtc_answers.specs.Steps.{Outcome, Files, starts, with_fresh}
 
 -- A new log.
 
@@ -36,9 +35,6 @@ abbrev pub checkpoint_reply : HashFunction → List Text → Reply
 checkpoint_reply h entries = said Done (codes "size " ++ (decimal (length entries)
     ++ (codes "\nroot " ++ (encode_lower (tree_hash h entries) ++ codes "\n"))))
 
-abbrev pub checkpoint_says : HashFunction → FoundLog → Outcome
-checkpoint_says h found = answers_on found.records (checkpoint_reply h found.state.entries)
-
 -- The items of a log: its entries, and the key of each.
 abbrev pub items_of : LogState → ItemLists
 items_of s = record { entries = s.entries; keys = s.keys }
@@ -56,9 +52,6 @@ abbrev pub entries_reply : ℕ → LogState → Reply
 entries_reply size s =
     if nat_lt (length s.entries) size then beyond (length s.entries)
     else said Done (file_text (items_of s) size)
-
-abbrev pub entries_says : ℕ → FoundLog → Outcome
-entries_says size found = answers_on found.records (entries_reply size found.state)
 
 -- These are the entry and the key at an index, and both have fewer than 2^16 bytes.
 pub record IsItemAt (s : LogState) (index : ℕ) (entry key : Text) : Type 0 where

@@ -4,14 +4,12 @@ use Rattle.std.specs.Prelude.{codes, if◌then◌else◌}
 use Rattle.byte_forms.specs.Types.{Hash, HashFunction, Text}
 use Rattle.cosigner_core.specs.Requests.{AdvanceParts, SubtreeParts, advance_text, subtree_text}
 use Rattle.issuance_log.specs.Folds.{LogState}
-use Rattle.issuance_log.specs.Openings.{FoundLog}
 use Rattle.tree_core.specs.Path.{part_of}
 use Rattle.tree_core.specs.Subtree.{is_subtree}
 use Rattle.tree_core.specs.Tree.{leaf_hash, tree_hash}
 use Rattle.tree_proofs.specs.Proof.{proof_of}
 use Rattle.mtc_answers.specs.declared.answer.Said.TheVariants.{Done}
 use Rattle.mtc_answers.specs.Answers.{Reply, said}
-use Rattle.mtc_answers.specs.Steps.{Outcome, answers_on}
 use Rattle.mtc_logs.specs.LogOutcomes.{beyond, not_allowed}
 
 -- The consistency proof of the subtree [start, end) in the first size entries.
@@ -40,9 +38,6 @@ consist_reply h old new s =
     else (if nat_lt (length s.entries) new then beyond (length s.entries)
     else said Done (advance_text (advance_by_log h s old new)))
 
-abbrev pub consist_says : HashFunction → ℕ → ℕ → FoundLog → Outcome
-consist_says h old new found = answers_on found.records (consist_reply h old new found.state)
-
 -- A subtree: the id of the log, the interval, the tree hash of its entries, and its consistency
 -- proof in the first size entries.
 
@@ -63,7 +58,3 @@ subtree_reply h start end size s =
     else (if nat_lt (length s.entries) size then beyond (length s.entries)
     else (if nat_lt size end then beyond size
     else said Done (subtree_text (subtree_of h s start end size))))
-
-abbrev pub subtree_says : HashFunction → ℕ → ℕ → ℕ → FoundLog → Outcome
-subtree_says h start end size found =
-    answers_on found.records (subtree_reply h start end size found.state)

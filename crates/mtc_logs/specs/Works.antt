@@ -13,15 +13,15 @@ use Rattle.issuance_log.specs.declared.error.LogOpenError.{LogOpenError}
 use Rattle.issuance_log.specs.declared.error.LogOpenError.TheVariants.{BadRecord, Open}
 use Rattle.issuance_log.specs.declared.log.Log.{Log}
 use Rattle.mtc_answers.specs.Answers.{Ending, replied, room_failed, no_memory, refused}
-use Rattle.mtc_answers.specs.Steps.{Outcome, with_file, with_form}
+use Rattle.mtc_answers.specs.Steps.{Outcome, answers_on, with_file, with_form}
 use Rattle.mtc_answers.specs.Valid.{WorksValidly}
 use Rattle.mtc_answers.specs.Works.{HasWorked as HasWorkedWith}
 use Rattle.mtc_answers.specs.declared.answer.Stopped.TheVariants.{BadForm}
-use Rattle.mtc_logs.specs.CertOutcome.{cert_says, light_says}
+use Rattle.mtc_logs.specs.CertOutcome.{cert_reply, light_reply}
 use Rattle.mtc_logs.specs.IssueOutcome.{issue_says}
-use Rattle.mtc_logs.specs.LandmarkOutcomes.{landmark_says, landmarks_says}
-use Rattle.mtc_logs.specs.LogOutcomes.{checkpoint_says, entries_says}
-use Rattle.mtc_logs.specs.RequestOutcomes.{consist_says, subtree_says}
+use Rattle.mtc_logs.specs.LandmarkOutcomes.{landmark_says, landmarks_reply}
+use Rattle.mtc_logs.specs.LogOutcomes.{checkpoint_reply, entries_reply}
+use Rattle.mtc_logs.specs.RequestOutcomes.{consist_reply, subtree_reply}
 use Rattle.mtc_logs.specs.declared.work.Work.{Work}
 use Rattle.mtc_logs.specs.declared.work.Work.TheVariants.{Checkpoint, Entries, Issue, Consist}
 use Rattle.mtc_logs.specs.declared.work.Work.TheVariants.{Subtree, Landmark, Landmarks, LightCert}
@@ -49,16 +49,18 @@ found_log state list = record { records = list; state = state }
 
 -- What a command has to reply over a log that was found.
 unfoldable pub log_says : HashFunction → Work → FoundLog → Outcome
-log_says h Checkpoint found = checkpoint_says h found
-log_says h (Entries size) found = entries_says size found
+log_says h Checkpoint found = answers_on found.records (checkpoint_reply h found.state.entries)
+log_says h (Entries size) found = answers_on found.records (entries_reply size found.state)
 log_says h (Issue request) found = issue_says h request found
-log_says h (Consist old new) found = consist_says h old new found
-log_says h (Subtree start end size) found = subtree_says h start end size found
+log_says h (Consist old new) found =
+    answers_on found.records (consist_reply h old new found.state)
+log_says h (Subtree start end size) found =
+    answers_on found.records (subtree_reply h start end size found.state)
 log_says h Landmark found = landmark_says found
-log_says h Landmarks found = landmarks_says found
-log_says h (LightCert index) found = light_says h index found
+log_says h Landmarks found = answers_on found.records (landmarks_reply found.state)
+log_says h (LightCert index) found = answers_on found.records (light_reply h index found.state)
 log_says h (Cert index start end signatures) found =
-    cert_says h index start end signatures found
+    answers_on found.records (cert_reply h index start end signatures found.state)
 
 -- The outcome of a command on the log of a journal with these bytes.
 abbrev pub log_bytes_say : HashFunction → Text → Work → Text → Outcome
