@@ -1,7 +1,7 @@
 -- An audit of a certificate that a landmark or a handed out signature backs.
 use Rattle.std.proofs.Common.{◌≡◌, ◌⊎◌, inl, inr, ℕ, zero, suc, ◌+◌, ◌<◌, true, false, Bool}
 use Rattle.std.proofs.Common.{List, [], ◌∷◌, length, Option, None, Some, Result, refl, sym}
-use Rattle.std.proofs.Common.{subst, ap, ◌∙◌, arith, get_or, not, ◌&&◌, ◌==◌, is_some}
+use Rattle.std.proofs.Common.{subst, ap, ◌∙◌, arith, get_or, ◌&&◌, ◌==◌, is_some}
 use Rattle.std.proofs.lemmas.Bool.{eq-eqb, lt-ltb, or_right, true≢false}
 use Rattle.std.proofs.lemmas.Bool.Decides.{leb_tells}
 use Rattle.std.proofs.lemmas.List.Sums.{fails_before_first}
@@ -48,7 +48,7 @@ use Rattle.mtc_top.specs.AuditLaws.{AuditsStand, HasCounted, HoldsText, IsAuditO
 use Rattle.mtc_top.specs.AuditLaws.{IsSignedInCourse, StandsOrPair}
 use Rattle.mtc_top.specs.Concluded.{Prints}
 use Rattle.mtc_top.specs.Courses.{Turn}
-use Rattle.mtc_top.specs.Outcome.{spoken_outcome}
+use Rattle.mtc_top.specs.Facts.{facts}
 use Rattle.mtc_top.proofs.Exports.{exports_hold}
 
 -- ---- what is asked for
@@ -214,7 +214,7 @@ module _ {R S D O E : Type 0} (h : HashFunction) (rooms : Rooms R S D) (disks : 
   audits_stand old turn cert store moment entries kept x tells run spoken is own_list backed not5
       not6 not8 =
       let a = run.answered not5 not6 not8 in
-      let asked = ap (λ (q : Result CommandValue WordError). spoken_outcome h q (rooms.file old))
+      let asked = ap (λ (q : Result CommandValue WordError). (facts h q).outcome (rooms.file old))
       spoken ∙ audit_asked h (rooms.file old) cert store moment entries kept x is
       ∙ ap (λ f. audit_by h x f (is_supported x) (has_own h x.items x.accepted x.cert)) own_list
       ∙ ap (λ (b : Bool). audit_by h x None b (has_own h x.items x.accepted x.cert))

@@ -25,7 +25,7 @@ use Rattle.mtc_top.specs.Courses.{images_in, images_from, HasStopped, HasWritten
 use Rattle.mtc_top.specs.Courses.{HasHeld, WasHeld, HandsOut, IsHeard}
 use Rattle.mtc_top.specs.Nodes.{AllStandForNode, EndsWell, StandsForNode}
 use Rattle.mtc_top.specs.Nodes.{end_state, steps_of}
-use Rattle.mtc_top.specs.Outcome.{journals_of, outcome, spoken}
+use Rattle.mtc_top.specs.Facts.{facts}
 use Rattle.mtc_top.specs.Run.{journals}
 use Rattle.node_history.specs.Laws.{AreAtMost, handed_bodies}
 use Rattle.node_history.proofs.Agreement.{alone}
@@ -156,7 +156,7 @@ module _ {R S D O E : Type 0} (h : HashFunction) (rooms : Rooms R S D) (disks : 
       -- of a run that doesn't work on the journal
       idle_stands : (steps : List NodeStep) (s : HistoryState) (old : R) (turn : Turn R O E)
           → IsAt steps s old → Turned old turn
-          → IsOther (spoken journals_of (command_of turn.words)) name
+          → IsOther (facts h (command_of turn.words)).journals name
           → IsAt steps s turn.room
       idle_stands steps s old turn at run other = record {
         tells = run.back.tells at.tells;
@@ -166,7 +166,7 @@ module _ {R S D O E : Type 0} (h : HashFunction) (rooms : Rooms R S D) (disks : 
       }
 
       idle_moment : (old : R) (turn : Turn R O E) (c : List ℕ) → Turned old turn
-          → IsOther (spoken journals_of (command_of turn.words)) name → Between old turn.room name c
+          → IsOther (facts h (command_of turn.words)).journals name → Between old turn.room name c
           → Images old name c
       idle_moment old turn c run other is =
           now_of disks only (rooms.device old name) c
@@ -175,10 +175,10 @@ module _ {R S D O E : Type 0} (h : HashFunction) (rooms : Rooms R S D) (disks : 
           (run.back.others name other).disk is)
 
       find : (old : R) (turn : Turn R O E)
-          → IsOther (spoken journals_of (command_of turn.words)) name
+          → IsOther (facts h (command_of turn.words)).journals name
           ⊎ ((did : Journaled) × Did old turn name did)
-      find old turn = find_name (spoken journals_of (command_of turn.words))
-          (outcome h turn.words (rooms.file old)).journals name
+      find old turn = find_name (facts h (command_of turn.words)).journals
+          ((facts h (command_of turn.words)).outcome (rooms.file old)).journals name
 
       -- a run: where it leads, and what went out
       pub record RunGoes (steps : List NodeStep) (s : HistoryState) (old : R) (turn : Turn R O E)
@@ -242,16 +242,16 @@ module _ {R S D O E : Type 0} (h : HashFunction) (rooms : Rooms R S D) (disks : 
 
       goes_idle : (steps : List NodeStep) (s : HistoryState) (old : R) (turn : Turn R O E)
           → IsAt steps s old → Turned old turn
-          → IsOther (spoken journals_of (command_of turn.words)) name → RunGoes steps s old turn
+          → IsOther (facts h (command_of turn.words)).journals name → RunGoes steps s old turn
       goes_idle steps s old turn at run other = record {
         later = later_same steps s turn.room (idle_stands steps s old turn at run other);
         out = [];
         went = inr (
           refl,
           λ list body hands.
-              other_none (spoken journals_of (command_of turn.words))
-              (outcome h turn.words (rooms.file old)).journals name (appended list body) other
-              hands.0,
+              other_none (facts h (command_of turn.words)).journals
+              ((facts h (command_of turn.words)).outcome (rooms.file old)).journals name
+              (appended list body) other hands.0,
         );
         handed = sym (append-nil (handed_bodies s));
       }

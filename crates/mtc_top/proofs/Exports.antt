@@ -39,7 +39,7 @@ use Rattle.node_history.proofs.Cosigners.{of_first}
 use Rattle.node_history.proofs.Steps.{some_is}
 use Rattle.mtc_top.specs.Courses.{Link, Turn, HasTurned, IsCourse, IsBegun, IsHeard, IsRecovered}
 use Rattle.mtc_top.specs.ExportLaws.{ExportsHoldTheSteps, HasExported}
-use Rattle.mtc_top.specs.Outcome.{spoken_outcome}
+use Rattle.mtc_top.specs.Facts.{facts}
 use Rattle.mtc_top.specs.RunLaws.{Heard}
 use Rattle.mtc_top.proofs.Recovered.{handed_stand, last, read_again}
 use Rattle.mtc_top.proofs.Turns.{file_bytes, heard_run, not_refused, printed_so, told_file}
@@ -94,9 +94,9 @@ asked_there h name files bytes found there read =
 
 spoken_export : (h : HashFunction) (r : Result CommandValue WordError) (name : List ℕ)
     (files : Files) → r ≡ Ok (export name)
-    → spoken_outcome h r files ≡ export_outcome h name files
+    → (facts h r).outcome files ≡ export_outcome h name files
 spoken_export h r name files is =
-    ap (λ (q : Result CommandValue WordError). spoken_outcome h q files) is
+    ap (λ (q : Result CommandValue WordError). (facts h q).outcome files) is
 
 -- a node that began as a cosigner is read as one
 read_cosigner : (h : HashFunction) (start : NodeStart) (settings : CosignerSettings)

@@ -1,5 +1,5 @@
 -- Status 2 behind a course is about an input.
-use Rattle.std.proofs.Common.{◌≡◌, inl, inr, ℕ, true, false, Bool, List, [], ◌∷◌, drop, length}
+use Rattle.std.proofs.Common.{◌≡◌, inl, inr, ℕ, true, false, Bool, List, [], ◌∷◌, length}
 use Rattle.std.proofs.Common.{Option, None, Some, Result, Ok, Err, codes, refl, sym, subst, ap}
 use Rattle.std.proofs.Common.{◌∙◌, arith, not}
 use Rattle.std.specs.Prelude.{if◌then◌else◌, nat_le, nat_lt}
@@ -65,7 +65,7 @@ use Rattle.mtc_logs.specs.declared.work.Work.TheVariants.{Landmark, Landmarks, L
 use Rattle.node_history.specs.declared.start.NodeStart.TheVariants.{Cosigner, Log}
 use Rattle.mtc_top.specs.Concluded.{Reports}
 use Rattle.mtc_top.specs.Courses.{Turn, HasTurned}
-use Rattle.mtc_top.specs.Outcome.{command_outcome, files_of, spoken_outcome}
+use Rattle.mtc_top.specs.Facts.{facts, facts_of}
 use Rattle.mtc_top.specs.StatusLaws.{IsAboutInput, MisreadFilesAreInputs, Opens}
 use Rattle.mtc_top.proofs.Recovered.{last, read_again}
 
@@ -241,7 +241,7 @@ module _ (h : HashFunction) where
 
   module _ (name : List ℕ) (files : Files) where
     abbrev Only : CommandValue → Type 0
-    Only command = OnlyInputs (drop 1 (files_of command)) (command_outcome h command files)
+    Only command = OnlyInputs (facts_of h command).inputs ((facts_of h command).outcome files)
 
     of_log : (journal : List ℕ) (work : Work) → journal ≡ name → LogsRead (files name)
         → NeverTwo (log_outcome h journal (files journal) work)
@@ -326,13 +326,14 @@ module _ {R S D O E : Type 0} (h : HashFunction) (rooms : Rooms R S D) (disks : 
       let a = run.answered (λ five. omega (arith, two, five)) (λ six. omega (arith, two, six))
       (λ eight. omega (arith, two, eight)) in
       let meets = subst (λ (r : Result CommandValue WordError).
-      Meets (spoken_outcome h r (rooms.file room)).answer a.reply) spoken (a.is (inl tells)) in
+      Meets ((facts h r).outcome (rooms.file room)).answer a.reply) spoken (a.is (inl tells)) in
       let found = fits a.reply meets (sym a.code ∙ two) in
       record {
         file = found.0;
         reason = found.1.0;
         input = found.1.1.0;
-        asked = subst (λ (r : Reply). Meets (command_outcome h command (rooms.file room)).answer r)
+        asked = subst (λ (r : Reply).
+            Meets ((facts_of h command).outcome (rooms.file room)).answer r)
             found.1.1.1 meets;
         line = refused_line turn a.reply found.0 found.1.0 found.1.1.1 a.line;
       }

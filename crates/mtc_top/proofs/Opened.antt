@@ -49,8 +49,7 @@ use Rattle.mtc_logs.specs.declared.work.Work.{Work}
 use Rattle.mtc_logs.specs.declared.work.Work.TheVariants.{Checkpoint, Entries, Issue, Consist}
 use Rattle.mtc_logs.specs.declared.work.Work.TheVariants.{Subtree, Landmark, Landmarks, LightCert}
 use Rattle.mtc_logs.specs.declared.work.Work.TheVariants.{Cert}
-use Rattle.mtc_top.specs.Outcome.{command_outcome, journals_of, rules_of, spoken, spoken_outcome}
-use Rattle.mtc_top.specs.Outcome.{spoken_rules}
+use Rattle.mtc_top.specs.Facts.{facts, facts_of}
 
 -- the file is a journal of these records, which keep to the rules
 pub record IsFound (Valid : List (List ℕ) → Type 0) (file : Option (List ℕ))
@@ -257,8 +256,9 @@ module _ (h : HashFunction) (files : Files)
 
   -- ---- each command
 
-  of_command : (command : CommandValue) → OfEach (λ name did. Is (rules_of h command) name did)
-      (done_with (journals_of command) (command_outcome h command files).journals)
+  of_command : (command : CommandValue)
+      → OfEach (λ name did. Is (facts_of h command).Valid name did)
+      (done_with (facts_of h command).journals ((facts_of h command).outcome files).journals)
   of_command (init_log journal id active limit) = (
     find_fresh (IsLog h) journal (settings_record (log_settings_of id active limit))
         (log_line id),
@@ -306,8 +306,8 @@ module _ (h : HashFunction) (files : Files) (are : (name : List ℕ) → AreByte
       }
 
   pub spoken_finds : (r : Result CommandValue WordError)
-      → OfEach (λ name did. Finds (spoken_rules h r) (files name) did)
-      (done_with (spoken journals_of r) (spoken_outcome h r files).journals)
+      → OfEach (λ name did. Finds (facts h r).Valid (files name) did)
+      (done_with (facts h r).journals ((facts h r).outcome files).journals)
   spoken_finds (Ok command) = of_command h files (λ V name. Finds V (files name))
       (λ V name. tt) (λ V name body is. tt)
       (λ name bytes found there read.
@@ -320,7 +320,8 @@ module _ (h : HashFunction) (files : Files) (are : (name : List ℕ) → AreByte
 -- ---- where a journal is made
 
 pub spoken_new : (h : HashFunction) (r : Result CommandValue WordError) (files : Files)
-    → OfEach (IsNewAt files) (done_with (spoken journals_of r) (spoken_outcome h r files).journals)
+    → OfEach (IsNewAt files)
+    (done_with (facts h r).journals ((facts h r).outcome files).journals)
 spoken_new h (Ok command) files = of_command h files (λ V. IsNewAt files) (λ V name. inl tt)
     (λ V name body is. inr is) (λ name bytes found there read. (inl tt, λ body. inl tt))
     (λ name bytes found there read. (inl tt, λ body. inl tt)) command

@@ -47,7 +47,7 @@ use Rattle.mtc_logs.specs.Works.{log_open_text, log_outcome, log_says}
 use Rattle.node_history.proofs.Cosigners.{number_added, sign_read}
 use Rattle.node_history.proofs.Entries.{item_read}
 use Rattle.mtc_top.specs.Courses.{Turn, HasTurned, DidWith, AreAmong, HasPrinted, IsHeard}
-use Rattle.mtc_top.specs.Outcome.{command_outcome, journals_of, spoken, spoken_outcome}
+use Rattle.mtc_top.specs.Facts.{facts, facts_of}
 use Rattle.mtc_top.specs.PrintLaws.{HasCosigned, HasIssued, IndicesArePrinted}
 use Rattle.mtc_top.specs.PrintLaws.{SignaturesArePrinted}
 use Rattle.mtc_top.specs.Run.{journals}
@@ -70,17 +70,17 @@ module _ {R S D O E : Type 0} (h : HashFunction) (rooms : Rooms R S D) (disks : 
           turn.out_after turn.err turn.err_after ≡ done_with names wanted.journals
 
     pub done_so : (command : CommandValue) → rooms.tells old → command_of turn.words ≡ Ok command
-        → journals_of command ≡ names
-        → HasDone (command_outcome h command (rooms.file old))
+        → (facts_of h command).journals ≡ names
+        → HasDone ((facts_of h command).outcome (rooms.file old))
     done_so command tells spoken_so named = record {
       meets = subst (λ (r : Result CommandValue WordError).
-          Meets (spoken_outcome h r (rooms.file old)).answer reply) spoken_so
+          Meets ((facts h r).outcome (rooms.file old)).answer reply) spoken_so
           ((heard_run h rooms disks outs errs old turn run heard).is (inl tells));
       journals_are = ap (λ (r : Result CommandValue WordError).
-          done_with (spoken journals_of r) (spoken_outcome h r (rooms.file old)).journals)
+          done_with (facts h r).journals ((facts h r).outcome (rooms.file old)).journals)
           spoken_so
           ∙ ap (λ (l : List (List ℕ)). done_with l
-          (command_outcome h command (rooms.file old)).journals) named;
+          ((facts_of h command).outcome (rooms.file old)).journals) named;
     }
 
     pub none_stopped : (why : Stopped) (file : Option (List ℕ)) (reason : List ℕ)

@@ -29,7 +29,7 @@ use Rattle.node_history.specs.Nodes.{HistoryState, fresh_node}
 use Rattle.node_history.specs.Rules.{AreRecords}
 use Rattle.node_history.specs.declared.start.NodeStart.{NodeStart}
 use Rattle.mtc_top.specs.Nodes.{AllStandForNode, TookSome}
-use Rattle.mtc_top.specs.Outcome.{spoken_rules}
+use Rattle.mtc_top.specs.Facts.{facts}
 use Rattle.mtc_top.specs.Run.{journals, HasRun}
 use Rattle.mtc_top.specs.RunLaws.{FrontsAreRuns, Heard, RunShows, RunSteps, is_heard}
 use Rattle.mtc_top.proofs.Runs.{reply_code}
@@ -253,7 +253,7 @@ module _ {R S D O E : Type 0} (h : List ℕ → List ℕ) (rooms : Rooms R S D) 
     knows tells = both_so _ _ Knows (λ name did valid is_new. (
       elim valid [
         | inl kept ↦ inl kept.0
-        | inr adds ↦ inr (adds_so (spoken_rules h (command_of words)) (AreRecords h)
+        | inr adds ↦ inr (adds_so (facts h (command_of words)).Valid (AreRecords h)
             (spoken_records h (command_of words)) did adds)
       ],
       is_new,

@@ -1,5 +1,6 @@
 -- A command that was done, and whose ending went out, is a run.
-use Rattle.std.proofs.Common.{◌≡◌, ◌≤◌, ◌⊎◌, inl, inr, ℕ, List, None, Some, codes}
+use Rattle.std.proofs.Common.{◌≡◌, ◌≤◌, ◌⊎◌, inl, inr, ℕ, List, ◌++◌, None, Some}
+use Rattle.std.proofs.Common.{codes}
 use Rattle.std.proofs.Common.{refl, sym, subst, ◌∙◌, arith, IsErr, IfSome}
 use Rattle.disk_core.specs.declared.disk.Disk.{Ghosts as Disks}
 use Rattle.mtc_io.specs.declared.sink.Sink.{Ghosts as Sinks}
@@ -19,8 +20,7 @@ use Rattle.mtc_answers.specs.declared.answer.Stopped.TheVariants.{Missing, Beyon
 use Rattle.mtc_answers.specs.Works.{TellsNew}
 use Rattle.mtc_answers.proofs.Served.{each_so, each_is}
 use Rattle.mtc_top.specs.Concluded.{Wrote, Lost, Told, Concludes}
-use Rattle.mtc_top.specs.Outcome.{outcome, files_of, journals_of, spoken, spoken_new}
-use Rattle.mtc_top.specs.Outcome.{spoken_rules}
+use Rattle.mtc_top.specs.Facts.{Facts, facts}
 use Rattle.mtc_top.specs.Run.{HasRun}
 
 -- a reply's status is none of those without a reply
@@ -63,24 +63,24 @@ module _ {R S D O E : Type 0} (h : List ℕ → List ℕ) (rooms : Rooms R S D) 
   abbrev Bad : Type 0
   Bad = IsErr (command_of words)
 
+  abbrev asked : Facts
+  asked = facts h (command_of words)
+
   abbrev want : Outcome
-  want = outcome h words (rooms.file old)
+  want = asked.outcome (rooms.file old)
 
   abbrev Did : Ending → Type 0
-  Did = HasDone rooms disks Bad (spoken files_of (command_of words))
-      (spoken journals_of (command_of words)) want old new
+  Did = HasDone rooms disks Bad (asked.journals ++ asked.inputs) asked.journals want old new
 
   abbrev New : Ending → Type 0
-  New ending = IfSome (spoken_new (command_of words)) (λ name.
-      TellsNew rooms disks name old new ending)
+  New ending = IfSome asked.makes (λ name. TellsNew rooms disks name old new ending)
 
   abbrev Valid : Type 0
-  Valid = KeepsValid rooms disks (spoken_rules h (command_of words))
-      (spoken journals_of (command_of words)) want old new
+  Valid = KeepsValid rooms disks asked.Valid asked.journals want old new
 
   no_file : (ending : Ending) → Did ending → rooms.tells old
       → OfEach (λ name did. IsOnOld did → IsUnmade rooms old new name)
-      (done_with (spoken journals_of (command_of words)) want.journals)
+      (done_with asked.journals want.journals)
   no_file ending done tells = (done.made tells).no_file
 
   -- the reply went out
@@ -113,7 +113,7 @@ module _ {R S D O E : Type 0} (h : List ℕ → List ℕ) (rooms : Rooms R S D) 
         no_file = no_file (replied reply) done;
         valid = valid;
         early = λ tells. subst (λ n. OfEach (λ name did. did ≡ untouched → IsEarly n)
-            (done_with (spoken journals_of (command_of words)) want.journals)) (sym wrote.code)
+            (done_with asked.journals want.journals)) (sym wrote.code)
             (done.ends.early tells);
       }
 
@@ -147,7 +147,7 @@ module _ {R S D O E : Type 0} (h : List ℕ → List ℕ) (rooms : Rooms R S D) 
     early = λ tells. each_so (λ name did. did ≡ untouched → IsEarly (status_of (said kind text)))
         (λ name did. did ≡ untouched → IsEarly status)
         (λ name did late of. absurd ((said_late kind text).1 (late of)))
-        (done_with (spoken journals_of (command_of words)) want.journals)
+        (done_with asked.journals want.journals)
         (done.ends.early tells);
   }
 
@@ -178,7 +178,7 @@ module _ {R S D O E : Type 0} (h : List ℕ → List ℕ) (rooms : Rooms R S D) 
     valid = valid;
     early = λ tells. each_is (λ name did. did ≡ untouched → IsEarly status)
         (λ name did of. inr (inr (inl told.is)))
-        (done_with (spoken journals_of (command_of words)) want.journals);
+        (done_with asked.journals want.journals);
   }
 
   -- memory was refused
@@ -205,15 +205,10 @@ module _ {R S D O E : Type 0} (h : List ℕ → List ℕ) (rooms : Rooms R S D) 
     valid = valid;
     early = λ tells. each_is (λ name did. did ≡ untouched → IsEarly status)
         (λ name did of. inr (inr (inr (inr (inl told.is)))))
-        (done_with (spoken journals_of (command_of words)) want.journals);
+        (done_with asked.journals want.journals);
   }
 
-  pub has_run : (ending : Ending) (status : ℕ) → HasDone rooms disks (IsErr (command_of words))
-      (spoken files_of (command_of words)) (spoken journals_of (command_of words))
-      (outcome h words (rooms.file old)) old new ending
-      → KeepsValid rooms disks (spoken_rules h (command_of words))
-      (spoken journals_of (command_of words)) (outcome h words (rooms.file old)) old new
-      → IfSome (spoken_new (command_of words)) (λ name. TellsNew rooms disks name old new ending)
+  pub has_run : (ending : Ending) (status : ℕ) → Did ending → Valid → New ending
       → Concludes outs errs (known_word words) out out' err err' ending status
       → HasRun h rooms disks outs errs words old new out out' err err' status
   has_run (replied (said kind text)) status done valid began ends = elim ends [

@@ -35,7 +35,7 @@ use Rattle.mtc_cosigner.specs.KeygenOutcome.{lms_type, ots_type, public_line, wi
 use Rattle.mtc_cosigner.specs.Works.{advance_outcome, cosigner_open_text, export_outcome}
 use Rattle.mtc_logs.specs.Works.{IsLog}
 use Rattle.mtc_top.specs.Courses.{Turn, HasHeld, HasTurned, IsHeard}
-use Rattle.mtc_top.specs.Outcome.{spoken_rules}
+use Rattle.mtc_top.specs.Facts.{facts}
 use Rattle.mtc_top.specs.PrintLaws.{OnlyCosignSigns, Says}
 use Rattle.mtc_top.proofs.Printed.{HasDone, done_so, none_stopped, past_bytes, past_file}
 use Rattle.mtc_top.proofs.Printed.{past_form, said_so, signatures_printed, stepped_so}
@@ -165,11 +165,11 @@ module _ {R S D O E : Type 0} (h : HashFunction) (rooms : Rooms R S D) (disks : 
 
     -- the others open logs
     logs : (command : CommandValue) → Speaks command
-        → ((list : List (List ℕ)) → spoken_rules h (Ok command) list → IsLog h list)
+        → ((list : List (List ℕ)) → (facts h (Ok command)).Valid list → IsLog h list)
         → (name : List ℕ) (list : List (List ℕ))
         → HasHeld h rooms disks outs errs name old turn list → IsLog h list
     logs command spoken are name list held =
-        are list (subst (λ (r : Result CommandValue WordError). spoken_rules h r list) spoken
+        are list (subst (λ (r : Result CommandValue WordError). (facts h r).Valid list) spoken
         (held_rules h rooms disks outs errs image only told bytes name old turn list tells run
         held))
 
@@ -183,10 +183,10 @@ module _ {R S D O E : Type 0} (h : HashFunction) (rooms : Rooms R S D) (disks : 
     says_so (init_cosigner name id log height width file) spoken =
         begun name id log height width file spoken
     says_so (keygen height width file) spoken = made_key height width file spoken
-    says_so (member file) spoken = logs (member file) spoken (λ list is. is)
-    says_so (show file) spoken = logs (show file) spoken (λ list is. is)
+    says_so (member file) spoken = logs (member file) spoken (λ list is. absurd is)
+    says_so (show file) spoken = logs (show file) spoken (λ list is. absurd is)
     says_so (verify certificate store moment) spoken =
-        logs (verify certificate store moment) spoken (λ list is. is)
+        logs (verify certificate store moment) spoken (λ list is. absurd is)
     says_so (init_log journal id active limit) spoken =
         logs (init_log journal id active limit) spoken (λ list is. is)
     says_so (issue journal request) spoken =
@@ -203,11 +203,11 @@ module _ {R S D O E : Type 0} (h : HashFunction) (rooms : Rooms R S D) (disks : 
     says_so (light_cert journal index) spoken =
         logs (light_cert journal index) spoken (λ list is. is)
     says_so (trust_landmarks list active items) spoken =
-        logs (trust_landmarks list active items) spoken (λ l is. is)
+        logs (trust_landmarks list active items) spoken (λ l is. absurd is)
     says_so (cert journal index start end file) spoken =
         logs (cert journal index start end file) spoken (λ list is. is)
     says_so (audit certificate store moment items kept) spoken =
-        logs (audit certificate store moment items kept) spoken (λ list is. is)
+        logs (audit certificate store moment items kept) spoken (λ list is. absurd is)
 
   pub only_cosign : OnlyCosignSigns h rooms disks outs errs
   only_cosign command old turn tells run spoken heard =

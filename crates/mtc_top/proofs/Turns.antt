@@ -32,7 +32,7 @@ use Rattle.mtc_top.specs.Courses.{images_in, images_from, IsCourse, HasHeld, Has
 use Rattle.mtc_top.specs.Courses.{OfEachTurn, WasHeld, HandsOut, WasHandedOut}
 use Rattle.mtc_top.specs.Run.{journals}
 use Rattle.mtc_top.specs.RunLaws.{Heard, RunSteps}
-use Rattle.mtc_top.specs.Outcome.{spoken_rules}
+use Rattle.mtc_top.specs.Facts.{facts}
 use Rattle.mtc_top.specs.Nodes.{records_left}
 use Rattle.mtc_top.proofs.Nodes.{no_file_stands, one_list, some_image}
 use Rattle.mtc_top.proofs.Opened.{Finds, IsFound, IsNewAt, spoken_finds, spoken_new}
@@ -215,15 +215,15 @@ module _ {R S D O E : Type 0} (h : HashFunction) (rooms : Rooms R S D) (disks : 
       turn.err turn.err_after
 
   abbrev Rules : Turn R O E → List (List ℕ) → Type 0
-  Rules turn = spoken_rules h (command_of turn.words)
+  Rules turn = (facts h (command_of turn.words)).Valid
 
   module _ (bytes : (d : D) (b : List ℕ) → disks.told d ≡ Some b → IsBytes b) where
     -- what the files of a room are to a run
     pub found_at : (name : List ℕ) (old : R) (turn : Turn R O E) (did : Journaled) → rooms.tells old
         → Did old turn name did
-        → Finds (spoken_rules h (command_of turn.words)) (rooms.file old name) did
+        → Finds (Rules turn) (rooms.file old name) did
     found_at name old turn did tells among =
-        of_each (λ n d. Finds (spoken_rules h (command_of turn.words)) (rooms.file old n) d)
+        of_each (λ n d. Finds (Rules turn) (rooms.file old n) d)
         (journals h rooms disks outs errs turn.words old turn.room turn.out turn.out_after
         turn.err turn.err_after) name did
         (spoken_finds h (rooms.file old) (λ n c is. file_bytes disks (rooms.file old n)
@@ -232,10 +232,10 @@ module _ {R S D O E : Type 0} (h : HashFunction) (rooms : Rooms R S D) (disks : 
     -- the records keep to the rules of the command
     pub held_rules : (name : List ℕ) (old : R) (turn : Turn R O E) (list : List (List ℕ))
         → rooms.tells old → Turned old turn → HasHeld h rooms disks outs errs name old turn list
-        → spoken_rules h (command_of turn.words) list
+        → (facts h (command_of turn.words)).Valid list
     held_rules name old turn list tells run held =
         by_did held.did held.held held.among (found_at name old turn held.did tells held.among)
-        (of_each (LeavesValid rooms disks (spoken_rules h (command_of turn.words)) old turn.room)
+        (of_each (LeavesValid rooms disks (Rules turn) old turn.room)
         (Js old turn) name held.did (run.valid tells) held.among)
         (of_each (IsNewAt (rooms.file old)) (Js old turn) name held.did
         (spoken_new h (command_of turn.words) (rooms.file old)) held.among)

@@ -1,5 +1,5 @@
 pub mod Nodes
-pub mod Outcome
+pub mod Facts
 pub mod Concluded
 pub mod Run
 pub mod RunLaws

@@ -1,5 +1,6 @@
 -- What a run of the program did, by these words, over a room and two sinks, each before and after.
-use Rattle.std.specs.Prelude.{◌≡◌, ◌≢◌, ◌⊎◌, ℕ, List, [], None, Some, codes, IfSome, IsErr}
+use Rattle.std.specs.Prelude.{◌≡◌, ◌≢◌, ◌⊎◌, ℕ, List, [], ◌++◌, None, Some, codes}
+use Rattle.std.specs.Prelude.{IfSome, IsErr}
 use Rattle.byte_forms.specs.Types.{HashFunction, Text}
 use Rattle.disk_core.specs.declared.disk.Disk.{Ghosts as Disks}
 use Rattle.mtc_io.specs.Counts.{Rose}
@@ -13,30 +14,26 @@ use Rattle.mtc_answers.specs.Lines.{line_of}
 use Rattle.mtc_answers.specs.Made.{Journaled, Leaving, untouched, IsOnOld, HasKept, HasMade}
 use Rattle.mtc_answers.specs.Made.{MayHaveMade}
 use Rattle.mtc_answers.specs.Served.{Journals, OfEach, LeavesEach, done_with, GivesBack, IsUnmade}
-use Rattle.mtc_answers.specs.Steps.{Outcome}
 use Rattle.mtc_answers.specs.Valid.{KeepsValid}
 use Rattle.mtc_answers.specs.Wanted.{Meets}
 use Rattle.mtc_answers.specs.Works.{TellsNew}
 use Rattle.mtc_top.specs.Concluded.{Prints, PrintsFront, Reports}
-use Rattle.mtc_top.specs.Outcome.{outcome, files_of, journals_of, spoken, spoken_new}
-use Rattle.mtc_top.specs.Outcome.{spoken_rules}
+use Rattle.mtc_top.specs.Facts.{Facts, facts}
 
 module _ {R S D O E : Type 0} (h : HashFunction) (rooms : Rooms R S D) (disks : Disks D)
     (outs : Sinks O) (errs : Sinks E) (words : List Text)
     (old new : R) (out out' : O) (err err' : E) where
-  -- What the words and the files ask for, and the journals that it works on.
-  abbrev pub asked : Outcome
-  asked = outcome h words (rooms.file old)
-
-  abbrev pub names : List Text
-  names = spoken journals_of (command_of words)
+  -- What the words ask for, and what the files make of that: what is done with each journal.
+  abbrev pub asked : Facts
+  asked = facts h (command_of words)
 
   abbrev pub journals : Journals
-  journals = done_with names asked.journals
+  journals = done_with asked.journals (asked.outcome (rooms.file old)).journals
 
   -- The reply is asked for, where the room tells its files or where the words are no command.
   abbrev pub IsAsked : Reply → Type 0
-  IsAsked reply = rooms.tells old ⊎ IsErr (command_of words) → Meets asked.answer reply
+  IsAsked reply = rooms.tells old ⊎ IsErr (command_of words)
+      → Meets (asked.outcome (rooms.file old)).answer reply
 
   -- Each of its journals has left this.
   abbrev pub Left : (Journaled → Leaving) → Type 0
@@ -44,8 +41,7 @@ module _ {R S D O E : Type 0} (h : HashFunction) (rooms : Rooms R S D) (disks : 
 
   -- Of a command that makes a journal, over any room: how it ended is what came of that.
   abbrev pub Began : Ending → Type 0
-  Began ending =
-      IfSome (spoken_new (command_of words)) (λ name. TellsNew rooms disks name old new ending)
+  Began ending = IfSome asked.makes (λ name. TellsNew rooms disks name old new ending)
 
   -- It answered: the status, the text and the line are those of one reply, the one asked for, and
   -- it did with its journals what was asked.
@@ -64,7 +60,7 @@ module _ {R S D O E : Type 0} (h : HashFunction) (rooms : Rooms R S D) (disks : 
     pub cause : Rose (rooms.faults old) (rooms.faults new)
     pub text : Prints outs out out' []
     pub file : Text
-    pub named : IsNamed (spoken files_of (command_of words)) file
+    pub named : IsNamed (asked.journals ++ asked.inputs) file
     pub line : Reports errs err err' (line_of (known_word words) (Some file) (codes "Failed"))
     pub made : Left MayHaveMade
     pub began : Began (room_failed file)
@@ -100,11 +96,12 @@ module _ {R S D O E : Type 0} (h : HashFunction) (rooms : Rooms R S D) (disks : 
     pub out_failed : status ≡ 6 → OutFailed
     pub no_memory : status ≡ 8 → NoMemory
     -- What was lent is given back, and no file changes but the journals.
-    pub back : GivesBack rooms old new names
+    pub back : GivesBack rooms old new asked.journals
     -- No file is made but a new journal.
     pub no_file : rooms.tells old
         → OfEach (λ name did. IsOnOld did → IsUnmade rooms old new name) journals
     -- A journal that isn't opened goes with a status that may come before.
     pub early : rooms.tells old → OfEach (λ name did. did ≡ untouched → IsEarly status) journals
     -- A new record makes a log or a cosigner with those before it.
-    pub valid : KeepsValid rooms disks (spoken_rules h (command_of words)) names asked old new
+    pub valid : KeepsValid rooms disks asked.Valid asked.journals (asked.outcome (rooms.file old))
+        old new

@@ -1,5 +1,5 @@
 -- Status 2 behind a course: it is never about the journal.
-use Rattle.std.specs.Prelude.{◌≡◌, drop, Some, Ok}
+use Rattle.std.specs.Prelude.{◌≡◌, Some, Ok}
 use Rattle.byte_forms.specs.Types.{HashFunction, Text}
 use Rattle.disk_core.specs.declared.disk.Disk.{Ghosts as Disks}
 use Rattle.mtc_io.specs.declared.sink.Sink.{Ghosts as Sinks}
@@ -18,7 +18,7 @@ use Rattle.node_history.specs.declared.start.NodeStart.TheVariants.{Log, Cosigne
 use Rattle.mtc_top.specs.Concluded.{Reports}
 use Rattle.mtc_top.specs.CourseLaws.{OfCourses}
 use Rattle.mtc_top.specs.Courses.{Turn, HasTurned}
-use Rattle.mtc_top.specs.Outcome.{command_outcome, files_of}
+use Rattle.mtc_top.specs.Facts.{facts_of}
 
 -- The command opens the journal of this name, as that of such a node.
 abbrev pub Opens : NodeStart → Text → CommandValue → Type 0
@@ -43,8 +43,8 @@ module _ {R S D O E : Type 0} (h : HashFunction) (rooms : Rooms R S D) (disks : 
   pub record IsAboutInput (command : CommandValue) (room : R) (turn : Turn R O E) : Type 0 where
     pub file : Text
     pub reason : Text
-    pub input : IsNamed (drop 1 (files_of command)) file
-    pub asked : Meets (command_outcome h command (rooms.file room)).answer
+    pub input : IsNamed (facts_of h command).inputs file
+    pub asked : Meets ((facts_of h command).outcome (rooms.file room)).answer
         (refused BadForm (Some file) reason)
     pub line : Reports errs turn.err turn.err_after
         (line_of (known_word turn.words) (Some file) reason)

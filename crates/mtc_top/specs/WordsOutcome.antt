@@ -6,8 +6,6 @@ use Rattle.mtc_words.specs.declared.error.WordError.{WordError}
 use Rattle.mtc_words.specs.declared.error.WordError.TheVariants.{NoCommand, UnknownCommand, BadWord}
 use Rattle.mtc_words.specs.declared.error.WordError.TheVariants.{WrongCount, BadNumber, BadId}
 use Rattle.mtc_words.specs.declared.error.WordError.TheVariants.{Memory}
-use Rattle.mtc_answers.specs.declared.answer.Stopped.TheVariants.{BadWords}
-use Rattle.mtc_answers.specs.Steps.{Outcome, stops}
 
 -- A fault of the words, with its numbers.
 abbrev pub word_fault_text : WordError → Text
@@ -19,6 +17,3 @@ word_fault_text (WrongCount have want) =
 word_fault_text (BadNumber place) = codes "BadNumber " ++ decimal place
 word_fault_text (BadId place) = codes "BadId " ++ decimal place
 word_fault_text Memory = codes "Memory"
-
-abbrev pub words_say : WordError → Outcome
-words_say why = stops BadWords (word_fault_text why)

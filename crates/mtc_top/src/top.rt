@@ -1,14 +1,13 @@
 //! The program's one call: the words, the work, and what goes out.
 
-ghost use Rattle.std.specs.Prelude.{◌≡◌, ◌<◌, ◌^◌, map, string_bytes, IfSome, IsErr};
+ghost use Rattle.std.specs.Prelude.{◌≡◌, ◌<◌, ◌^◌, ◌++◌, map, string_bytes, IfSome, IsErr};
 ghost use Rattle.mtc_words.specs.Commands.{command_value, IsInRange};
 ghost use Rattle.mtc_words.specs.Words.{command_of};
 ghost use Rattle.mtc_answers.specs.Answers.{ending_of};
 ghost use Rattle.mtc_answers.specs.Served.{HasDone};
 ghost use Rattle.mtc_answers.specs.Valid.{KeepsValid};
 ghost use Rattle.mtc_answers.specs.Works.{TellsNew};
-ghost use Rattle.mtc_top.specs.Outcome.{command_outcome, files_of, journals_of, new_of, outcome};
-ghost use Rattle.mtc_top.specs.Outcome.{rules_of, spoken, spoken_new, spoken_rules};
+ghost use Rattle.mtc_top.specs.Facts.{facts, facts_of};
 ghost use Rattle.mtc_top.specs.Run.{HasRun};
 
 use crate::finish::conclude;
@@ -41,15 +40,13 @@ fn perform<'a, H: TreeHash, R: Room>(
 ) -> Result<Answer, Stop<'a>>
     requires lent { R.lent room.old < 2 ^ 32 }
     requires range { IsInRange (command_value command) }
-    ensures done { HasDone R.Room R.Dsk.Disk ⊥
-        (files_of (command_value command.entry)) (journals_of (command_value command.entry))
-        (command_outcome H.hash (command_value command.entry) (R.file room.old))
-        room.old room.new (ending_of result) }
-    ensures valid { KeepsValid R.Room R.Dsk.Disk (rules_of H.hash (command_value command.entry))
-        (journals_of (command_value command.entry))
-        (command_outcome H.hash (command_value command.entry) (R.file room.old))
-        room.old room.new }
-    ensures began { IfSome (new_of (command_value command.entry)) (λ name.
+    ensures done { let asked = facts_of H.hash (command_value command.entry) in
+        HasDone R.Room R.Dsk.Disk ⊥ (asked.journals ++ asked.inputs) asked.journals
+        (asked.outcome (R.file room.old)) room.old room.new (ending_of result) }
+    ensures valid { let asked = facts_of H.hash (command_value command.entry) in
+        KeepsValid R.Room R.Dsk.Disk asked.Valid asked.journals
+        (asked.outcome (R.file room.old)) room.old room.new }
+    ensures began { IfSome (facts_of H.hash (command_value command.entry)).makes (λ name.
         TellsNew R.Room R.Dsk.Disk name room.old room.new (ending_of result)) }
 {
     match command {
@@ -93,16 +90,14 @@ fn answer<'a, H: TreeHash, R: Room>(
     room: &mut R,
 ) -> Result<Answer, Stop<'a>>
     requires { R.lent room.old < 2 ^ 32 }
-    ensures done { HasDone R.Room R.Dsk.Disk (IsErr (command_of (map string_bytes words.now)))
-        (spoken files_of (command_of (map string_bytes words.now)))
-        (spoken journals_of (command_of (map string_bytes words.now)))
-        (outcome H.hash (map string_bytes words.now) (R.file room.old))
-        room.old room.new (ending_of result) }
-    ensures valid { KeepsValid R.Room R.Dsk.Disk
-        (spoken_rules H.hash (command_of (map string_bytes words.now)))
-        (spoken journals_of (command_of (map string_bytes words.now)))
-        (outcome H.hash (map string_bytes words.now) (R.file room.old)) room.old room.new }
-    ensures began { IfSome (spoken_new (command_of (map string_bytes words.now))) (λ name.
+    ensures done { let said = command_of (map string_bytes words.now) in
+        let asked = facts H.hash said in
+        HasDone R.Room R.Dsk.Disk (IsErr said) (asked.journals ++ asked.inputs) asked.journals
+        (asked.outcome (R.file room.old)) room.old room.new (ending_of result) }
+    ensures valid { let asked = facts H.hash (command_of (map string_bytes words.now)) in
+        KeepsValid R.Room R.Dsk.Disk asked.Valid asked.journals
+        (asked.outcome (R.file room.old)) room.old room.new }
+    ensures began { IfSome (facts H.hash (command_of (map string_bytes words.now))).makes (λ name.
         TellsNew R.Room R.Dsk.Disk name room.old room.new (ending_of result)) }
 {
     match read_words(alloc, words) {
