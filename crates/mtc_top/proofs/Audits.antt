@@ -213,11 +213,12 @@ module _ {R S D O E : Type 0} (h : HashFunction) (rooms : Rooms R S D) (disks : 
   pub audits_stand : AuditsStand h rooms disks outs errs
   audits_stand old turn cert store moment entries kept x tells run spoken is own_list backed not5
       not6 not8 =
-      let a = run.answered not5 not6 not8 in
+      let a = run.answered not5 not8 in
       let asked = ap (λ (q : Result CommandValue WordError). (facts h q).outcome (rooms.file old))
       spoken ∙ audit_asked h (rooms.file old) cert store moment entries kept x is
       ∙ ap (λ f. audit_by h x f (is_supported x) (has_own h x.items x.accepted x.cert)) own_list
       ∙ ap (λ (b : Bool). audit_by h x None b (has_own h x.items x.accepted x.cert))
       (supported x is.kept_text is.kept_read backed) in
       by_reply x turn (has_own h x.items x.accepted x.cert) refl a.reply
-      (subst (λ (w : Outcome). Meets w.answer a.reply) asked (a.is (inl tells))) a.code a.text
+      (subst (λ (w : Outcome). Meets w.answer a.reply) asked (a.is (inl tells))) (a.code not6)
+      (a.text not6)

@@ -40,7 +40,7 @@ use Rattle.node_history.proofs.Steps.{some_is}
 use Rattle.mtc_top.specs.Courses.{Link, Turn, HasTurned, IsCourse, IsBegun, IsHeard, IsRecovered}
 use Rattle.mtc_top.specs.ExportLaws.{ExportsHoldTheSteps, HasExported}
 use Rattle.mtc_top.specs.Facts.{facts}
-use Rattle.mtc_top.specs.RunLaws.{Heard}
+use Rattle.mtc_top.specs.Run.{Answered}
 use Rattle.mtc_top.proofs.Recovered.{handed_stand, last, read_again}
 use Rattle.mtc_top.proofs.Turns.{file_bytes, heard_run, not_refused, printed_so, told_file}
 use Rattle.mtc_top.proofs.Turns.{told_image}
@@ -121,7 +121,7 @@ module _ {R S D O E : Type 0} (h : HashFunction) (rooms : Rooms R S D) (disks : 
       (spoken : command_of turn.words ≡ Ok (export name)) (heard : IsHeard outs turn)
       (tells : rooms.tells new) where
     -- the reply is the one that is asked for
-    abbrev heard_so : Heard h rooms disks outs errs turn.words new turn.room turn.out
+    abbrev heard_so : Answered h rooms disks outs errs turn.words new turn.room turn.out
         turn.out_after turn.err turn.err_after turn.status
     heard_so = heard_run h rooms disks outs errs new turn run heard
 

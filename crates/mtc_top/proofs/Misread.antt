@@ -1,5 +1,5 @@
 -- Status 2 behind a course is about an input.
-use Rattle.std.proofs.Common.{◌≡◌, inl, inr, ℕ, true, false, Bool, List, [], ◌∷◌, length}
+use Rattle.std.proofs.Common.{◌≡◌, ◌≢◌, inl, inr, ℕ, true, false, Bool, List, [], ◌∷◌, length}
 use Rattle.std.proofs.Common.{Option, None, Some, Result, Ok, Err, codes, refl, sym, subst, ap}
 use Rattle.std.proofs.Common.{◌∙◌, arith, not}
 use Rattle.std.specs.Prelude.{if◌then◌else◌, nat_le, nat_lt}
@@ -323,11 +323,12 @@ module _ {R S D O E : Type 0} (h : HashFunction) (rooms : Rooms R S D) (disks : 
       → turn.status ≡ 2 → Only h [] (rooms.file room) command
       → IsAboutInput h rooms disks outs errs command room turn
   about_input room command turn tells run spoken two fits =
-      let a = run.answered (λ five. omega (arith, two, five)) (λ six. omega (arith, two, six))
-      (λ eight. omega (arith, two, eight)) in
+      let a = run.answered (λ five. omega (arith, two, five)) (λ eight. omega (arith, two, eight))
+      in
+      let not6 : turn.status ≢ 6 = λ six. omega (arith, two, six) in
       let meets = subst (λ (r : Result CommandValue WordError).
       Meets ((facts h r).outcome (rooms.file room)).answer a.reply) spoken (a.is (inl tells)) in
-      let found = fits a.reply meets (sym a.code ∙ two) in
+      let found = fits a.reply meets (sym (a.code not6) ∙ two) in
       record {
         file = found.0;
         reason = found.1.0;
@@ -335,7 +336,7 @@ module _ {R S D O E : Type 0} (h : HashFunction) (rooms : Rooms R S D) (disks : 
         asked = subst (λ (r : Reply).
             Meets ((facts_of h command).outcome (rooms.file room)).answer r)
             found.1.1.1 meets;
-        line = refused_line turn a.reply found.0 found.1.0 found.1.1.1 a.line;
+        line = refused_line turn a.reply found.0 found.1.0 found.1.1.1 (a.line not6);
       }
 
   pub misread_inputs : MisreadFilesAreInputs h rooms disks outs errs

@@ -9,7 +9,6 @@ use Rattle.disk_core.specs.declared.disk.Disk.{Ghosts as Disks}
 use Rattle.mtc_io.specs.Counts.{Rose}
 use Rattle.mtc_io.specs.Streams.{AppendsPrefix}
 use Rattle.mtc_io.specs.declared.sink.Sink.{Ghosts as Sinks}
-use Rattle.mtc_io.proofs.Streams.{prefix_whole}
 use Rattle.mtc_room.specs.Room.{TellsFile}
 use Rattle.mtc_room.specs.declared.room.Room.{Ghosts as Rooms}
 use Rattle.journal_core.specs.Format.{StandsFor}
@@ -30,8 +29,8 @@ use Rattle.node_history.specs.Rules.{AreRecords}
 use Rattle.node_history.specs.declared.start.NodeStart.{NodeStart}
 use Rattle.mtc_top.specs.Nodes.{AllStandForNode, TookSome}
 use Rattle.mtc_top.specs.Facts.{facts}
-use Rattle.mtc_top.specs.Run.{journals, HasRun}
-use Rattle.mtc_top.specs.RunLaws.{FrontsAreRuns, Heard, RunShows, RunSteps, is_heard}
+use Rattle.mtc_top.specs.Run.{journals, Answered, HasRun}
+use Rattle.mtc_top.specs.RunLaws.{FrontsAreRuns, RunShows, RunSteps, is_heard}
 use Rattle.mtc_top.proofs.Runs.{reply_code}
 use Rattle.mtc_top.proofs.Commands.{spoken_records}
 use Rattle.mtc_top.proofs.Nodes.{kept_ends, failed_ends, made_ends, heard_dec, file_stands}
@@ -47,6 +46,12 @@ took_none (Some xs) (Some ys) none took = grind (rules, arith, none, took)
 pub front_none : (old new : Option (List ℕ)) → AppendsPrefix old new [] → TookSome old new → ⊥
 front_none old new front took =
     took_none old new (subst (Appends old new) (take_all front.0 [] (omega arith)) front.1) took
+
+-- a text of which a byte went out isn't empty
+front_some : (old new : Option (List ℕ)) (text : List ℕ) → AppendsPrefix old new text
+    → TookSome old new → 0 < length text
+front_some old new [] front took = absurd (front_none old new front took)
+front_some old new (x ∷ xs) front took = omega arith
 
 -- a run with such a status of which no byte went out isn't heard
 unheard : (status n : ℕ) (old new : Option (List ℕ)) → status ≡ n → 0 < n
@@ -114,31 +119,6 @@ module _ {R S D O E : Type 0} (h : List ℕ → List ℕ) (rooms : Rooms R S D) 
   pub not_wanting : TookSome (outs.taken out) (outs.taken out') → status ≢ 8
   not_wanting some is = took_none _ _ (run.no_memory is).text some
 
-  pub run_heard : status ≢ 5 → status ≢ 8
-      → Heard h rooms disks outs errs words old new out out' err err' status
-  run_heard not5 not8 = elim (eqb_tells status 6) [
-    | inl is6 ↦
-        (let o = run.out_failed is6.1 in
-        record {
-          reply = o.reply;
-          is = o.is;
-          front = o.text;
-          whole = λ not6. absurd (not6 is6.1);
-          made = o.made;
-          began = o.began;
-        })
-    | inr not6 ↦
-        (let a = run.answered not5 not6.1 not8 in
-        record {
-          reply = a.reply;
-          is = a.is;
-          front = prefix_whole _ _ _ a.text;
-          whole = λ other. (a.code, a.text);
-          made = a.made;
-          began = a.began;
-        })
-  ]
-
   pub run_shows : RunShows h rooms disks outs errs words old new out out' err err' status
   run_shows = record {
     known = elim (eqb_tells status 5) [
@@ -148,31 +128,32 @@ module _ {R S D O E : Type 0} (h : List ℕ → List ℕ) (rooms : Rooms R S D) 
         | inr not6 ↦ elim (eqb_tells status 8) [
           | inl is8 ↦ omega (arith, is8.1)
           | inr not8 ↦
-              (let a = run.answered not5.1 not6.1 not8.1 in
-              subst (λ n. n ≤ 10) (sym a.code) (reply_code a.reply).known)
+              (let a = run.answered not5.1 not8.1 in
+              subst (λ n. n ≤ 10) (sym (a.code not6.1)) (reply_code a.reply).known)
         ]
       ]
     ];
-    complete = λ room sink memory. run.answered (λ is. room (run.room_failed is).cause)
-        (λ is. sink (run.out_failed is).cause) memory;
+    complete = λ room sink memory.
+        let a = run.answered (λ is. room (run.room_failed is).cause) memory in
+        (λ is. sink (a.cause is), a);
     silent = λ not0 not3 not6 not10. elim (eqb_tells status 5) [
       | inl is5 ↦ (run.room_failed is5.1).text
       | inr not5 ↦ elim (eqb_tells status 8) [
         | inl is8 ↦ (run.no_memory is8.1).text
         | inr not8 ↦
-            (let a = run.answered not5.1 not6 not8.1 in
+            (let a = run.answered not5.1 not8.1 in
             silent_reply (Prints outs out out')
-            a.reply status a.code not0 not3 not10 a.text)
+            a.reply status (a.code not6) not0 not3 not10 (a.text not6))
       ]
     ];
-    heard = λ some. run_heard (not_failed some) (not_wanting some);
+    heard = λ some. run.answered (not_failed some) (not_wanting some);
   }
 
   -- ---- a front of what went out
 
   module _ (some : TookSome (outs.taken out) (outs.taken out')) where
-    abbrev heard_all : Heard h rooms disks outs errs words old new out out' err err' status
-    heard_all = run_heard (not_failed some) (not_wanting some)
+    abbrev heard_all : Answered h rooms disks outs errs words old new out out' err err' status
+    heard_all = run.answered (not_failed some) (not_wanting some)
 
     silent_none : status ≢ 0 → status ≢ 3 → status ≢ 6 → status ≢ 10 → ⊥
     silent_none not0 not3 not6 not10 =
@@ -180,7 +161,7 @@ module _ {R S D O E : Type 0} (h : List ℕ → List ℕ) (rooms : Rooms R S D) 
 
     spoken_words : IsErr (command_of words) → ⊥
     spoken_words bad =
-        let one = run.read.first bad (not_wanting some) in
+        let one = run.first bad (not_wanting some) in
         silent_none (λ is. omega (arith, one, is)) (λ is. omega (arith, one, is))
         (λ is. omega (arith, one, is)) (λ is. omega (arith, one, is))
 
@@ -193,22 +174,23 @@ module _ {R S D O E : Type 0} (h : List ℕ → List ℕ) (rooms : Rooms R S D) 
         → Reports errs err told (line_of (known_word words) None (codes "OutputFailed"))
         → HasRun h rooms disks outs errs words old new out failed err told 6
     front_is_run failed told text is front cause line = record {
-      read = record {
-        only = λ one. absurd (omega (arith, one));
-        first = λ bad not8. absurd (spoken_words bad);
-      };
-      answered = λ not5 not6 not8. absurd (not6 refl);
-      room_failed = λ five. absurd (omega (arith, five));
-      out_failed = λ six. record {
-        cause = cause;
+      answered = λ not5 not8. record {
         reply = heard_all.reply;
         is = heard_all.is;
-        text = front_on _ _ _ _ _ some is heard_all.front front;
-        line = line;
         made = heard_all.made;
         began = heard_all.began;
+        front = front_on _ _ _ _ _ some is heard_all.front front;
+        code = λ not6. absurd (not6 refl);
+        text = λ not6. absurd (not6 refl);
+        line = λ not6. absurd (not6 refl);
+        some = λ six. front_some _ _ _ heard_all.front some;
+        cause = λ six. cause;
+        lost = λ six. line;
       };
+      room_failed = λ five. absurd (omega (arith, five));
       no_memory = λ eight. absurd (omega (arith, eight));
+      only = λ one. absurd (omega (arith, one));
+      first = λ bad not8. absurd (spoken_words bad);
       back = run.back;
       no_file = run.no_file;
       early = λ tells. each_so _ _ (λ name did early is. absurd (not_early (early is)))
@@ -326,10 +308,7 @@ module _ {R S D O E : Type 0} (h : List ℕ → List ℕ) (rooms : Rooms R S D) 
             (let r = run.room_failed is5.1 in
             both_so _ _ Steps (failed_steps is5.1 (unheard status 5 _ _ is5.1 (omega arith)
             (took_none _ _ r.text))) js (r.made tells) (knows tells))
-        | inr not5 ↦ elim (eqb_tells status 6) [
-          | inl is6 ↦ answered_steps tells ((run.out_failed is6.1).made tells)
-          | inr not6 ↦ answered_steps tells ((run.answered not5.1 not6.1 not8.1).made tells)
-        ]
+        | inr not5 ↦ answered_steps tells ((run.answered not5.1 not8.1).made tells)
       ]
     ]
 

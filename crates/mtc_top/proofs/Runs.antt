@@ -19,6 +19,7 @@ use Rattle.mtc_answers.specs.declared.answer.Stopped.TheVariants.{NotAllowed}
 use Rattle.mtc_answers.specs.declared.answer.Stopped.TheVariants.{Missing, Beyond}
 use Rattle.mtc_answers.specs.Works.{TellsNew}
 use Rattle.mtc_answers.proofs.Served.{each_so, each_is}
+use Rattle.mtc_io.proofs.Streams.{prefix_whole}
 use Rattle.mtc_top.specs.Concluded.{Wrote, Lost, Told, Concludes}
 use Rattle.mtc_top.specs.Facts.{Facts, facts}
 use Rattle.mtc_top.specs.Run.{HasRun}
@@ -90,24 +91,25 @@ module _ {R S D O E : Type 0} (h : List ℕ → List ℕ) (rooms : Rooms R S D) 
   run_wrote reply status valid began done wrote =
       let code = reply_code reply in
       record {
-        read = record {
-          only = λ one. done.ends.not_words (sym wrote.code ∙ one);
-          first = λ bad not8. wrote.code ∙ (done.ends.words bad).1;
-        };
-        answered = λ not5 not6 not8. record {
+        answered = λ not5 not8. record {
           reply = reply;
-          began = began;
           is = λ where_. elim where_ [
             | inl tells ↦ done.ends.reply tells
             | inr bad ↦ (done.ends.words bad).0
           ];
-          code = wrote.code;
-          text = wrote.text;
-          line = wrote.line;
           made = λ tells. (done.made tells).left;
+          began = began;
+          front = prefix_whole _ _ _ wrote.text;
+          code = λ not6. wrote.code;
+          text = λ not6. wrote.text;
+          line = λ not6. wrote.line;
+          some = λ six. absurd (code.not6 (sym wrote.code ∙ six));
+          cause = λ six. absurd (code.not6 (sym wrote.code ∙ six));
+          lost = λ six. absurd (code.not6 (sym wrote.code ∙ six));
         };
         room_failed = λ is. absurd (code.not5 (sym wrote.code ∙ is));
-        out_failed = λ is. absurd (code.not6 (sym wrote.code ∙ is));
+        only = λ one. done.ends.not_words (sym wrote.code ∙ one);
+        first = λ bad not8. wrote.code ∙ (done.ends.words bad).1;
         no_memory = λ is. absurd (code.not8 (sym wrote.code ∙ is));
         back = done.back;
         no_file = no_file (replied reply) done;
@@ -122,24 +124,25 @@ module _ {R S D O E : Type 0} (h : List ℕ → List ℕ) (rooms : Rooms R S D) 
       → Did (replied (said kind text))
       → Lost outs errs (known_word words) out out' err err' text status → Run status
   run_lost kind text status valid began done lost = record {
-    read = record {
-      only = λ one. absurd (omega (arith, lost.code, one));
-      first = λ bad not8. absurd ((said_late kind text).0 (done.ends.words bad).1);
-    };
-    answered = λ not5 not6 not8. absurd (not6 lost.code);
-    room_failed = λ is. absurd (omega (arith, lost.code, is));
-    out_failed = λ is. record {
-      cause = lost.cause;
+    answered = λ not5 not8. record {
       reply = said kind text;
-      began = began;
       is = λ where_. elim where_ [
         | inl tells ↦ done.ends.reply tells
         | inr bad ↦ (done.ends.words bad).0
       ];
-      text = lost.front;
-      line = lost.line;
       made = λ tells. (done.made tells).left;
+      began = began;
+      front = lost.front;
+      code = λ not6. absurd (not6 lost.code);
+      text = λ not6. absurd (not6 lost.code);
+      line = λ not6. absurd (not6 lost.code);
+      some = λ six. lost.some;
+      cause = λ six. lost.cause;
+      lost = λ six. lost.line;
     };
+    room_failed = λ is. absurd (omega (arith, lost.code, is));
+    only = λ one. absurd (omega (arith, lost.code, one));
+    first = λ bad not8. absurd ((said_late kind text).0 (done.ends.words bad).1);
     no_memory = λ is. absurd (omega (arith, lost.code, is));
     back = done.back;
     no_file = no_file (replied (said kind text)) done;
@@ -157,11 +160,9 @@ module _ {R S D O E : Type 0} (h : List ℕ → List ℕ) (rooms : Rooms R S D) 
       → Told outs errs (known_word words) out out' err err' 5 (Some file) (codes "Failed") status
       → Run status
   run_failed file status valid began done told = record {
-    read = record {
-      only = λ one. absurd (omega (arith, told.is, one));
-      first = λ bad not8. absurd (done.ends.words bad);
-    };
-    answered = λ not5 not6 not8. absurd (not5 told.is);
+    only = λ one. absurd (omega (arith, told.is, one));
+    first = λ bad not8. absurd (done.ends.words bad);
+    answered = λ not5 not8. absurd (not5 told.is);
     room_failed = λ is. record {
       cause = done.ends.fault.0;
       text = told.nothing;
@@ -171,7 +172,6 @@ module _ {R S D O E : Type 0} (h : List ℕ → List ℕ) (rooms : Rooms R S D) 
       line = told.line;
       made = λ tells. (done.made tells).left;
     };
-    out_failed = λ is. absurd (omega (arith, told.is, is));
     no_memory = λ is. absurd (omega (arith, told.is, is));
     back = done.back;
     no_file = no_file (room_failed file) done;
@@ -186,13 +186,10 @@ module _ {R S D O E : Type 0} (h : List ℕ → List ℕ) (rooms : Rooms R S D) 
       → Told outs errs (known_word words) out out' err err' 8 None (codes "Memory") status
       → Run status
   run_starved status valid began done told = record {
-    read = record {
-      only = λ one. absurd (omega (arith, told.is, one));
-      first = λ bad not8. absurd (not8 told.is);
-    };
-    answered = λ not5 not6 not8. absurd (not8 told.is);
+    only = λ one. absurd (omega (arith, told.is, one));
+    first = λ bad not8. absurd (not8 told.is);
+    answered = λ not5 not8. absurd (not8 told.is);
     room_failed = λ is. absurd (omega (arith, told.is, is));
-    out_failed = λ is. absurd (omega (arith, told.is, is));
     no_memory = λ is. record {
       began = began;
       text = told.nothing;

@@ -30,13 +30,13 @@ use Rattle.mtc_top.specs.Courses.{Turn, Link, ran, stops, cut, writes, AreAmong,
 use Rattle.mtc_top.specs.Concluded.{Prints, PrintsFront}
 use Rattle.mtc_top.specs.Courses.{images_in, images_from, IsCourse, HasHeld, HasPrinted, IsHeard}
 use Rattle.mtc_top.specs.Courses.{OfEachTurn, WasHeld, HandsOut, WasHandedOut}
-use Rattle.mtc_top.specs.Run.{journals}
-use Rattle.mtc_top.specs.RunLaws.{Heard, RunSteps}
+use Rattle.mtc_top.specs.Run.{Answered, journals}
+use Rattle.mtc_top.specs.RunLaws.{RunSteps}
 use Rattle.mtc_top.specs.Facts.{facts}
 use Rattle.mtc_top.specs.Nodes.{records_left}
 use Rattle.mtc_top.proofs.Nodes.{no_file_stands, one_list, some_image}
 use Rattle.mtc_top.proofs.Opened.{Finds, IsFound, IsNewAt, spoken_finds, spoken_new}
-use Rattle.mtc_top.proofs.RunLaws.{front_none, run_heard, run_steps, took_none}
+use Rattle.mtc_top.proofs.RunLaws.{front_none, run_steps, took_none}
 
 -- ---- the journals of a run
 
@@ -98,22 +98,21 @@ module _ {R S D O E : Type 0} (h : HashFunction) (rooms : Rooms R S D) (disks : 
     | inr took ↦ took_none _ _ (run.no_memory eight).text took
   ]
 
-  pub heard_run : Heard h rooms disks outs errs turn.words old turn.room turn.out turn.out_after
-      turn.err turn.err_after turn.status
-  heard_run = run_heard h rooms disks outs errs turn.words old turn.room turn.out turn.out_after
-      turn.err turn.err_after turn.status run heard_not5 heard_not8
+  pub heard_run : Answered h rooms disks outs errs turn.words old turn.room turn.out
+      turn.out_after turn.err turn.err_after turn.status
+  heard_run = run.answered heard_not5 heard_not8
 
   -- a text that was asked for went out, or a front of it
   pub printed_so : (text : List ℕ) → heard_run.reply ≡ said Done text → HasPrinted outs turn text
   printed_so text is = record {
     ends = elim (eqb_tells turn.status 6) [
       | inl is6 ↦ inr is6.1
-      | inr not6 ↦ inl ((heard_run.whole not6.1).0 ∙ ap status_of is)
+      | inr not6 ↦ inl (heard_run.code not6.1 ∙ ap status_of is)
     ];
     front = subst (λ (r : Reply). PrintsFront outs turn.out turn.out_after (out_of r)) is
         heard_run.front;
     whole = λ zero_. subst (λ (r : Reply). Prints outs turn.out turn.out_after (out_of r)) is
-        (heard_run.whole (λ six. omega (arith, zero_, six))).1;
+        (heard_run.text (λ six. omega (arith, zero_, six)));
   }
 
   -- no refusal was asked for
@@ -121,7 +120,7 @@ module _ {R S D O E : Type 0} (h : HashFunction) (rooms : Rooms R S D) (disks : 
       → heard_run.reply ≡ refused why file reason → ⊥
   not_refused why file reason is = elim heard [
     | inl zero_ ↦ no_stop why (ap status_of (sym is)
-        ∙ sym (heard_run.whole (λ six. omega (arith, zero_, six))).0 ∙ zero_)
+        ∙ sym (heard_run.code (λ six. omega (arith, zero_, six))) ∙ zero_)
     | inr took ↦ front_none _ _ (subst (λ (r : Reply).
         PrintsFront outs turn.out turn.out_after (out_of r)) is heard_run.front) took
   ]
@@ -202,9 +201,7 @@ module _ {R S D O E : Type 0} (h : HashFunction) (rooms : Rooms R S D) (disks : 
       → Turned old turn → rooms.tells old → HasHeld h rooms disks outs errs name old turn list
       → (c : List ℕ) → Images turn.room name c → StandsFor c list
   held_stands old turn name list run tells held =
-      let made = (run_heard h rooms disks outs errs turn.words old turn.room turn.out
-      turn.out_after turn.err turn.err_after turn.status run held.no_failure held.no_want).made
-      tells in
+      let made = (run.answered held.no_failure held.no_want).made tells in
       left_stands held.did list _ _ _ held.held
       (of_each (λ n d. Leaves disks (HasMade d) (rooms.device old n) (rooms.device turn.room n))
       (journals h rooms disks outs errs turn.words old turn.room turn.out turn.out_after

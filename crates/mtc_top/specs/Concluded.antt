@@ -1,5 +1,5 @@
 -- What goes out where a command ends, and its status.
-use Rattle.std.specs.Prelude.{◌≡◌, ◌⊎◌, ℕ, [], Option, None, Some, codes}
+use Rattle.std.specs.Prelude.{◌≡◌, ◌⊎◌, ℕ, ◌<◌, [], length, Option, None, Some, codes}
 use Rattle.std.specs.Io.KnownBytes.{Appends}
 use Rattle.byte_forms.specs.Types.{Text}
 use Rattle.mtc_io.specs.Counts.{Rose}
@@ -29,9 +29,10 @@ module _ {O E : Type 0} (outs : Sinks O) (errs : Sinks E) (command : Text)
     pub text : Prints outs out out' (out_of reply)
     pub line : Reports errs err err' (err_of command reply)
 
-  -- Standard output failed.
+  -- Standard output failed at a text that isn't empty.
   pub record Lost (text : Text) (status : ℕ) : Type 0 where
     pub code : status ≡ 6
+    pub some : 0 < length text
     pub cause : Rose (outs.faults out) (outs.faults out')
     pub front : PrintsFront outs out out' text
     pub line : Reports errs err err' (line_of command None (codes "OutputFailed"))

@@ -1,5 +1,5 @@
 -- What a run of the program did, by these words, over a room and two sinks, each before and after.
-use Rattle.std.specs.Prelude.{◌≡◌, ◌≢◌, ◌⊎◌, ℕ, List, [], ◌++◌, None, Some, codes}
+use Rattle.std.specs.Prelude.{◌≡◌, ◌≢◌, ◌⊎◌, ℕ, ◌<◌, List, [], ◌++◌, length, None, Some, codes}
 use Rattle.std.specs.Prelude.{IfSome, IsErr}
 use Rattle.byte_forms.specs.Types.{HashFunction, Text}
 use Rattle.disk_core.specs.declared.disk.Disk.{Ghosts as Disks}
@@ -43,16 +43,22 @@ module _ {R S D O E : Type 0} (h : HashFunction) (rooms : Rooms R S D) (disks : 
   abbrev pub Began : Ending → Type 0
   Began ending = IfSome asked.makes (λ name. TellsNew rooms disks name old new ending)
 
-  -- It answered: the status, the text and the line are those of one reply, the one asked for, and
-  -- it did with its journals what was asked.
+  -- It answered: there is one reply, the one asked for, and it did with its journals what was
+  -- asked. The status, the text and the line are the reply's; or standard output failed at a text
+  -- that isn't empty, and then the status is 6, and a front of the text went out.
   pub record Answered (status : ℕ) : Type 0 where
     pub reply : Reply
     pub is : IsAsked reply
-    pub code : status ≡ status_of reply
-    pub text : Prints outs out out' (out_of reply)
-    pub line : Reports errs err err' (err_of (known_word words) reply)
     pub made : Left HasMade
     pub began : Began (replied reply)
+    pub front : PrintsFront outs out out' (out_of reply)
+    pub code : status ≢ 6 → status ≡ status_of reply
+    pub text : status ≢ 6 → Prints outs out out' (out_of reply)
+    pub line : status ≢ 6 → Reports errs err err' (err_of (known_word words) reply)
+    pub some : status ≡ 6 → 0 < length (out_of reply)
+    pub cause : status ≡ 6 → Rose (outs.faults out) (outs.faults out')
+    pub lost : status ≡ 6
+        → Reports errs err err' (line_of (known_word words) None (codes "OutputFailed"))
 
   -- The room failed: nothing went out, and the line names a file of the command. A journal that was
   -- there has its record or not; of a new one nothing is said.
@@ -65,16 +71,6 @@ module _ {R S D O E : Type 0} (h : HashFunction) (rooms : Rooms R S D) (disks : 
     pub made : Left MayHaveMade
     pub began : Began (room_failed file)
 
-  -- Standard output failed: a front of the text went out, and a journal has its record.
-  pub record OutFailed : Type 0 where
-    pub cause : Rose (outs.faults out) (outs.faults out')
-    pub reply : Reply
-    pub is : IsAsked reply
-    pub text : PrintsFront outs out out' (out_of reply)
-    pub line : Reports errs err err' (line_of (known_word words) None (codes "OutputFailed"))
-    pub made : Left HasMade
-    pub began : Began (replied reply)
-
   -- Memory was refused: nothing went out, no journal has a new record, and no file is made.
   pub record NoMemory : Type 0 where
     pub text : Prints outs out out' []
@@ -83,18 +79,14 @@ module _ {R S D O E : Type 0} (h : HashFunction) (rooms : Rooms R S D) (disks : 
     pub began : Began no_memory
     pub unmade : rooms.tells old → OfEach (λ name did. IsUnmade rooms old new name) journals
 
-  -- Status 1 says that the words are no command, and such words are answered by it.
-  pub record ReadWords (status : ℕ) : Type 0 where
-    pub only : status ≡ 1 → IsErr (command_of words)
-    pub first : IsErr (command_of words) → status ≢ 8 → status ≡ 1
-
   -- A run with this status.
   pub record HasRun (status : ℕ) : Type 0 where
-    pub read : ReadWords status
-    pub answered : status ≢ 5 → status ≢ 6 → status ≢ 8 → Answered status
+    pub answered : status ≢ 5 → status ≢ 8 → Answered status
     pub room_failed : status ≡ 5 → RoomFailed
-    pub out_failed : status ≡ 6 → OutFailed
     pub no_memory : status ≡ 8 → NoMemory
+    -- Status 1 says that the words are no command, and such words are answered by it.
+    pub only : status ≡ 1 → IsErr (command_of words)
+    pub first : IsErr (command_of words) → status ≢ 8 → status ≡ 1
     -- What was lent is given back, and no file changes but the journals.
     pub back : GivesBack rooms old new asked.journals
     -- No file is made but a new journal.
@@ -102,6 +94,7 @@ module _ {R S D O E : Type 0} (h : HashFunction) (rooms : Rooms R S D) (disks : 
         → OfEach (λ name did. IsOnOld did → IsUnmade rooms old new name) journals
     -- A journal that isn't opened goes with a status that may come before.
     pub early : rooms.tells old → OfEach (λ name did. did ≡ untouched → IsEarly status) journals
-    -- A new record makes a log or a cosigner with those before it.
+    -- A new record makes a log or a cosigner with those before it; or nothing new is left of the
+    -- journal, and it reads as before.
     pub valid : KeepsValid rooms disks asked.Valid asked.journals (asked.outcome (rooms.file old))
         old new

@@ -7,16 +7,15 @@ use Rattle.mtc_io.specs.Counts.{Rose}
 use Rattle.mtc_io.specs.declared.sink.Sink.{Ghosts as Sinks}
 use Rattle.mtc_room.specs.declared.room.Room.{Ghosts as Rooms}
 use Rattle.mtc_words.specs.Words.{known_word}
-use Rattle.mtc_answers.specs.Answers.{Reply, out_of, replied, status_of}
 use Rattle.mtc_answers.specs.Lines.{line_of}
-use Rattle.mtc_answers.specs.Made.{HasMade, Journaled, appended, started, Images, images_at}
+use Rattle.mtc_answers.specs.Made.{Journaled, appended, started, Images, images_at}
 use Rattle.mtc_answers.specs.Made.{images_since, moment_at}
 use Rattle.mtc_answers.specs.Served.{OfEach}
 use Rattle.mtc_top.specs.Concluded.{Prints, PrintsFront, Reports}
 use Rattle.node_history.specs.Nodes.{HistoryState, fresh_node}
 use Rattle.node_history.specs.declared.start.NodeStart.{NodeStart}
 use Rattle.mtc_top.specs.Nodes.{StandsForNode, AllStandForNode, EndsWell, TookSome}
-use Rattle.mtc_top.specs.Run.{journals, Answered, Began, HasRun, IsAsked, Left}
+use Rattle.mtc_top.specs.Run.{journals, Answered, HasRun}
 
 module _ {R S D O E : Type 0} (h : HashFunction) (rooms : Rooms R S D) (disks : Disks D)
     (outs : Sinks O) (errs : Sinks E) (words : List Text)
@@ -29,29 +28,19 @@ module _ {R S D O E : Type 0} (h : HashFunction) (rooms : Rooms R S D) (disks : 
   abbrev pub is_heard : ℕ → Type 0
   is_heard status = (status ≡ 0) ⊎ took
 
-  -- What went out is a front of the text of a reply that is asked for, and the whole of it with
-  -- another status than 6, which is the reply's. With each journal the run did what was asked.
-  pub record Heard (status : ℕ) : Type 0 where
-    pub reply : Reply
-    pub is : IsAsked h rooms disks outs errs words old new out out' err err' reply
-    pub front : PrintsFront outs out out' (out_of reply)
-    pub whole : status ≢ 6 → (status ≡ status_of reply) × Prints outs out out' (out_of reply)
-    pub made : Left h rooms disks outs errs words old new out out' err err' HasMade
-    pub began : Began h rooms disks outs errs words old new out out' err err' (replied reply)
-
   -- What follows of each run.
   pub record RunShows (status : ℕ) : Type 0 where
     -- The status is one of the eleven.
     pub known : status ≤ 10
-    -- Without a failure and want of memory it answers.
+    -- Without a failure and want of memory it answers, and by another status than 6.
     pub complete : (Rose (rooms.faults old) (rooms.faults new) → ⊥)
-        → (Rose (outs.faults out) (outs.faults out') → ⊥) → status ≢ 8
-        → Answered h rooms disks outs errs words old new out out' err err' status
+        → (Rose (outs.faults out) (outs.faults out') → ⊥) → status ≢ 8 → (status ≢ 6)
+        × Answered h rooms disks outs errs words old new out out' err err' status
     -- A refusal, a failure of the room and want of memory print nothing.
     pub silent : status ≢ 0 → status ≢ 3 → status ≢ 6 → status ≢ 10
         → Prints outs out out' []
     -- Of what goes out something is known from its first byte on.
-    pub heard : took → Heard status
+    pub heard : took → Answered h rooms disks outs errs words old new out out' err err' status
 
   -- The images of a name's file: before the run, after it, and at any moment since it began.
   abbrev pub images_before : Text → Images
@@ -83,31 +72,28 @@ module _ {R S D O E : Type 0} (h : HashFunction) (rooms : Rooms R S D) (disks : 
     pub begins : (status ≡ 0) ⊎ (status ≡ 6) → (body : Text) → did ≡ started body
         → (start : NodeStart) → AllStandForNode (fresh_node start) body (images_after name)
 
--- So it is of each run.
-abbrev pub RunsShow : {R S D O E : Type 0} → HashFunction → Rooms R S D → Disks D
-    → Sinks O → Sinks E → Type 0
-RunsShow {R} {S} {D} {O} {E} h rooms disks outs errs =
-    (words : List Text) (old new : R) (out out' : O) (err err' : E) (status : ℕ)
-    → HasRun h rooms disks outs errs words old new out out' err err' status
-    → RunShows h rooms disks outs errs words old new out out' err err' status
+module _ {R S D O E : Type 0} (h : HashFunction) (rooms : Rooms R S D) (disks : Disks D)
+    (outs : Sinks O) (errs : Sinks E) where
+  -- So it is of each run.
+  abbrev pub RunsShow : Type 0
+  RunsShow = (words : List Text) (old new : R) (out out' : O) (err err' : E) (status : ℕ)
+      → HasRun h rooms disks outs errs words old new out out' err err' status
+      → RunShows h rooms disks outs errs words old new out out' err err' status
 
--- And of each journal that a run works on, where the room tells its files.
-abbrev pub RunsAreSteps : {R S D O E : Type 0} → HashFunction → Rooms R S D → Disks D
-    → Sinks O → Sinks E → Type 0
-RunsAreSteps {R} {S} {D} {O} {E} h rooms disks outs errs =
-    (words : List Text) (old new : R) (out out' : O) (err err' : E) (status : ℕ)
-    → HasRun h rooms disks outs errs words old new out out' err err' status → rooms.tells old
-    → OfEach (RunSteps h rooms disks outs errs words old new out out' err err' status)
-    (journals h rooms disks outs errs words old new out out' err err')
+  -- And of each journal that a run works on, where the room tells its files.
+  abbrev pub RunsAreSteps : Type 0
+  RunsAreSteps = (words : List Text) (old new : R) (out out' : O) (err err' : E) (status : ℕ)
+      → HasRun h rooms disks outs errs words old new out out' err err' status → rooms.tells old
+      → OfEach (RunSteps h rooms disks outs errs words old new out out' err err' status)
+      (journals h rooms disks outs errs words old new out out' err err')
 
--- A run of which a byte went out might have had a standard output that failed there: where only a
--- front of what it wrote came through, it is a run with status 6, which leaves the same room.
-abbrev pub FrontsAreRuns : {R S D O E : Type 0} → HashFunction → Rooms R S D → Disks D
-    → Sinks O → Sinks E → Type 0
-FrontsAreRuns {R} {S} {D} {O} {E} h rooms disks outs errs =
-    (words : List Text) (old new : R) (out out' failed : O) (err err' told : E) (status : ℕ)
-    (text : Text) → HasRun h rooms disks outs errs words old new out out' err err' status
-    → TookSome (outs.taken out) (outs.taken out') → Prints outs out out' text
-    → PrintsFront outs out failed text → Rose (outs.faults out) (outs.faults failed)
-    → Reports errs err told (line_of (known_word words) None (codes "OutputFailed"))
-    → HasRun h rooms disks outs errs words old new out failed err told 6
+  -- A run of which a byte went out might have had a standard output that failed there: where only a
+  -- front of what it wrote came through, it is a run with status 6, which leaves the same room.
+  abbrev pub FrontsAreRuns : Type 0
+  FrontsAreRuns = (words : List Text) (old new : R) (out out' failed : O) (err err' told : E)
+      (status : ℕ) (text : Text)
+      → HasRun h rooms disks outs errs words old new out out' err err' status
+      → TookSome (outs.taken out) (outs.taken out') → Prints outs out out' text
+      → PrintsFront outs out failed text → Rose (outs.faults out) (outs.faults failed)
+      → Reports errs err told (line_of (known_word words) None (codes "OutputFailed"))
+      → HasRun h rooms disks outs errs words old new out failed err told 6

@@ -102,12 +102,15 @@ fn write_line<E: Sink>(err: &mut E, command: &str, file: Option<&str>, reason: R
     }
 }
 
-// Writes the text of an answer.
+// Writes the text of an answer. At one that is empty no output fails.
 fn write_answer<O: Sink, E: Sink>(command: &str, out: &mut O, err: &mut E, answer: &Answer) -> u8
     ensures { Wrote O.Sink E.Sink command.now out.old out.new err.old err.new
         (said answer.now.status answer.now.text) result
         ⊎ Lost O.Sink E.Sink command.now out.old out.new err.old err.new answer.now.text result }
 {
+    if answer.text.is_empty() {
+        return code_said(answer.status);
+    }
     match write_all(out, answer.text.as_slice()) {
         Ok(()) => code_said(answer.status),
         Err(Failed) => {

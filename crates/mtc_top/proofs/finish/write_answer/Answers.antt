@@ -6,6 +6,7 @@ use Rattle.mtc_top.proofs.finish.write_answer.Goals as goal
 pub returns-in-Err : goal.returns-in-Err
 returns-in-Err g c = inr (record {
   code = search rules;
+  some = search rules;
   cause = search rules;
   front = search rules;
   line = subst (λ (reason : List ℕ). Reports g.E.Sink
