@@ -1,45 +1,49 @@
 -- Status 2 behind a course is about an input.
-use Rattle.std.proofs.Common.{◌≡◌, ◌≢◌, inl, inr, ℕ, true, false, Bool, List, [], ◌∷◌, length}
-use Rattle.std.proofs.Common.{Option, None, Some, Result, Ok, Err, codes, refl, sym, subst, ap}
-use Rattle.std.proofs.Common.{◌∙◌, arith, not}
+use Rattle.std.proofs.Common.{◌≡◌, ◌≢◌, inl, inr, ℕ, true, false, Bool, List, [], ◌∷◌, ◌++◌}
+use Rattle.std.proofs.Common.{length, Option, None, Some, Result, Ok, Err, codes, refl, sym, subst}
+use Rattle.std.proofs.Common.{ap, ◌∙◌, arith, not}
+use Rattle.std.specs.Fmt.{decimal}
 use Rattle.std.specs.Prelude.{if◌then◌else◌, nat_le, nat_lt}
 use Rattle.byte_forms.specs.Places.{IsBytes}
 use Rattle.byte_forms.specs.Types.{HashFunction}
 use Rattle.disk_core.specs.declared.disk.Disk.{Ghosts as Disks}
-use Rattle.journal_core.specs.Format.{end_behind}
+use Rattle.journal_core.specs.Format.{StandsFor, end_behind}
+use Rattle.journal_core.proofs.Found.{read_standing}
+use Rattle.journal_core.proofs.Standing.{found_stands}
 use Rattle.mtc_io.specs.declared.sink.Sink.{Ghosts as Sinks}
 use Rattle.mtc_room.specs.Room.{TellsFile}
 use Rattle.mtc_room.specs.declared.room.Room.{Ghosts as Rooms}
 use Rattle.mtc_words.specs.Commands.{CommandValue, advance, cert, checkpoint, consist, cosign}
-use Rattle.mtc_words.specs.Commands.{entries, export, issue, landmark, landmarks, light_cert}
-use Rattle.mtc_words.specs.Commands.{subtree}
+use Rattle.mtc_words.specs.Commands.{entries, export, init_cosigner, init_log, issue, landmark}
+use Rattle.mtc_words.specs.Commands.{landmarks, light_cert, subtree}
 use Rattle.mtc_words.specs.Words.{command_of, known_word}
 use Rattle.mtc_words.specs.declared.error.WordError.{WordError}
 use Rattle.authority_core.specs.Files.{request_of}
 use Rattle.authority_core.specs.Requests.{RequestParts}
-use Rattle.issuance_log.specs.Settings.{Settings}
 use Rattle.authority_core.specs.Certificates.{cert_refusal, covering_in, light_refusal}
 use Rattle.authority_core.specs.Issues.{issued_entry}
 use Rattle.authority_core.specs.declared.writing.error.WriteError.{WriteError}
 use Rattle.authority_core.specs.declared.writing.error.WriteError.TheVariants as write_error
 use Rattle.cosigner_core.specs.Exports.{export_text}
+use Rattle.cosigner_core.specs.Folds.{cosigner_fold, cosigner_of}
 use Rattle.cosigner_core.specs.Openings.{FoundCosigner, cosigner_read}
 use Rattle.cosigner_core.specs.Reading.{advance_in, subtree_in}
+use Rattle.cosigner_core.specs.Records.{cosigner_record}
 use Rattle.cosigner_core.specs.Requests.{advance_text, subtree_text}
 use Rattle.cosigner_core.specs.declared.error.CosignError.{CosignError}
 use Rattle.cosigner_core.specs.declared.error.CosignError.TheVariants as cosign_error
-use Rattle.cosigner_core.specs.declared.settings.CosignerSettings.{CosignerSettings}
 use Rattle.entry_list.specs.Items.{file_text}
-use Rattle.issuance_log.specs.Folds.{LogState, view_in}
+use Rattle.issuance_log.specs.Folds.{LogState, log_fold, log_of, view_in}
 use Rattle.issuance_log.specs.Openings.{FoundLog, log_read}
+use Rattle.issuance_log.specs.Records.{settings_record}
 use Rattle.issuance_log.specs.Refusals.{add_refusal, mark_refusal}
 use Rattle.issuance_log.specs.declared.error.LogError.{LogError}
 use Rattle.issuance_log.specs.declared.error.LogError.TheVariants as log_error
 use Rattle.mtc_answers.specs.Answers.{Reply, err_of, refused, said, status_of}
 use Rattle.mtc_answers.specs.Endings.{IsNamed}
 use Rattle.mtc_answers.specs.Lines.{line_of}
-use Rattle.mtc_answers.specs.Steps.{Files, Outcome, stops_at, with_bytes}
-use Rattle.mtc_answers.specs.Steps.{with_form}
+use Rattle.mtc_answers.specs.Steps.{Files, Outcome, starts, stops_at, with_bytes, with_form}
+use Rattle.mtc_answers.specs.Steps.{with_fresh}
 use Rattle.mtc_answers.specs.Wanted.{Meets}
 use Rattle.mtc_answers.specs.declared.answer.Said.TheVariants.{Done}
 use Rattle.mtc_answers.specs.declared.answer.Stopped.TheVariants.{BadForm, Beyond, Missing}
@@ -47,7 +51,9 @@ use Rattle.tree_core.specs.Subtree.{is_subtree}
 use Rattle.mtc_answers.proofs.Made.{OnlyNow, ReadsImage}
 use Rattle.mtc_cosigner.specs.CosignerOutcomes.{advance_says, cosign_says, export_says}
 use Rattle.mtc_cosigner.specs.CosignerOutcomes.{form_fault_text, stepped}
-use Rattle.mtc_cosigner.specs.Works.{advance_outcome, cosign_outcome, export_outcome}
+use Rattle.mtc_cosigner.specs.InitOutcome.{cosigner_settings_of, init_says}
+use Rattle.mtc_cosigner.specs.KeygenOutcome.{public_line, with_secret}
+use Rattle.mtc_cosigner.specs.Works.{IsCosigner, advance_outcome, cosign_outcome, export_outcome}
 use Rattle.mtc_cosigner.specs.Works.{cosigner_outcome, cosigner_open_text}
 use Rattle.mtc_logs.specs.CertOutcome.{cert_refused, cert_replies, cert_reply, certificate_in}
 use Rattle.mtc_logs.specs.CertOutcome.{light_reply, light_text, signatures_fault_text}
@@ -55,19 +61,26 @@ use Rattle.mtc_logs.specs.CertOutcome.{signatures_in}
 use Rattle.mtc_logs.specs.IssueOutcome.{issued, request_fault_text}
 use Rattle.mtc_logs.specs.LandmarkOutcomes.{landmarks_reply, mark_refused, marked}
 use Rattle.mtc_logs.specs.LogOutcomes.{beyond, checkpoint_reply, entries_reply, items_of}
-use Rattle.mtc_logs.specs.LogOutcomes.{not_allowed}
+use Rattle.mtc_logs.specs.LogOutcomes.{init_log_outcome, log_line, log_settings_of, not_allowed}
 use Rattle.mtc_logs.specs.RequestOutcomes.{advance_by_log, consist_reply, subtree_of, subtree_reply}
-use Rattle.mtc_logs.specs.Works.{log_outcome, log_open_text}
-use Rattle.mtc_logs.specs.Works.{log_says}
+use Rattle.mtc_logs.specs.Works.{IsLog, log_outcome, log_open_text, log_says}
 use Rattle.mtc_logs.specs.declared.work.Work.{Work}
 use Rattle.mtc_logs.specs.declared.work.Work.TheVariants.{Cert, Checkpoint, Consist, Entries, Issue}
 use Rattle.mtc_logs.specs.declared.work.Work.TheVariants.{Landmark, Landmarks, LightCert, Subtree}
+use Rattle.node_history.specs.Rules.{IsReadAs}
+use Rattle.node_history.specs.declared.start.NodeStart.{NodeStart}
 use Rattle.node_history.specs.declared.start.NodeStart.TheVariants.{Cosigner, Log}
 use Rattle.mtc_top.specs.Concluded.{Reports}
+use Rattle.mtc_top.specs.CourseLaws.{AreOfNode}
 use Rattle.mtc_top.specs.Courses.{Turn, HasTurned}
 use Rattle.mtc_top.specs.Facts.{facts, facts_of}
-use Rattle.mtc_top.specs.StatusLaws.{IsAboutInput, MisreadFilesAreInputs, Opens}
+use Rattle.mtc_top.specs.StatusLaws.{IsAboutInput, MisreadFilesAreInputs, WorksOn}
+use Rattle.mtc_top.proofs.Begun.{made_so}
 use Rattle.mtc_top.proofs.Recovered.{last, read_again}
+use Rattle.mtc_top.proofs.Turns.{file_bytes}
+
+one_is : (x y : List ℕ) → x ∷ [] ≡ y ∷ [] → x ≡ y
+one_is x y is = cc
 
 -- ---- what is replied behind an opening has another status than 2
 
@@ -239,70 +252,127 @@ module _ (h : HashFunction) where
       let found = reads c refl in
       subst (λ r. NeverTwo (with_form cosigner_open_text name r says)) (sym found.1) (never found.0)
 
-  module _ (name : List ℕ) (files : Files) where
-    abbrev Only : CommandValue → Type 0
-    Only command = OnlyInputs (facts_of h command).inputs ((facts_of h command).outcome files)
+  fresh_two : (name : List ℕ) (o : Option (List ℕ)) (body text : List ℕ)
+      → NeverTwo (with_fresh name o (starts body text))
+  fresh_two name None body text = λ reply. exact_two (said Done text) reply zero_two
+  fresh_two name (Some c) body text = λ reply. exact_two _ reply seven_two
 
-    of_log : (journal : List ℕ) (work : Work) → journal ≡ name → LogsRead (files name)
+  only_either : (b : Bool) (file reason : List ℕ) (next : Outcome) → OnlyInputs (file ∷ []) next
+      → OnlyInputs (file ∷ []) (if b then stops_at BadForm file reason else next)
+  only_either true file reason next rest = λ reply meets two. (file, (reason, (inl refl, meets)))
+  only_either false file reason next rest = rest
+
+  only_secret : (file secret : List ℕ) (next : Outcome) → OnlyInputs (file ∷ []) next
+      → OnlyInputs (file ∷ []) (with_secret file secret next)
+  only_secret file secret next rest =
+      only_either (nat_lt (length secret) 48) file (codes "Short " ++ decimal 0)
+      (if nat_lt 48 (length secret) then stops_at BadForm file (codes "Trailing") else next)
+      (only_either (nat_lt 48 (length secret)) file (codes "Trailing") next rest)
+
+  abbrev Only : Files → CommandValue → Type 0
+  Only files command = OnlyInputs (facts_of h command).inputs ((facts_of h command).outcome files)
+
+  -- ---- each command, over a file that stands for the records of a node
+
+  module _ (start : NodeStart) (first name : List ℕ) (files : Files)
+      (stands : (c : List ℕ) → files name ≡ Some c
+      → (list : List (List ℕ)) × (StandsFor c list × AreOfNode h start first list)) where
+    abbrev AreOf : (List (List ℕ) → Type 0) → Type 0
+    AreOf Valid = (list : List (List ℕ)) → AreOfNode h start first list → Valid list
+
+    logs : AreOf (IsLog h) → LogsRead (files name)
+    logs kind c is =
+        let s = stands c is in
+        let made = made_so (log_of h s.0) (kind s.0 s.1.1) in (
+          record { records = s.0; state = made.0 },
+          read_standing (log_fold h) c s.0 made.0 s.1.0 made.1,
+        )
+
+    cosigners : AreOf (IsCosigner h) → CosignersRead (files name)
+    cosigners kind c is =
+        let s = stands c is in
+        let made = made_so (cosigner_of h s.0) (kind s.0 s.1.1) in (
+          record { records = s.0; state = made.0 },
+          read_standing (cosigner_fold h) c s.0 made.0 s.1.0 made.1,
+        )
+
+    of_log : (journal : List ℕ) (work : Work) → journal ∷ [] ≡ name ∷ [] → AreOf (IsLog h)
         → NeverTwo (log_outcome h journal (files journal) work)
-    of_log journal work same reads = log_two journal (files journal) work
-        (subst (λ (n : List ℕ). LogsRead (files n)) (sym same) reads)
+    of_log journal work same kind = log_two journal (files journal) work
+        (subst (λ (n : List ℕ). LogsRead (files n)) (sym (one_is journal name same)) (logs kind))
 
-    no_input : (journal : List ℕ) (work : Work) → journal ≡ name → LogsRead (files name)
+    no_input : (journal : List ℕ) (work : Work) → journal ∷ [] ≡ name ∷ [] → AreOf (IsLog h)
         → OnlyInputs [] (log_outcome h journal (files journal) work)
-    no_input journal work same reads =
-        none_only [] (log_outcome h journal (files journal) work) (of_log journal work same reads)
+    no_input journal work same kind =
+        none_only [] (log_outcome h journal (files journal) work) (of_log journal work same kind)
 
-    of_cosigner : (journal : List ℕ) (says : FoundCosigner → Outcome) → journal ≡ name
-        → CosignersRead (files name) → ((found : FoundCosigner) → NeverTwo (says found))
+    of_cosigner : (journal : List ℕ) (says : FoundCosigner → Outcome) → journal ∷ [] ≡ name ∷ []
+        → AreOf (IsCosigner h) → ((found : FoundCosigner) → NeverTwo (says found))
         → NeverTwo (cosigner_outcome h journal (files journal) says)
-    of_cosigner journal says same reads = cosigner_two journal (files journal) says
-        (subst (λ (n : List ℕ). CosignersRead (files n)) (sym same) reads)
+    of_cosigner journal says same kind = cosigner_two journal (files journal) says
+        (subst (λ (n : List ℕ). CosignersRead (files n)) (sym (one_is journal name same))
+        (cosigners kind))
 
-    log_only : (settings : Settings) (command : CommandValue) → Opens (Log settings) name command
-        → LogsRead (files name) → Only command
-    log_only settings (issue journal request) same reads =
+    only_inputs : (command : CommandValue) → WorksOn h start first name command
+        → Only files command
+    unfolding advance_outcome cosign_outcome export_outcome
+    only_inputs (init_log journal id active limit) on =
+        none_only [] (init_log_outcome journal id active limit files)
+        (fresh_two journal (files journal) (settings_record (log_settings_of id active limit))
+        (log_line id))
+    only_inputs (issue journal request) on =
         only_bytes (request ∷ []) 16777216 request (files request) _
         (λ b. only_form request_fault_text request (request_of b) _
-        (λ r. of_log journal (Issue r) same reads))
-    log_only settings (checkpoint journal) same reads =
-        no_input journal Checkpoint same reads
-    log_only settings (entries journal size) same reads =
-        no_input journal (Entries size) same reads
-    log_only settings (consist journal old new) same reads =
-        no_input journal (Consist old new) same reads
-    log_only settings (subtree journal start end size) same reads =
-        no_input journal (Subtree start end size) same reads
-    log_only settings (landmark journal) same reads =
-        no_input journal Landmark same reads
-    log_only settings (landmarks journal) same reads =
-        no_input journal Landmarks same reads
-    log_only settings (light_cert journal index) same reads =
-        no_input journal (LightCert index) same reads
-    log_only settings (cert journal index start end file) same reads =
+        (λ r. of_log journal (Issue r) on.works on.kind))
+    only_inputs (checkpoint journal) on = no_input journal Checkpoint on.works on.kind
+    only_inputs (entries journal size) on = no_input journal (Entries size) on.works on.kind
+    only_inputs (consist journal old new) on =
+        no_input journal (Consist old new) on.works on.kind
+    only_inputs (subtree journal start' end size) on =
+        no_input journal (Subtree start' end size) on.works on.kind
+    only_inputs (landmark journal) on = no_input journal Landmark on.works on.kind
+    only_inputs (landmarks journal) on = no_input journal Landmarks on.works on.kind
+    only_inputs (light_cert journal index) on =
+        no_input journal (LightCert index) on.works on.kind
+    only_inputs (cert journal index start' end file) on =
         only_bytes (file ∷ []) 16777216 file (files file) _
         (λ b. only_form signatures_fault_text file (signatures_in b) _
-        (λ signatures. of_log journal (Cert index start end signatures) same reads))
-    log_only settings other opens reads = absurd opens
-
-    cosigner_only : (settings : CosignerSettings) (public : List ℕ) (command : CommandValue)
-        → Opens (Cosigner settings public) name command → CosignersRead (files name)
-        → Only command
-    unfolding advance_outcome cosign_outcome export_outcome
-    cosigner_only settings public (advance journal request) same reads =
+        (λ signatures. of_log journal (Cert index start' end signatures) on.works on.kind))
+    only_inputs (init_cosigner journal id log height width file) on =
+        let s = cosigner_settings_of id log height width in
+        only_bytes (file ∷ []) 16777216 file (files file)
+        (init_says journal s file (files journal))
+        (λ secret.
+        let body = cosigner_record s secret in
+        let line = public_line s.lms s.ots secret in
+        let next = with_fresh journal (files journal) (starts body line) in
+        only_secret file secret next (none_only (file ∷ []) next
+        (fresh_two journal (files journal) body line)))
+    only_inputs (advance journal request) on =
         only_bytes (request ∷ []) 16777216 request (files request) _
         (λ b. only_form form_fault_text request (advance_in b) _
-        (λ r. of_cosigner journal (advance_says h r) same reads
+        (λ r. of_cosigner journal (advance_says h r) on.works on.kind
         (λ found. step_two found _ _ _)))
-    cosigner_only settings public (cosign journal request) same reads =
+    only_inputs (cosign journal request) on =
         only_bytes (request ∷ []) 16777216 request (files request) _
         (λ b. only_form form_fault_text request (subtree_in b) _
-        (λ r. of_cosigner journal (cosign_says h r) same reads
+        (λ r. of_cosigner journal (cosign_says h r) on.works on.kind
         (λ found. step_two found _ _ _)))
-    cosigner_only settings public (export journal) same reads =
+    only_inputs (export journal) on =
         none_only [] (cosigner_outcome h journal (files journal) export_says)
-        (of_cosigner journal export_says same reads export_two)
-    cosigner_only settings public other opens reads = absurd opens
+        (of_cosigner journal export_says on.works on.kind export_two)
+    only_inputs other on =
+        let none : [] ≡ name ∷ [] = on.works in
+        absurd cc
+
+  -- ---- a file that is read as a node's
+
+  stands_of : (start : NodeStart) (c : List ℕ) (list : List (List ℕ)) → IsBytes c
+      → IsReadAs h start c list → StandsFor c list
+  stands_of (Log settings) c list are read =
+      (found_stands (log_fold h) c (record { records = list; state = read.0 }) are read.1).0
+  stands_of (Cosigner settings public) c list are read =
+      (found_stands (cosigner_fold h) c (record { records = list; state = read.0 }) are read.1).0
 
 module _ {R S D O E : Type 0} (h : HashFunction) (rooms : Rooms R S D) (disks : Disks D)
     (outs : Sinks O) (errs : Sinks E) (image : ReadsImage disks) (only : OnlyNow disks)
@@ -320,7 +390,7 @@ module _ {R S D O E : Type 0} (h : HashFunction) (rooms : Rooms R S D) (disks : 
 
   about_input : (room : R) (command : CommandValue) (turn : Turn R O E) → rooms.tells room
       → HasTurned h rooms disks outs errs room turn → command_of turn.words ≡ Ok command
-      → turn.status ≡ 2 → Only h [] (rooms.file room) command
+      → turn.status ≡ 2 → Only h (rooms.file room) command
       → IsAboutInput h rooms disks outs errs command room turn
   about_input room command turn tells run spoken two fits =
       let a = run.answered (λ five. omega (arith, two, five)) (λ eight. omega (arith, two, eight))
@@ -340,24 +410,13 @@ module _ {R S D O E : Type 0} (h : HashFunction) (rooms : Rooms R S D) (disks : 
       }
 
   pub misread_inputs : MisreadFilesAreInputs h rooms disks outs errs
-  misread_inputs name (Log settings) first begins new links begun course command turn opens run
-      spoken two =
-      let end = last h rooms disks outs errs image only told bytes name (Log settings) first begins
-      new
-      links begun course in
+  misread_inputs name start first begins new links begun course command turn on run spoken two =
+      let end = last h rooms disks outs errs image only told bytes name start first begins new links
+      begun course in
       about_input new command turn end.at.tells run spoken two
-      (log_only h name (rooms.file new) settings command opens (λ c is.
-      let node = read_again h rooms disks outs errs image only told bytes name (Log settings) first
-      begins
+      (only_inputs h start first name (rooms.file new) (λ c is.
+      let node = read_again h rooms disks outs errs image only told bytes name start first begins
       new links begun course c (inr is) in
-      (record { records = node.records; state = node.read.0 }, node.read.1)))
-  misread_inputs name (Cosigner settings public) first begins new links begun course command turn
-      opens run spoken two =
-      let end = last h rooms disks outs errs image only told bytes name (Cosigner settings public)
-      first
-      begins new links begun course in
-      about_input new command turn end.at.tells run spoken two
-      (cosigner_only h name (rooms.file new) settings public command opens (λ c is.
-      let node = read_again h rooms disks outs errs image only told bytes name
-      (Cosigner settings public) first begins new links begun course c (inr is) in
-      (record { records = node.records; state = node.read.0 }, node.read.1)))
+      let are = file_bytes disks (rooms.file new name) (rooms.device new name) c bytes
+      (told new name end.at.tells) is in
+      (node.records, (stands_of h start c node.records are node.read, node.of_node))) command on)
