@@ -1,6 +1,6 @@
 -- What goes out of a command that is given a secret.
-use Rattle.std.proofs.Common.{◌≡◌, ℕ, true, false, Bool, List, [], ◌∷◌, ◌++◌, length, Option, None}
-use Rattle.std.proofs.Common.{Some, Result, Ok, codes, refl, subst}
+use Rattle.std.proofs.Common.{◌≡◌, inl, ℕ, true, false, Bool, List, [], ◌∷◌, ◌++◌, length, Option}
+use Rattle.std.proofs.Common.{None, Some, Result, Ok, Err, codes, refl, sym, subst}
 use Rattle.std.specs.Fmt.{decimal}
 use Rattle.std.specs.Prelude.{if◌then◌else◌, nat_lt}
 use Rattle.byte_forms.specs.Places.{IsBytes}
@@ -17,29 +17,31 @@ use Rattle.mtc_words.specs.Commands.{init_cosigner, advance, cosign, export, lan
 use Rattle.mtc_words.specs.Commands.{light_cert, trust_landmarks, cert, audit}
 use Rattle.mtc_words.specs.Words.{command_of}
 use Rattle.mtc_words.specs.declared.error.WordError.{WordError}
-use Rattle.cosigner_core.specs.ExportReading.{export_of}
 use Rattle.cosigner_core.specs.Exports.{export_text}
 use Rattle.cosigner_core.specs.Folds.{cosigner_fold}
 use Rattle.cosigner_core.specs.Openings.{cosigner_read}
 use Rattle.cosigner_core.specs.Reading.{advance_in}
 use Rattle.cosigner_core.specs.Records.{advance_record, cosigner_record}
 use Rattle.cosigner_core.specs.Refusals.{advance_refused}
-use Rattle.cosigner_core.proofs.ExportAgain.{export_again}
-use Rattle.mtc_answers.specs.Steps.{Outcome, says, starts, stops_at, with_fresh}
+use Rattle.mtc_answers.specs.Made.{reads}
+use Rattle.mtc_answers.specs.Served.{Journals}
+use Rattle.mtc_answers.specs.Steps.{Outcome, says, says_on, starts, stops_at, with_fresh}
+use Rattle.mtc_answers.specs.Wanted.{Meets}
 use Rattle.mtc_answers.specs.declared.answer.Said.TheVariants.{Done}
-use Rattle.mtc_answers.specs.declared.answer.Stopped.TheVariants.{BadForm, Missing}
+use Rattle.mtc_answers.specs.declared.answer.Stopped.TheVariants.{BadForm, BadWords, Missing}
 use Rattle.mtc_answers.proofs.Made.{OnlyNow, ReadsImage}
 use Rattle.mtc_cosigner.specs.CosignerOutcomes.{advanced_text, form_fault_text}
 use Rattle.mtc_cosigner.specs.InitOutcome.{cosigner_settings_of}
 use Rattle.mtc_cosigner.specs.KeygenOutcome.{lms_type, ots_type, public_line, with_secret}
 use Rattle.mtc_cosigner.specs.Works.{advance_outcome, cosigner_open_text, export_outcome}
 use Rattle.mtc_logs.specs.Works.{IsLog}
-use Rattle.mtc_top.specs.Courses.{Turn, HasHeld, HasTurned, IsHeard}
+use Rattle.mtc_top.specs.Courses.{Turn, AreAmong, DidWith, HasHeld, HasPrinted, HasTurned, IsHeard}
 use Rattle.mtc_top.specs.Facts.{facts}
 use Rattle.mtc_top.specs.PrintLaws.{OnlyCosignSigns, Says}
+use Rattle.mtc_top.specs.WordsOutcome.{word_fault_text}
 use Rattle.mtc_top.proofs.Printed.{HasDone, done_so, none_stopped, past_bytes, past_file}
 use Rattle.mtc_top.proofs.Printed.{past_form, said_so, signatures_printed, stepped_so}
-use Rattle.mtc_top.proofs.Turns.{file_bytes, held_rules}
+use Rattle.mtc_top.proofs.Turns.{file_bytes, heard_run, held_rules, not_refused}
 
 module _ {R S D O E : Type 0} (h : HashFunction) (rooms : Rooms R S D) (disks : Disks D)
     (outs : Sinks O) (errs : Sinks E) (image : ReadsImage disks) (only : OnlyNow disks)
@@ -91,13 +93,24 @@ module _ {R S D O E : Type 0} (h : HashFunction) (rooms : Rooms R S D) (disks : 
         let found = past_form h rooms disks outs errs told bytes (name ∷ []) old turn run heard
         cosigner_open_text name (cosigner_read h journal.0) _ journal.2 in
         let r = form.0 in
-        let state = found.0.state in (
-          r.size,
-          (stepped_so h rooms disks outs errs told bytes name old turn run heard found.0
-              (advance_record r.size r.root r.proof) (advanced_text r.size)
-              (advance_refused h state false (end_behind found.0.records) r)
-              found.2).0.printed,
+        let state = found.0.state in
+        let added = stepped_so h rooms disks outs errs told bytes name old turn run heard found.0
+        (advance_record r.size r.root r.proof) (advanced_text r.size)
+        (advance_refused h state false (end_behind found.0.records) r) found.2 in (
+          input.0,
+          (r, (record { there = input.1; few = input.2 }, form.1, added.0.printed)),
         )
+
+    -- it read these records, and printed this
+    read_so : (name : List ℕ) (list : List (List ℕ)) (text : List ℕ)
+        → Did (name ∷ []) old turn run heard (says_on list Done text)
+        → DidWith h rooms disks outs errs old turn name (reads list) × HasPrinted outs turn text
+    read_so name list text done = (
+      subst (λ (js : Journals). AreAmong js name (reads list)) (sym done.journals_are)
+          (inl (refl, refl)),
+      said_so h rooms disks outs errs told bytes (name ∷ []) old turn run heard text
+          (reads list ∷ []) done,
+    )
 
     exported : (name : List ℕ) → Speaks (export name)
         → Says h rooms disks outs errs (export name) old turn
@@ -112,18 +125,8 @@ module _ {R S D O E : Type 0} (h : HashFunction) (rooms : Rooms R S D) (disks : 
         let are = file_bytes disks (rooms.file old name) (rooms.device old name) journal.0 bytes
         (told old name tells) journal.1 in
         let stands = found_stands (cosigner_fold h) journal.0 found.0 are found.1 in
-        let again = export_again h journal.0 found.0.records found.0.state are stands.0 stands.1
-        in (
-          export_text found.0.state found.0.records,
-          (
-            export_of found.0.state again.0,
-            (
-              again.2,
-              said_so h rooms disks outs errs told bytes (name ∷ []) old turn run heard
-                  (export_text found.0.state found.0.records) _ found.2,
-            ),
-          ),
-        )
+        let read = read_so name found.0.records (export_text found.0.state found.0.records) found.2
+        in (found.0.records, (found.0.state, (stands.1, read.0, read.1)))
 
     begun : (name id log : List ℕ) (height width : ℕ) (file : List ℕ)
         → Speaks (init_cosigner name id log height width file)
@@ -209,6 +212,18 @@ module _ {R S D O E : Type 0} (h : HashFunction) (rooms : Rooms R S D) (disks : 
     says_so (audit certificate store moment items kept) spoken =
         logs (audit certificate store moment items kept) spoken (λ list is. absurd is)
 
+    -- words that are no command are refused
+    has_command : (r : Result CommandValue WordError) → command_of turn.words ≡ r
+        → (command : CommandValue) × Speaks command
+    has_command (Ok command) is = (command, is)
+    has_command (Err why) is =
+        let run_so = heard_run h rooms disks outs errs old turn run heard in
+        absurd (not_refused h rooms disks outs errs old turn run heard BadWords None
+        (word_fault_text why) (subst (λ (r : Result CommandValue WordError).
+        Meets ((facts h r).outcome (rooms.file old)).answer run_so.reply) is
+        (run_so.is (inl tells))))
+
   pub only_cosign : OnlyCosignSigns h rooms disks outs errs
-  only_cosign command old turn tells run spoken heard =
-      says_so old turn tells run heard command spoken
+  only_cosign old turn tells run heard =
+      let has = has_command old turn tells run heard (command_of turn.words) refl in
+      (has.0, (has.1, says_so old turn tells run heard has.0 has.1))

@@ -1,7 +1,6 @@
 -- What goes out of `issue` and `cosign`, beside the request that they read and the record that they
 -- add, and what becomes of that record.
-use Rattle.std.specs.Prelude.{◌≡◌, ℕ, List, [], ◌∷◌, ◌++◌, length, Some, Ok, codes}
-use Rattle.std.specs.Fmt.{decimal}
+use Rattle.std.specs.Prelude.{◌≡◌, List, [], ◌∷◌, ◌++◌, length, Some, Ok}
 use Rattle.byte_forms.specs.Types.{HashFunction, Text}
 use Rattle.disk_core.specs.declared.disk.Disk.{Ghosts as Disks}
 use Rattle.mtc_io.specs.declared.sink.Sink.{Ghosts as Sinks}
@@ -12,18 +11,17 @@ use Rattle.mtc_words.specs.Words.{command_of}
 use Rattle.authority_core.specs.Files.{request_of}
 use Rattle.authority_core.specs.Issues.{issued_entry}
 use Rattle.authority_core.specs.Requests.{RequestParts}
-use Rattle.cosigner_core.specs.ExportReading.{export_in}
+use Rattle.cosigner_core.specs.Exports.{export_text}
 use Rattle.cosigner_core.specs.Folds.{CosignerState, cosigner_of}
-use Rattle.cosigner_core.specs.Reading.{subtree_in}
+use Rattle.cosigner_core.specs.Reading.{advance_in, subtree_in}
 use Rattle.cosigner_core.specs.Records.{step_in}
-use Rattle.cosigner_core.specs.Requests.{SubtreeParts}
-use Rattle.cosigner_core.specs.declared.lists.Export.{Export}
+use Rattle.cosigner_core.specs.Requests.{AdvanceParts, SubtreeParts}
 use Rattle.cosigner_core.specs.declared.step.Step.TheVariants.{Sign}
 use Rattle.issuance_log.specs.Folds.{LogState, log_of}
 use Rattle.issuance_log.specs.Records.{item_in}
 use Rattle.issuance_log.specs.Settings.{Settings}
-use Rattle.mtc_answers.specs.Made.{appended}
-use Rattle.mtc_cosigner.specs.CosignerOutcomes.{cosigned_text}
+use Rattle.mtc_answers.specs.Made.{appended, reads}
+use Rattle.mtc_cosigner.specs.CosignerOutcomes.{advanced_text, cosigned_text}
 use Rattle.mtc_cosigner.specs.KeygenOutcome.{lms_type, ots_type, public_line}
 use Rattle.mtc_logs.specs.IssueOutcome.{issued_text}
 use Rattle.mtc_logs.specs.Works.{IsLog}
@@ -70,16 +68,20 @@ module _ {R S D O E : Type 0} (h : HashFunction) (rooms : Rooms R S D) (disks : 
         ≡ Some (Sign state.key.next request.start request.end request.hash request.proof)
     pub printed : HasPrinted outs turn (cosigned_text state request)
 
-  -- What a command says that is given a secret, in a file or in a cosigner's journal. `cosign` says
-  -- a signature, and has added its record. `advance` says a size, `export` an export, and those
-  -- that are given the secret as a file say its public key. No other command is given one: each
-  -- journal that it opens or makes is a log's.
+  -- What goes out of a command that opens a cosigner's journal, or is given a secret file as such.
+  -- `cosign` says a signature, and has added its record. `advance` says the size in the request
+  -- that it read, `export` the ids, the public key and the records behind the first of those that
+  -- it read, and those that are given a secret file say its public key. Each journal that another
+  -- command opens or makes is a log's, and of what goes out of it nothing is said here.
   abbrev pub Says : CommandValue → R → Turn R O E → Type 0
   Says (cosign name file) old turn = HasCosigned name file old turn
-  Says (advance name file) old turn =
-      (size : ℕ) × HasPrinted outs turn (codes "advanced " ++ (decimal size ++ codes "\n"))
-  Says (export name) old turn = (text : Text) × ((kept : Export)
-      × ((export_in h text ≡ Ok (Some kept)) × HasPrinted outs turn text))
+  Says (advance name file) old turn = (text : Text) × ((request : AdvanceParts)
+      × (HoldsText (rooms.file old) file 16777216 text × (advance_in text ≡ Ok request)
+      × HasPrinted outs turn (advanced_text request.size)))
+  Says (export name) old turn = (list : List Text) × ((state : CosignerState)
+      × ((cosigner_of h list ≡ Ok state)
+      × DidWith h rooms disks outs errs old turn name (reads list)
+      × HasPrinted outs turn (export_text state list)))
   Says (init_cosigner name id log height width file) old turn = (secret : Text)
       × (HoldsText (rooms.file old) file 16777216 secret
       × HasPrinted outs turn (public_line (lms_type height) (ots_type width) secret))
@@ -105,10 +107,13 @@ module _ {R S D O E : Type 0} (h : HashFunction) (rooms : Rooms R S D) (disks : 
   SignaturesArePrinted = (name file : Text)
       → OfEachRun (OfHeard (cosign name file) (HasCosigned name file))
 
-  -- No other command than `cosign` says a signature by a key of a cosigner.
+  -- Each run that did its work, or of which a byte went out, has a command, and so it is of it. Of
+  -- the commands that open a cosigner's journal, or are given a secret file as such, only `cosign`
+  -- says a signature by it.
   abbrev pub OnlyCosignSigns : Type 0
-  OnlyCosignSigns = (command : CommandValue) (old : R) (turn : Turn R O E) → rooms.tells old
-      → HasTurned h rooms disks outs errs old turn → OfHeard command (Says command) old turn
+  OnlyCosignSigns = (old : R) (turn : Turn R O E) → rooms.tells old
+      → HasTurned h rooms disks outs errs old turn → IsHeard outs turn
+      → (command : CommandValue) × ((command_of turn.words ≡ Ok command) × Says command old turn)
 
   -- The entry is at its index, with its key, in the log of these records.
   pub record IsInLog (name file : Text) (old : R) (turn : Turn R O E) (found : List Text)

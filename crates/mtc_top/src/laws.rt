@@ -113,9 +113,12 @@ pub fn audits_stand<H: TreeHash, R: Room, O: Sink, E: Sink>()
 /// added, and its request is what the file says that its words name. What goes out of `issue` is
 /// the index of the entry, which counts those before it. What goes out of `cosign` is the signature
 /// by the one-time key whose number the record has, over the interval and the hash of the request.
-/// It is the whole with status 0; with 6, the one other status, it is a front. No other command
-/// that is given a secret says a signature by it: it says a size, an export or a public key. And
-/// those that are given none open logs alone.
+/// It is the whole with status 0; with 6, the one other status, it is a front. Words that are no
+/// command do no work, and nothing goes out. Of the commands that open a cosigner's journal, or are
+/// given a secret file as such, only `cosign` says a signature by it. `advance` says the size in
+/// its request. `export` says the ids, the public key and the records behind the first of those
+/// that it read, and `init-cosigner` and `keygen` the public key of the secret file. Each journal
+/// that another command opens or makes is a log's. Of what goes out of those nothing is said.
 pub fn printed_texts_are_of_their_records<H: TreeHash, R: Room, O: Sink, E: Sink>()
     ensures indices { IndicesArePrinted H.hash R.Room R.Dsk.Disk O.Sink E.Sink }
     ensures signatures { SignaturesArePrinted H.hash R.Room R.Dsk.Disk O.Sink E.Sink }
@@ -133,11 +136,12 @@ pub fn printed_texts_stand<H: TreeHash, R: Room, O: Sink, E: Sink>()
 
 /// The promise as a whole. In no course a one-time key of a journal signs two messages. Each byte
 /// that goes out of `cosign` is of the signature by the key whose number its record has, over what
-/// the request file asks for, and no other command says a signature by such a key. That record, as
-/// each that was handed out, is in each list with which its journal may be recovered. Where a store
-/// accepts a certificate by a signature that was handed out so, or by a landmark, a run of `audit`
-/// over the wanted list, and over an export that was printed behind the signature, prints that the
-/// entry stands, or two different strings with one hash. Or it ends with status 5, 6 or 8.
+/// the request file asks for. Of the commands that open a cosigner's journal, or are given a secret
+/// file as such, no other says a signature by it. The record of the signature, as each that was
+/// handed out, is in each list with which its journal may be recovered. Where a store accepts a
+/// certificate by a signature that was handed out so, or by a landmark, a run of `audit` over the
+/// wanted list, and over an export that was printed behind the signature, prints that the entry
+/// stands, or two different strings with one hash. Or it ends with status 5, 6 or 8.
 pub fn the_whole_promise<H: TreeHash, R: Room, O: Sink, E: Sink>()
     ensures once { KeysSignOnce H.hash R.Room R.Dsk.Disk O.Sink E.Sink }
     ensures messages { KeysSignOneMessage H.hash R.Room R.Dsk.Disk O.Sink E.Sink }
