@@ -49,7 +49,7 @@ AreAmong (journal ∷ rest) name did =
     ((journal.0 ≡ name) × (journal.1 ≡ did)) ⊎ AreAmong rest name did
 
 module _ {R O E : Type 0} (outs : Sinks O) (turn : Turn R O E) where
-  -- The run did its work, or a byte of it went out.
+  -- The run did its work, or a byte of it went out, over an output that tells what it took.
   abbrev pub IsHeard : Type 0
   IsHeard = (turn.status ≡ 0) ⊎ TookSome (outs.taken turn.out) (outs.taken turn.out_after)
 
