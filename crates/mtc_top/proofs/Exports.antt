@@ -41,7 +41,7 @@ use Rattle.mtc_top.specs.Courses.{Link, Turn, HasTurned, IsCourse, IsBegun, IsHe
 use Rattle.mtc_top.specs.ExportLaws.{ExportsHoldTheSteps, HasExported}
 use Rattle.mtc_top.specs.Facts.{facts}
 use Rattle.mtc_top.specs.Run.{Answered}
-use Rattle.mtc_top.proofs.Recovered.{handed_stand, last, read_again}
+use Rattle.mtc_top.proofs.Recovered.{handed_front, last, read_again}
 use Rattle.mtc_top.proofs.Turns.{file_bytes, heard_run, not_refused, printed_so, told_file}
 use Rattle.mtc_top.proofs.Turns.{told_image}
 
@@ -178,7 +178,7 @@ module _ {R S D O E : Type 0} (h : HashFunction) (rooms : Rooms R S D) (disks : 
           allowed = again.3;
           steps = again.1;
           signed = λ record0 front body step hands says.
-              let front_is = handed_stand h rooms disks outs errs image only told bytes name start
+              let front_is = handed_front h rooms disks outs errs image only told bytes name start
               first
               begins new links begun course (record0 ∷ front) node.records body hands recovered in
               step_there front body front_is.0 again.0 step

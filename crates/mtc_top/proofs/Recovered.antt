@@ -34,7 +34,7 @@ use Rattle.mtc_top.specs.CourseLaws.{JournalsAreOfNodes, JournalsAreRead, KeysSi
 use Rattle.mtc_top.specs.CourseLaws.{KeysSignOneMessage}
 use Rattle.mtc_top.specs.CourseLaws.{RecoveredListsGrow}
 use Rattle.mtc_top.specs.Courses.{Link, IsBegun, IsCourse, IsReached, IsRecovered, WasHeld}
-use Rattle.mtc_top.specs.Courses.{WentOut, images_in}
+use Rattle.mtc_top.specs.Courses.{WasHandedOut, WentOut, images_in}
 use Rattle.mtc_top.specs.Nodes.{StandsForNode}
 use Rattle.mtc_top.proofs.Begun.{begun_goes, begun_held, made_so, no_records}
 use Rattle.mtc_top.proofs.Commands.{spoken_records}
@@ -193,6 +193,25 @@ module _ {R S D O E : Type 0} (h : HashFunction) (rooms : Rooms R S D) (disks : 
         front_on fronts.later.state first is.0 list found
         (fronts.later.at.stands is.0 is.1.0) is.1.1 fronts.front
 
+    pub handed_front : (list found : List (List ℕ)) (body : List ℕ)
+        → WasHandedOut h rooms disks outs errs name begins links list body
+        → IsRecovered h rooms disks outs errs name new found → Begins (list ++ body ∷ []) found
+    handed_front list found body hands is =
+        held_front (list ++ body ∷ []) found
+        (all_held h rooms disks outs errs image only told name begins new links list body course
+        hands)
+        is
+
+    pub handed_image : (list : List (List ℕ)) (body c : List ℕ)
+        → WasHandedOut h rooms disks outs errs name begins links list body
+        → images_in h rooms disks outs errs new name c
+        → (found : List (List ℕ)) × (StandsFor c found × Begins (list ++ body ∷ []) found)
+    handed_image list body c hands at =
+        let found = some_list last.state first c (last.at.stands c at) in
+        let recovered : IsRecovered h rooms disks outs errs name new (first ∷ found.0)
+        = (c, (at, found.1)) in
+        (first ∷ found.0, (found.1, handed_front list (first ∷ found.0) body hands recovered))
+
   pub histories : CoursesAreHistories h rooms disks outs errs
   histories = reached
 
@@ -203,11 +222,7 @@ module _ {R S D O E : Type 0} (h : HashFunction) (rooms : Rooms R S D) (disks : 
   lists_grow = held_front
 
   pub handed_stand : HandedOutStand h rooms disks outs errs
-  handed_stand name start first begins new links begun course list found body hands is =
-      held_front name start first begins new links begun course (list ++ body ∷ []) found
-      (all_held h rooms disks outs errs image only told name begins new links list body course
-      hands)
-      is
+  handed_stand = handed_image
 
   pub keys_once : KeysSignOnce h rooms disks outs errs
   keys_once name start first begins new links begun course settings public is record0 bodies found =
@@ -225,9 +240,9 @@ module _ {R S D O E : Type 0} (h : HashFunction) (rooms : Rooms R S D) (disks : 
       let found = some_list end.state first c.0 (end.at.stands c.0 c.1) in
       let recovered : IsRecovered h rooms disks outs errs name new (first ∷ found.0)
       = (c.0, (c.1, found.1)) in
-      let front = handed_stand name start first begins new links begun course list
+      let front = handed_front name start first begins new links begun course list
       (first ∷ found.0) body hands recovered in
-      let front' = handed_stand name start first begins new links begun course other
+      let front' = handed_front name start first begins new links begun course other
       (first ∷ found.0) message hands' recovered in
       one_record first found.0 list other body message front.0 front'.0 number
       (keys_once name start first begins new links begun course settings public is first found.0

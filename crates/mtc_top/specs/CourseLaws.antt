@@ -2,6 +2,7 @@
 use Rattle.std.specs.Prelude.{◌≡◌, ◌⊎◌, ℕ, true, List, [], ◌∷◌, ◌++◌, length, Some, Ok}
 use Rattle.byte_forms.specs.Types.{HashFunction, Text}
 use Rattle.disk_core.specs.declared.disk.Disk.{Ghosts as Disks}
+use Rattle.journal_core.specs.Format.{StandsFor}
 use Rattle.mtc_io.specs.declared.sink.Sink.{Ghosts as Sinks}
 use Rattle.mtc_room.specs.declared.room.Room.{Ghosts as Rooms}
 use Rattle.cosigner_core.specs.Counts.{AreCounted, indices_of}
@@ -78,11 +79,13 @@ module _ {R S D O E : Type 0} (h : HashFunction) (rooms : Rooms R S D) (disks : 
       → WasHeld h rooms disks outs errs name old links list
       → IsRecovered h rooms disks outs errs name new found → Begins list found)
 
-  -- So are those with the record that was handed out.
+  -- Where a record was handed out, each image stands for records that begin with those that were
+  -- there and that one.
   abbrev pub HandedOutStand : Type 0
-  HandedOutStand = OfCourses (λ name start first old links new. (list found : List Text)
-      (body : Text) → WasHandedOut h rooms disks outs errs name old links list body
-      → IsRecovered h rooms disks outs errs name new found → Begins (list ++ body ∷ []) found)
+  HandedOutStand = OfCourses (λ name start first old links new. (list : List Text) (body c : Text)
+      → WasHandedOut h rooms disks outs errs name old links list body
+      → images_in h rooms disks outs errs new name c
+      → (found : List Text) × (StandsFor c found × Begins (list ++ body ∷ []) found))
 
   -- Each entry that a log had where a run found or made its records has its index in each log that
   -- may be recovered behind it, and so has its key.

@@ -53,8 +53,8 @@ pub fn no_one_time_key_signs_twice<H: TreeHash, R: Room, O: Sink, E: Sink>()
     ensures messages { KeysSignOneMessage H.hash R.Room R.Dsk.Disk O.Sink E.Sink }
 {}
 
-/// Where a run that added a record did its work, or a byte of it went out, each journal that may be
-/// recovered afterwards holds that record, behind those that were there.
+/// Where a run that added a record did its work, or a byte of it went out, each image that a crash
+/// may leave afterwards stands for records. These begin with those that were there, and that one.
 pub fn what_was_handed_out_stands<H: TreeHash, R: Room, O: Sink, E: Sink>()
     ensures { HandedOutStand H.hash R.Room R.Dsk.Disk O.Sink E.Sink }
 {}
@@ -138,10 +138,10 @@ pub fn printed_texts_stand<H: TreeHash, R: Room, O: Sink, E: Sink>()
 /// that goes out of `cosign` is of the signature by the key whose number its record has, over what
 /// the request file asks for. Of the commands that open a cosigner's journal, or are given a secret
 /// file as such, no other says a signature by it. The record of the signature, as each that was
-/// handed out, is in each list with which its journal may be recovered. Where a store accepts a
-/// certificate by a signature that was handed out so, or by a landmark, a run of `audit` over the
-/// wanted list, and over an export that was printed behind the signature, prints that the entry
-/// stands, or two different strings with one hash. Or it ends with status 5, 6 or 8.
+/// handed out, is in what each image of its journal stands for, and each stands for records. Where
+/// a store accepts a certificate by a signature that was handed out so, or by a landmark, a run of
+/// `audit` over the wanted list, and over an export that was printed behind the signature, prints
+/// that the entry stands, or two different strings with one hash. Or it ends with status 5, 6 or 8.
 pub fn the_whole_promise<H: TreeHash, R: Room, O: Sink, E: Sink>()
     ensures once { KeysSignOnce H.hash R.Room R.Dsk.Disk O.Sink E.Sink }
     ensures messages { KeysSignOneMessage H.hash R.Room R.Dsk.Disk O.Sink E.Sink }
