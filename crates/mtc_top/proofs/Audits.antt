@@ -178,9 +178,8 @@ module _ {R S D O E : Type 0} (h : HashFunction) (rooms : Rooms R S D) (disks : 
       kept_text e.text by.told by.printed (e.printed.whole by.done) in
       let kept : x.kept ≡ Some e.export = ok_is ReadExportError x.kept (Some e.export)
       (sym read ∙ ap (export_in h) same ∙ e.read) in
-      let there = e.signed by.first by.front by.body
-      (Sign by.index x.accepted.start x.accepted.end x.accepted.hash by.proof) by.handed by.signs
-      in
+      let there = e.signed by.first by.front by.more by.body
+      (Sign by.index x.accepted.start x.accepted.end x.accepted.hash by.proof) by.held by.signs in
       ap (λ (b : By). is_recorded_by x.store x.accepted b x.kept) by.by
       ∙ ap (is_recorded_by x.store x.accepted (Cosigners by.set)) kept
       ∙ recorded_so x.store x.accepted by.set e.export by.index by.proof (e.log_is ∙ by.log_is)

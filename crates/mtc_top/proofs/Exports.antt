@@ -41,7 +41,7 @@ use Rattle.mtc_top.specs.Courses.{Link, Turn, HasTurned, IsCourse, IsBegun, IsHe
 use Rattle.mtc_top.specs.ExportLaws.{ExportsHoldTheSteps, HasExported}
 use Rattle.mtc_top.specs.Facts.{facts}
 use Rattle.mtc_top.specs.Run.{Answered}
-use Rattle.mtc_top.proofs.Recovered.{handed_front, last, read_again}
+use Rattle.mtc_top.proofs.Recovered.{held_front, last, read_again}
 use Rattle.mtc_top.proofs.Turns.{file_bytes, heard_run, not_refused, printed_so, told_file}
 use Rattle.mtc_top.proofs.Turns.{told_image}
 
@@ -69,11 +69,11 @@ step_there (z ∷ front) body rest steps step is read =
     subst (λ (l : List Step). Contains l step) tail.2
     (contains_more x step tail.0 (step_there front body rest tail.0 step tail.1 read)))
 
-behind_first : (first : List ℕ) (front : List (List ℕ)) (body : List ℕ)
-    (rest list : List (List ℕ)) → (first ∷ front ++ body ∷ []) ++ rest ≡ list
-    → drop 1 list ≡ front ++ body ∷ rest
-behind_first first front body rest list is =
-    ap (λ (l : List (List ℕ)). drop 1 l) (sym is) ∙ append_assoc front (body ∷ []) rest
+behind_first : (first : List ℕ) (front more : List (List ℕ)) (body : List ℕ)
+    (rest list : List (List ℕ)) → (first ∷ (front ++ body ∷ more)) ++ rest ≡ list
+    → drop 1 list ≡ front ++ body ∷ (more ++ rest)
+behind_first first front more body rest list is =
+    ap (λ (l : List (List ℕ)). drop 1 l) (sym is) ∙ append_assoc front (body ∷ more) rest
 
 -- ---- what is asked for
 
@@ -177,13 +177,15 @@ module _ {R S D O E : Type 0} (h : HashFunction) (rooms : Rooms R S D) (disks : 
           progress = progress_of opened.0;
           allowed = again.3;
           steps = again.1;
-          signed = λ record0 front body step hands says.
-              let front_is = handed_front h rooms disks outs errs image only told bytes name start
+          signed = λ record0 front more body step held says.
+              let front_is = held_front h rooms disks outs errs image only told bytes name start
               first
-              begins new links begun course (record0 ∷ front) node.records body hands recovered in
-              step_there front body front_is.0 again.0 step
+              begins new links begun course (record0 ∷ (front ++ body ∷ more)) node.records held
+              recovered in
+              step_there front body (more ++ front_is.0) again.0 step
               (subst (λ (l : List (List ℕ)). steps_in l ≡ Some again.0)
-              (behind_first record0 front body front_is.0 node.records front_is.1) again.1) says;
+              (behind_first record0 front more body front_is.0 node.records front_is.1) again.1)
+              says;
         }
 
   pub exports_hold : ExportsHoldTheSteps h rooms disks outs errs

@@ -14,7 +14,7 @@ use Rattle.mtc_top.specs.Courses.{WasHeld}
 use Rattle.mtc_top.specs.PrintLaws.{HasCosigned, IsInLog, IssuedEntriesStand, OfHeard}
 use Rattle.mtc_top.specs.PrintLaws.{SignaturesStand}
 use Rattle.mtc_top.proofs.Printed.{indices_printed, signatures_printed}
-use Rattle.mtc_top.proofs.Recovered.{added_stand, lists_grow}
+use Rattle.mtc_top.proofs.Recovered.{added_stand, held_front, image_list}
 use Rattle.mtc_top.proofs.Turns.{each_held, heard_held}
 
 module _ {R S D O E : Type 0} (h : HashFunction) (rooms : Rooms R S D) (disks : Disks D)
@@ -23,22 +23,29 @@ module _ {R S D O E : Type 0} (h : HashFunction) (rooms : Rooms R S D) (disks : 
     → TellsFile disks.told (rooms.file room name) (rooms.device room name))
     (bytes : (d : D) (b : List ℕ) → disks.told d ≡ Some b → IsBytes b) where
   pub signatures_stand : SignaturesStand h rooms disks outs errs
-  signatures_stand name start first begins new links begun course file found recovered =
-      each_held h rooms disks outs errs image only told name (λ list. Begins list found)
-      (OfHeard h rooms disks outs errs (cosign name file) (λ old turn.
-      (signed : HasCosigned h rooms disks outs errs name file old turn)
-      × Begins (signed.list ++ signed.body ∷ []) found)) begins new links
-      begun.tells course
-      (λ list held. lists_grow h rooms disks outs errs image only told bytes name start first begins
-      new
-      links begun course list found held recovered)
-      (λ old turn tells run fronts spoken heard.
-      let s = signatures_printed h rooms disks outs errs told bytes name file old turn tells run
-      spoken heard in (
-        s,
-        fronts (s.list ++ s.body ∷ [])
-            (heard_held h rooms disks outs errs old turn run heard name s.list s.body s.did),
-      ))
+  signatures_stand name start first begins new links begun course file c at =
+      let stands = image_list h rooms disks outs errs image only told bytes name start first begins
+      new links begun course c at in
+      let found = stands.0 in (
+        found,
+        (
+          stands.1,
+          each_held h rooms disks outs errs image only told name (λ list. Begins list found)
+              (OfHeard h rooms disks outs errs (cosign name file) (λ old turn.
+              (signed : HasCosigned h rooms disks outs errs name file old turn)
+              × Begins (signed.list ++ signed.body ∷ []) found)) begins new links
+              begun.tells course
+              (λ list held. held_front h rooms disks outs errs image only told bytes name start
+              first begins new links begun course list found held (c, (at, stands.1)))
+              (λ old turn tells run fronts spoken heard.
+              let s = signatures_printed h rooms disks outs errs told bytes name file old turn tells
+              run spoken heard in (
+                s,
+                fronts (s.list ++ s.body ∷ []) (heard_held h rooms disks outs errs old turn run
+                    heard name s.list s.body s.did),
+              )),
+        ),
+      )
 
   pub issued_stand : IssuedEntriesStand h rooms disks outs errs
   issued_stand name start first begins new links begun course settings file found is recovered =

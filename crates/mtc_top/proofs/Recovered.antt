@@ -1,6 +1,6 @@
 -- What may be recovered of a node's journal behind a course.
 use Rattle.std.proofs.Common.{◌≡◌, ◌⊎◌, inl, inr, ℕ, true, List, [], ◌∷◌, ◌++◌, Option, None, Some}
-use Rattle.std.proofs.Common.{Result, Ok, refl, sym, subst, ap, ◌∙◌}
+use Rattle.std.proofs.Common.{Result, Ok, refl, sym, subst, ap, ◌∙◌, append_assoc}
 use Rattle.std.proofs.lemmas.List.{append-nil}
 use Rattle.std.specs.Prelude.{IsOk, is_ok}
 use Rattle.byte_forms.specs.Places.{IsBytes}
@@ -30,6 +30,7 @@ use Rattle.node_history.proofs.Sound.{sound}
 use Rattle.node_history.proofs.Steps.{begins_on}
 use Rattle.mtc_top.specs.CourseLaws.{AddedEntriesStand, AreOfNode, IsReadAsNode}
 use Rattle.mtc_top.specs.CourseLaws.{CoursesAreHistories, EntriesStand, HandedOutStand}
+use Rattle.mtc_top.specs.CourseLaws.{HandedOutWasHeld}
 use Rattle.mtc_top.specs.CourseLaws.{JournalsAreOfNodes, JournalsAreRead, KeysSignOnce}
 use Rattle.mtc_top.specs.CourseLaws.{KeysSignOneMessage}
 use Rattle.mtc_top.specs.CourseLaws.{RecoveredListsGrow}
@@ -105,6 +106,15 @@ some_list s first c of = elim of [
   | inl settled ↦ (s.settled, settled)
   | inr pending ↦ (with_pending s.settled s.pending, pending)
 ]
+
+-- a front up to a record of a front
+first_of_more : (list : List (List ℕ)) (body : List ℕ) (more found : List (List ℕ))
+    → Begins (list ++ body ∷ more) found → Begins (list ++ body ∷ []) found
+first_of_more list body more found front = (
+  more ++ front.0,
+  append_assoc list (body ∷ []) (more ++ front.0)
+      ∙ (sym (append_assoc list (body ∷ more) front.0) ∙ front.1),
+)
 
 -- a node that began as a log has one
 log_found : (h : HashFunction) (start : NodeStart) (settings : Settings) (first : List ℕ)
@@ -193,24 +203,25 @@ module _ {R S D O E : Type 0} (h : HashFunction) (rooms : Rooms R S D) (disks : 
         front_on fronts.later.state first is.0 list found
         (fronts.later.at.stands is.0 is.1.0) is.1.1 fronts.front
 
-    pub handed_front : (list found : List (List ℕ)) (body : List ℕ)
-        → WasHandedOut h rooms disks outs errs name begins links list body
-        → IsRecovered h rooms disks outs errs name new found → Begins (list ++ body ∷ []) found
-    handed_front list found body hands is =
-        held_front (list ++ body ∷ []) found
-        (all_held h rooms disks outs errs image only told name begins new links list body course
-        hands)
-        is
+    pub image_list : (c : List ℕ) → images_in h rooms disks outs errs new name c
+        → (found : List (List ℕ)) × StandsFor c found
+    image_list c at =
+        let found = some_list last.state first c (last.at.stands c at) in (first ∷ found.0, found.1)
 
-    pub handed_image : (list : List (List ℕ)) (body c : List ℕ)
-        → WasHandedOut h rooms disks outs errs name begins links list body
+    pub held_image : (list : List (List ℕ)) (c : List ℕ)
+        → WasHeld h rooms disks outs errs name begins links list
         → images_in h rooms disks outs errs new name c
-        → (found : List (List ℕ)) × (StandsFor c found × Begins (list ++ body ∷ []) found)
-    handed_image list body c hands at =
-        let found = some_list last.state first c (last.at.stands c at) in
-        let recovered : IsRecovered h rooms disks outs errs name new (first ∷ found.0)
-        = (c, (at, found.1)) in
-        (first ∷ found.0, (found.1, handed_front list (first ∷ found.0) body hands recovered))
+        → (found : List (List ℕ)) × (StandsFor c found × Begins list found)
+    held_image list c held at =
+        let found = image_list c at in
+        (found.0, (found.1, held_front list found.0 held (c, (at, found.1))))
+
+    pub handed_held : (list : List (List ℕ)) (body : List ℕ)
+        → WasHandedOut h rooms disks outs errs name begins links list body
+        → WasHeld h rooms disks outs errs name begins links (list ++ body ∷ [])
+    handed_held list body hands =
+        all_held h rooms disks outs errs image only told name begins new links list body course
+        hands
 
   pub histories : CoursesAreHistories h rooms disks outs errs
   histories = reached
@@ -219,10 +230,15 @@ module _ {R S D O E : Type 0} (h : HashFunction) (rooms : Rooms R S D) (disks : 
   read_again = read_file
 
   pub lists_grow : RecoveredListsGrow h rooms disks outs errs
-  lists_grow = held_front
+  lists_grow = held_image
+
+  pub handed_was_held : HandedOutWasHeld h rooms disks outs errs
+  handed_was_held = handed_held
 
   pub handed_stand : HandedOutStand h rooms disks outs errs
-  handed_stand = handed_image
+  handed_stand name start first begins new links begun course list body c hands at =
+      held_image name start first begins new links begun course (list ++ body ∷ []) c
+      (handed_held name start first begins new links begun course list body hands) at
 
   pub keys_once : KeysSignOnce h rooms disks outs errs
   keys_once name start first begins new links begun course settings public is record0 bodies found =
@@ -232,18 +248,19 @@ module _ {R S D O E : Type 0} (h : HashFunction) (rooms : Rooms R S D) (disks : 
       (sym (tail_is record0 first bodies of.others of.is)) of.valid)
 
   pub one_message : KeysSignOneMessage h rooms disks outs errs
-  one_message name start first begins new links begun course settings public is list other body
-      message number hands hands' uses uses' =
+  one_message name start first begins new links begun course settings public is list other more
+      others body message number held held' uses uses' =
       let end = last name start first begins new links begun course in
       let c = some_image disks (rooms.file new name) (rooms.device new name) image
       (told new name end.at.tells) in
       let found = some_list end.state first c.0 (end.at.stands c.0 c.1) in
       let recovered : IsRecovered h rooms disks outs errs name new (first ∷ found.0)
       = (c.0, (c.1, found.1)) in
-      let front = handed_front name start first begins new links begun course list
-      (first ∷ found.0) body hands recovered in
-      let front' = handed_front name start first begins new links begun course other
-      (first ∷ found.0) message hands' recovered in
+      let front = first_of_more list body more (first ∷ found.0) (held_front name start first
+      begins new links begun course (list ++ body ∷ more) (first ∷ found.0) held recovered) in
+      let front' = first_of_more other message others (first ∷ found.0) (held_front name start first
+      begins new links begun course (other ++ message ∷ others) (first ∷ found.0) held' recovered)
+      in
       one_record first found.0 list other body message front.0 front'.0 number
       (keys_once name start first begins new links begun course settings public is first found.0
       recovered) front.1 front'.1 uses uses'

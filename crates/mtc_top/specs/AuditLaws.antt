@@ -1,5 +1,5 @@
--- What `audit` prints of a certificate that was accepted by a landmark, or by what a cosigner's
--- course handed out.
+-- What `audit` prints of a certificate that was accepted by a landmark, or by a signature that
+-- stands in the course of a cosigner's journal.
 use Rattle.std.specs.Prelude.{◌≡◌, ◌≢◌, ◌⊎◌, ℕ, ◌≤◌, true, pos, List, ◌∷◌, ◌++◌, length, None}
 use Rattle.std.specs.Prelude.{Some, Ok, slice_get}
 use Rattle.byte_forms.specs.Types.{HashFunction, Text}
@@ -24,7 +24,7 @@ use Rattle.mtc_answers.specs.Steps.{Files}
 use Rattle.mtc_answers.specs.Wanted.{IsPair}
 use Rattle.mtc_monitor.specs.AuditOutcome.{collision_text, accepted_in, stands_text}
 use Rattle.mtc_top.specs.Concluded.{Prints}
-use Rattle.mtc_top.specs.Courses.{Link, Turn, HasTurned, IsBegun, IsCourse, WasHandedOut}
+use Rattle.mtc_top.specs.Courses.{Link, Turn, HasTurned, IsBegun, IsCourse, WasHeld}
 
 -- The file of this name has this text, which is no longer than the limit.
 pub record HoldsText (files : Files) (name : Text) (limit : ℕ) (text : Text) : Type 0 where
@@ -60,8 +60,8 @@ pub record HasCounted (store : Store) (set : ℕ) (id key : Text) : Type 0 where
 
 module _ {R S D O E : Type 0} (h : HashFunction) (rooms : Rooms R S D) (disks : Disks D)
     (outs : Sinks O) (errs : Sinks E) where
-  -- In a course of a cosigner's journal a signature of the accepted interval and hash was handed
-  -- out, a run of `export` behind it printed what was kept, and the store counts the cosigner.
+  -- A run of a course of a cosigner's journal held a signature of the accepted interval and hash, a
+  -- run of `export` behind it printed what was kept, and the store counts the cosigner.
   pub record IsSignedInCourse (x : AuditCase) (kept_text : Text) : Type 0 where
     -- a run made or opened the journal
     pub name : Text
@@ -74,10 +74,11 @@ module _ {R S D O E : Type 0} (h : HashFunction) (rooms : Rooms R S D) (disks : 
     -- the course
     pub old : R
     pub course : IsCourse h rooms disks outs errs name begins links old
-    -- a record that it handed out
+    -- a record that a run of it found or added
     pub front : List Text
+    pub more : List Text
     pub body : Text
-    pub handed : WasHandedOut h rooms disks outs errs name begins links (first ∷ front) body
+    pub held : WasHeld h rooms disks outs errs name begins links (first ∷ (front ++ body ∷ more))
     pub index : ℕ
     pub proof : List Text
     pub signs : step_in body

@@ -63,23 +63,30 @@ module _ {R S D O E : Type 0} (h : HashFunction) (rooms : Rooms R S D) (disks : 
       → (record0 : Text) (bodies : List Text)
       → IsRecovered h rooms disks outs errs name new (record0 ∷ bodies) → AreCounted bodies)
 
-  -- Two records that were handed out, and which used one key, are one record.
+  -- Two records that runs held, each with whatever stood behind it, and which used one key, are one
+  -- record.
   abbrev pub KeysSignOneMessage : Type 0
   KeysSignOneMessage = OfCourses (λ name start first old links new.
       (settings : CosignerSettings) (public : Text) → start ≡ Cosigner settings public
-      → (list other : List Text) (body message : Text) (number : ℕ)
-      → WasHandedOut h rooms disks outs errs name old links list body
-      → WasHandedOut h rooms disks outs errs name old links other message
+      → (list other more others : List Text) (body message : Text) (number : ℕ)
+      → WasHeld h rooms disks outs errs name old links (list ++ body ∷ more)
+      → WasHeld h rooms disks outs errs name old links (other ++ message ∷ others)
       → UsesKey list body number → UsesKey other message number → body ≡ message)
 
-  -- The records that a run found or made are the first ones of each list that may be recovered
-  -- behind it.
+  -- Each image stands for records, and those that a run found or made are the first of them.
   abbrev pub RecoveredListsGrow : Type 0
-  RecoveredListsGrow = OfCourses (λ name start first old links new. (list found : List Text)
+  RecoveredListsGrow = OfCourses (λ name start first old links new. (list : List Text) (c : Text)
       → WasHeld h rooms disks outs errs name old links list
-      → IsRecovered h rooms disks outs errs name new found → Begins list found)
+      → images_in h rooms disks outs errs new name c
+      → (found : List Text) × (StandsFor c found × Begins list found))
 
-  -- Where a record was handed out, each image stands for records that begin with those that were
+  -- A run that handed a record out held it, as the last one behind those that were there.
+  abbrev pub HandedOutWasHeld : Type 0
+  HandedOutWasHeld = OfCourses (λ name start first old links new. (list : List Text) (body : Text)
+      → WasHandedOut h rooms disks outs errs name old links list body
+      → WasHeld h rooms disks outs errs name old links (list ++ body ∷ []))
+
+  -- So where a record was handed out, each image stands for records that begin with those that were
   -- there and that one.
   abbrev pub HandedOutStand : Type 0
   HandedOutStand = OfCourses (λ name start first old links new. (list : List Text) (body c : Text)

@@ -1,5 +1,5 @@
 -- What a run of `export` prints behind a course.
-use Rattle.std.specs.Prelude.{◌≡◌, List, ◌∷◌, drop, Some, Ok, Contains}
+use Rattle.std.specs.Prelude.{◌≡◌, List, ◌∷◌, ◌++◌, drop, Some, Ok, Contains}
 use Rattle.byte_forms.specs.Types.{HashFunction, Text}
 use Rattle.disk_core.specs.declared.disk.Disk.{Ghosts as Disks}
 use Rattle.mtc_io.specs.declared.sink.Sink.{Ghosts as Sinks}
@@ -16,13 +16,13 @@ use Rattle.cosigner_core.specs.declared.step.Step.{Step}
 use Rattle.node_history.specs.declared.start.NodeStart.TheVariants.{Cosigner}
 use Rattle.mtc_top.specs.CourseLaws.{OfCourses}
 use Rattle.mtc_top.specs.Courses.{Link, Turn, HasPrinted, HasTurned, IsHeard, IsRecovered}
-use Rattle.mtc_top.specs.Courses.{WasHandedOut}
+use Rattle.mtc_top.specs.Courses.{WasHeld}
 
 module _ {R S D O E : Type 0} (h : HashFunction) (rooms : Rooms R S D) (disks : Disks D)
     (outs : Sinks O) (errs : Sinks E) where
   -- What went out is the export of a list with which the journal might have been recovered then. It
   -- has the ids of the settings and this public key. It is read as the steps of these records, each
-  -- of which is allowed, and each step that was handed out before is among them.
+  -- of which is allowed, and the step of each record that a run held before is among them.
   pub record HasExported (settings : CosignerSettings) (public name : Text) (begun : R)
       (links : List (Link R O E)) (old : R) (turn : Turn R O E) : Type 0 where
     pub list : List Text
@@ -37,8 +37,8 @@ module _ {R S D O E : Type 0} (h : HashFunction) (rooms : Rooms R S D) (disks : 
     pub progress : Progress
     pub allowed : export_progress h export ≡ Some progress
     pub steps : steps_in (drop 1 list) ≡ Some export.steps
-    pub signed : (first : Text) (front : List Text) (body : Text) (step : Step)
-        → WasHandedOut h rooms disks outs errs name begun links (first ∷ front) body
+    pub signed : (first : Text) (front more : List Text) (body : Text) (step : Step)
+        → WasHeld h rooms disks outs errs name begun links (first ∷ (front ++ body ∷ more))
         → step_in body ≡ Some step → Contains export.steps step
 
   -- So it is of each run of `export` behind a course of a cosigner's journal that did its work, or

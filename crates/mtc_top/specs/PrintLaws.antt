@@ -3,6 +3,7 @@
 use Rattle.std.specs.Prelude.{◌≡◌, List, [], ◌∷◌, ◌++◌, length, Some, Ok}
 use Rattle.byte_forms.specs.Types.{HashFunction, Text}
 use Rattle.disk_core.specs.declared.disk.Disk.{Ghosts as Disks}
+use Rattle.journal_core.specs.Format.{StandsFor}
 use Rattle.mtc_io.specs.declared.sink.Sink.{Ghosts as Sinks}
 use Rattle.mtc_room.specs.declared.room.Room.{Ghosts as Rooms}
 use Rattle.mtc_words.specs.Commands.{CommandValue, advance, cosign, export, init_cosigner, issue}
@@ -30,7 +31,7 @@ use Rattle.node_history.specs.declared.start.NodeStart.TheVariants.{Log}
 use Rattle.mtc_top.specs.AuditLaws.{HoldsText}
 use Rattle.mtc_top.specs.CourseLaws.{OfCourses, UsesKey}
 use Rattle.mtc_top.specs.Courses.{Turn, DidWith, HasHeld, HasPrinted, HasTurned, IsHeard}
-use Rattle.mtc_top.specs.Courses.{IsRecovered, OfEachTurn}
+use Rattle.mtc_top.specs.Courses.{IsRecovered, OfEachTurn, images_in}
 
 module _ {R S D O E : Type 0} (h : HashFunction) (rooms : Rooms R S D) (disks : Disks D)
     (outs : Sinks O) (errs : Sinks E) where
@@ -132,11 +133,12 @@ module _ {R S D O E : Type 0} (h : HashFunction) (rooms : Rooms R S D) (disks : 
       → OfEachTurn h rooms disks outs errs (OfHeard (issue name file) (λ old turn.
       IsInLog name file old turn found)) old links)
 
-  -- Of each run of a course: the record of the signature, behind those that were there, begins each
-  -- list with which the journal may be recovered.
+  -- Each image of the journal stands for records. Of each run of the course these begin with those
+  -- that were there and the record of the signature.
   abbrev pub SignaturesStand : Type 0
   SignaturesStand = OfCourses h rooms disks outs errs (λ name start first old links new.
-      (file : Text) (found : List Text) → IsRecovered h rooms disks outs errs name new found
-      → OfEachTurn h rooms disks outs errs (OfHeard (cosign name file) (λ old turn.
+      (file c : Text) → images_in h rooms disks outs errs new name c
+      → (found : List Text) × (StandsFor c found
+      × OfEachTurn h rooms disks outs errs (OfHeard (cosign name file) (λ old turn.
       (signed : HasCosigned name file old turn)
-      × Begins (signed.list ++ signed.body ∷ []) found)) old links)
+      × Begins (signed.list ++ signed.body ∷ []) found)) old links))

@@ -3,7 +3,8 @@
 
 ghost use Rattle.mtc_top.specs.AuditLaws.{AuditsStand};
 ghost use Rattle.mtc_top.specs.CourseLaws.{AddedEntriesStand, CoursesAreHistories, EntriesStand};
-ghost use Rattle.mtc_top.specs.CourseLaws.{HandedOutStand, JournalsAreOfNodes, JournalsAreRead};
+ghost use Rattle.mtc_top.specs.CourseLaws.{HandedOutStand, HandedOutWasHeld, JournalsAreOfNodes};
+ghost use Rattle.mtc_top.specs.CourseLaws.{JournalsAreRead};
 ghost use Rattle.mtc_top.specs.CourseLaws.{KeysSignOnce, KeysSignOneMessage, RecoveredListsGrow};
 ghost use Rattle.mtc_top.specs.ExportLaws.{ExportsHoldTheSteps};
 ghost use Rattle.mtc_top.specs.PrintLaws.{IndicesArePrinted, IssuedEntriesStand, OnlyCosignSigns};
@@ -45,22 +46,25 @@ pub fn courses_make_one_history<H: TreeHash, R: Room, O: Sink, E: Sink>()
 {}
 
 /// In no course two records of a cosigner's journal have the number of the same one-time key: the
-/// i-th Sign record of a journal that may be recovered, counted from 0, has the number i. Where two
-/// cosignatures by one key of the journal were handed out, both are of one record, and so of one
-/// message.
+/// i-th Sign record of a journal that may be recovered, counted from 0, has the number i. Of the
+/// records that runs of the course found or added two that use one key of the journal are one
+/// record, and so of one message. Those that were handed out are among them.
 pub fn no_one_time_key_signs_twice<H: TreeHash, R: Room, O: Sink, E: Sink>()
     ensures records { KeysSignOnce H.hash R.Room R.Dsk.Disk O.Sink E.Sink }
     ensures messages { KeysSignOneMessage H.hash R.Room R.Dsk.Disk O.Sink E.Sink }
 {}
 
-/// Where a run that added a record did its work, or a byte of it went out, each image that a crash
-/// may leave afterwards stands for records. These begin with those that were there, and that one.
+/// Where a run that added a record did its work, or a byte of it went out, it ended with another
+/// status than 5 and 8. So its record is among those that the run found or added, and each image
+/// that a crash may leave afterwards stands for records. These begin with those that were there, and
+/// that one.
 pub fn what_was_handed_out_stands<H: TreeHash, R: Room, O: Sink, E: Sink>()
-    ensures { HandedOutStand H.hash R.Room R.Dsk.Disk O.Sink E.Sink }
+    ensures held { HandedOutWasHeld H.hash R.Room R.Dsk.Disk O.Sink E.Sink }
+    ensures stand { HandedOutStand H.hash R.Room R.Dsk.Disk O.Sink E.Sink }
 {}
 
-/// What a run found in a journal, or added to it, is a front of each list that may be recovered
-/// afterwards.
+/// Each image that a crash may leave stands for records. What a run found in the journal before, or
+/// made of it, is a front of them, whatever went out of the run, unless it ended with status 5 or 8.
 pub fn recovered_lists_only_grow<H: TreeHash, R: Room, O: Sink, E: Sink>()
     ensures { RecoveredListsGrow H.hash R.Room R.Dsk.Disk O.Sink E.Sink }
 {}
@@ -94,16 +98,17 @@ pub fn misread_files_are_inputs<H: TreeHash, R: Room, O: Sink, E: Sink>()
 /// What goes out of a run of `export` behind a course of a cosigner's journal is the export of a
 /// list with which the journal might have been recovered then, or with status 6 a front of it. It
 /// has the ids and the public key with which the journal began. It is read as the steps of these
-/// records: each of them is allowed, and each step that was handed out before is one.
+/// records: each of them is allowed. The step of each record that a run found or added before is
+/// one, and so each that was handed out.
 pub fn exports_hold_what_went_out<H: TreeHash, R: Room, O: Sink, E: Sink>()
     ensures { ExportsHoldTheSteps H.hash R.Room R.Dsk.Disk O.Sink E.Sink }
 {}
 
 /// A run of `audit` that ends with another status than 5, 6 and 8 prints that the entry stands, or
 /// two different strings with one hash. Its four files are read, and the store accepts the
-/// certificate: by a landmark, or by cosigners. Then one of those that count handed out a signature
-/// of the accepted hash, in a course of its journal, and what was kept is what a run of `export`
-/// with status 0 printed behind it. The list is the wanted one: it has the landmark's hash, or the
+/// certificate: by a landmark, or by cosigners. Then one of those that count has signed the accepted
+/// hash: a run of a course of its journal found or added that record, and what was kept is what a
+/// run of `export` with status 0 printed behind it. The list is the wanted one: it has the landmark's hash, or the
 /// root of the last checkpoint that was kept.
 pub fn audits_stand<H: TreeHash, R: Room, O: Sink, E: Sink>()
     ensures { AuditsStand H.hash R.Room R.Dsk.Disk O.Sink E.Sink }
@@ -127,8 +132,8 @@ pub fn printed_texts_are_of_their_records<H: TreeHash, R: Room, O: Sink, E: Sink
 
 /// So it is in each course of a journal, and what is said of the record stays so. Each entry of
 /// which a byte of the index went out is in each log that may be recovered at the end of the
-/// course, at that index and with its key. Where a byte of a signature went out, its record is in
-/// each list that may be recovered, behind those that were there.
+/// course, at that index and with its key. Each image of the journal stands for records, and where a
+/// byte of a signature went out these begin with those that were there and the signature's.
 pub fn printed_texts_stand<H: TreeHash, R: Room, O: Sink, E: Sink>()
     ensures entries { IssuedEntriesStand H.hash R.Room R.Dsk.Disk O.Sink E.Sink }
     ensures signatures { SignaturesStand H.hash R.Room R.Dsk.Disk O.Sink E.Sink }
@@ -137,15 +142,16 @@ pub fn printed_texts_stand<H: TreeHash, R: Room, O: Sink, E: Sink>()
 /// The promise as a whole. In no course a one-time key of a journal signs two messages. Each byte
 /// that goes out of `cosign` is of the signature by the key whose number its record has, over what
 /// the request file asks for. Of the commands that open a cosigner's journal, or are given a secret
-/// file as such, no other says a signature by it. The record of the signature, as each that was
-/// handed out, is in what each image of its journal stands for, and each stands for records. Where
-/// a store accepts a certificate by a signature that was handed out so, or by a landmark, a run of
-/// `audit` over the wanted list, and over an export that was printed behind the signature, prints
-/// that the entry stands, or two different strings with one hash. Or it ends with status 5, 6 or 8.
+/// file as such, no other says a signature by it. Each image of a journal stands for records, and
+/// what a run before found in it, or made of it, is a front of these: so the record of each
+/// signature is there. Where a store accepts a certificate by a signature whose record a run of a
+/// course held, or by a landmark, a run of `audit` over the wanted list, and over an export that was
+/// printed behind it, prints that the entry stands, or two different strings with one hash. Or it
+/// ends with status 5, 6 or 8.
 pub fn the_whole_promise<H: TreeHash, R: Room, O: Sink, E: Sink>()
     ensures once { KeysSignOnce H.hash R.Room R.Dsk.Disk O.Sink E.Sink }
     ensures messages { KeysSignOneMessage H.hash R.Room R.Dsk.Disk O.Sink E.Sink }
-    ensures stand { HandedOutStand H.hash R.Room R.Dsk.Disk O.Sink E.Sink }
+    ensures stand { RecoveredListsGrow H.hash R.Room R.Dsk.Disk O.Sink E.Sink }
     ensures signatures { OnlyCosignSigns H.hash R.Room R.Dsk.Disk O.Sink E.Sink }
     ensures audits { AuditsStand H.hash R.Room R.Dsk.Disk O.Sink E.Sink }
 {}
