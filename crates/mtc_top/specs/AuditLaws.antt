@@ -10,6 +10,7 @@ use Rattle.mtc_words.specs.Commands.{audit, export}
 use Rattle.mtc_words.specs.Words.{command_of}
 use Rattle.cosigner_core.specs.ExportReading.{export_in}
 use Rattle.cosigner_core.specs.Records.{step_in}
+use Rattle.cosigner_core.specs.declared.lists.Export.{Export}
 use Rattle.cosigner_core.specs.declared.settings.CosignerSettings.{CosignerSettings}
 use Rattle.cosigner_core.specs.declared.step.Step.TheVariants.{Sign}
 use Rattle.entry_list.specs.Reading.{items_in}
@@ -19,7 +20,9 @@ use Rattle.policy_core.specs.declared.answer.By.TheVariants.{Cosigners, Landmark
 use Rattle.policy_core.specs.declared.cosigners.Known.{Known}
 use Rattle.policy_core.specs.declared.store.Store.{Store}
 use Rattle.node_history.specs.declared.start.NodeStart.TheVariants.{Cosigner}
-use Rattle.world_core.specs.Audit.{AuditCase, firsts_of, foreign_of, has_own, seconds_of}
+use Rattle.world_core.specs.Audit.{AuditCase, HasInterval, HasOwn, firsts_of, foreign_of, has_own}
+use Rattle.world_core.specs.Audit.{seconds_of}
+use Rattle.world_core.specs.Walk.{HasFront, held_by}
 use Rattle.mtc_answers.specs.Steps.{Files}
 use Rattle.mtc_answers.specs.Wanted.{IsPair}
 use Rattle.mtc_monitor.specs.AuditOutcome.{collision_text, accepted_in, stands_text}
@@ -99,6 +102,28 @@ module _ {R S D O E : Type 0} (h : HashFunction) (rooms : Rooms R S D) (disks : 
 
   -- It prints that the entry stands, with status 0, and the list has the certificate's entry and
   -- key at the index; or, with status 10, two different strings with one hash.
+  abbrev pub StandsOrCollides : AuditCase → Turn R O E → Type 0
+  StandsOrCollides x turn = ((turn.status ≡ 0) × HasOwn h x
+      × Prints outs turn.out turn.out_after (stands_text x.accepted.index))
+      ⊎ ((one : Text) × ((other : Text) × ((turn.status ≡ 10) × (one ≢ other) × (h one ≡ h other)
+      × Prints outs turn.out turn.out_after (collision_text one other))))
+
+  -- So it is of each run of `audit` that ends without a failure and without want of memory. A
+  -- landmark backs the certificate, and the list has its hash in the accepted interval; or such a
+  -- signature does, and the list begins with the entries of the last checkpoint that was kept.
+  abbrev pub AuditsSettle : Type 0
+  AuditsSettle = (old : R) (turn : Turn R O E) (cert store : Text) (moment : ℕ)
+      (entries kept : Text) (x : AuditCase) → rooms.tells old
+      → HasTurned h rooms disks outs errs old turn
+      → command_of turn.words ≡ Ok (audit cert store moment entries kept)
+      → (is : IsAuditOf h (rooms.file old) cert store moment entries kept x)
+      → ((x.accepted.by ≡ Landmark) × HasInterval h x.items x.accepted)
+      ⊎ (IsSignedInCourse x is.kept_text × ((export : Export)
+      × ((x.kept ≡ Some export) × HasFront h x.items.entries (held_by h export.steps))))
+      → turn.status ≢ 5 → turn.status ≢ 6 → turn.status ≢ 8 → StandsOrCollides x turn
+
+  -- The same by the words of `audit`, and the first of the two strings is one of the list's, the
+  -- second one of the certificate's or the cosigner's.
   abbrev pub StandsOrPair : AuditCase → Turn R O E → Type 0
   StandsOrPair x turn = ((turn.status ≡ 0) × (has_own h x.items x.accepted x.cert ≡ true)
       × Prints outs turn.out turn.out_after (stands_text x.accepted.index))
@@ -106,8 +131,8 @@ module _ {R S D O E : Type 0} (h : HashFunction) (rooms : Rooms R S D) (disks : 
       × IsPair h collision_text (firsts_of h x) (seconds_of h x) text
       × Prints outs turn.out turn.out_after text))
 
-  -- So it is of each run of `audit` that ends without a failure and without want of memory, over a
-  -- certificate that a landmark or such a signature backs, and a list that is the wanted one.
+  -- So it is where a landmark or such a signature backs the certificate, and the list is the one
+  -- that is wanted.
   abbrev pub AuditsStand : Type 0
   AuditsStand = (old : R) (turn : Turn R O E) (cert store : Text) (moment : ℕ)
       (entries kept : Text) (x : AuditCase) → rooms.tells old

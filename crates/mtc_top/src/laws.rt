@@ -1,7 +1,7 @@
 //! Laws of runs, and of courses of runs and stops: the clauses are the laws, and the functions do
 //! nothing.
 
-ghost use Rattle.mtc_top.specs.AuditLaws.{AuditsStand};
+ghost use Rattle.mtc_top.specs.AuditLaws.{AuditsSettle, AuditsStand};
 ghost use Rattle.mtc_top.specs.CourseLaws.{AddedEntriesStand, CoursesAreHistories, EntriesStand};
 ghost use Rattle.mtc_top.specs.CourseLaws.{HandedOutStand, HandedOutWasHeld, JournalsAreOfNodes};
 ghost use Rattle.mtc_top.specs.CourseLaws.{JournalsAreRead};
@@ -56,15 +56,16 @@ pub fn no_one_time_key_signs_twice<H: TreeHash, R: Room, O: Sink, E: Sink>()
 
 /// Where a run that added a record did its work, or a byte of it went out, it ended with another
 /// status than 5 and 8. So its record is among those that the run found or added, and each image
-/// that a crash may leave afterwards stands for records. These begin with those that were there, and
-/// that one.
+/// that a crash may leave afterwards stands for records. These begin with those that were there,
+/// and that one.
 pub fn what_was_handed_out_stands<H: TreeHash, R: Room, O: Sink, E: Sink>()
     ensures held { HandedOutWasHeld H.hash R.Room R.Dsk.Disk O.Sink E.Sink }
     ensures stand { HandedOutStand H.hash R.Room R.Dsk.Disk O.Sink E.Sink }
 {}
 
 /// Each image that a crash may leave stands for records. What a run found in the journal before, or
-/// made of it, is a front of them, whatever went out of the run, unless it ended with status 5 or 8.
+/// made of it, is a front of them, whatever went out of the run, unless it ended with status 5 or
+/// 8.
 pub fn recovered_lists_only_grow<H: TreeHash, R: Room, O: Sink, E: Sink>()
     ensures { RecoveredListsGrow H.hash R.Room R.Dsk.Disk O.Sink E.Sink }
 {}
@@ -106,12 +107,15 @@ pub fn exports_hold_what_went_out<H: TreeHash, R: Room, O: Sink, E: Sink>()
 
 /// A run of `audit` that ends with another status than 5, 6 and 8 prints that the entry stands, or
 /// two different strings with one hash. Its four files are read, and the store accepts the
-/// certificate: by a landmark, or by cosigners. Then one of those that count has signed the accepted
-/// hash: a run of a course of its journal found or added that record, and what was kept is what a
-/// run of `export` with status 0 printed behind it. The list is the wanted one: it has the landmark's hash, or the
-/// root of the last checkpoint that was kept.
+/// certificate: by a landmark, or by cosigners. Then one of those that count has signed the
+/// accepted hash: a run of a course of its journal found or added that record, and what was kept is
+/// what a run of `export` with status 0 printed behind it. The list is the wanted one: it has the
+/// landmark's hash, or the root of the last checkpoint that was kept. The clause `stand` says
+/// besides of which lists the two strings are: the first is hashed for the list or a key of it, the
+/// second for the certificate or in the cosigner's proofs.
 pub fn audits_stand<H: TreeHash, R: Room, O: Sink, E: Sink>()
-    ensures { AuditsStand H.hash R.Room R.Dsk.Disk O.Sink E.Sink }
+    ensures settle { AuditsSettle H.hash R.Room R.Dsk.Disk O.Sink E.Sink }
+    ensures stand { AuditsStand H.hash R.Room R.Dsk.Disk O.Sink E.Sink }
 {}
 
 /// From the first byte on that goes out of `issue` or `cosign`, and with status 0, its record was
@@ -132,8 +136,8 @@ pub fn printed_texts_are_of_their_records<H: TreeHash, R: Room, O: Sink, E: Sink
 
 /// So it is in each course of a journal, and what is said of the record stays so. Each entry of
 /// which a byte of the index went out is in each log that may be recovered at the end of the
-/// course, at that index and with its key. Each image of the journal stands for records, and where a
-/// byte of a signature went out these begin with those that were there and the signature's.
+/// course, at that index and with its key. Each image of the journal stands for records, and where
+/// a byte of a signature went out these begin with those that were there and the signature's.
 pub fn printed_texts_stand<H: TreeHash, R: Room, O: Sink, E: Sink>()
     ensures entries { IssuedEntriesStand H.hash R.Room R.Dsk.Disk O.Sink E.Sink }
     ensures signatures { SignaturesStand H.hash R.Room R.Dsk.Disk O.Sink E.Sink }
@@ -145,13 +149,13 @@ pub fn printed_texts_stand<H: TreeHash, R: Room, O: Sink, E: Sink>()
 /// file as such, no other says a signature by it. Each image of a journal stands for records, and
 /// what a run before found in it, or made of it, is a front of these: so the record of each
 /// signature is there. Where a store accepts a certificate by a signature whose record a run of a
-/// course held, or by a landmark, a run of `audit` over the wanted list, and over an export that was
-/// printed behind it, prints that the entry stands, or two different strings with one hash. Or it
-/// ends with status 5, 6 or 8.
+/// course held, or by a landmark, a run of `audit` over the wanted list, and over an export that
+/// was printed behind it, prints that the entry stands, or two different strings with one hash. Or
+/// it ends with status 5, 6 or 8.
 pub fn the_whole_promise<H: TreeHash, R: Room, O: Sink, E: Sink>()
     ensures once { KeysSignOnce H.hash R.Room R.Dsk.Disk O.Sink E.Sink }
     ensures messages { KeysSignOneMessage H.hash R.Room R.Dsk.Disk O.Sink E.Sink }
     ensures stand { RecoveredListsGrow H.hash R.Room R.Dsk.Disk O.Sink E.Sink }
     ensures signatures { OnlyCosignSigns H.hash R.Room R.Dsk.Disk O.Sink E.Sink }
-    ensures audits { AuditsStand H.hash R.Room R.Dsk.Disk O.Sink E.Sink }
+    ensures audits { AuditsSettle H.hash R.Room R.Dsk.Disk O.Sink E.Sink }
 {}

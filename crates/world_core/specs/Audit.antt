@@ -1,8 +1,8 @@
 -- Whether a list has the entry of a certificate that was accepted, or two texts have one hash.
 use Rattle.std.specs.Prelude.{◌≡◌, ℕ, ◌-◌, ◌+◌, ◌≤◌, ◌==◌, ◌&&◌, ◌||◌, not, nat_lt, Bool, true}
 use Rattle.std.specs.Prelude.{false, ℤ}
-use Rattle.std.specs.Prelude.{List, [], ◌∷◌, ◌++◌, length, slice_index_or, Option, Some, None}
-use Rattle.std.specs.Prelude.{is_some, option_map, Ok, if◌then◌else◌}
+use Rattle.std.specs.Prelude.{List, [], ◌∷◌, ◌++◌, length, slice_get, slice_index_or, Option, Some}
+use Rattle.std.specs.Prelude.{None, is_some, option_map, Ok, if◌then◌else◌}
 use Rattle.std.specs.List.{position}
 use Rattle.std.specs.Str.{bytes_eq}
 use Rattle.byte_forms.specs.Types.{Hash, HashFunction, Text}
@@ -131,6 +131,11 @@ abbrev pub has_own : HashFunction → ItemLists → Accepted → Parts → Bool
 has_own h items a c =
     bytes_eq (listed_entry items a.index) (entry_of h c)
     && bytes_eq (listed_key items a.index) c.spki
+
+-- The same in plain words: there they stand.
+pub record HasOwn (h : HashFunction) (x : AuditCase) : Type 0 where
+  pub entry : slice_get x.items.entries x.accepted.index ≡ Some (entry_of h x.cert)
+  pub key : slice_get x.items.keys x.accepted.index ≡ Some x.cert.spki
 
 -- ---- two texts
 

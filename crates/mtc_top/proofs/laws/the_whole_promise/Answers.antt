@@ -1,4 +1,4 @@
-use Rattle.mtc_top.proofs.Audits.{audits_stand}
+use Rattle.mtc_top.proofs.AuditsSettle.{audits_settle}
 use Rattle.mtc_top.proofs.Recovered.{keys_once, lists_grow, one_message}
 use Rattle.mtc_top.proofs.Secrets.{only_cosign}
 use Rattle.mtc_top.proofs.laws.the_whole_promise.Goals as goal
@@ -24,6 +24,6 @@ returns-clause-signatures g c = only_cosign g.H.TreeHash.hash g.R.Room g.R.Dsk.D
     g.met.R.Dsk.Disk.told_bytes
 
 pub returns-clause-audits : goal.returns-clause-audits
-returns-clause-audits g c = audits_stand g.H.TreeHash.hash g.R.Room g.R.Dsk.Disk g.O.Sink g.E.Sink
+returns-clause-audits g c = audits_settle g.H.TreeHash.hash g.R.Room g.R.Dsk.Disk g.O.Sink g.E.Sink
     g.met.R.Dsk.Disk.reads_image g.met.R.Dsk.Disk.only_now g.met.R.Room.told_file
     g.met.R.Dsk.Disk.told_bytes
