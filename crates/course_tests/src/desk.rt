@@ -5,7 +5,7 @@ ghost use Rattle.std.specs.Prelude.{◌≡◌};
 use crate::difference::Difference;
 use disk_core::MemDisk;
 use mtc_io::{Bytes, MemSink};
-use mtc_top::{MemRoom, Room, run};
+use mtc_top::{MemRoom, Room, run, stop_leaving};
 use std::alloc::Global;
 use tree_core::Sha;
 
@@ -90,7 +90,8 @@ impl Desk {
     /// The machine stops, and leaves that image.
     pub fn crash(&mut self, name: &str, pick: u64) -> Result<(), Difference> {
         let image = self.image(name, pick)?;
-        self.place(name, image)
+        stop_leaving::<Sha, MemSink, MemSink>(&mut self.room, name, image, Vec::new(self.alloc))?;
+        Ok(())
     }
 
     // The words of a text, as the program gets them.

@@ -6,13 +6,17 @@ use Rattle.std.proofs.Common.{true≢false}
 use Rattle.std.proofs.lemmas.Slice.Eq.{bytes_eq-Decides}
 use Rattle.std.specs.Option.{IsSomeAnd}
 use Rattle.std.specs.Str.{bytes_eq}
+use Rattle.byte_forms.specs.Types.{HashFunction}
 use Rattle.disk_core.specs.Memory.{IsFresh, failing_of, first_of, images_of}
 use Rattle.disk_core.specs.contracts.memory.mem_disk.MemDiskDisk.TheImpl.{ghosts}
 use Rattle.disk_core.specs.Replay.{IsImage, run, settled}
 use Rattle.disk_core.specs.declared.disk.Disk.{Ghosts as Disks}
 use Rattle.disk_core.specs.declared.memory.call.Made.{Made}
 use Rattle.disk_core.specs.declared.memory.mem_disk.MemDisk.{MemDisk}
+use Rattle.mtc_io.specs.declared.sink.Sink.{Ghosts as Sinks}
+use Rattle.mtc_room.specs.declared.room.Room.{Ghosts as Rooms}
 use Rattle.mtc_answers.specs.Made.{images_at}
+use Rattle.mtc_top.specs.Stops.{StopsLeaving}
 
 pub fresh_left : (left c : List ℕ) (d : MemDisk) → IsFresh left d → images_of d c → c ≡ left
 fresh_left left c d fresh is =
@@ -26,16 +30,16 @@ pub one_left : (x : Option MemDisk) (left : List ℕ) (failing : List ℕ)
 one_left None left failing placed c is = absurd placed
 one_left (Some d) left failing placed c is = fresh_left left c d placed.0 is
 
-module _ {D : Type 0} (g : Disks D) (old new : List ℕ → Option D) (name left : List ℕ)
-    (may : images_at g (old name) left)
+module _ {D : Type 0} (g : Disks D) (May : List ℕ → List ℕ → Type 0)
+    (old new : List ℕ → Option D) (name left : List ℕ) (may : May name left)
     (one : (c : List ℕ) → images_at g (new name) c → c ≡ left)
     (others : (other : List ℕ) → other ≢ name → new other ≡ old other)
-    (settle : (other : List ℕ) → other ≢ name → (c : List ℕ) × (images_at g (old other) c
+    (settle : (other : List ℕ) → other ≢ name → (c : List ℕ) × (May other c
     × ((d : List ℕ) → images_at g (old other) d → d ≡ c))) where
   -- the one image of a file
   pub record IsLeft (n : List ℕ) : Type 0 where
     pub image : List ℕ
-    pub was : images_at g (old n) image
+    pub was : May n image
     pub only : (c : List ℕ) → images_at g (new n) c → c ≡ image
 
   pub left_at : (n : List ℕ) → IsLeft n
@@ -54,3 +58,20 @@ module _ {D : Type 0} (g : Disks D) (old new : List ℕ → Option D) (name left
             only = λ c there. found.1.1 c
                 (subst (λ (x : Option D). images_at g x c) (others n differ) there);
           }
+
+module _ {R S D O E : Type 0} (h : HashFunction) (rooms : Rooms R S D) (disks : Disks D)
+    (outs : Sinks O) (errs : Sinks E) (May : List ℕ → List ℕ → Type 0) (old new : R)
+    (name left : List ℕ) (tells : rooms.tells old → rooms.tells new)
+    (one : (c : List ℕ) → images_at disks (rooms.device new name) c → c ≡ left)
+    (others : (other : List ℕ) → other ≢ name
+    → rooms.device new other ≡ rooms.device old other) where
+  pub stopped : StopsLeaving h rooms disks outs errs May name left old new
+  stopped may settle =
+      let at = left_at disks May (rooms.device old) (rooms.device new) name left may one others
+      settle in
+      record {
+        tells = tells;
+        image = λ n. (at n).image;
+        may = λ n. (at n).was;
+        only = λ n is. (at n).only is;
+      }

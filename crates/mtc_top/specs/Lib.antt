@@ -4,6 +4,7 @@ pub mod Concluded
 pub mod Run
 pub mod RunLaws
 pub mod Courses
+pub mod Stops
 pub mod CourseLaws
 pub mod RoomLaws
 pub mod ExportLaws

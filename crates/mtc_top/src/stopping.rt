@@ -1,32 +1,36 @@
 //! A stop of the machine, over a room in memory.
 
-ghost use Rattle.std.specs.Prelude.{◌≡◌, ◌≢◌, OnOk};
-ghost use Rattle.byte_forms.specs.Types.{Text};
-ghost use Rattle.mtc_room.specs.Memory.{disk_in};
-ghost use Rattle.mtc_answers.specs.Made.{images_at};
-ghost use Rattle.mtc_top.specs.Courses.{HasStopped, images_in};
+ghost use Rattle.std.specs.Prelude.{◌≡◌, OnOk};
+ghost use Rattle.mtc_room.specs.declared.memory.MemRoom.{MemRoom};
+ghost use Rattle.mtc_top.specs.Courses.{images_from, images_in};
+ghost use Rattle.mtc_top.specs.Stops.{StopsLeaving};
 
 use disk_core::{Disk, MemDisk};
 use mtc_io::{Bytes, Memory, Sink};
 use mtc_room::{MemRoom, Room};
 use tree_core::TreeHash;
 
-/// Stops the machine over a room in memory of which all files but one are settled: a crash may
-/// leave of each of them one image alone. Of the named file these bytes are left, which are one of
-/// its images. What comes of it is a stop, as a link of a course.
+/// Stops the machine over a room in memory, and leaves these bytes of the named file.
+///
+/// It is a stop between two runs where a crash may leave them now, and one image alone of each
+/// other file. It is a stop in the middle of a run where a crash may have left them at some moment
+/// since the room was as that run found it, and so for each other file the one image that it may
+/// leave now.
 pub fn stop_leaving<H: TreeHash, O: Sink, E: Sink>(
     room: &mut MemRoom,
     name: &str,
     left: Bytes,
     failing: Vec<u64>,
 ) -> Result<(), Memory>
-    requires may { images_at ⟦<MemDisk as Disk>⟧ (disk_in room.old name.now) left }
-    requires settled { (other : Text) → other ≢ name.now → (c : Text)
-        × (images_at ⟦<MemDisk as Disk>⟧ (disk_in room.old other) c
-        × ((d : Text) → images_at ⟦<MemDisk as Disk>⟧ (disk_in room.old other) d → d ≡ c)) }
-    ensures { OnOk result (HasStopped H.hash ⟦<MemRoom as Room>⟧ ⟦<MemDisk as Disk>⟧ O.Sink E.Sink
+    ensures stops { OnOk result (StopsLeaving H.hash ⟦<MemRoom as Room>⟧ ⟦<MemDisk as Disk>⟧
+        O.Sink E.Sink
         (images_in H.hash ⟦<MemRoom as Room>⟧ ⟦<MemDisk as Disk>⟧ O.Sink E.Sink room.old)
-        room.old room.new) }
+        name.now left room.old room.new) }
+    ensures cuts { OnOk result ((begun : MemRoom)
+        → StopsLeaving H.hash ⟦<MemRoom as Room>⟧ ⟦<MemDisk as Disk>⟧ O.Sink E.Sink
+        (images_from H.hash ⟦<MemRoom as Room>⟧ ⟦<MemDisk as Disk>⟧ O.Sink E.Sink begun room.old)
+        name.now left room.old room.new) }
+    ensures lent { ⟦<MemRoom as Room>⟧.lent room.new ≡ ⟦<MemRoom as Room>⟧.lent room.old }
 {
     room.place(name, left, failing)?;
     Ok(())
