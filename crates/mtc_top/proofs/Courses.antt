@@ -1,8 +1,6 @@
 -- A course is a history of each node: link by link.
 use Rattle.std.proofs.Common.{◌≡◌, ◌⊎◌, inl, inr, ℕ, List, [], ◌∷◌, ◌++◌}
-use Rattle.std.proofs.Common.{Option, Some, refl, sym, subst, ap, ◌∙◌, append_assoc}
-use Rattle.std.proofs.Common.{length}
-use Rattle.std.proofs.Common.{IfSome}
+use Rattle.std.proofs.Common.{Option, Some, refl, sym, subst, ap, ◌∙◌, append_assoc, length, IfSome}
 use Rattle.std.proofs.lemmas.List.{append-nil}
 use Rattle.byte_forms.specs.Types.{HashFunction}
 use Rattle.disk_core.specs.declared.disk.Disk.{Ghosts as Disks}
@@ -20,9 +18,9 @@ use Rattle.node_history.specs.declared.start.NodeStart.{NodeStart}
 use Rattle.node_history.specs.declared.step.NodeStep.{NodeStep}
 use Rattle.node_history.proofs.Sound.{began_so, grown}
 use Rattle.node_history.proofs.Steps.{some_is}
-use Rattle.mtc_top.specs.Courses.{Turn, Link, ran, stops, cut, writes, HasTurned, DidWith}
+use Rattle.mtc_top.specs.Courses.{Turn, Link, ran, stops, cut, died, writes, HasTurned, DidWith}
 use Rattle.mtc_top.specs.Courses.{images_in, images_from, HasStopped, HasWritten, IsCourse}
-use Rattle.mtc_top.specs.Courses.{HasHeld, WasHeld, HandsOut, IsHeard}
+use Rattle.mtc_top.specs.Courses.{HasDied, HasHeld, WasHeld, HandsOut, IsHeard, WentOut, WentOutBy}
 use Rattle.mtc_top.specs.Nodes.{AllStandForNode, EndsWell, StandsForNode}
 use Rattle.mtc_top.specs.Nodes.{end_state, steps_of}
 use Rattle.mtc_top.specs.Facts.{facts}
@@ -30,8 +28,8 @@ use Rattle.mtc_top.specs.Run.{journals}
 use Rattle.node_history.specs.Laws.{AreAtMost, handed_bodies}
 use Rattle.node_history.proofs.Agreement.{alone}
 use Rattle.node_history.proofs.Sound.{sound}
-use Rattle.mtc_top.specs.Courses.{WentOut, WentOutBy}
 use Rattle.mtc_top.specs.Nodes.{End, MayEnd, begun, has_handed, has_settled, same, stopped}
+use Rattle.mtc_top.proofs.Died.{died_ends, died_hands}
 use Rattle.mtc_top.proofs.Nodes.{heard_dec}
 use Rattle.mtc_top.proofs.WentOut.{end_hands, find_added, moment_hands, other_none, out_by}
 use Rattle.mtc_top.proofs.Turns.{find_name, now_of, steps_with}
@@ -334,6 +332,41 @@ module _ {R S D O E : Type 0} (h : HashFunction) (rooms : Rooms R S D) (disks : 
             handed = may.handed;
           }
 
+      -- ---- a program that died
+      died_goes : (steps : List NodeStep) (s : HistoryState) (old new : R) (turn : Turn R O E)
+          → IsAt steps s old → HasDied h rooms disks outs errs name old turn new
+          → CutGoes steps s new
+      died_goes steps s old new turn at killed = elim (find old turn) [
+        | inl other ↦
+            (let j = facts h (command_of turn.words) in
+            let stays = killed.stays (λ did among. other_none j.journals
+            (j.outcome (rooms.file old)).journals name did other among) in
+            record {
+              later = later_same steps s new (record {
+                tells = killed.tells at.tells;
+                leads = at.leads;
+                stands = subst (λ (x : Option D). AllStandForNode s first (images_at disks x))
+                    (sym stays.disk) at.stands;
+              });
+              handed = refl;
+            })
+        | inr found ↦
+            (let e = died_ends h rooms disks outs errs image told name old new turn found.0 at.tells
+            found.1 killed s first at.stands in
+            record {
+              later = record {
+                more = steps_of 0 e.end;
+                state = end_state e.end s;
+                at = record {
+                  tells = killed.tells at.tells;
+                  leads = e.goes_on (starts_of steps s old at) (start ∷ []) steps 0 at.leads;
+                  stands = e.stands;
+                };
+              };
+              handed = died_hands s (few_handed steps s old at) found.0 e.end e.may;
+            })
+      ]
+
       -- ---- other files that change
 
       written_stands : (steps : List NodeStep) (s : HistoryState) (old new : R) → IsAt steps s old
@@ -384,6 +417,16 @@ module _ {R S D O E : Type 0} (h : HashFunction) (rooms : Rooms R S D) (disks : 
           record { later = rest.later; out = rest.out; went = rest.went; handed = rest.handed }
       course_goes steps s old new (cut turn room ∷ links) at course =
           let mid = cut_goes steps s old room turn at course.0.0 course.0.1 in
+          let rest = course_goes (steps ++ mid.later.more) mid.later.state room new links
+          mid.later.at course.1 in
+          record {
+            later = later_on steps mid.later.more new rest.later;
+            out = rest.out;
+            went = rest.went;
+            handed = rest.handed ∙ ap (λ (l : List (List ℕ)). l ++ rest.out) mid.handed;
+          }
+      course_goes steps s old new (died turn room ∷ links) at course =
+          let mid = died_goes steps s old room turn at course.0 in
           let rest = course_goes (steps ++ mid.later.more) mid.later.state room new links
           mid.later.at course.1 in
           record {
@@ -449,5 +492,9 @@ module _ {R S D O E : Type 0} (h : HashFunction) (rooms : Rooms R S D) (disks : 
           course.1 was
       course_held steps s old new (cut turn room ∷ links) list at course was =
           let mid = (cut_goes steps s old room turn at course.0.0 course.0.1).later in
+          fronts_on steps mid.more new list (course_held (steps ++ mid.more) mid.state room new
+          links list mid.at course.1 was)
+      course_held steps s old new (died turn room ∷ links) list at course was =
+          let mid = (died_goes steps s old room turn at course.0).later in
           fronts_on steps mid.more new list (course_held (steps ++ mid.more) mid.state room new
           links list mid.at course.1 was)

@@ -87,7 +87,7 @@ silent_reply P (said Collided text) status is not0 not3 not10 prints = absurd (n
 silent_reply P (refused why file reason) status is not0 not3 not10 prints = prints
 
 -- by other rules that follow from these
-adds_so : (P Q : List (List ℕ) → Type 0) → ((list : List (List ℕ)) → P list → Q list)
+pub adds_so : (P Q : List (List ℕ) → Type 0) → ((list : List (List ℕ)) → P list → Q list)
     → (did : Journaled) → AddsValid P did → AddsValid Q did
 adds_so P Q so untouched is = tt
 adds_so P Q so (reads list) is = tt

@@ -26,10 +26,10 @@ use Rattle.mtc_answers.specs.Valid.{LeavesValid}
 use Rattle.mtc_answers.proofs.Made.{OnlyNow, ReadsImage}
 use Rattle.node_history.proofs.Chains.{no_some}
 use Rattle.node_history.proofs.Steps.{some_is}
-use Rattle.mtc_top.specs.Courses.{Turn, Link, ran, stops, cut, writes, AreAmong, HasTurned, DidWith}
+use Rattle.mtc_top.specs.Courses.{Turn, Link, ran, stops, cut, died, writes, AreAmong, HasTurned}
 use Rattle.mtc_top.specs.Concluded.{Prints, PrintsFront}
 use Rattle.mtc_top.specs.Courses.{images_in, images_from, IsCourse, HasHeld, HasPrinted, IsHeard}
-use Rattle.mtc_top.specs.Courses.{OfEachTurn, WasHeld, HandsOut, WasHandedOut}
+use Rattle.mtc_top.specs.Courses.{DidWith, OfEachTurn, WasHeld, HandsOut, WasHandedOut}
 use Rattle.mtc_top.specs.Run.{Answered, journals}
 use Rattle.mtc_top.specs.RunLaws.{RunSteps}
 use Rattle.mtc_top.specs.Facts.{facts}
@@ -296,6 +296,8 @@ module _ {R S D O E : Type 0} (h : HashFunction) (rooms : Rooms R S D) (disks : 
       all_held name room new links list body course.1 was
   all_held name old new (cut turn room ∷ links) list body course was =
       all_held name room new links list body course.1 was
+  all_held name old new (died turn room ∷ links) list body course was =
+      all_held name room new links list body course.1 was
   all_held name old new (writes room ∷ links) list body course was =
       all_held name room new links list body course.1 was
 
@@ -319,5 +321,7 @@ module _ {R S D O E : Type 0} (h : HashFunction) (rooms : Rooms R S D) (disks : 
   each_held name Held P old new (cut turn room ∷ links) tells course held each =
       each_held name Held P room new links (course.0.1.tells (course.0.0.back.tells tells))
       course.1 held each
+  each_held name Held P old new (died turn room ∷ links) tells course held each =
+      each_held name Held P room new links (course.0.tells tells) course.1 held each
   each_held name Held P old new (writes room ∷ links) tells course held each =
       each_held name Held P room new links (course.0.tells tells) course.1 held each

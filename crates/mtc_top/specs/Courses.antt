@@ -1,5 +1,6 @@
 -- Courses: what happens to a room, one run after the other, with stops of the machine between the
--- runs and in the middle of one, and with other files that change between them.
+-- runs and in the middle of one, with programs that are killed, and with other files that change
+-- between runs.
 use Rattle.std.specs.Prelude.{◌≡◌, ◌≢◌, ◌⊎◌, ℕ, List, [], ◌∷◌, ◌++◌, Some}
 use Rattle.byte_forms.specs.Types.{HashFunction, Text}
 use Rattle.disk_core.specs.declared.disk.Disk.{Ghosts as Disks}
@@ -7,8 +8,11 @@ use Rattle.journal_core.specs.Format.{StandsFor}
 use Rattle.mtc_io.specs.declared.sink.Sink.{Ghosts as Sinks}
 use Rattle.mtc_room.specs.Room.{Stays}
 use Rattle.mtc_room.specs.declared.room.Room.{Ghosts as Rooms}
-use Rattle.mtc_answers.specs.Made.{Journaled, appended, images_at, images_since, moment_at}
+use Rattle.mtc_words.specs.Words.{command_of}
+use Rattle.mtc_answers.specs.Made.{Journaled, Leaves, MayHaveMade, appended, images_at}
+use Rattle.mtc_answers.specs.Made.{images_since, moment_at}
 use Rattle.mtc_answers.specs.Served.{Journals}
+use Rattle.mtc_answers.specs.Valid.{LeavesValid}
 use Rattle.node_history.specs.Laws.{LeadsTo, handed_bodies}
 use Rattle.node_history.specs.Nodes.{HistoryState}
 use Rattle.node_history.specs.Rules.{StartsWith, may_follow}
@@ -16,6 +20,7 @@ use Rattle.node_history.specs.declared.start.NodeStart.{NodeStart}
 use Rattle.node_history.specs.declared.step.NodeStep.{NodeStep}
 use Rattle.mtc_top.specs.Concluded.{Prints, PrintsFront}
 use Rattle.mtc_top.specs.Nodes.{AllStandForNode, TookSome, records_left}
+use Rattle.mtc_top.specs.Facts.{facts}
 use Rattle.mtc_top.specs.Run.{HasRun, journals}
 
 -- A run: its words, standard output and standard error before and after, its status, and the room
@@ -39,6 +44,9 @@ pub data Link (R O E : Type 0) : Type 0 where
   -- A stop behind the first byte is `ran`, with a standard output that failed there, and then
   -- `stops`: the run has worked on the room before its first byte.
   cut : Turn R O E → R → Link R O E
+  -- The program is killed in the middle of a run, before a byte of it went out, and the machine
+  -- goes on: the run as it would have ended. A kill behind the first byte is `ran`, as above.
+  died : Turn R O E → R → Link R O E
   -- Other files are made, changed or taken away, as a request is between two runs.
   writes : R → Link R O E
 
@@ -88,6 +96,16 @@ module _ {R S D O E : Type 0} (h : HashFunction) (rooms : Rooms R S D) (disks : 
     pub may : (name : Text) → May name (image name)
     pub only : (name c : Text) → images_in new name c → c ≡ image name
 
+  -- The program died in the middle of the run. Of the journal it has left what a run leaves of
+  -- which the room failed; or the run doesn't work on it, and it stays.
+  pub record HasDied (name : Text) (old : R) (turn : Turn R O E) (new : R) : Type 0 where
+    pub tells : rooms.tells old → rooms.tells new
+    pub left : (did : Journaled) → DidWith old turn name did
+        → Leaves disks (MayHaveMade did) (rooms.device old name) (rooms.device new name)
+        × LeavesValid rooms disks (facts h (command_of turn.words)).Valid old new name did
+    pub stays : ((did : Journaled) → DidWith old turn name did → ⊥)
+        → Stays (rooms.file old) (rooms.file new) (rooms.device old) (rooms.device new) name
+
   -- Files were written, but not that of this name.
   pub record HasWritten (name : Text) (old new : R) : Type 0 where
     pub tells : rooms.tells old → rooms.tells new
@@ -103,6 +121,8 @@ module _ {R S D O E : Type 0} (h : HashFunction) (rooms : Rooms R S D) (disks : 
   IsCourse name old (cut turn room ∷ links) new =
       (HasTurned old turn × HasStopped (images_from old turn.room) turn.room room)
       × IsCourse name room links new
+  IsCourse name old (died turn room ∷ links) new =
+      HasDied name old turn room × IsCourse name room links new
   IsCourse name old (writes room ∷ links) new =
       HasWritten name old room × IsCourse name room links new
 
@@ -134,6 +154,7 @@ module _ {R S D O E : Type 0} (h : HashFunction) (rooms : Rooms R S D) (disks : 
   OfEachTurn P old (ran turn ∷ links) = P old turn × OfEachTurn P turn.room links
   OfEachTurn P old (stops new ∷ links) = OfEachTurn P new links
   OfEachTurn P old (cut turn new ∷ links) = OfEachTurn P new links
+  OfEachTurn P old (died turn new ∷ links) = OfEachTurn P new links
   OfEachTurn P old (writes new ∷ links) = OfEachTurn P new links
 
   -- With these records the journal may be recovered: a crash may leave a file that stands for them.
@@ -147,6 +168,7 @@ module _ {R S D O E : Type 0} (h : HashFunction) (rooms : Rooms R S D) (disks : 
       HasHeld name old turn list ⊎ WasHeld name turn.room links list
   WasHeld name old (stops new ∷ links) list = WasHeld name new links list
   WasHeld name old (cut turn new ∷ links) list = WasHeld name new links list
+  WasHeld name old (died turn new ∷ links) list = WasHeld name new links list
   WasHeld name old (writes new ∷ links) list = WasHeld name new links list
 
   -- The run added this record behind those, and it did its work or a byte went out: the record is
@@ -169,6 +191,7 @@ module _ {R S D O E : Type 0} (h : HashFunction) (rooms : Rooms R S D) (disks : 
       × WentOut name turn.room links later))
   WentOut name old (stops new ∷ links) bodies = WentOut name new links bodies
   WentOut name old (cut turn new ∷ links) bodies = WentOut name new links bodies
+  WentOut name old (died turn new ∷ links) bodies = WentOut name new links bodies
   WentOut name old (writes new ∷ links) bodies = WentOut name new links bodies
 
   -- The journal of this name is that of a node at the end of a history, in which the records were
@@ -188,4 +211,5 @@ module _ {R S D O E : Type 0} (h : HashFunction) (rooms : Rooms R S D) (disks : 
       HandsOut name old turn list body ⊎ WasHandedOut name turn.room links list body
   WasHandedOut name old (stops new ∷ links) list body = WasHandedOut name new links list body
   WasHandedOut name old (cut turn new ∷ links) list body = WasHandedOut name new links list body
+  WasHandedOut name old (died turn new ∷ links) list body = WasHandedOut name new links list body
   WasHandedOut name old (writes new ∷ links) list body = WasHandedOut name new links list body

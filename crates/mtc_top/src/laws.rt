@@ -33,8 +33,8 @@ pub fn runs_may_lose_their_text<H: TreeHash, R: Room, O: Sink, E: Sink>()
 {}
 
 /// From a run on that made or opened a journal, whatever runs there are by any words, wherever they
-/// fail, and wherever the machine stops between two runs or in the middle of one: what became of
-/// the journal is a history of its node.
+/// fail, wherever the machine stops between two runs or in the middle of one, and wherever the
+/// program is killed in one: what became of the journal is a history of its node.
 pub fn courses_are_histories<H: TreeHash, R: Room, O: Sink, E: Sink>()
     ensures { CoursesAreHistories H.hash R.Room R.Dsk.Disk O.Sink E.Sink }
 {}
