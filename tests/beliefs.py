@@ -30,14 +30,12 @@ STATEMENTS = (RUNS, COURSES, PRINTS)
 TRAITS = ("mtc_room/src/room.rt", "disk_core/src/disk.rt", "mtc_io/src/source.rt", "mtc_io/src/sink.rt", "tree_core/src/hashing.rt")
 
 # The promise as a whole is one law. Its level are the crates of what a reader has to take in for it: the list of their definitions
-# on which it rests is closed, and has at most so many. It ends at what a run is, which has a table of its own, and at the words of
-# the crates below, which are those of these standards and formats.
+# on which it rests, with their types of the code, is closed and has at most so many. It ends at the words of the crates below, which
+# are those of these standards and formats.
 WHOLE = r"the_whole_\w+"
 LEVEL = ("node_history", "world_core", "mtc_top")
-ENDS = {("mtc_top.specs.Run", "HasRun"), ("mtc_top.specs.Run", "journals")}
 MOST = 60
 STANDARDS = {
-    "a run (the first table)": ("mtc_top",),
     "the words for bytes, readings and forms": ("byte_forms",),
     "files and streams ([OPERATIONS](OPERATIONS.md))": ("mtc_io", "disk_core", "mtc_room"),
     "journals, records, lists and exports ([FORMATS](FORMATS.md))": ("journal_core", "issuance_log", "cosigner_core", "entry_list"),
@@ -180,11 +178,6 @@ def is_below(dotted, name):
     return dotted.split(".")[0] not in LEVEL
 
 
-def is_end(dotted, name):
-    """Where the list of the promise ends: at a run, and at the words of the crates below its level."""
-    return (dotted, name) in ENDS or is_below(dotted, name)
-
-
 def reached(waiting, ends=lambda dotted, name: False, found=None):
     """Definitions by (module, name); types of the code; modules of the kit with their words. Those at which it ends are put into `found`."""
     own, types, kit = {}, set(), {}
@@ -226,10 +219,23 @@ def standard_of(dotted):
 
 
 def promise():
-    """The definitions of the level of the promise, and those at which their list ends."""
+    """The definitions of the level of the promise, the types that they name and the words of the kit, and where their list ends."""
     ends = set()
-    own, _, _ = reached(named_by(WHOLE), is_end, ends)
-    return own, ends
+    own, types, kit = reached(named_by(WHOLE), is_below, ends)
+    return own, sorted(types), {name for words in kit.values() for name in words}, ends
+
+
+def counted(own, types):
+    """How many the list of the promise has: the definitions, and the types of the crates of its level."""
+    return len(own) + sum(crate in LEVEL for crate, _ in types)
+
+
+def written(names):
+    return ", ".join(f"`{name}`" for name in sorted(names))
+
+
+def traits():
+    return {re.search(r"^pub trait (\w+)", (ROOT / "crates" / place).read_text(), re.M).group(1) for place in TRAITS}
 
 
 def file_of(dotted):
@@ -239,12 +245,11 @@ def file_of(dotted):
 
 def promise_rows():
     """The list of the promise, and where it ends, by what says these words."""
-    own, ends = promise()
+    own, types, kit, ends = promise()
     rows = ["| The promise as a whole is | In | Lines |", "|---|---|---|"]
     rows += [f"| `{name}` | {file_of(dotted)} | {len(body)} |" for (dotted, name), body in sorted(own.items())]
-    rows += [f"| {len(own)} definitions of its level, of at most {MOST} | | {sum(map(len, own.values()))} |"]
-    with_runs, _, _ = reached(named_by(WHOLE), is_below, set())
-    rows += [f"| {len(with_runs)} with those of a run, where the list ends | | {sum(map(len, with_runs.values()))} |", ""]
+    rows += [f"| `{name}` | `{crate}`, a type of the code | |" for crate, name in types if crate in LEVEL]
+    rows += [f"| {counted(own, types)} of its level, of at most {MOST} | | {sum(map(len, own.values()))} |", ""]
     rows += ["| It ends at words of | Words | Definitions of these, and all behind them |", "|---|---|---|"]
     for standard in STANDARDS:
         mine = sorted((name, dotted) for dotted, name in ends if standard_of(dotted) == standard)
@@ -253,10 +258,12 @@ def promise_rows():
             rows.append(f"| {standard} | {', '.join(f'`{name}`' for name, _ in mine)} | {len(behind)} |")
     behind, _, _ = reached(rules())
     rows.append(f"| the rules of rooms, devices, streams and hash functions (their traits) | {', '.join(f'`{name}`' for _, name in rules())} | {len(behind)} |")
+    below = {name for crate, name in types if crate not in LEVEL} - traits()
+    rows.append(f"| types of the code, of the crates below | {written(below)} | |")
+    rows.append(f"| the kit | {written(kit)} | |")
     ends |= set(rules())
-    for those, title in ((ends - ENDS, "all but a run, each counted once"), (ends, "all, each counted once")):
-        behind, types, _ = reached(those)
-        rows.append(f"| {title} | {len(those)} words | {len(behind.keys() - own.keys())}, and {len(types)} types of the code |")
+    behind, all_types, _ = reached(ends)
+    rows.append(f"| all but these types and the kit, each counted once | {len(ends)} words | {len(behind)}, and {len(all_types)} types of the code |")
     return rows + [""]
 
 
@@ -300,9 +307,9 @@ def between():
 
 
 def differences():
-    own, _ = promise()
-    if len(own) > MOST:
-        yield f"the promise as a whole rests on {len(own)} definitions of its level, and may on {MOST}"
+    own, types, _, _ = promise()
+    if counted(own, types) > MOST:
+        yield f"the promise as a whole rests on {counted(own, types)} definitions and types of its level, and may on {MOST}"
     if between()[1] != table():
         yield f"docs/{PAGE.name} has other counts (tests/beliefs.py --write)"
 
