@@ -71,6 +71,7 @@ impl<H: TreeHash, T: Disk> Tiles<H, T> {
     pub fn new(alloc: Global, disk: T, pool: Pool) -> Tiles<H, T>
         requires { (slot : ℕ) (key : Key) → HoldsKey pool slot key → ⊥ }
         ensures disk { tiles_disk result ≡ disk }
+        ensures pool { tiles_pool result ≡ pool }
         ensures count { tiles_count result ≡ 0 }
         ensures adopted { tiles_adopted result ≡ 0 }
         ensures stored { tiles_stored result ≡ 0 }
