@@ -242,3 +242,16 @@ fn an_adopted_node_is_read_through_a_frame(rt: HostRuntime) -> Result<(), Fail> 
     assert!(rt; tiles.held_tile(second).is_some());
     Ok(())
 }
+
+#[test]
+fn a_tile_of_the_next_level_is_compared(rt: HostRuntime) -> Result<(), Fail> {
+    let bytes = file(rt.alloc(), 65_536)?;
+    assert!(rt; bytes.len() == 257 * 8192);
+    let file = changed(rt.alloc(), bytes.as_slice(), Change::Byte(256 * 8192))?;
+    let disk = device(rt.alloc(), file.as_slice(), &[])?;
+    let mut tiles = grown(rt.alloc(), disk, 1, 65_536)?;
+    let wanted = Err(TileError::BadTile { level: 1, place: 0 });
+    assert!(rt; adopted(&mut tiles, 65_536) == Some(wanted));
+    assert!(rt; adopted(&mut tiles, 65_280) == Some(Ok(())));
+    Ok(())
+}
