@@ -1,8 +1,9 @@
-// Prints lines WHAT NANOSECONDS COUNT, of the same work as the program over Listed.
+// Prints lines WHAT NANOSECONDS COUNT, of the same work as the program beside it.
 package main
 
 import (
 	"encoding/binary"
+	"errors"
 	"fmt"
 	"os"
 	"peer/tlog"
@@ -13,6 +14,10 @@ import (
 const leaves = 65536
 const kept = 1 << 20
 
+// The leaves of sixteen tiles.
+const held = 4096
+
+// Every hash of a log, in memory.
 type stored []tlog.Hash
 
 func (s stored) ReadHashes(indexes []int64) ([]tlog.Hash, error) {
@@ -22,6 +27,23 @@ func (s stored) ReadHashes(indexes []int64) ([]tlog.Hash, error) {
 	}
 	return read, nil
 }
+
+// The tiles of a log, in memory: tlog compares each that it reads with the tree's hash.
+type tiled map[tlog.Tile][]byte
+
+func (t tiled) Height() int { return 8 }
+
+func (t tiled) ReadTiles(tiles []tlog.Tile) ([][]byte, error) {
+	read := make([][]byte, len(tiles))
+	for i, tile := range tiles {
+		if read[i] = t[tile]; read[i] == nil {
+			return nil, errors.New("no tile " + tile.Path())
+		}
+	}
+	return read, nil
+}
+
+func (t tiled) SaveTiles(tiles []tlog.Tile, data [][]byte) {}
 
 func need(err error) {
 	if err != nil {
@@ -40,6 +62,16 @@ func told(what string, start int64, count int) {
 	fmt.Println(what, nanoseconds()-start, count)
 }
 
+// Makes so many paths over the first size leaves, of leaves all over the first among.
+func paths(what string, hashes tlog.HashReader, size, among int64, count int) {
+	start := nanoseconds()
+	for i := int64(0); i < int64(count); i++ {
+		_, err := tlog.ProveRecord(size, i*300007%among, hashes)
+		need(err)
+	}
+	told(what, start, count)
+}
+
 func main() {
 	runtime.LockOSThread()
 	var all stored
@@ -54,7 +86,7 @@ func main() {
 		}
 		all = append(all, hashes...)
 	}
-	grown := nanoseconds() - start
+	told("push", start, kept)
 	whole, err := tlog.TreeHash(leaves, all)
 	need(err)
 	most, err := tlog.TreeHash(leaves-1, all)
@@ -66,14 +98,17 @@ func main() {
 		joined = tlog.NodeHash(joined, first)
 	}
 	told("pair", start, 1000000)
-	fmt.Println("push", grown, kept)
+
+	for _, size := range []int64{1 << 10, leaves, kept, kept - 1} {
+		paths(fmt.Sprint("path-", size), all, size, size, 200000)
+	}
 
 	start = nanoseconds()
-	for i := int64(0); i < 20000; i++ {
-		_, err = tlog.ProveRecord(leaves, i%20*3000, all)
+	for i := int64(0); i < 200000; i++ {
+		_, err = tlog.ProveTree(leaves, leaves-1-i%20, all)
 		need(err)
 	}
-	told("include", start, 20000)
+	told("consist", start, 200000)
 
 	path, err := tlog.ProveRecord(leaves, 0, all)
 	need(err)
@@ -83,13 +118,6 @@ func main() {
 	}
 	told("evaluate", start, 20000)
 
-	start = nanoseconds()
-	for i := int64(0); i < 20000; i++ {
-		_, err = tlog.ProveTree(leaves, leaves-1-i%20, all)
-		need(err)
-	}
-	told("consist", start, 20000)
-
 	proof, err := tlog.ProveTree(leaves, leaves-1, all)
 	need(err)
 	start = nanoseconds()
@@ -98,15 +126,16 @@ func main() {
 	}
 	told("check", start, 20000)
 
-	for _, edge := range []struct {
-		what string
-		size int64
-	}{{"kept", kept}, {"edge", kept - 1}} {
-		start = nanoseconds()
-		for i := int64(0); i < 200000; i++ {
-			_, err = tlog.ProveRecord(edge.size, i*5, all)
-			need(err)
-		}
-		told(edge.what, start, 200000)
+	start = nanoseconds()
+	tiles := tiled{}
+	made := tlog.NewTiles(8, 0, kept)
+	for _, tile := range made {
+		tiles[tile], err = tlog.ReadTileData(tile, all)
+		need(err)
 	}
+	told("tile", start, len(made))
+	root, err := tlog.TreeHash(kept, all)
+	need(err)
+	through := tlog.TileHashReader(tlog.Tree{N: kept, Hash: root}, tiles)
+	paths(fmt.Sprint("held-", kept), through, kept, held, 1000)
 }
