@@ -36,7 +36,7 @@ node-one h level hashes none size leaves base from are within =
     ∙ ap (λ b. root_of h (part_of leaves (from * 2 ^ base) (b * 2 ^ base))) end
 
 -- a full part is split in its middle
-middle-is : (base from half count : ℕ) (lower : ℕ) → half ≡ 2 ^ lower → count ≡ 2 * half
+pub middle-is : (base from half count : ℕ) (lower : ℕ) → half ≡ 2 ^ lower → count ≡ 2 * half
     → (from + half) * 2 ^ base
     ≡ from * 2 ^ base + split_of ((from + count) * 2 ^ base - from * 2 ^ base)
 middle-is base from half count lower is double =

@@ -10,3 +10,4 @@ pub mod Steps
 pub mod Kept
 pub mod Compared
 pub mod Adopted
+pub mod Parents

@@ -143,3 +143,23 @@ gone-kept adopted level place other =
     ap (λ k. adopted / 256 ^ k * 2 ^ (8 - 8 * level % 8)) tile
     ∙ ap (λ k. adopted / 256 ^ (level + 1) * 2 ^ k) first in
     omega arith
+
+-- neither is a node of such a tile
+pub gone-below : (adopted level place : ℕ)
+    → (IsFull adopted (level / 8) (place / 2 ^ (8 - level % 8)) → ⊥)
+    → gone_of adopted level ≤ place
+gone-below adopted level place other =
+    let tile = place / 2 ^ (8 - level % 8) in
+    let positive = power_pos 256 (level / 8 + 1) (omega arith) in
+    let above : adopted < (place / 2 ^ (8 - level % 8) + 1) * 256 ^ (level / 8 + 1) =
+    lt_of_not-le other in
+    let few : adopted / 256 ^ (level / 8 + 1) < place / 2 ^ (8 - level % 8) + 1 =
+    lt_of_not-le (λ many.
+    let up = mul-le-mul_right {m = tile + 1} {n = adopted / 256 ^ (level / 8 + 1)}
+    (256 ^ (level / 8 + 1)) many in
+    let most = div-mul-le_self adopted (256 ^ (level / 8 + 1)) in
+    omega arith) in
+    let less : adopted / 256 ^ (level / 8 + 1) ≤ tile = omega arith in
+    let up = mul-le-mul_right (2 ^ (8 - level % 8)) less in
+    let most = div-mul-le_self place (2 ^ (8 - level % 8)) in
+    omega arith

@@ -8,8 +8,8 @@ use Rattle.std.proofs.lemmas.Nat.{pow-add, pow_pos}
 use Rattle.disk_core.specs.Disk.{part}
 use Rattle.frame_pool.specs.Frames.{HoldsKey, PoolState, frame_at}
 use Rattle.frame_pool.specs.declared.key.TileKey.{TileKey}
-use Rattle.tile_store.proofs.Halves.{IsNodeOver}
-use Rattle.tile_store.specs.Contents.{IsTile, hash_in}
+use Rattle.tile_store.specs.Contents.{IsTile}
+use Rattle.tile_store.specs.Inside.{IsNodeIn}
 use Rattle.tile_store.specs.Layout.{IsFull, tile_at}
 use Rattle.tile_store.specs.Sound.{IsSoundOver, leaves_with}
 use Rattle.tree_cache.proofs.Forgets.{bytes-of}
@@ -58,13 +58,12 @@ level-parts level =
     ap (λ n. 2 ^ n) sum ∙ pow-add 2 (level % 8) (8 * (level / 8))
 
 pub tile-node : (h : List ℕ → List ℕ) (leaves : List (List ℕ)) (level place : ℕ)
-    (tile below node : List ℕ)
+    (tile node : List ℕ)
     → IsTile h leaves (level / 8) (place / 2 ^ (8 - level % 8)) tile
-    → ((i : ℕ) → i < 2 ^ (level % 8) → hash_in i below
-    ≡ hash_in (place % 2 ^ (8 - level % 8) * 2 ^ (level % 8) + i) tile)
-    → IsNodeOver h (2 ^ (level % 8)) below node → (place + 1) * 2 ^ level ≤ length leaves
+    → IsNodeIn h tile (place % 2 ^ (8 - level % 8) * 2 ^ (level % 8)) (2 ^ (level % 8)) node
+    → (place + 1) * 2 ^ level ≤ length leaves
     → node ≡ root_of h (part_of leaves (place * 2 ^ level) ((place + 1) * 2 ^ level))
-tile-node h leaves level place tile below node is hashes over within =
+tile-node h leaves level place tile node is over within =
     let width = 2 ^ (level % 8) in
     let base = 8 * (level / 8) in
     let parts = level-parts level in
@@ -76,8 +75,7 @@ tile-node h leaves level place tile below node is hashes over within =
     over leaves base (place * width)
     (λ i inside.
     let most = below-within level place in
-    hashes i inside
-    ∙ is.hashes (place % 2 ^ (8 - level % 8) * 2 ^ (level % 8) + i) (omega arith)
+    is.hashes (place % 2 ^ (8 - level % 8) * 2 ^ (level % 8) + i) (omega arith)
     ∙ ap (λ n. root_of h (part_of leaves (n * 256 ^ (level / 8)) ((n + 1) * 256 ^ (level / 8))))
     (place-in level place i)
     ∙ ap (λ p. root_of h (part_of leaves ((place * 2 ^ (level % 8) + i) * p)

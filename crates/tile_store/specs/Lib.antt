@@ -1,5 +1,6 @@
 pub mod Layout
 pub mod Contents
+pub mod Inside
 pub mod Frames
 pub mod Sound
 pub mod Store

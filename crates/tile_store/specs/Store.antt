@@ -35,7 +35,8 @@ module _ {H T : Type 0} {hashes : Hashes H} {g : Ghosts T} where
   abbrev pub tiles_leaves : Tiles H T hashes g → Option (List Hash)
   tiles_leaves tiles = option_map (leaves_with tiles.adopted tiles.rows) (g.told tiles.disk)
 
-  -- The device was only looked at, and all but it and the frames is as it was.
+  -- The device was only looked at, and all but it, the frames and the nodes that are kept of their
+  -- tiles is as it was.
   pub record TilesStay (old new : Tiles H T hashes g) : Type 0 where
     pub looks : Looks g old.disk new.disk
     pub rows : new.rows ≡ old.rows

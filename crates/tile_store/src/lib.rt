@@ -3,7 +3,9 @@
 //!
 //! A tile has 256 hashes of one level, 8,192 bytes. Tiles that are full are stored in the order in
 //! which they become full. Once a stored tile was read back and compared it is adopted: its nodes
-//! are dropped from memory, and from then on come out of the file, through a frame of the pool.
+//! are dropped from memory, and from then on come out of the file, through a frame of the pool. The
+//! nodes inside a tile, between two stored levels, are hashed when one of them is asked for first,
+//! and kept while the frame holds the tile.
 //!
 //! ```rust
 //! use frame_pool::Pool;
@@ -23,6 +25,7 @@
 
 mod checking;
 mod error;
+mod inside;
 mod layout;
 mod reading;
 mod store;

@@ -20,7 +20,7 @@ use mtc_io::Failed;
 use tree_core::{TreeHash, pair};
 
 // The bytes of a hash.
-const HASH: usize = 32;
+pub(crate) const HASH: usize = 32;
 
 // The frame of a tile. Where none holds it yet, one is claimed for it, and the tile is read there.
 pub(crate) fn load<T: Disk>(disk: &mut T, pool: &mut Pool, key: TileKey) -> Result<Slot, Failed>

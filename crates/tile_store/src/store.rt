@@ -17,8 +17,9 @@ ghost use Rattle.tree_cache.specs.Tiled.{gone_of};
 
 use crate::TileError;
 use crate::checking::check;
+use crate::inside::FrameNodes;
 use crate::layout::{count_tiles, is_full, tile_of};
-use crate::reading::{hashes_below, load, node_over};
+use crate::reading::load;
 use crate::writing::write_tiles;
 use disk_core::Disk;
 use frame_pool::{Pool, Slot, TileKey};
@@ -40,6 +41,7 @@ pub struct Tiles<H: TreeHash, T: Disk> {
     pub(crate) disk: T,
     pub(crate) pool: Pool,
     pub(crate) rows: Rows,
+    inside: FrameNodes<H>,
     pub(crate) adopted: u64,
     pub(crate) stored: u64,
     function: PhantomData<H>,
@@ -82,6 +84,7 @@ impl<H: TreeHash, T: Disk> Tiles<H, T> {
             disk,
             pool,
             rows: Rows::new(alloc),
+            inside: FrameNodes::new(alloc),
             adopted: 0,
             stored: 0,
             function: PhantomData,
@@ -126,6 +129,8 @@ impl<H: TreeHash, T: Disk> Tiles<H, T> {
     /// The hash of the `2^level` leaves from `place * 2^level` on, as [`Nodes::node`]. Where its
     /// tile is adopted, at Ok a frame holds that tile, and where none did before it was read from
     /// the device in this call. `Failed` comes only where the count of the device's faults rose.
+    /// The nodes inside a tile are hashed together and kept, in 16,352 bytes for each frame; where
+    /// memory is refused for them, the one is hashed alone.
     pub fn tile_node(&mut self, level: u32, place: u64) -> Result<[u8; 32], Failed>
         requires { (place + 1) * 2 ^ level ≤ tiles_count self.old }
         ensures value { IfOk result (IsRootOf H.hash (tiles_leaves self.old) (place * 2 ^ level)
@@ -147,8 +152,8 @@ impl<H: TreeHash, T: Disk> Tiles<H, T> {
             return Ok(self.rows.hash_at(level, place));
         }
         let slot = self.load(key)?;
-        let hashes = hashes_below(self.pool.frame(slot), level, place);
-        Ok(node_over::<H>(hashes, level % 8))
+        let tile = self.pool.frame(slot);
+        Ok(self.inside.node(slot.0 as usize, tile, level, place))
     }
 
     // The frame of an adopted tile.

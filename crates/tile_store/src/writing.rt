@@ -20,7 +20,7 @@ use tree_cache::Rows;
 use tree_core::TreeHash;
 
 // The bytes of hashes, one behind the other.
-fn bytes_of(hashes: &[[u8; 32]]) -> &[u8]
+pub(crate) fn bytes_of(hashes: &[[u8; 32]]) -> &[u8]
     ensures size { length result.now ≡ 32 * length hashes.now }
     ensures each { (i : ℕ) → i < length hashes.now
         → hash_in i result.now ≡ slice_index_or hashes.now i [] }

@@ -1,7 +1,7 @@
 use Rattle.std.proofs.Common.{◌≡◌, ◌+◌, ◌-◌, ◌*◌, ◌/◌, ◌%◌, ◌^◌, ◌≤◌, ◌∙◌}
-use Rattle.std.proofs.Common.{ap, subst}
+use Rattle.std.proofs.Common.{ap, subst, sym}
 use Rattle.std.proofs.Common.{arith, rules}
-use Rattle.tile_store.proofs.Numbers.{full-more}
+use Rattle.tile_store.proofs.Numbers.{full-more, gone-below}
 use Rattle.tile_store.proofs.TileNodes.{frame-tile, tile-node, when-told}
 use Rattle.tile_store.specs.Contents.{IsTile}
 use Rattle.tile_store.specs.Layout.{IsFull}
@@ -19,8 +19,21 @@ tile_of-key-requires g c =
     level_fits c.args.place c.args.level (count_of c.args.self.now.rows.rows) c.requires
     (omega arith)
 
-pub hashes_below-hashes-requires-clause-small : goal.hashes_below-hashes-requires-clause-small
-hashes_below-hashes-requires-clause-small g c =
+pub hash_at-requires-clause-kept : goal.hash_at-requires-clause-kept
+hash_at-requires-clause-kept g c =
+    let tiles = c.args.self.now in
+    let key = c.tile_of-key.result in
+    subst (λ n. n ≤ c.args.place) (sym (tiles.gone c.args.level))
+    (gone-below tiles.adopted c.args.level c.args.place (λ full.
+    let here : IsFull tiles.adopted key.level key.place =
+    subst (λ l. IsFull tiles.adopted l key.place) (sym c.tile_of-key.ensures.level)
+    (subst (IsFull tiles.adopted (c.args.level / 8)) (sym c.tile_of-key.ensures.place) full) in
+    let yes = c.is_full.ensures.1 here in
+    let no = c.if-not-is_full.true in
+    cc))
+
+pub node-requires-clause-small : goal.node-requires-clause-small
+node-requires-clause-small g c =
     let few = c.args.self.now.few in
     level_fits c.args.place c.args.level (count_of c.args.self.now.rows.rows) c.requires
     (omega arith)
@@ -33,7 +46,7 @@ returns-clause-value g c =
     let stays = c.load.ensures.stays in
     let key = c.tile_of-key.result in
     when-told (g.T.Disk.told old.disk) (leaves_with old.adopted old.rows)
-    (λ leaves. c.node_over.result ≡ root_of h (part_of leaves (c.args.place * 2 ^ c.args.level)
+    (λ leaves. c.node.result ≡ root_of h (part_of leaves (c.args.place * 2 ^ c.args.level)
     ((c.args.place + 1) * 2 ^ c.args.level)))
     (λ b told.
     let before = old.told b told in
@@ -42,11 +55,11 @@ returns-clause-value g c =
     let adopted = stays.adopted in
     let written = now.written in
     let tile : IsTile h (leaves_with old.adopted old.rows b) (c.args.level / 8)
-    (c.args.place / 2 ^ (8 - c.args.level % 8)) c.frame.result.now =
+    (c.args.place / 2 ^ (8 - c.args.level % 8)) c.frame-tile.result.now =
     frame-tile h now.adopted now.stored now.rows now.pool b key c.in_ok-slot.slot.0
-    (c.args.level / 8) (c.args.place / 2 ^ (8 - c.args.level % 8)) c.frame.result.now
+    (c.args.level / 8) (c.args.place / 2 ^ (8 - c.args.level % 8)) c.frame-tile.result.now
     (leaves_with old.adopted old.rows b) sound c.in_ok-slot.ensures.held
-    c.tile_of-key.ensures.level c.tile_of-key.ensures.place c.frame.ensures.value
+    c.tile_of-key.ensures.level c.tile_of-key.ensures.place c.frame-tile.ensures.value
     (full-more old.adopted now.stored (c.args.level / 8)
     (c.args.place / 2 ^ (8 - c.args.level % 8)) (omega arith)
     (subst (λ l. IsFull old.adopted l (c.args.place / 2 ^ (8 - c.args.level % 8)))
@@ -56,6 +69,5 @@ returns-clause-value g c =
     ∙ ap (λ r. leaves_with old.adopted r b) stays.rows) in
     let count = count-rows h (leaves_with old.adopted old.rows b) old.rows.rows before.stands in
     tile-node h (leaves_with old.adopted old.rows b) c.args.level c.args.place
-    c.frame.result.now c.hashes_below-hashes.result.now c.node_over.result tile
-    c.hashes_below-hashes.ensures.hashes c.node_over.ensures
+    c.frame-tile.result.now c.node.result tile c.node.ensures
     (subst (λ n. (c.args.place + 1) * 2 ^ c.args.level ≤ n) count c.requires))
