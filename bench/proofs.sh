@@ -50,7 +50,6 @@ awk '
         print "making a path or a proof|sumdb/tlog in Go|" both("path-65536") " " both("consist")
         print "making a path of 1,048,576 leaves|sumdb/tlog in Go|" both("path-1048576")
         print "making a path of 1,048,575 leaves|sumdb/tlog in Go|" both("path-1048575")
-        print "making a path of 1,048,576 leaves, out of tiles in frames|sumdb/tlog in Go|" both("held-1048576")
     }' "$work/peer.txt" "$work/printed" > "$work/figures"
 if [ "${1-}" = --write ]; then
     keep_figures proofs "WORK|AGAINST|RATIOS" < "$work/figures"
