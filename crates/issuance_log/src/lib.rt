@@ -9,8 +9,8 @@
 //! What the records of a journal make of a log is one function of them. A log keeps to it: unless
 //! an append has failed, its settings, items and landmarks are what the records on its disk make.
 //!
-//! A log is the [`Nodes`](tree_proofs::Nodes) of the tree over its entries: it keeps the leaf
-//! hashes, and from the first node on that is asked for, the hash of each full subtree in a
+//! A log is the [`Nodes`](tree_proofs::Nodes) of the tree over its entries: from the first node on
+//! that is asked for, it keeps the hash of each entry and of each full subtree in a
 //! [`Cache`](tree_cache::Cache).
 #![tactic(auto)]
 
