@@ -1,7 +1,7 @@
-//! The end of a journal, which is written again.
+//! The end of a journal, which is written again before it is synced.
 
 use journal_core::HEADER;
-use mtc_files::write_end_again;
+use mtc_files::sync_with_end;
 use mtc_io::Memory;
 use std::alloc::Global;
 use std::cell::Cell;
@@ -11,12 +11,13 @@ use std::os::unix::fs::FileExt;
 use std::rt::Files;
 use std::test::Fail;
 
-// A call of a file: it asks for the length, or it reads or writes so many bytes from a place on.
+// A call of a file: for its length, a read or a write of so many bytes from a place on, or a sync.
 #[derive(Clone, Copy, PartialEq)]
 enum Call {
     Len,
     Read(u64, usize),
     Write(u64, usize),
+    Sync,
 }
 
 // A file that knows which calls are to come, and of which one may fail.
@@ -64,8 +65,7 @@ impl OpenFile for Watched {
     }
 
     fn sync_all(&self) -> io::Result<()> {
-        self.strange.set(true);
-        Ok(())
+        self.note(Call::Sync)
     }
 
     fn sync_data(&self) -> io::Result<()> {
@@ -116,6 +116,7 @@ fn calls_of(alloc: Global, from: u64, pieces: u64, last: usize) -> Result<Vec<Ca
         calls.push(Call::Read(place, size))?;
         calls.push(Call::Write(place, size))?;
     }
+    calls.push(Call::Sync)?;
     Ok(calls)
 }
 
@@ -132,9 +133,9 @@ fn bytes_of(alloc: Global, begins: &[u8], length: u64) -> Result<Vec<u8>, Memory
     Ok(bytes)
 }
 
-// How the end of a file with these bytes is written again: whether that went well, how many calls
-// it took where each was the one to come, and whether the file keeps its bytes.
-fn written_again<R: Files<File = File> + Alloc>(
+// How a file with these bytes is synced, with its end: whether that went well, how many calls it
+// took where each was the one to come, and whether the file keeps its bytes.
+fn synced<R: Files<File = File> + Alloc>(
     files: &R,
     path: &str,
     bytes: &[u8],
@@ -149,19 +150,19 @@ fn written_again<R: Files<File = File> + Alloc>(
         made: Cell::new(0),
         strange: Cell::new(false),
     };
-    let ended = write_end_again(&file);
+    let ended = sync_with_end(&file);
     let kept = fs::read(files, path)?;
     Ok((ended.is_ok(), file.met(), kept.as_slice() == bytes))
 }
 
 #[test]
-fn the_end_of_a_journal_is_written_again(rt: HostRuntime) -> Result<(), Fail> {
+fn the_end_of_a_journal_is_written_before_the_sync(rt: HostRuntime) -> Result<(), Fail> {
     let path = "mtc_files_end_test";
     for (length, from, pieces, last) in ENDS {
         let bytes = bytes_of(rt.alloc(), &HEADER, length)?;
         let wanted = calls_of(rt.alloc(), from, pieces, last)?;
         let count = wanted.len();
-        let ended = written_again(&rt, path, &bytes, wanted, count)?;
+        let ended = synced(&rt, path, &bytes, wanted, count)?;
         assert!(rt; ended == (true, Some(count), true), "{length} bytes");
     }
     fs::remove_file(&rt, path)?;
@@ -178,24 +179,25 @@ fn another_file_is_not_written(rt: HostRuntime) -> Result<(), Fail> {
     ];
     for begins in others {
         let bytes = bytes_of(rt.alloc(), begins, 5000)?;
-        let wanted = Vec::from_slice(rt.alloc(), &[Call::Len, Call::Read(0, 16)])?;
-        let ended = written_again(&rt, path, &bytes, wanted, 2)?;
-        assert!(rt; ended == (true, Some(2), true), "{}", begins[15]);
+        let calls = [Call::Len, Call::Read(0, 16), Call::Sync];
+        let wanted = Vec::from_slice(rt.alloc(), &calls)?;
+        let ended = synced(&rt, path, &bytes, wanted, 3)?;
+        assert!(rt; ended == (true, Some(3), true), "{}", begins[15]);
     }
     fs::remove_file(&rt, path)?;
     Ok(())
 }
 
-// The length, the header, and a read and a write of each piece. No call comes behind one that
-// fails.
+// The length, the header, a read and a write of each piece, and the sync. No call comes behind one
+// that fails.
 #[test]
 fn each_call_that_fails_is_told(rt: HostRuntime) -> Result<(), Fail> {
     let path = "mtc_files_fault_test";
-    for (length, from, pieces, last, count) in [(4097, 0, 2, 1, 6), (135_169, 1, 33, 4096, 68)] {
+    for (length, from, pieces, last, count) in [(4097, 0, 2, 1, 7), (135_169, 1, 33, 4096, 69)] {
         let bytes = bytes_of(rt.alloc(), &HEADER, length)?;
         for failing in 0..count {
             let wanted = calls_of(rt.alloc(), from, pieces, last)?;
-            let ended = written_again(&rt, path, &bytes, wanted, failing)?;
+            let ended = synced(&rt, path, &bytes, wanted, failing)?;
             assert!(rt;
                 ended == (false, Some(failing + 1), true),
                 "{length}, call {failing}"

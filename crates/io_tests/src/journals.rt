@@ -100,20 +100,29 @@ fn records_are_appended(rt: HostRuntime) -> Result<(), Fail> {
     Ok(())
 }
 
-// The second call of an append fails. The first body is read all the same.
-fn breaks(alloc: Global) -> Result<bool, Memory> {
-    let Ok(mut journal) = begun(alloc, empty(alloc, &[6])?, &[1]) else {
+// Whether an append answers Failed where this call of the disk fails, and makes none behind it; nor
+// does the next append.
+fn breaks(alloc: Global, call: u64) -> Result<bool, Memory> {
+    let Ok(mut journal) = begun(alloc, empty(alloc, &[call])?, &[1]) else {
         return Ok(false);
     };
     let whole = journal.end() == 23;
     let failed = append(&mut journal, &[0xaa, 0xbb]) == Err(AppendError::Failed);
     let broken = append(&mut journal, &[0xaa, 0xbb]) == Err(AppendError::Broken);
-    Ok(whole && failed && broken && journal.into_disk().calls().len() == 7)
+    Ok(
+        whole
+            && failed
+            && broken
+            && journal.into_disk().calls().len() as u64 == call.saturating_add(1),
+    )
 }
 
 #[test]
 fn a_broken_journal_calls_no_disk(rt: HostRuntime) -> Result<(), Fail> {
-    assert!(rt; breaks(rt.alloc())?);
+    // A start makes five calls, and an append four: the record, its sync, the gate, its sync.
+    for call in 5..9 {
+        assert!(rt; breaks(rt.alloc(), call)?, "call {call}");
+    }
     Ok(())
 }
 

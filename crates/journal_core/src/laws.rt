@@ -4,7 +4,7 @@ ghost use Rattle.std.specs.Prelude.{◌≡◌, ◌≤◌, ℕ, List, length, tak
 ghost use Rattle.byte_forms.specs.Types.{Text};
 ghost use Rattle.byte_forms.specs.Places.{IsBytes};
 ghost use Rattle.journal_core.specs.Folds.{Fold, Found, state_behind, read_by};
-ghost use Rattle.journal_core.specs.Format.{StandsFor, new_file_of, tail_of};
+ghost use Rattle.journal_core.specs.Format.{StandsFor, new_file_of, record_bytes};
 ghost use Rattle.journal_core.specs.Words.{AllStandFor};
 
 use crate::format::{HEADER, LONGEST_WRITE, MAX_BODY};
@@ -16,16 +16,15 @@ pub fn a_file_stands_for_one_list_at_most()
         → StandsFor bytes other → one ≡ other }
 {}
 
-/// Each file that stands for records begins with the header, and no write to a journal is longer
-/// than the longest one: neither what the first write of a new file holds, nor what an append
-/// writes behind the closed gate.
+/// Each file that stands for records begins with the header. Neither the bytes of a new file's
+/// first write nor those of a record from its gate on are more than those of the longest write.
 pub fn writes_have_a_longest()
     ensures header { (bytes : Text) (list : List Text) → StandsFor bytes list
         → take 16 bytes ≡ HEADER }
     ensures first { (body : Text) → length body ≤ MAX_BODY
         → length (new_file_of body) ≤ LONGEST_WRITE }
     ensures later { (body : Text) → length body ≤ MAX_BODY
-        → length (tail_of body) ≤ LONGEST_WRITE }
+        → length (record_bytes body) ≤ LONGEST_WRITE }
 {}
 
 /// Of each kind of journal: a file is read as one exactly where it stands for records that make the

@@ -50,16 +50,22 @@ pub fn lock_and_sync<R: Files<File = File>>(files: &R, file: File, name: &str) -
     if !leads_to(files, name, &file)? {
         return Err(io::Error::from(ErrorKind::NotFound));
     }
-    write_end_again(&file)?;
-    file.sync_all()?;
+    sync_with_end(&file)?;
     sync_folder(files, name)?;
     Ok(file)
 }
 
-/// Writes the last bytes of a journal again, as they are read, up to the end that it has now. A
-/// system may take a page for written whose sync has failed, and keep it in memory: behind this the
-/// next sync has to write it, or fails. A file that doesn't begin as a journal isn't written.
-pub fn write_end_again<F: OpenFile + FileExt>(file: &F) -> io::Result<()> {
+/// Writes the end of a journal again, and then syncs the file, so that the sync carries these bytes
+/// too. A file that doesn't begin as a journal is synced alone.
+pub fn sync_with_end<F: OpenFile + FileExt>(file: &F) -> io::Result<()> {
+    write_end_again(file)?;
+    file.sync_all()
+}
+
+// Writes the last bytes of a journal again, as they are read, up to the end that it has now. A
+// system may take a page for written whose sync has failed, and keep it in memory: behind this the
+// next sync has to write it, or fails.
+fn write_end_again<F: OpenFile + FileExt>(file: &F) -> io::Result<()> {
     let length = file.metadata()?.len();
     if !begins_as_journal(file, length)? {
         return Ok(());

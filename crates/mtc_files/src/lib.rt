@@ -5,4 +5,4 @@ mod file_room;
 mod journal;
 
 pub use file_room::FileRoom;
-pub use journal::write_end_again;
+pub use journal::sync_with_end;
