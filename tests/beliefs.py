@@ -29,17 +29,18 @@ STATEMENTS = (RUNS, COURSES, PRINTS)
 # The contracts are generic: what they say of a room, a device, a stream and a hash function is what these traits ensure.
 TRAITS = ("mtc_room/src/room.rt", "disk_core/src/disk.rt", "mtc_io/src/source.rt", "mtc_io/src/sink.rt", "tree_core/src/hashing.rt")
 
-# The promise as a whole is one law. Its level are the crates of what a reader has to take in for it: the list of their definitions
-# on which it rests, with their types of the code, is closed and has at most so many. It ends at the words of the crates below, which
-# are those of these standards and formats.
+# The promise as a whole is one law. Its level are the crates of what a reader has to take in for it: the list of all their definitions
+# on which it rests, with their types of the code, has at most so many. It ends at the words of the crates below. These are those of
+# these standards and formats, and behind none of them stands one of its level.
 WHOLE = r"the_whole_\w+"
-LEVEL = ("node_history", "world_core", "mtc_top")
+LEVEL = ("node_history", "mtc_top")
 MOST = 60
 STANDARDS = {
     "the words for bytes, readings and forms": ("byte_forms",),
     "files and streams ([OPERATIONS](OPERATIONS.md))": ("mtc_io", "disk_core", "mtc_room"),
     "journals, records, lists and exports ([FORMATS](FORMATS.md))": ("journal_core", "issuance_log", "cosigner_core", "entry_list"),
     "words and answers ([COMMANDS](COMMANDS.md))": ("mtc_words", "mtc_answers", "mtc_reads", "mtc_logs", "mtc_cosigner", "mtc_monitor"),
+    "audits: a list of entries beside what was accepted": ("world_core",),
     "the draft: proofs, stores and judgement, issuing": ("mtc_proof", "policy_core", "authority_core"),
     "RFC 9162 and the draft: trees": ("tree_core", "tree_proofs", "landmarks", "collide"),
     "RFC 5280: certificates and entries": ("cert_time", "cert_fields", "cert_names", "log_entry"),
@@ -230,6 +231,12 @@ def counted(own, types):
     return len(own) + sum(crate in LEVEL for crate, _ in types)
 
 
+def hidden(own, ends):
+    """What the list of the promise lacks: definitions of its level behind the words at which it ends."""
+    behind, _, _ = reached(ends)
+    return sorted(one for one in behind if not is_below(*one) and one not in own)
+
+
 def written(names):
     return ", ".join(f"`{name}`" for name in sorted(names))
 
@@ -307,7 +314,9 @@ def between():
 
 
 def differences():
-    own, types, _, _ = promise()
+    own, types, _, ends = promise()
+    for dotted, name in hidden(own, ends):
+        yield f"{name} of {dotted} is of the level of the promise, and stands behind a word at which its list ends"
     if counted(own, types) > MOST:
         yield f"the promise as a whole rests on {counted(own, types)} definitions and types of its level, and may on {MOST}"
     if between()[1] != table():
