@@ -68,10 +68,12 @@ module _ {R S D O E : Type 0} (h : HashFunction) (rooms : Rooms R S D) (disks : 
   pub stopped : StopsLeaving h rooms disks outs errs May name left old new
   stopped may settle =
       let at = left_at disks May (rooms.device old) (rooms.device new) name left may one others
-      settle in
-      record {
-        tells = tells;
-        image = λ n. (at n).image;
-        may = λ n. (at n).was;
-        only = λ n is. (at n).only is;
-      }
+      settle in (
+        record {
+          tells = tells;
+          image = λ n. (at n).image;
+          may = λ n. (at n).was;
+          only = λ n is. (at n).only is;
+        },
+        one,
+      )

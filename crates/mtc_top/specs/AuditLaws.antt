@@ -1,5 +1,5 @@
--- What `audit` prints of a certificate that was accepted by a landmark, or by a signature that
--- stands in the course of a cosigner's journal.
+-- What `audit` prints of a certificate that was accepted by a landmark, or by a signature whose
+-- record a run of a course of a cosigner's journal held.
 use Rattle.std.specs.Prelude.{◌≡◌, ◌≢◌, ◌⊎◌, ℕ, ◌≤◌, true, pos, List, ◌∷◌, ◌++◌, length, None}
 use Rattle.std.specs.Prelude.{Some, Ok, slice_get}
 use Rattle.byte_forms.specs.Types.{HashFunction, Text}
@@ -63,8 +63,9 @@ pub record HasCounted (store : Store) (set : ℕ) (id key : Text) : Type 0 where
 
 module _ {R S D O E : Type 0} (h : HashFunction) (rooms : Rooms R S D) (disks : Disks D)
     (outs : Sinks O) (errs : Sinks E) where
-  -- A run of a course of a cosigner's journal held a signature of the accepted interval and hash, a
-  -- run of `export` behind it printed what was kept, and the store counts the cosigner.
+  -- A run of a course of a cosigner's journal held the record of a signature of the accepted
+  -- interval and hash, a run of `export` behind it printed what was kept, and the store counts the
+  -- cosigner.
   pub record IsSignedInCourse (x : AuditCase) (kept_text : Text) : Type 0 where
     -- a run made or opened the journal
     pub name : Text

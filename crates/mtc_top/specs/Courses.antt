@@ -45,7 +45,7 @@ pub data Link (R O E : Type 0) : Type 0 where
   -- `stops`: the run has worked on the room before its first byte.
   cut : Turn R O E → R → Link R O E
   -- The program is killed in the middle of a run, before a byte of it went out, and the machine
-  -- goes on: the run as it would have ended. A kill behind the first byte is `ran`, as above.
+  -- goes on: of the turn only the words count. A kill behind the first byte is `ran`, as above.
   died : Turn R O E → R → Link R O E
   -- Other files are made, changed or taken away, as a request is between two runs.
   writes : R → Link R O E

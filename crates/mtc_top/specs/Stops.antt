@@ -14,7 +14,8 @@ module _ {R S D O E : Type 0} (h : HashFunction) (rooms : Rooms R S D) (disks : 
       × ((d : Text) → images_in h rooms disks outs errs room other d → d ≡ c))
 
   -- Where these bytes may be left of this file, and the others are settled, the machine has
-  -- stopped.
+  -- stopped, and of this file it has left them.
   abbrev pub StopsLeaving : Text → R → R → Type 0
   StopsLeaving left old new = May name left → OthersAreSettled old
       → HasStopped h rooms disks outs errs May old new
+      × ((c : Text) → images_in h rooms disks outs errs new name c → c ≡ left)

@@ -78,8 +78,8 @@ pub fn entries_keep_their_places<H: TreeHash, R: Room, O: Sink, E: Sink>()
     ensures added { AddedEntriesStand H.hash R.Room R.Dsk.Disk O.Sink E.Sink }
 {}
 
-/// Each journal that a run made or opened is that of a log or a cosigner, so the laws of courses
-/// are of each of them, from that run on.
+/// Each journal that a run made or opened, and ended with another status than 5 and 8, is that of a
+/// log or a cosigner, so the laws of courses are of each of them, from that run on.
 pub fn journals_are_of_nodes<H: TreeHash, R: Room, O: Sink, E: Sink>()
     ensures { JournalsAreOfNodes H.hash R.Room R.Dsk.Disk O.Sink E.Sink }
 {}
@@ -148,14 +148,16 @@ pub fn printed_texts_stand<H: TreeHash, R: Room, O: Sink, E: Sink>()
 /// the request file asks for. Of the commands that open a cosigner's journal, or are given a secret
 /// file as such, no other says a signature by it. Each image of a journal stands for records, and
 /// what a run before found in it, or made of it, is a front of these: so the record of each
-/// signature is there. Where a store accepts a certificate by a signature whose record a run of a
-/// course held, or by a landmark, a run of `audit` over the wanted list, and over an export that
-/// was printed behind it, prints that the entry stands, or two different strings with one hash. Or
-/// it ends with status 5, 6 or 8.
+/// signature is there. No journal is refused: each image is read as its log or its cosigner. Where
+/// a store accepts a certificate by a signature whose record a run of a course held, or by a
+/// landmark, a run of `audit` over the wanted list, and over an export that was printed behind it,
+/// prints that the entry stands, or two different strings with one hash. Or it ends with status 5,
+/// 6 or 8.
 pub fn the_whole_promise<H: TreeHash, R: Room, O: Sink, E: Sink>()
     ensures once { KeysSignOnce H.hash R.Room R.Dsk.Disk O.Sink E.Sink }
     ensures messages { KeysSignOneMessage H.hash R.Room R.Dsk.Disk O.Sink E.Sink }
     ensures stand { RecoveredListsGrow H.hash R.Room R.Dsk.Disk O.Sink E.Sink }
+    ensures read { JournalsAreRead H.hash R.Room R.Dsk.Disk O.Sink E.Sink }
     ensures signatures { OnlyCosignSigns H.hash R.Room R.Dsk.Disk O.Sink E.Sink }
     ensures audits { AuditsSettle H.hash R.Room R.Dsk.Disk O.Sink E.Sink }
 {}

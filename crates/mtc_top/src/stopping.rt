@@ -1,6 +1,10 @@
 //! A stop of the machine, over a room in memory.
 
-ghost use Rattle.std.specs.Prelude.{◌≡◌, OnOk};
+ghost use Rattle.std.specs.Prelude.{◌≡◌, OnErr, OnOk};
+ghost use Rattle.std.specs.Option.{IsSomeAnd};
+ghost use Rattle.byte_forms.specs.Types.{Text};
+ghost use Rattle.disk_core.specs.Memory.{IsFresh, failing_of};
+ghost use Rattle.mtc_room.specs.Memory.{disk_in};
 ghost use Rattle.mtc_room.specs.declared.memory.MemRoom.{MemRoom};
 ghost use Rattle.mtc_top.specs.Courses.{images_from, images_in};
 ghost use Rattle.mtc_top.specs.Stops.{StopsLeaving};
@@ -10,7 +14,8 @@ use mtc_io::{Bytes, Memory, Sink};
 use mtc_room::{MemRoom, Room};
 use tree_core::TreeHash;
 
-/// Stops the machine over a room in memory, and leaves these bytes of the named file.
+/// Stops the machine over a room in memory, and leaves these bytes of the named file, on a device
+/// that fails the calls with these numbers. Where memory is refused each file stays.
 ///
 /// It is a stop between two runs where a crash may leave them now, and one image alone of each
 /// other file. It is a stop in the middle of a run where a crash may have left them at some moment
@@ -30,6 +35,10 @@ pub fn stop_leaving<H: TreeHash, O: Sink, E: Sink>(
         → StopsLeaving H.hash ⟦<MemRoom as Room>⟧ ⟦<MemDisk as Disk>⟧ O.Sink E.Sink
         (images_from H.hash ⟦<MemRoom as Room>⟧ ⟦<MemDisk as Disk>⟧ O.Sink E.Sink begun room.old)
         name.now left room.old room.new) }
+    ensures placed { OnOk result (IsSomeAnd (disk_in room.new name.now)
+        (λ d. IsFresh left d × (failing_of d ≡ failing.items))) }
+    ensures err { OnErr result ((other : Text)
+        → disk_in room.new other ≡ disk_in room.old other) }
     ensures lent { ⟦<MemRoom as Room>⟧.lent room.new ≡ ⟦<MemRoom as Room>⟧.lent room.old }
 {
     room.place(name, left, failing)?;

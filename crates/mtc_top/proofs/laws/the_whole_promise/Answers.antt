@@ -1,5 +1,5 @@
 use Rattle.mtc_top.proofs.AuditsSettle.{audits_settle}
-use Rattle.mtc_top.proofs.Recovered.{keys_once, lists_grow, one_message}
+use Rattle.mtc_top.proofs.Recovered.{keys_once, lists_grow, one_message, read_again}
 use Rattle.mtc_top.proofs.Secrets.{only_cosign}
 use Rattle.mtc_top.proofs.laws.the_whole_promise.Goals as goal
 
@@ -15,6 +15,11 @@ returns-clause-messages g c = one_message g.H.TreeHash.hash g.R.Room g.R.Dsk.Dis
 
 pub returns-clause-stand : goal.returns-clause-stand
 returns-clause-stand g c = lists_grow g.H.TreeHash.hash g.R.Room g.R.Dsk.Disk g.O.Sink g.E.Sink
+    g.met.R.Dsk.Disk.reads_image g.met.R.Dsk.Disk.only_now g.met.R.Room.told_file
+    g.met.R.Dsk.Disk.told_bytes
+
+pub returns-clause-read : goal.returns-clause-read
+returns-clause-read g c = read_again g.H.TreeHash.hash g.R.Room g.R.Dsk.Disk g.O.Sink g.E.Sink
     g.met.R.Dsk.Disk.reads_image g.met.R.Dsk.Disk.only_now g.met.R.Room.told_file
     g.met.R.Dsk.Disk.told_bytes
 
