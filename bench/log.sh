@@ -21,7 +21,7 @@ opening() {
 
 # How often an opening reads the journal, its end among it, which is read to be written again.
 reads() {
-    (cd "$folder" && strace -qq -e trace=pread64 -o trace "$program" landmarks journal >/dev/null 2>&1 && wc -l <trace) || echo "-"
+    (cd "$folder" && strace -qq -P journal -e trace=pread64 -o trace "$program" landmarks journal >/dev/null 2>&1 && wc -l <trace) || echo "-"
 }
 
 # Runs the program with some words, and prints the seconds by the clock and the bytes that it held at most.

@@ -37,19 +37,17 @@ echo "Go's sumdb/tlog"
 (cd "$work/peer" && GOFLAGS=-mod=mod GO111MODULE=on GOPROXY=off GOCACHE="$work/cache" GOMAXPROCS=1 go run . > "$work/peer.txt")
 tell "$work/peer.txt"
 
-# The ratios for a path and for a proof, in nanoseconds and in hashes of a pair: the two units are of one run.
+# The ratios of processor times.
 awk '
     FNR == NR { theirs[$1] = $2 / $3; next }
     $1 ~ /^[a-z]+(-[0-9]+)?$/ && NF == 3 { ours[$1] = $2 / $3 }
-    function both(what) {
-        return sprintf("%.2f %.2f", ours[what] / theirs[what], ours[what] / ours["pair"] / (theirs[what] / theirs["pair"]))
-    }
+    function ratio(what) { return sprintf("%.2f", ours[what] / theirs[what]) }
     END {
-        print "evaluating an inclusion path|sumdb/tlog in Go|" both("evaluate")
-        print "checking a consistency proof|sumdb/tlog in Go|" both("check")
-        print "making a path or a proof|sumdb/tlog in Go|" both("path-65536") " " both("consist")
-        print "making a path of 1,048,576 leaves|sumdb/tlog in Go|" both("path-1048576")
-        print "making a path of 1,048,575 leaves|sumdb/tlog in Go|" both("path-1048575")
+        print "evaluating an inclusion path|sumdb/tlog in Go|" ratio("evaluate")
+        print "checking a consistency proof|sumdb/tlog in Go|" ratio("check")
+        print "making a path or a proof|sumdb/tlog in Go|" ratio("path-65536") " " ratio("consist")
+        print "making a path of 1,048,576 leaves|sumdb/tlog in Go|" ratio("path-1048576")
+        print "making a path of 1,048,575 leaves|sumdb/tlog in Go|" ratio("path-1048575")
     }' "$work/peer.txt" "$work/printed" > "$work/figures"
 if [ "${1-}" = --write ]; then
     keep_figures proofs "WORK|AGAINST|RATIOS" < "$work/figures"
