@@ -1,0 +1,118 @@
+#!/usr/bin/env python3
+"""Kills `cosign` at random moments over a real file, and checks what the cosigner's journal then has.
+
+Behind each kill the journal opens, with the records that it had and one more at most. Where a byte of a signature went out,
+that one is there, and has the number of the one-time key that signed. No number stands twice.
+Usage: tests/killed_cosigner.py [KILLS]    100 if nothing is said; with less than 30 it may be that no byte goes out, and
+       that is wrong too
+"""
+
+import random
+import shutil
+import subprocess
+import sys
+import time
+
+from real_files import ROOT, Folder, unlike
+
+LOG, COSIGNER = "32473.1", "32473.2"
+# As many one-time keys has a key of height 5, and so many kills each cosigner of the test is given.
+KEYS, KILLS = 32, 30
+SIGN = 0x13
+
+
+class Cosigned(Folder):
+    """A folder with a log, and with requests to a new cosigner: to advance, and to sign a subtree."""
+
+    def __init__(self, program):
+        super().__init__(program)
+        self.new_log()
+        for _ in range(3):
+            self.run(["issue", "j", "r"])
+        size = self.size()
+        self.write("secret", bytes(range(48)))
+        self.write("advance", self.said(["consist", "j", "0", str(size)]))
+        self.write("subtree", self.said(["subtree", "j", "0", str(size), str(size)]))
+
+    def write(self, file, text):
+        (self.path / file).write_bytes(text)
+        self.own(self.path / file)
+
+    def said(self, words):
+        """What a command writes to standard output; it has to end with status 0."""
+        status, out, err = self.run(words)
+        if status != 0:
+            sys.exit(f"{' '.join(words)}: status {status} {err}")
+        return out.encode("latin-1")
+
+    def new_cosigner(self, journal):
+        self.said(["init-cosigner", journal, COSIGNER, LOG, "5", "8", "secret"])
+        self.said(["advance", journal, "advance"])
+
+    def numbers(self, journal):
+        """The numbers of the Sign records of an export, in its order."""
+        export, found = self.said(["export", journal]), []
+        place = 2 + export[0] + export[1 + export[0]] + 62
+        while place < len(export):
+            length = int.from_bytes(export[place:place + 4], "big")
+            if export[place + 4] == SIGN:
+                found.append(int.from_bytes(export[place + 5:place + 9], "big"))
+            place += 4 + length
+        return found
+
+
+def number_in(signature):
+    """The number of the one-time key, where so much of a signature went out: behind the id, a length and the levels."""
+    place = 1 + signature[0] + 2 + 4
+    return int.from_bytes(signature[place:place + 4], "big") if len(signature) >= place + 4 else None
+
+
+def killed(folder, journal, moment):
+    """What `cosign` wrote until it was killed at this moment."""
+    process = folder.start(["cosign", journal, "subtree"])
+    time.sleep(moment)
+    process.kill()
+    return process.communicate()[0]
+
+
+def check(folder, kills):
+    """What is wrong, and how many signatures went out, and how many records are there of which nothing did."""
+    began = time.monotonic()
+    folder.new_cosigner("first")
+    folder.said(["cosign", "first", "subtree"])
+    span, before, journal = time.monotonic() - began, [], None
+    for kill in range(kills):
+        if kill % KILLS == 0:
+            journal, before = f"c{kill}", []
+            folder.new_cosigner(journal)
+        out = killed(folder, journal, random.uniform(0, span))
+        numbers = folder.numbers(journal)
+        yield from unlike(f"kill {kill}: the numbers", numbers, [*range(len(numbers))])
+        if out:
+            folder.out += 1
+            yield from unlike(f"kill {kill}: the records", len(numbers), len(before) + 1)
+            yield from unlike(f"kill {kill}: the key", number_in(out) in (None, len(before)), True)
+        else:
+            folder.unsaid += len(numbers) - len(before)
+            yield from unlike(f"kill {kill}: a record at most", len(numbers) - len(before) in (0, 1), True)
+        # So that of some three in ten a byte goes out, however long a `cosign` takes by now.
+        span = min(span * (0.8 if out else 1.1), 10)
+        before = numbers
+    yield from unlike("a byte went out", folder.out > 0, True)
+
+
+def main(words):
+    if subprocess.run([ROOT / "mtc", "member", ROOT / "examples/first.member"], stdout=subprocess.DEVNULL).returncode:
+        return 70
+    folder = Cosigned(ROOT / "crates/mtc_main/out/mtc_main")
+    folder.out = folder.unsaid = 0
+    kills = int(words[0]) if words else 100
+    wrong = list(check(folder, kills))
+    shutil.rmtree(folder.path)
+    print(f"{'wrong' if wrong else 'ok'}: `cosign` was killed {kills} times: of {folder.out} a byte went out, and the records of"
+          f" {folder.unsaid} others are there", *wrong, sep="\n    ")
+    return bool(wrong)
+
+
+if __name__ == "__main__":
+    sys.exit(main(sys.argv[1:]))
