@@ -12,7 +12,8 @@ use crate::disk::Disk;
 use mtc_io::Failed;
 
 /// Writes, and syncs. At Ok a crash leaves what a read gives; at any moment of the call it leaves
-/// an image from before, or one that this write has torn.
+/// an image from before, or one that this write has torn. Whatever it answers, the known length
+/// comes no further than the end of these bytes.
 pub fn write_synced<D: Disk>(disk: &mut D, place: u64, bytes: &[u8]) -> Result<(), Failed>
     requires place { place ≤ D.known disk.old }
     requires end { place + length bytes.now < 2 ^ 63 }
@@ -22,6 +23,7 @@ pub fn write_synced<D: Disk>(disk: &mut D, place: u64, bytes: &[u8]) -> Result<(
     ensures known { OnOk result (D.known disk.new
         ≡ max (place + length bytes.now) (D.known disk.old)) }
     ensures known_kept { D.known disk.old ≤ D.known disk.new }
+    ensures reach { D.known disk.new ≤ max (place + length bytes.now) (D.known disk.old) }
     ensures told { is_some (D.told disk.new) ≡ is_some (D.told disk.old) }
     ensures any_moment { LeavesOnly D.Disk disk.old disk.new
         (λ c. (d : Text) × D.may_leave disk.old d × Torn place (length bytes.now) d c) }

@@ -1,7 +1,7 @@
 //! A journal that is open for more records.
 
-ghost use Rattle.std.specs.Prelude.{◌≡◌, ◌↔◌, ◌≤◌, ◌<◌, ◌+◌, length, true, false, is_some, Some};
-ghost use Rattle.std.specs.Prelude.{IsTrue, IsErrOf, IfSome, OnOk};
+ghost use Rattle.std.specs.Prelude.{◌≡◌, ◌↔◌, ◌≤◌, ◌<◌, ◌+◌, max, length, true, false, is_some};
+ghost use Rattle.std.specs.Prelude.{Some, IsTrue, IsErrOf, IfSome, OnOk};
 ghost use Rattle.std.proofs.Props.{props};
 ghost use Rattle.byte_forms.specs.Types.{Text};
 ghost use Rattle.mtc_io.specs.Counts.{HasCause};
@@ -39,7 +39,8 @@ impl<D: Disk> Journal<D> {
     ghost use Rattle.journal_core.specs.Words.{HoldsBody, HoldsLength};
 
     /// Adds a record of 1 to 131,072 bytes. At Ok a crash leaves the records with it; at any moment
-    /// of the call it leaves the old records, or these and the new one.
+    /// of the call it leaves the old records, or these and the new one. Whatever it answers, it
+    /// brings the known length of the disk no further than the closed gate behind this record.
     ///
     /// Errors, in the order of the tests: `Broken` where an earlier call answered `Failed`; `Full`
     /// where the file would pass 2^31 bytes; `Failed`. The first two make no call of the disk. It
@@ -53,6 +54,8 @@ impl<D: Disk> Journal<D> {
             × (most_bytes < end_of self.old + 5 + length body.now) }
         ensures told { is_some (records self.new) ≡ is_some (records self.old) }
         ensures count { D.faults (disk_of self.old) ≤ D.faults (disk_of self.new) }
+        ensures reach { D.known (disk_of self.new)
+            ≤ max (end_of self.old + 5 + length body.now) (D.known (disk_of self.old)) }
         ensures as_read { is_broken self.old ≡ false
             → IfSome (records self.old) (λ list. IfSome (D.told (disk_of self.new))
             (StandsForEither list body.now)) }
@@ -112,6 +115,8 @@ impl<D: Disk> Journal<D> {
             → IfSome (records self.old) (λ list. LeavesOnly D.Disk (disk_of self.old)
             (disk_of self.new) (StandsForEither list body.now)) }
         ensures count { D.faults (disk_of self.old) ≤ D.faults (disk_of self.new) }
+        ensures reach { D.known (disk_of self.new)
+            ≤ max (end_of self.old + 5 + length body.now) (D.known (disk_of self.old)) }
     {
         if self.broken {
             return Err(AppendError::Broken);
