@@ -1,8 +1,8 @@
 -- One call more in the replay of a disk in memory.
-use Rattle.std.proofs.Common.{◌≡◌, inl, inr, ℕ, ◌+◌, ◌<◌, ◌≤◌, Bool, true, false, if◌then◌else◌}
-use Rattle.std.proofs.Common.{◌∙◌, List, [], ◌∷◌, ◌++◌, length, take, get_or, refl, ap, sym, subst}
+use Rattle.std.proofs.Common.{◌≡◌, inl, inr, ℕ, ◌+◌, ◌≤◌, Bool, true, false, if◌then◌else◌}
+use Rattle.std.proofs.Common.{◌∙◌, List, [], ◌∷◌, ◌++◌, length, refl, ap, sym, subst}
 use Rattle.std.proofs.Common.{arith}
-use Rattle.std.proofs.lemmas.List.{take_all, take_more, take-append-le, length_push}
+use Rattle.std.proofs.lemmas.List.{take_all, take-append-le, length_push}
 use Rattle.std.proofs.lemmas.Bool.{cases_lt}
 use Rattle.disk_core.specs.Disk.{overwritten, Torn, Follows, NoNew, Only, Elapses}
 use Rattle.disk_core.specs.Writes.{torn_none}
@@ -13,7 +13,7 @@ use Rattle.disk_core.specs.declared.memory.call.Call.{Call}
 use Rattle.disk_core.specs.declared.memory.call.Call.TheVariants.{Len, Read, Write, Sync}
 use Rattle.disk_core.specs.declared.memory.call.Made.{Made}
 
-run-append : (s : State) (calls : List Made) (made : Made)
+pub run-append : (s : State) (calls : List Made) (made : Made)
     → run s (calls ++ made ∷ []) ≡ step (run s calls) made
 run-append s [] made = refl
 run-append s (first ∷ calls) made = run-append (step s first) calls made
@@ -163,12 +163,3 @@ quiet_writes (Write place piece) ok quiet =
     absurd (is_some_write (place, length piece)
     (ap (λ (s : State). s.writes) (quiet (settled []))))
 quiet_writes Sync ok quiet = tt
-
--- the state behind one of the calls, from the one before it
-pub state_more : (first : List ℕ) (calls : List Made) (index : ℕ) (made : Made)
-    → index < length calls → made ≡ get_or calls index made
-    → state_at first calls (index + 1) ≡ step (state_at first calls index) made
-state_more first calls index made within is =
-    ap (λ (kept : List Made). run (settled first) kept) (take_more calls index made within)
-    ∙ run-append (settled first) (take index calls) (get_or calls index made)
-    ∙ ap (λ (m : Made). step (state_at first calls index) m) (sym is)

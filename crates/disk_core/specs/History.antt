@@ -1,21 +1,22 @@
 -- What the history of a disk in memory tells.
 use Rattle.std.specs.Prelude.{ℕ, length}
 use Rattle.byte_forms.specs.Types.{Text}
+use Rattle.disk_core.specs.Noted.{made_calls}
 use Rattle.disk_core.specs.Replay.{state_now, IsImage, LeftSince}
 use Rattle.disk_core.specs.declared.memory.history.History.{History}
 
 -- what a read gives
 abbrev pub seen_of : History → Text
-seen_of h = (state_now h.first h.calls.items).seen
+seen_of h = (state_now h.first (made_calls h.calls)).seen
 
 -- what a crash now may leave
 abbrev pub left_of : History → Text → Type 0
-left_of h = IsImage (state_now h.first h.calls.items)
+left_of h = IsImage (state_now h.first (made_calls h.calls))
 
 -- the number of calls
 abbrev pub moment_of : History → ℕ
-moment_of h = length h.calls.items
+moment_of h = length (made_calls h.calls)
 
 -- what a crash since that moment might have left
 abbrev pub since_of : History → ℕ → Text → Type 0
-since_of h = LeftSince h.first h.calls.items
+since_of h = LeftSince h.first (made_calls h.calls)

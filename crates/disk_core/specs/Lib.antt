@@ -1,9 +1,11 @@
+pub mod Calls
 pub mod Disk
 pub mod File
 pub mod Fuse
 pub mod History
 pub mod Memory
 pub mod Moments
+pub mod Noted
 pub mod Plan
 pub mod Replay
 pub mod ReplayLaws

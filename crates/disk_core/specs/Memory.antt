@@ -2,6 +2,8 @@
 use Rattle.std.specs.Prelude.{◌≡◌, ℕ, List, [], length}
 use Rattle.byte_forms.specs.Types.{Text}
 use Rattle.disk_core.specs.History.{seen_of, left_of}
+use Rattle.disk_core.specs.Noted.{made_calls}
+use Rattle.disk_core.specs.declared.memory.call.Change.{Change}
 use Rattle.disk_core.specs.declared.memory.call.Made.{Made}
 use Rattle.disk_core.specs.declared.memory.mem_disk.MemDisk.{MemDisk}
 
@@ -9,9 +11,14 @@ use Rattle.disk_core.specs.declared.memory.mem_disk.MemDisk.{MemDisk}
 abbrev pub first_of : MemDisk → Text
 first_of m = m.past.first
 
--- the record of its calls, the oldest first
+-- the record of its calls, the oldest first: those that change the file, and how many that only
+-- look came before each
+abbrev pub changes_of : MemDisk → List Change
+changes_of m = m.past.calls.changes.items
+
+-- all its calls by the record, the oldest first
 abbrev pub calls_of : MemDisk → List Made
-calls_of m = m.past.calls.items
+calls_of m = made_calls m.past.calls
 
 -- what a read gives
 abbrev pub bytes_of : MemDisk → Text
@@ -25,7 +32,7 @@ images_of m = left_of m.past
 abbrev pub known_of : MemDisk → ℕ
 known_of m = m.known
 
--- how many calls are in the record, which is the number of the next one
+-- how many calls there were, which is the number of the next one
 abbrev pub made_of : MemDisk → ℕ
 made_of m = length (calls_of m)
 

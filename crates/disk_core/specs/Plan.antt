@@ -1,17 +1,21 @@
--- Which calls of a disk in memory fail, and which are in its record.
+-- Which calls of a disk in memory fail, and what its record keeps of them.
 use Rattle.std.specs.Prelude.{◌≡◌, ◌⊎◌, Bool, false, if◌then◌else◌, [], ◌∷◌, ◌++◌, length, Contains}
 use Rattle.mtc_io.specs.Counts.{with_count}
+use Rattle.disk_core.specs.Calls.{looked}
+use Rattle.disk_core.specs.Noted.{made_calls}
 use Rattle.disk_core.specs.declared.memory.call.Call.{Call}
+use Rattle.disk_core.specs.declared.memory.call.Call.TheVariants.{Len, Read, Write, Sync}
+use Rattle.disk_core.specs.declared.memory.call.Made.{Made}
 use Rattle.disk_core.specs.declared.memory.history.History.{History}
 use Rattle.disk_core.specs.declared.memory.plan.Plan.{Plan}
 
--- The call is made: it stands in the record behind the others, as it was asked and answered. Its
--- index there is its number, and it fails exactly where that is listed, with one fault more.
-pub record IsMade (plan : Plan) (past : History) (call : Call) (ok : Bool)
+-- The call is made: it is told behind the others so. How many there were before is its number, and
+-- it fails exactly where that is listed, with one fault more.
+pub record IsMade (plan : Plan) (past : History) (made : Made) (ok : Bool)
     (plan' : Plan) (past' : History) : Type 0 where
-  pub calls : past'.calls.items ≡ past.calls.items ++ record { call = call; ok = ok } ∷ []
-  pub listed : Contains plan.failing.items (length past.calls.items) → ok ≡ false
-  pub other : ok ≡ false → Contains plan.failing.items (length past.calls.items)
+  pub calls : made_calls past'.calls ≡ made_calls past.calls ++ made ∷ []
+  pub listed : Contains plan.failing.items (length (made_calls past.calls)) → ok ≡ false
+  pub other : ok ≡ false → Contains plan.failing.items (length (made_calls past.calls))
   pub starved : plan'.starved ≡ plan.starved
   pub faults : plan'.faults ≡ (if ok then plan.faults else with_count plan.faults 1)
 
@@ -19,13 +23,28 @@ pub record IsMade (plan : Plan) (past : History) (call : Call) (ok : Bool)
 pub record IsStarved (plan : Plan) (past : History) (ok : Bool)
     (plan' : Plan) (past' : History) : Type 0 where
   pub failed : ok ≡ false
-  pub calls : past'.calls.items ≡ past.calls.items
+  pub calls : made_calls past'.calls ≡ made_calls past.calls
   pub starved : plan'.starved ≡ with_count plan.starved 1
   pub faults : plan'.faults ≡ with_count plan.faults 1
 
--- One call of a disk in memory.
-pub record PlanTurn (plan : Plan) (past : History) (call : Call) (ok : Bool)
+-- a call that is told so
+pub record NotedTurn (plan : Plan) (past : History) (made : Made) (ok : Bool)
     (plan' : Plan) (past' : History) : Type 0 where
   pub first : past'.first ≡ past.first
   pub failing : plan'.failing ≡ plan.failing
-  pub either : IsMade plan past call ok plan' past' ⊎ IsStarved plan past ok plan' past'
+  pub either : IsMade plan past made ok plan' past' ⊎ IsStarved plan past ok plan' past'
+
+-- a call that only looks: the record of changes doesn't grow
+pub record LookTurn (plan : Plan) (past : History) (ok : Bool)
+    (plan' : Plan) (past' : History) : Type 0 where
+  pub turn : NotedTurn plan past looked ok plan' past'
+  pub changes : past'.calls.changes.items ≡ past.calls.changes.items
+
+-- One call of a disk in memory.
+abbrev pub PlanTurn : Plan → History → Call → Bool → Plan → History → Type 0
+PlanTurn plan past Len ok plan' past' = LookTurn plan past ok plan' past'
+PlanTurn plan past (Read place size) ok plan' past' = LookTurn plan past ok plan' past'
+PlanTurn plan past (Write place piece) ok plan' past' =
+    NotedTurn plan past (record { call = Write place piece; ok = ok }) ok plan' past'
+PlanTurn plan past Sync ok plan' past' =
+    NotedTurn plan past (record { call = Sync; ok = ok }) ok plan' past'

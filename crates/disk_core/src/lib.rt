@@ -22,5 +22,5 @@ pub use disk::Disk;
 pub use file::FileDisk;
 pub use fuse::Fuse;
 pub use laws::{a_torn_write_keeps_others, torn_writes_keep_others};
-pub use memory::{Call, Made, MemDisk};
+pub use memory::{Call, Change, Made, MemDisk};
 pub use steps::{look_at, look_len, settle, write_synced};

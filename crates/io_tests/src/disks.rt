@@ -1,6 +1,6 @@
 //! Disks in memory, and what a crash leaves of them.
 
-use disk_core::{Call, Disk, Fuse, Made, MemDisk, look_at, write_synced};
+use disk_core::{Call, Disk, Fuse, MemDisk, look_at, write_synced};
 use mtc_io::{Bytes, Failed};
 use std::alloc::Global;
 use std::test::Fail;
@@ -102,20 +102,19 @@ fn lent_alike(disk: &MemDisk) -> Result<bool, Fail> {
     Ok(counts && lent.crash(1)?.bytes() == b"abcd".as_slice())
 }
 
-// The calls of the disk, each with its answer.
-fn are_noted(calls: &[Made]) -> bool {
-    match calls {
-        [length, failed, written, synced, read] => {
-            matches!(length.call, Call::Len)
-                && length.ok
-                && matches!(&failed.call, Call::Write { place: 0, piece } if piece.len() == 4)
-                && !failed.ok
-                && matches!(&written.call, Call::Write { place: 0, piece } if piece.len() == 2)
-                && written.ok
-                && matches!(synced.call, Call::Sync)
-                && synced.ok
-                && matches!(read.call, Call::Read { place: 1, size: 1 })
-                && read.ok
+// The changes of the disk, each with its answer, and the length that was asked before them. What
+// was read behind them is counted alone.
+fn are_noted(disk: &MemDisk) -> bool {
+    match disk.changes() {
+        [failed, written, synced] => {
+            matches!(&failed.made.call, Call::Write { place: 0, piece } if piece.len() == 4)
+                && !failed.made.ok
+                && matches!(&written.made.call, Call::Write { place: 0, piece } if piece.len() == 2)
+                && written.made.ok
+                && matches!(synced.made.call, Call::Sync)
+                && synced.made.ok
+                && (failed.looks, written.looks, synced.looks) == (1, 0, 0)
+                && disk.made() == 5
         }
         _ => false,
     }
@@ -134,7 +133,7 @@ fn a_listed_call_fails(rt: HostRuntime) -> Result<(), Fail> {
     let mut disk = failed_write(rt.alloc())?;
     assert!(rt; lent_alike(&disk)?);
     assert!(rt; last_of_two(&mut disk) == Ok(*b"y"));
-    assert!(rt; are_noted(disk.calls()));
+    assert!(rt; are_noted(&disk));
     assert!(rt; (disk.faults(), disk.starved()) == (1, 0));
     assert!(rt; disk.crash(1)?.bytes() == b"xy".as_slice());
     Ok(())
@@ -159,7 +158,7 @@ fn blown(alloc: Global) -> Result<(bool, MemDisk), Fail> {
 fn a_fuse_blows_once(rt: HostRuntime) -> Result<(), Fail> {
     let (stopped, disk) = blown(rt.alloc())?;
     assert!(rt; stopped);
-    assert!(rt; (disk.bytes(), disk.calls().len()) == (b"abcd".as_slice(), 2));
+    assert!(rt; (disk.bytes(), disk.made()) == (b"abcd".as_slice(), 2));
     assert!(rt; disk.crash(0)?.bytes() == b"".as_slice());
     Ok(())
 }

@@ -109,12 +109,7 @@ fn breaks(alloc: Global, call: u64) -> Result<bool, Memory> {
     let whole = journal.end() == 23;
     let failed = append(&mut journal, &[0xaa, 0xbb]) == Err(AppendError::Failed);
     let broken = append(&mut journal, &[0xaa, 0xbb]) == Err(AppendError::Broken);
-    Ok(
-        whole
-            && failed
-            && broken
-            && journal.into_disk().calls().len() as u64 == call.saturating_add(1),
-    )
+    Ok(whole && failed && broken && journal.into_disk().made() == call.saturating_add(1))
 }
 
 #[test]

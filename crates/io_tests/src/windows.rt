@@ -19,11 +19,11 @@ fn file_of(alloc: Global, count: u64, size: u32) -> Result<Bytes, Memory> {
 }
 
 // How many records are read, how the reading ends, and how many calls of the disk it makes.
-type Read = (u64, Result<(), OpenError>, usize);
+type Read = (u64, Result<(), OpenError>, u64);
 
 fn ended(opening: Opening<MemDisk>, end: Result<(), OpenError>) -> Read {
     let count = opening.read_count();
-    (count, end, opening.into_disk().calls().len())
+    (count, end, opening.into_disk().made())
 }
 
 fn read(alloc: Global, count: u64, size: u32, failing: &[u64]) -> Result<Option<Read>, Memory> {

@@ -17,3 +17,11 @@ pub struct Made {
     pub call: Call,
     pub ok: bool,
 }
+
+/// A call of `write_at` or `sync`, and how many calls that only look came between the one before it
+/// and this one.
+#[derive(Debug, Drop)]
+pub struct Change {
+    pub looks: u64,
+    pub made: Made,
+}

@@ -2,7 +2,7 @@
 
 ghost use Rattle.std.specs.Prelude.{◌≡◌, IfOk};
 
-use crate::memory::call::{Call, Made};
+use crate::memory::call::{Call, Change, Made};
 use mtc_io::{Bytes, Memory};
 use std::alloc::Global;
 
@@ -23,15 +23,17 @@ fn copy_of(alloc: Global, call: &Call) -> Result<Call, Memory>
     }
 }
 
-pub(crate) fn copies(alloc: Global, calls: &[Made]) -> Result<Vec<Made>, Memory>
-    ensures { IfOk result (λ kept. kept.items ≡ calls.now) }
+pub(crate) fn copies(alloc: Global, changes: &[Change]) -> Result<Vec<Change>, Memory>
+    ensures { IfOk result (λ kept. kept.items ≡ changes.now) }
 {
     let mut kept = Vec::new(alloc);
-    for made in calls {
-        kept.push(Made {
-            call: copy_of(alloc, &made.call)?,
-            ok: made.ok,
-        })?;
+    for change in changes {
+        let made = Made {
+            call: copy_of(alloc, &change.made.call)?,
+            ok: change.made.ok,
+        };
+        let looks = change.looks;
+        kept.push(Change { looks, made })?;
     }
     Ok(kept)
 }

@@ -1,10 +1,11 @@
 //! What is left of a disk in memory after a crash.
 
-ghost use Rattle.std.specs.Prelude.{◌≡◌, ◌≤◌, ◌/◌, length, OnOk, IfOk};
+ghost use Rattle.std.specs.Prelude.{◌≡◌, ◌≤◌, ◌/◌, ℕ, length, OnOk, IfOk};
+ghost use Rattle.disk_core.specs.Calls.{calls_in};
 ghost use Rattle.disk_core.specs.Disk.{Torn};
 ghost use Rattle.disk_core.specs.Replay.{State, step, state_now, IsImage};
 
-use crate::memory::call::{Call, Made};
+use crate::memory::call::{Call, Change, Made};
 use crate::memory::history::{known_bytes, overwrite};
 use mtc_io::Memory;
 use std::alloc::{AllocError, Global};
@@ -88,19 +89,20 @@ fn replay(seen: &mut Vec<u8>, image: &mut Vec<u8>, made: &Made, choice: u64) -> 
 pub(crate) fn left(
     alloc: Global,
     first: &[u8],
-    calls: &[Made],
+    changes: &[Change],
     pick: u64,
 ) -> Result<Vec<u8>, Memory>
-    ensures { IfOk result (λ image. IsImage (state_now first.now calls.now) image.items) }
+    ensures { IfOk result (λ image. (looks : ℕ)
+        → IsImage (state_now first.now (calls_in changes.now looks)) image.items) }
 {
     let mut seen = Vec::from_slice(alloc, first)?;
     let mut image = Vec::from_slice(alloc, first)?;
     let mut choice = pick;
-    for made in calls {
-        replay(&mut seen, &mut image, made, choice)?;
-        choice = match made.call {
+    for change in changes {
+        replay(&mut seen, &mut image, &change.made, choice)?;
+        choice = match change.made.call {
             Call::Write { .. } => choice / 4 + choice % 4 * (1 << 62),
-            Call::Sync if made.ok => pick,
+            Call::Sync if change.made.ok => pick,
             _ => choice,
         };
     }

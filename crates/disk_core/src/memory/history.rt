@@ -6,11 +6,12 @@ ghost use Rattle.std.proofs.Props.{props};
 ghost use Rattle.byte_forms.specs.Types.{Text};
 ghost use Rattle.byte_forms.specs.Places.{IsBytes};
 ghost use Rattle.disk_core.specs.Disk.{overwritten, Torn, Follows, NoNew, Only, Elapses};
+ghost use Rattle.disk_core.specs.Noted.{made_calls};
 ghost use Rattle.disk_core.specs.Replay.{State, after_call, state_now, IsImage, LeftSince, noted};
 ghost use Rattle.disk_core.specs.Replay.{HoldsBytes, HoldsBytes-prop};
 
-use crate::memory::call::{Call, Made};
-use crate::memory::copies::copies;
+use crate::memory::call::Call;
+use crate::memory::calls::Calls;
 use crate::memory::crash::left;
 use mtc_io::{Bytes, Memory};
 use std::alloc::Global;
@@ -21,9 +22,11 @@ pub(crate) struct History {
     // What a read gives, once a write has been; till then that is `first`.
     pub(crate) live: Vec<u8>,
     pub(crate) is_live: bool,
-    pub(crate) calls: Vec<Made>,
-    ghost are_bytes: { HoldsBytes first calls.items } by { Prim.hlevel (props, HoldsBytes-prop) },
-    ghost shown: { (if is_live then live.items else first) ≡ (state_now first calls.items).seen },
+    pub(crate) calls: Calls,
+    ghost are_bytes: { HoldsBytes first
+        (made_calls calls) } by { Prim.hlevel (props, HoldsBytes-prop) },
+    ghost shown: { (if is_live then live.items else first)
+        ≡ (state_now first (made_calls calls)).seen },
 }
 
 // Over what is there, and past the end. Where memory is refused the bytes stay as they were.
@@ -54,38 +57,30 @@ fn wake(first: &Bytes, live: &mut Vec<u8>, is_live: &mut bool) -> Result<(), Mem
 // The write is done and noted, or nothing of it is: so it was over each first content.
 fn write_noted(
     live: &mut Vec<u8>,
-    calls: &mut Vec<Made>,
+    calls: &mut Calls,
     place: u64,
     piece: &[u8],
 ) -> Result<(), Memory>
     ensures ok { OnOk result (live.new.items ≡ overwritten place piece.now live.old.items) }
     ensures err { OnErr result (live.new.items ≡ live.old.items) }
-    ensures seen { (first : Text) → live.old.items ≡ (state_now first calls.old.items).seen
-        → live.new.items ≡ (state_now first calls.new.items).seen }
+    ensures seen { (first : Text) → live.old.items ≡ (state_now first (made_calls calls.old)).seen
+        → live.new.items ≡ (state_now first (made_calls calls.new)).seen }
     ensures crash { (first : Text) → Follows (Torn place (length piece.now))
-        (IsImage (state_now first calls.old.items)) (IsImage (state_now first calls.new.items)) }
-    ensures time { (first : Text) → Elapses (length calls.old.items) (length calls.new.items)
-        (LeftSince first calls.old.items) (LeftSince first calls.new.items)
-        (IsImage (state_now first calls.new.items)) }
-    ensures clock { OnOk result (length calls.old.items < length calls.new.items) }
-    ensures calls { calls.new.items
-        ≡ noted (is_ok result) (Call.Write place piece.now) true calls.old.items }
+        (IsImage (state_now first (made_calls calls.old)))
+        (IsImage (state_now first (made_calls calls.new))) }
+    ensures time { (first : Text) → Elapses (length (made_calls calls.old))
+        (length (made_calls calls.new)) (LeftSince first (made_calls calls.old))
+        (LeftSince first (made_calls calls.new))
+        (IsImage (state_now first (made_calls calls.new))) }
+    ensures clock { OnOk result (length (made_calls calls.old) < length (made_calls calls.new)) }
+    ensures calls { made_calls calls.new
+        ≡ noted (is_ok result) (Call.Write place piece.now) true (made_calls calls.old) }
 {
-    let piece_kept = Bytes::copy_of(*calls.allocator(), piece)?;
-    calls.push(Made {
-        call: Call::Write {
-            place,
-            piece: piece_kept,
-        },
-        ok: true,
-    })?;
-    match overwrite(live, place, piece) {
-        Ok(()) => Ok(()),
-        Err(refused) => {
-            let _ = calls.pop();
-            Err(refused)
-        }
-    }
+    let kept = Bytes::copy_of(*live.allocator(), piece)?;
+    calls.reserve()?;
+    overwrite(live, place, piece)?;
+    calls.push(Call::Write { place, piece: kept }, true);
+    Ok(())
 }
 
 // Each item of a slice of bytes is one.
@@ -100,14 +95,14 @@ impl History {
 
     pub(crate) fn new(alloc: Global, first: Bytes) -> History
         ensures first { result.first ≡ first }
-        ensures calls { result.calls.items ≡ [] }
+        ensures calls { made_calls result.calls ≡ [] }
     {
         known_bytes(first.as_slice());
         History {
             first,
             live: Vec::new(alloc),
             is_live: false,
-            calls: Vec::new(alloc),
+            calls: Calls::new(alloc),
         }
     }
 
@@ -124,13 +119,13 @@ impl History {
     // The same history once more.
     pub(crate) fn again(&self, alloc: Global) -> Result<History, Memory>
         ensures first { IfOk result (λ it. it.first ≡ self.now.first) }
-        ensures calls { IfOk result (λ it. it.calls.items ≡ self.now.calls.items) }
+        ensures calls { IfOk result (λ it. made_calls it.calls ≡ made_calls self.now.calls) }
     {
         Ok(History {
             first: Bytes::copy_of(alloc, self.first.as_slice())?,
             live: Vec::from_slice(alloc, &self.live)?,
             is_live: self.is_live,
-            calls: copies(alloc, &self.calls)?,
+            calls: self.calls.again(alloc)?,
         })
     }
 
@@ -138,30 +133,47 @@ impl History {
     pub(crate) fn left(&self, alloc: Global, pick: u64) -> Result<Bytes, Memory>
         ensures { IfOk result (left_of self.now) }
     {
-        let image = left(alloc, self.first.as_slice(), &self.calls, pick)?;
+        let image = left(alloc, self.first.as_slice(), &self.calls.changes, pick)?;
         Ok(Bytes::from_vec(image))
     }
 
-    // A call that leaves the bytes and the images as they are.
-    pub(crate) fn note(&mut self, call: Call, ok: bool) -> Result<(), Memory>
-        requires { (s : State) → after_call s call ok ≡ s }
+    // A call that only looks. The record of changes stays as it is.
+    pub(crate) fn look(&mut self) -> Result<(), Memory>
         ensures first { self.new.first ≡ self.old.first }
-        ensures calls { self.new.calls.items ≡ noted (is_ok result) call ok self.old.calls.items }
+        ensures calls { made_calls self.new.calls
+            ≡ noted (is_ok result) Call.Len true (made_calls self.old.calls) }
+        ensures changes { self.new.calls.changes.items ≡ self.old.calls.changes.items }
         ensures seen { seen_of self.new ≡ seen_of self.old }
         ensures crash { NoNew (left_of self.old) (left_of self.new) }
         ensures time { Elapses (moment_of self.old) (moment_of self.new) (since_of self.old)
             (since_of self.new) (left_of self.new) }
         ensures clock { OnOk result (moment_of self.old < moment_of self.new) }
     {
-        self.calls.push(Made { call, ok })?;
+        self.calls.look()?;
+        Ok(())
+    }
+
+    // A change that leaves the bytes and the images as they are.
+    pub(crate) fn note(&mut self, call: Call, ok: bool) -> Result<(), Memory>
+        requires { (s : State) → after_call s call ok ≡ s }
+        ensures first { self.new.first ≡ self.old.first }
+        ensures calls { made_calls self.new.calls
+            ≡ noted (is_ok result) call ok (made_calls self.old.calls) }
+        ensures seen { seen_of self.new ≡ seen_of self.old }
+        ensures crash { NoNew (left_of self.old) (left_of self.new) }
+        ensures time { Elapses (moment_of self.old) (moment_of self.new) (since_of self.old)
+            (since_of self.new) (left_of self.new) }
+        ensures clock { OnOk result (moment_of self.old < moment_of self.new) }
+    {
+        self.calls.note(call, ok)?;
         Ok(())
     }
 
     // A sync that is done: all is on the disk.
     pub(crate) fn settle(&mut self) -> Result<(), Memory>
         ensures first { self.new.first ≡ self.old.first }
-        ensures calls { self.new.calls.items
-            ≡ noted (is_ok result) Call.Sync true self.old.calls.items }
+        ensures calls { made_calls self.new.calls
+            ≡ noted (is_ok result) Call.Sync true (made_calls self.old.calls) }
         ensures durable { OnOk result (Only (seen_of self.old) (left_of self.new)) }
         ensures seen { seen_of self.new ≡ seen_of self.old }
         ensures crash { NoNew (left_of self.old) (left_of self.new) }
@@ -169,36 +181,30 @@ impl History {
             (since_of self.new) (left_of self.new) }
         ensures clock { OnOk result (moment_of self.old < moment_of self.new) }
     {
-        self.calls.push(Made {
-            call: Call::Sync,
-            ok: true,
-        })?;
+        self.calls.note(Call::Sync, true)?;
         Ok(())
     }
 
     // A write that fails: it isn't seen, but a crash may leave something of it.
     pub(crate) fn fail_write(&mut self, place: u64, piece: &[u8]) -> Result<(), Memory>
         ensures first { self.new.first ≡ self.old.first }
-        ensures calls { self.new.calls.items
-            ≡ noted (is_ok result) (Call.Write place piece.now) false self.old.calls.items }
+        ensures calls { made_calls self.new.calls
+            ≡ noted (is_ok result) (Call.Write place piece.now) false (made_calls self.old.calls) }
         ensures seen { seen_of self.new ≡ seen_of self.old }
         ensures crash { Follows (Torn place (length piece.now)) (left_of self.old)
             (left_of self.new) }
         ensures time { Elapses (moment_of self.old) (moment_of self.new) (since_of self.old)
             (since_of self.new) (left_of self.new) }
     {
-        let piece = Bytes::copy_of(*self.calls.allocator(), piece)?;
-        self.calls.push(Made {
-            call: Call::Write { place, piece },
-            ok: false,
-        })?;
+        let piece = Bytes::copy_of(*self.live.allocator(), piece)?;
+        self.calls.note(Call::Write { place, piece }, false)?;
         Ok(())
     }
 
     pub(crate) fn write(&mut self, place: u64, piece: &[u8]) -> Result<(), Memory>
         ensures first { self.new.first ≡ self.old.first }
-        ensures calls { self.new.calls.items
-            ≡ noted (is_ok result) (Call.Write place piece.now) true self.old.calls.items }
+        ensures calls { made_calls self.new.calls
+            ≡ noted (is_ok result) (Call.Write place piece.now) true (made_calls self.old.calls) }
         ensures ok { OnOk result (seen_of self.new
             ≡ overwritten place piece.now (seen_of self.old)) }
         ensures err { OnErr result (seen_of self.new ≡ seen_of self.old) }

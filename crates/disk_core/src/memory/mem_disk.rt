@@ -1,25 +1,26 @@
 //! A disk in memory, which tells all, fails where it is told to, and can crash.
 
-ghost use Rattle.std.specs.Prelude.{◌≡◌, ◌+◌, ◌≤◌, ◌<◌, [], length, true, Some, is_ok};
+ghost use Rattle.std.specs.Prelude.{◌≡◌, ◌+◌, ◌≤◌, ◌<◌, [], length, Some, is_ok};
 ghost use Rattle.std.specs.Prelude.{if◌then◌else◌, OnOk, OnErr, IfOk};
 ghost use Rattle.mtc_io.specs.Counts.{HasCause};
 ghost use Rattle.disk_core.specs.Disk.{overwritten, Torn, Follows, NoNew, Only, Elapses};
 ghost use Rattle.disk_core.specs.History.{seen_of, left_of, moment_of, since_of};
-ghost use Rattle.disk_core.specs.Plan.{PlanTurn};
-ghost use Rattle.disk_core.specs.Replay.{State, after_call};
+ghost use Rattle.disk_core.specs.Noted.{made_calls};
+ghost use Rattle.disk_core.specs.Plan.{LookTurn, NotedTurn, PlanTurn};
 ghost use Rattle.disk_core.specs.ReplayLaws.{told_seen, told_are, told_length, now_since};
 ghost use Rattle.disk_core.specs.ReplayLaws.{since_now, since_bytes};
 
 use crate::disk::Disk;
-use crate::memory::call::{Call, Made};
+use crate::memory::call::{Call, Change};
 use crate::memory::history::History;
 use crate::memory::plan::Plan;
 use mtc_io::{Bytes, Failed, Memory};
 use std::alloc::Global;
 
-/// A disk in memory. It tells its bytes, keeps a record of its calls, and fails those whose numbers
-/// are listed: the index of a call in the record is its number. A call that finds no memory fails
-/// too and is counted apart; it takes no number and isn't in the record.
+/// A disk in memory. It tells its bytes, counts its calls, and fails those whose numbers are
+/// listed; the first call has number 0. It keeps a record of those that change the file. Calls that
+/// only look are counted in it, so it doesn't grow with them. A call that finds no memory fails too
+/// and is counted apart; it takes no number and isn't in the record.
 ///
 /// What it tells is the replay of the record over what it held at first: a write that is done is
 /// seen, and of each write since the last sync, a failed one too, a crash may leave what it may
@@ -32,24 +33,23 @@ pub struct MemDisk {
     ghost there: { known ≤ length (seen_of past) },
 }
 
-// A call that only looks, noted with its answer.
-fn look(plan: &mut Plan, past: &mut History, call: Call) -> Result<(), Failed>
-    requires { (s : State) (ok : _) → after_call s call ok ≡ s }
+// A call that only looks.
+fn look(plan: &mut Plan, past: &mut History) -> Result<(), Failed>
     ensures seen { seen_of past.new ≡ seen_of past.old }
     ensures crash { NoNew (left_of past.old) (left_of past.new) }
     ensures time { Elapses (moment_of past.old) (moment_of past.new) (since_of past.old)
         (since_of past.new) (left_of past.new) }
     ensures clock { OnOk result (moment_of past.old < moment_of past.new) }
     ensures cause { HasCause plan.old.faults plan.new.faults result }
-    ensures turn { PlanTurn plan.old past.old call (is_ok result) plan.new past.new }
+    ensures turn { LookTurn plan.old past.old (is_ok result) plan.new past.new }
 {
     if plan.is_listed(past.calls.len()) {
-        return match past.note(call, false) {
+        return match past.look() {
             Ok(()) => Err(plan.fail()),
             Err(Memory) => Err(plan.starve()),
         };
     }
-    match past.note(call, true) {
+    match past.look() {
         Ok(()) => Ok(()),
         Err(Memory) => Err(plan.starve()),
     }
@@ -64,7 +64,8 @@ fn settle(plan: &mut Plan, past: &mut History) -> Result<(), Failed>
         (since_of past.new) (left_of past.new) }
     ensures clock { OnOk result (moment_of past.old < moment_of past.new) }
     ensures cause { HasCause plan.old.faults plan.new.faults result }
-    ensures turn { PlanTurn plan.old past.old Call.Sync (is_ok result) plan.new past.new }
+    ensures turn { NotedTurn plan.old past.old
+        (record { call = Call.Sync; ok = is_ok result }) (is_ok result) plan.new past.new }
 {
     if plan.is_listed(past.calls.len()) {
         return match past.note(Call::Sync, false) {
@@ -87,7 +88,8 @@ fn write(plan: &mut Plan, past: &mut History, place: u64, piece: &[u8]) -> Resul
         (since_of past.new) (left_of past.new) }
     ensures clock { OnOk result (moment_of past.old < moment_of past.new) }
     ensures cause { HasCause plan.old.faults plan.new.faults result }
-    ensures turn { PlanTurn plan.old past.old (Call.Write place piece.now) (is_ok result) plan.new
+    ensures turn { NotedTurn plan.old past.old
+        (record { call = Call.Write place piece.now; ok = is_ok result }) (is_ok result) plan.new
         past.new }
 {
     if plan.is_listed(past.calls.len()) {
@@ -103,7 +105,7 @@ fn write(plan: &mut Plan, past: &mut History, place: u64, piece: &[u8]) -> Resul
 }
 
 impl MemDisk {
-    ghost use Rattle.disk_core.specs.Memory.{bytes_of, images_of, calls_of, known_of, made_of};
+    ghost use Rattle.disk_core.specs.Memory.{bytes_of, images_of, changes_of, known_of, made_of};
     ghost use Rattle.disk_core.specs.Memory.{failing_of, faults_of, starved_of, IsFresh};
     ghost use Rattle.disk_core.specs.Same.{SameDevice};
 
@@ -168,11 +170,19 @@ impl MemDisk {
         self.past.bytes()
     }
 
-    /// The calls so far, the oldest first.
-    pub fn calls(&self) -> &[Made]
-        ensures { result.now ≡ calls_of self.now }
+    /// The calls so far that change the file, the oldest first, and how many that only look came
+    /// before each.
+    pub fn changes(&self) -> &[Change]
+        ensures { result.now ≡ changes_of self.now }
     {
-        self.past.calls.as_slice()
+        self.past.calls.changes.as_slice()
+    }
+
+    /// How many calls there were, which is the number of the next one.
+    pub fn made(&self) -> u64
+        ensures { result ≡ made_of self.now }
+    {
+        self.past.calls.len()
     }
 
     /// The numbers of the calls that fail.
@@ -213,7 +223,7 @@ impl Disk for MemDisk {
     ghost turn = { λ m call ok n. PlanTurn m.plan m.past call ok n.plan n.past };
 
     fn len(&mut self) -> Result<u64, Failed> {
-        look(&mut self.plan, &mut self.past, Call::Len)?;
+        look(&mut self.plan, &mut self.past)?;
         let length = self.past.bytes().len() as u64;
         self.known = self.known.max(length);
         Ok(length)
@@ -221,7 +231,7 @@ impl Disk for MemDisk {
 
     fn read_at(&mut self, place: u64, out: &mut [u8]) -> Result<(), Failed> {
         let size = out.len();
-        look(&mut self.plan, &mut self.past, Call::Read { place, size })?;
+        look(&mut self.plan, &mut self.past)?;
         let start = place as usize;
         out.copy_from_slice(&self.past.bytes()[start..start + size]);
         Ok(())
@@ -237,17 +247,19 @@ impl Disk for MemDisk {
         settle(&mut self.plan, &mut self.past)
     }
 
-    ghost reads_image = { λ m b is. told_seen m.past.first m.past.calls.items b m.past.are_bytes
-        is };
+    ghost reads_image = { λ m b is. told_seen m.past.first (made_calls m.past.calls) b
+        m.past.are_bytes is };
 
-    ghost told_bytes = { λ m b is. told_are m.past.first m.past.calls.items b m.past.are_bytes is };
+    ghost told_bytes = { λ m b is. told_are m.past.first (made_calls m.past.calls) b
+        m.past.are_bytes is };
 
     ghost known_there = { λ m b is. told_length m.known (seen_of m.past) b m.there is };
 
-    ghost counts_now = { λ m t c le is. now_since m.past.first m.past.calls.items t c le is };
+    ghost counts_now = { λ m t c le is. now_since m.past.first (made_calls m.past.calls) t c
+        le is };
 
-    ghost only_now = { λ m c is. since_now m.past.first m.past.calls.items c is };
+    ghost only_now = { λ m c is. since_now m.past.first (made_calls m.past.calls) c is };
 
-    ghost left_bytes = { λ m t c is. since_bytes m.past.first m.past.calls.items t c
+    ghost left_bytes = { λ m t c is. since_bytes m.past.first (made_calls m.past.calls) t c
         m.past.are_bytes is };
 }

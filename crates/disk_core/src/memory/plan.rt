@@ -26,10 +26,10 @@ impl Plan {
     }
 
     // The call with this number fails.
-    pub(crate) fn is_listed(&self, number: usize) -> bool
+    pub(crate) fn is_listed(&self, number: u64) -> bool
         ensures { IsTrue result ↔ Contains self.now.failing.items number }
     {
-        self.failing.contains(&(number as u64))
+        self.failing.contains(&number)
     }
 
     // A listed call fails.

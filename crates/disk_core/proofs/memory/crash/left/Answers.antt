@@ -1,13 +1,19 @@
-use Rattle.std.proofs.Common.{◌≡◌, sym, subst}
-use Rattle.disk_core.specs.Replay.{State, state_at, IsImage}
-use Rattle.disk_core.proofs.Replay.{state_more}
+use Rattle.std.proofs.Common.{◌≡◌, arith, sym, subst}
+use Rattle.disk_core.specs.Replay.{State, IsImage}
+use Rattle.disk_core.proofs.Calls.{state_in, state_in_all, state_in_more}
 use Rattle.disk_core.proofs.memory.crash.left.Goals as goal
 
-pub loop-made-preserved : goal.loop-made-preserved
-loop-made-preserved c =
-    let was = c.loop-made.invariant in
+pub loop-change-preserved : goal.loop-change-preserved
+loop-change-preserved c =
+    let was = c.loop-change.invariant in
     subst (λ (s : State). (c.replay.new.seen.items ≡ s.seen) × IsImage s c.replay.new.image.items)
-    (sym (state_more c.args.first.now c.args.calls.now c.loop-made.made-index c.made-item.result
-    c.loop-made-test.true c.made-item.is))
-    (c.in_ok-replay.ensures (state_at c.args.first.now c.args.calls.now c.loop-made.made-index)
-    was.0 was.1)
+    (sym (state_in_more c.args.first.now c.args.changes.now c.loop-change.change-index
+    c.change-item.result c.loop-change-test.true c.change-item.is))
+    (c.in_ok-replay.ensures (state_in c.args.first.now c.args.changes.now
+    c.loop-change.change-index) was.0 was.1)
+
+pub returns : goal.returns
+returns c = λ looks.
+    subst (λ (s : State). IsImage s c.loop-change.image.items)
+    (state_in_all c.args.first.now c.args.changes.now c.loop-change.change-index looks
+    (omega arith)) c.loop-change.invariant.1

@@ -1,4 +1,5 @@
 use Rattle.std.proofs.Common.{refl, sym, subst, true, is_ok, ◌∙◌, List, ℕ}
+use Rattle.disk_core.specs.Noted.{made_calls}
 use Rattle.disk_core.specs.Replay.{IsImage, state_now}
 use Rattle.disk_core.specs.ReplayLaws.{now_seen}
 use Rattle.disk_core.specs.declared.memory.call.Call.TheVariants.{Sync}
@@ -7,25 +8,26 @@ use Rattle.disk_core.proofs.memory.history.History.settle.Goals as goal
 
 pub invariant_of-self : goal.invariant_of-self
 invariant_of-self c =
-    let kept = seen_kept c.args.self.now.first c.args.self.now.calls.items c.push.new.self.items
+    let kept = seen_kept c.args.self.now.first (made_calls c.args.self.now.calls)
+    (made_calls c.note.new.self)
     (record { call = Sync; ok = true })
-    (is_ok c.push.result) (λ s. refl) c.push.ensures.items in
+    (is_ok c.note.result) (λ s. refl) c.note.ensures in
     record {
-      are_bytes = bytes_noted _ _ _ Sync true (is_ok c.push.result) c.push.ensures.items tt
+      are_bytes = bytes_noted _ _ _ Sync true (is_ok c.note.result) c.note.ensures tt
           c.args.self.now.are_bytes;
       shown = c.args.self.now.shown ∙ sym kept;
     }
 
 pub returns-clause-durable : goal.returns-clause-durable
-returns-clause-durable c = sync_pushed _ _ _ c.in_ok-push.ensures.items
+returns-clause-durable c = sync_pushed _ _ _ c.in_ok-note.ensures
 
 pub returns-clause-crash : goal.returns-clause-crash
 returns-clause-crash c = λ image now.
     let first = c.args.self.now.first in
-    let calls = c.args.self.now.calls.items in
+    let calls = made_calls c.args.self.now.calls in
     subst (λ (bytes : List ℕ). IsImage (state_now first calls) bytes)
-    (sym (sync_pushed first calls _ c.in_ok-push.ensures.items image now))
+    (sym (sync_pushed first calls _ c.in_ok-note.ensures image now))
     (now_seen first calls c.args.self.now.are_bytes)
 
 pub returns-clause-time : goal.returns-clause-time
-returns-clause-time c = time_pushed _ _ _ _ c.in_ok-push.ensures.items
+returns-clause-time c = time_pushed _ _ _ _ c.in_ok-note.ensures

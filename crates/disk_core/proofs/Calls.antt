@@ -1,0 +1,98 @@
+-- The calls that a disk in memory tells, by its record.
+use Rattle.std.proofs.Common.{◌≡◌, ℕ, zero, suc, ◌+◌, ◌<◌, ◌≤◌, List, [], ◌∷◌, ◌++◌, length, take}
+use Rattle.std.proofs.Common.{get_or, replicate, refl, ap, sym, ◌∙◌, append_assoc, arith}
+use Rattle.std.proofs.lemmas.Grind.{replicate_next}
+use Rattle.std.proofs.lemmas.List.{length-append, take_all, take_more}
+use Rattle.byte_forms.specs.Types.{Text}
+use Rattle.disk_core.specs.Calls.{calls_in, looked}
+use Rattle.disk_core.specs.Replay.{State, run, settled, state_now, step}
+use Rattle.disk_core.specs.declared.memory.call.Change.{Change}
+use Rattle.disk_core.specs.declared.memory.call.Made.{Made}
+use Rattle.disk_core.proofs.Replay.{run-append}
+
+-- one call more that looks
+pub look_more : (changes : List Change) (looks : ℕ)
+    → calls_in changes (looks + 1) ≡ calls_in changes looks ++ looked ∷ []
+look_more [] looks = replicate_next looks looked
+look_more (change ∷ changes) looks =
+    ap (λ (rest : List Made). replicate change.looks looked ++ change.made ∷ rest)
+    (look_more changes looks)
+    ∙ sym (append_assoc (replicate change.looks looked) (change.made ∷ calls_in changes looks)
+    (looked ∷ []))
+
+-- no more of them than there are calls
+pub looks_few : (changes : List Change) (looks : ℕ) → looks ≤ length (calls_in changes looks)
+looks_few [] looks = all_long looks
+  where
+    all_long : (count : ℕ) → count ≤ length (replicate count looked)
+    all_long zero = omega arith
+    all_long (suc count) = let rest = all_long count in omega arith
+looks_few (change ∷ changes) looks =
+    let rest = looks_few changes looks in
+    let all =
+    length-append (replicate change.looks looked) (change.made ∷ calls_in changes looks) in
+    omega arith
+
+-- one change more
+pub change_more : (changes : List Change) (change : Change)
+    → calls_in (changes ++ change ∷ []) 0 ≡ calls_in changes change.looks ++ change.made ∷ []
+change_more [] change = refl
+change_more (first ∷ changes) change =
+    ap (λ (rest : List Made). replicate first.looks looked ++ first.made ∷ rest)
+    (change_more changes change)
+    ∙ sym (append_assoc (replicate first.looks looked) (first.made ∷ calls_in changes change.looks)
+    (change.made ∷ []))
+
+-- the changes alone
+abbrev pub kept_calls : List Change → List Made
+kept_calls [] = []
+kept_calls (change ∷ changes) = change.made ∷ kept_calls changes
+
+-- calls that look leave the state alone
+looked_alone : (s : State) (count : ℕ) (calls : List Made)
+    → run s (replicate count looked ++ calls) ≡ run s calls
+looked_alone s zero calls = refl
+looked_alone s (suc count) calls = looked_alone s count calls
+
+all_looked_alone : (s : State) (count : ℕ) → run s (replicate count looked) ≡ s
+all_looked_alone s zero = refl
+all_looked_alone s (suc count) = all_looked_alone s count
+
+-- so the changes make it
+pub changes_make : (s : State) (changes : List Change) (looks : ℕ)
+    → run s (calls_in changes looks) ≡ run s (kept_calls changes)
+changes_make s [] looks = all_looked_alone s looks
+changes_make s (change ∷ changes) looks =
+    looked_alone s change.looks (change.made ∷ calls_in changes looks)
+    ∙ changes_make (step s change.made) changes looks
+
+-- the state behind so many of the changes
+abbrev pub state_in : Text → List Change → ℕ → State
+state_in first changes count = run (settled first) (kept_calls (take count changes))
+
+kept-append : (changes : List Change) (change : Change)
+    → kept_calls (changes ++ change ∷ []) ≡ kept_calls changes ++ change.made ∷ []
+kept-append [] change = refl
+kept-append (first ∷ changes) change =
+    ap (λ (rest : List Made). first.made ∷ rest) (kept-append changes change)
+
+-- behind one more
+pub state_in_more : (first : Text) (changes : List Change) (index : ℕ) (change : Change)
+    → index < length changes → change ≡ get_or changes index change
+    → state_in first changes (index + 1) ≡ step (state_in first changes index) change.made
+state_in_more first changes index change within is =
+    ap (λ (kept : List Change). run (settled first) (kept_calls kept))
+    (take_more changes index change within)
+    ∙ ap (run (settled first)) (kept-append (take index changes) (get_or changes index change))
+    ∙ run-append (settled first) (kept_calls (take index changes))
+    (get_or changes index change).made
+    ∙ ap (λ (c : Change). step (state_in first changes index) c.made) (sym is)
+
+-- behind all of them
+pub state_in_all : (first : Text) (changes : List Change) (count looks : ℕ)
+    → length changes ≤ count
+    → state_in first changes count ≡ state_now first (calls_in changes looks)
+state_in_all first changes count looks all =
+    ap (λ (kept : List Change). run (settled first) (kept_calls kept))
+    (take_all count changes all)
+    ∙ sym (changes_make (settled first) changes looks)

@@ -1,0 +1,12 @@
+use Rattle.std.proofs.Common.{ap, arith, length}
+use Rattle.std.proofs.lemmas.List.{length_push}
+use Rattle.disk_core.specs.Calls.{calls_in, looked}
+use Rattle.disk_core.proofs.Calls.{look_more}
+use Rattle.disk_core.proofs.memory.calls.Calls.look.Goals as goal
+
+pub invariant_of-self : goal.invariant_of-self
+invariant_of-self c =
+    let it = c.args.self.now in
+    let more = ap length (look_more it.changes.items it.looks) in
+    let longer = length_push (calls_in it.changes.items it.looks) looked in
+    record { counted = omega (arith, more, longer, it.counted) }

@@ -1,0 +1,16 @@
+-- The calls of a disk in memory, as its record tells them: each one that changes the file, and how
+-- many that only look came between two of these.
+use Rattle.std.specs.Prelude.{ℕ, true, List, [], ◌∷◌, ◌++◌, replicate}
+use Rattle.disk_core.specs.declared.memory.call.Call.TheVariants.{Len}
+use Rattle.disk_core.specs.declared.memory.call.Change.{Change}
+use Rattle.disk_core.specs.declared.memory.call.Made.{Made}
+
+-- a call that only looked: what it asked isn't kept, nor its answer
+abbrev pub looked : Made
+looked = record { call = Len; ok = true }
+
+-- all calls, the oldest first, with so many that only looked behind the last change
+abbrev pub calls_in : List Change → ℕ → List Made
+calls_in [] looks = replicate looks looked
+calls_in (change ∷ changes) looks =
+    replicate change.looks looked ++ change.made ∷ calls_in changes looks

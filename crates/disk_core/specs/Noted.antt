@@ -1,0 +1,15 @@
+-- What the record of a disk in memory tells.
+use Rattle.std.specs.Prelude.{◌<◌, List, vec_len, vec_capacity}
+use Rattle.mtc_io.specs.Counts.{last_count}
+use Rattle.disk_core.specs.Calls.{calls_in}
+use Rattle.disk_core.specs.declared.memory.call.Made.{Made}
+use Rattle.disk_core.specs.declared.memory.calls.Calls.{Calls}
+
+-- all calls, the oldest first
+abbrev pub made_calls : Calls → List Made
+made_calls calls = calls_in calls.changes.items calls.looks
+
+-- there is room for a change more, and a number for it
+pub record HasRoom (calls : Calls) : Type 0 where
+  pub room : vec_len calls.changes < vec_capacity calls.changes
+  pub number : calls.made < last_count

@@ -1,0 +1,114 @@
+//! The calls of a disk in memory. Those that only look are counted, and not kept.
+
+ghost use Rattle.std.specs.Prelude.{◌≡◌, ◌<◌, ◌++◌, [], ◌∷◌, length, true, vec_len, vec_capacity};
+ghost use Rattle.disk_core.specs.Calls.{calls_in};
+
+use crate::memory::call::{Call, Change, Made};
+use crate::memory::copies::copies;
+use mtc_io::Memory;
+use std::alloc::Global;
+
+#[derive(Debug, Drop)]
+pub(crate) struct Calls {
+    pub(crate) changes: Vec<Change>,
+    // How many calls that only look came behind the last change.
+    pub(crate) looks: u64,
+    // How many calls there were.
+    pub(crate) made: u64,
+    ghost counted: { made ≡ length (calls_in changes.items looks) },
+}
+
+// Puts a change behind the others, where there is room.
+fn put(list: &mut Vec<Change>, change: Change)
+    requires { vec_len list.old < vec_capacity list.old }
+    ensures { list.new.items ≡ list.old.items ++ change ∷ [] }
+{
+    match list.push(change) {
+        Ok(()) => {}
+        Err(_full) => unreachable!(),
+    }
+}
+
+impl Calls {
+    ghost use Rattle.std.specs.Prelude.{is_ok, IfOk, OnOk};
+    ghost use Rattle.disk_core.specs.Replay.{noted};
+    ghost use Rattle.disk_core.specs.Noted.{made_calls, HasRoom};
+
+    pub(crate) fn new(alloc: Global) -> Calls
+        ensures { made_calls result ≡ [] }
+    {
+        Calls {
+            changes: Vec::new(alloc),
+            looks: 0,
+            made: 0,
+        }
+    }
+
+    // The number of the next call.
+    pub(crate) fn len(&self) -> u64
+        ensures { result ≡ length (made_calls self.now) }
+    {
+        self.made
+    }
+
+    // The same record once more.
+    pub(crate) fn again(&self, alloc: Global) -> Result<Calls, Memory>
+        ensures { IfOk result (λ it. made_calls it ≡ made_calls self.now) }
+    {
+        Ok(Calls {
+            changes: copies(alloc, &self.changes)?,
+            looks: self.looks,
+            made: self.made,
+        })
+    }
+
+    // A call that only looks. It is refused where no number is left for it.
+    #[tactic(auto, using(crate::proofs::Calls::look_more, crate::proofs::Calls::looks_few))]
+    pub(crate) fn look(&mut self) -> Result<(), Memory>
+        ensures calls { made_calls self.new
+            ≡ noted (is_ok result) Call.Len true (made_calls self.old) }
+        ensures changes { self.new.changes.items ≡ self.old.changes.items }
+    {
+        if self.made == u64::MAX {
+            return Err(Memory);
+        }
+        self.looks += 1;
+        self.made += 1;
+        Ok(())
+    }
+
+    // Makes room for one change more, and sees that a number is left for it.
+    pub(crate) fn reserve(&mut self) -> Result<(), Memory>
+        ensures calls { made_calls self.new ≡ made_calls self.old }
+        ensures room { OnOk result (HasRoom self.new) }
+    {
+        if self.made == u64::MAX {
+            return Err(Memory);
+        }
+        self.changes.reserve(1)?;
+        Ok(())
+    }
+
+    // A change, where there is room.
+    #[tactic(auto, using(crate::proofs::Calls::change_more))]
+    pub(crate) fn push(&mut self, call: Call, ok: bool)
+        requires { HasRoom self.old }
+        ensures { made_calls self.new
+            ≡ made_calls self.old ++ record { call = call; ok = ok } ∷ [] }
+    {
+        let looks = self.looks;
+        let made = Made { call, ok };
+        put(&mut self.changes, Change { looks, made });
+        self.looks = 0;
+        self.made += 1;
+    }
+
+    // A change, unless no memory or no number is left for it.
+    pub(crate) fn note(&mut self, call: Call, ok: bool) -> Result<(), Memory>
+        ensures { made_calls self.new ≡ noted (is_ok result) call ok (made_calls self.old) }
+    {
+        self.reserve()?;
+        self.push(call, ok);
+        Ok(())
+    }
+}
