@@ -10,6 +10,7 @@ use Rattle.byte_forms.specs.Refusals.{answer_of}
 use Rattle.disk_core.specs.declared.disk.Disk.{Ghosts}
 use Rattle.disk_core.specs.Moments.{LeavesOnly}
 use Rattle.tree_core.specs.declared.hashing.TreeHash.{Ghosts as Hashes}
+use Rattle.journal_core.specs.Ends.{settled_of, settled_records}
 use Rattle.journal_core.specs.Format.{StandsForEither, most_bytes}
 use Rattle.journal_core.specs.Words.{AllStandFor, AppendLeaves, IsUntouched, disk_of, end_of}
 use Rattle.journal_core.specs.Words.{is_broken, records}
@@ -18,7 +19,7 @@ use Rattle.journal_core.proofs.Appends.{all_kept, untouched_after, untouched_mom
 use Rattle.journal_core.specs.declared.error.AppendError.{AppendError}
 use Rattle.journal_core.specs.declared.error.AppendError.TheVariants.{Broken, Failed, Full}
 use Rattle.cosigner_core.specs.Folds.{CosignerState}
-use Rattle.cosigner_core.specs.SettledRecords.{IsSettledAs, settled_of, settled_records}
+use Rattle.cosigner_core.specs.SettledRecords.{IsSettledAs}
 use Rattle.cosigner_core.specs.Refusals.{IsOfRequest, CosignKeepsTo, earlier}
 use Rattle.cosigner_core.specs.Refusals.{journal_refusal}
 use Rattle.cosigner_core.specs.Words.{CosignerAppends, CosignerLeaves, cosigner_broken}

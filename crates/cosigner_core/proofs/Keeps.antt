@@ -1,65 +1,27 @@
 -- The settled records of a cosigner's journal, over an append and without one.
-use Rattle.std.proofs.Common.{◌≡◌, ℕ, ◌+◌, ◌-◌, ◌<◌, ◌≤◌, true, false, List, [], ◌∷◌, ◌++◌, length}
-use Rattle.std.proofs.Common.{Option, Some, None, IfSome, option_map, ◌⊎◌, inl, inr, Ok, refl, sym}
-use Rattle.std.proofs.Common.{ap, ◌∙◌, subst, arith}
+use Rattle.std.proofs.Common.{◌≡◌, ℕ, true, false, List, Option, Some, None, IfSome, option_map}
+use Rattle.std.proofs.Common.{Ok, refl, sym, ap, ◌∙◌, subst}
 use Rattle.std.specs.Prelude.{is_some}
 use Rattle.byte_forms.specs.Types.{HashFunction, Text}
 use Rattle.disk_core.specs.declared.disk.Disk.{Ghosts}
-use Rattle.journal_core.specs.Format.{AreRecordsAt, StandsFor, StandsForEither, behind, end_behind}
-use Rattle.journal_core.specs.Format.{records_of}
+use Rattle.journal_core.specs.Ends.{settled_of, settled_records}
+use Rattle.journal_core.specs.Format.{StandsForEither, records_of}
 use Rattle.journal_core.specs.Settled.{IsSettled}
 use Rattle.journal_core.specs.Words.{disk_of, end_of, is_broken, records}
 use Rattle.journal_core.specs.declared.journal.Journal.{Journal}
-use Rattle.journal_core.proofs.Records.{behind-append, records_before-are}
+use Rattle.journal_core.proofs.Ends.{HoldsUpTo, are_settled, of_either, of_settled, settled-are}
 use Rattle.cosigner_core.specs.Folds.{CosignerState, cosigner_of}
-use Rattle.cosigner_core.specs.SettledRecords.{IsSettledAs, settled_of, settled_records}
+use Rattle.cosigner_core.specs.SettledRecords.{IsSettledAs}
 use Rattle.cosigner_core.proofs.Tagged.{some_value}
 
 -- ---- in the bytes
 
--- the records up to an end, and a gate behind them
-record HoldsUpTo (bytes : Text) (list : List Text) (end : ℕ) : Type 0 where
-  pub there : AreRecordsAt bytes 16 list
-  pub last : end ≡ end_behind list
-  pub within : behind 16 list < length bytes
-
-settled-are : (bytes : Text) (list : List Text) (end : ℕ) → HoldsUpTo bytes list end
-    → settled_of end bytes ≡ list
-settled-are bytes list end is =
-    records_before-are bytes list (end - 1) is.there (omega (arith, is.last))
-    (omega (arith, is.last, is.within))
-
 settled_made : (h : HashFunction) (s : CosignerState) (bytes : Text) (list : List Text) (end : ℕ)
     → HoldsUpTo bytes list end → cosigner_of h list ≡ Ok s → IsSettledAs h s end bytes
-settled_made h s bytes list end is made =
-    let same = sym (settled-are bytes list end is) in record {
-      there = subst (AreRecordsAt bytes 16) same is.there;
-      last = subst (λ (l : List Text). end ≡ end_behind l) same is.last;
-      made = subst (λ (l : List Text). cosigner_of h l ≡ Ok s) same made;
-    }
-
-of_settled : (bytes : Text) (images : Text → Type 0) (end : ℕ) → IsSettled bytes images end
-    → HoldsUpTo bytes (records_of bytes) end
-of_settled bytes images end is = record {
-  there = is.stands.holds;
-  last = is.end_is;
-  within = is.stands.ends.there;
-}
-
-front_there : (bytes : Text) (place : ℕ) (list : List Text) (body : Text)
-    → AreRecordsAt bytes place (list ++ body ∷ []) → AreRecordsAt bytes place list
-front_there bytes place [] body are = tt
-front_there bytes place (first ∷ list) body are =
-    (are.0, front_there bytes (place + 5 + length first) list body are.1)
-
-of_either : (bytes : Text) (list : List Text) (body : Text) (end : ℕ) → end ≡ end_behind list
-    → StandsForEither list body bytes → HoldsUpTo bytes list end
-of_either bytes list body end last (inl stands) =
-    record { there = stands.holds; last = last; within = stands.ends.there }
-of_either bytes list body end last (inr stands) = record {
-  there = front_there bytes 16 list body stands.holds;
-  last = last;
-  within = omega (arith, behind-append 16 list body, stands.ends.there);
+settled_made h s bytes list end is made = record {
+  settled = are_settled bytes list end is;
+  made = subst (λ (l : List Text). cosigner_of h l ≡ Ok s) (sym (settled-are bytes list end is))
+      made;
 }
 
 -- ---- where a disk tells them

@@ -1,7 +1,6 @@
 pub mod Adds
 pub mod Allowed
 pub mod Behind
-pub mod Copies
 pub mod Counts
 pub mod ExportAgain
 pub mod ExportForm

@@ -5,10 +5,6 @@ use Rattle.std.specs.List.{flat_map}
 use Rattle.std.specs.Int.{w8, w16, w32}
 use Rattle.byte_forms.specs.Types.{Text}
 use Rattle.mtc_io.specs.Counts.{Rose}
-use Rattle.disk_core.specs.Moments.{Looks}
-use Rattle.disk_core.specs.declared.disk.Disk.{Ghosts}
-use Rattle.journal_core.specs.Words.{disk_of, end_of, is_broken, records}
-use Rattle.journal_core.specs.declared.journal.Journal.{Journal}
 use Rattle.hss_core.specs.Hss.{one_level_public}
 use Rattle.tls_wire.specs.Spelling.{vector}
 use Rattle.cosigner_core.specs.Folds.{CosignerState}
@@ -35,11 +31,3 @@ abbrev pub HasExportCause : {T : Type 0} → ℕ → ℕ → ℕ → ℕ → Res
 HasExportCause disk sink read written (Ok x) = (read ≡ disk) × (written ≡ sink)
 HasExportCause disk sink read written (Err Read) = Rose disk read × (written ≡ sink)
 HasExportCause disk sink read written (Err Write) = (read ≡ disk) × Rose sink written
-
-module _ {D : Type 0} {g : Ghosts D} where
-  -- the disk of a journal was only looked at, and the journal is as it was
-  pub record IsLookedOn (old new : Journal D g) : Type 0 where
-    pub list : records new ≡ records old
-    pub end : end_of new ≡ end_of old
-    pub broken : is_broken new ≡ is_broken old
-    pub looks : Looks g (disk_of old) (disk_of new)

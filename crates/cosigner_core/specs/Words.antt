@@ -6,11 +6,11 @@ use Rattle.mtc_io.specs.Counts.{Rose}
 use Rattle.disk_core.specs.Moments.{LeavesOnly}
 use Rattle.disk_core.specs.declared.disk.Disk.{Ghosts}
 use Rattle.tree_core.specs.declared.hashing.TreeHash.{Ghosts as Hashes}
+use Rattle.journal_core.specs.Ends.{settled_records}
 use Rattle.journal_core.specs.Format.{StandsForEither}
 use Rattle.journal_core.specs.Words.{AllStandFor, disk_of, end_of, is_broken}
 use Rattle.journal_core.specs.declared.error.AppendError.TheVariants as append_error
 use Rattle.cosigner_core.specs.Folds.{CosignerState}
-use Rattle.cosigner_core.specs.SettledRecords.{settled_records}
 use Rattle.cosigner_core.specs.declared.cosigner.Cosigner.{Cosigner}
 use Rattle.cosigner_core.specs.declared.error.CosignError.{CosignError}
 use Rattle.cosigner_core.specs.declared.error.CosignError.TheVariants.{WrongLog, NotNewer}

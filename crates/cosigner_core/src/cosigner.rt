@@ -21,7 +21,7 @@ ghost use Rattle.cosigner_core.specs.Signatures.{signature_by};
 ghost use Rattle.cosigner_core.specs.Views.{advance_parts, subtree_parts};
 
 use crate::error::{CosignError, CosignerOpenError, ExportError, hand_back};
-use crate::export::{copy_records, second_gate, write_front};
+use crate::export::{first_size, write_front, write_rest};
 use crate::opening::read_signer;
 use crate::requests::{AdvanceRequest, SubtreeRequest};
 use crate::signer::Signer;
@@ -198,8 +198,8 @@ impl<H: TreeHash, D: Disk> Cosigner<H, D> {
             Ok(()) => {}
             Err(Failed) => return Err(ExportError::Write),
         }
-        let gate = second_gate(&self.signer, self.journal.end());
-        copy_records(&mut self.journal, gate, out)
+        let from = self.journal.end_behind_first(first_size(&self.signer));
+        write_rest(&mut self.journal, from, out)
     }
 
     /// The size of the log that is held, and its root.

@@ -2,6 +2,8 @@ pub mod Append
 pub mod Appends
 pub mod Begun
 pub mod Bodies
+pub mod Copies
+pub mod Ends
 pub mod OpeningSteps
 pub mod ReadOn
 pub mod Records

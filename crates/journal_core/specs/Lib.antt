@@ -1,3 +1,5 @@
+pub mod Copies
+pub mod Ends
 pub mod Folds
 pub mod Format
 pub mod Openings

@@ -59,6 +59,15 @@ pub enum AppendError {
     Failed,
 }
 
+/// Why records were not copied to the last one.
+#[derive(Clone, Copy, Debug, PartialEq, Eq)]
+pub enum CopyError {
+    /// The disk failed.
+    Read,
+    /// The sink failed.
+    Write,
+}
+
 impl From<Failed> for StartError {
     ghost from_gives = { λ _ e. e ≡ StartFailed };
 

@@ -1,13 +1,14 @@
 //! A journal that is open for more records.
 
-ghost use Rattle.std.specs.Prelude.{◌≡◌, ◌↔◌, ◌≤◌, ◌<◌, ◌+◌, max, length, true, false, is_some};
-ghost use Rattle.std.specs.Prelude.{Some, IsTrue, IsErrOf, IfSome, OnOk};
+ghost use Rattle.std.specs.Prelude.{◌≡◌, ◌↔◌, ◌≤◌, ◌<◌, ◌+◌, min, max, [], ◌∷◌, length, true};
+ghost use Rattle.std.specs.Prelude.{false, is_some, Some, IsTrue, IsErrOf, IfSome, OnOk};
 ghost use Rattle.std.proofs.Props.{props};
 ghost use Rattle.byte_forms.specs.Types.{Text};
 ghost use Rattle.mtc_io.specs.Counts.{HasCause};
 ghost use Rattle.disk_core.specs.Disk.{part};
 ghost use Rattle.disk_core.specs.Moments.{LeavesOnly, Looks};
-ghost use Rattle.journal_core.specs.Format.{most_bytes, StandsFor, StandsForEither, records_of};
+ghost use Rattle.journal_core.specs.Format.{end_behind, most_bytes, StandsFor, StandsForEither};
+ghost use Rattle.journal_core.specs.Format.{records_of};
 ghost use Rattle.journal_core.specs.Settled.{IsSettled, IsSettled-prop, StandsFor-records-prop};
 
 use crate::error::AppendError;
@@ -95,6 +96,18 @@ impl<D: Disk> Journal<D> {
         ensures { result ≡ end_of self.now }
     {
         self.end
+    }
+
+    /// The end behind a first record of so many bytes, or that of the journal where it comes first.
+    /// The disk isn't asked.
+    pub fn end_behind_first(&self, size: u64) -> u64
+        requires { size ≤ 131072 }
+        ensures least { 17 ≤ result }
+        ensures most { result ≤ end_of self.now }
+        ensures end { (first : Text) → length first ≡ size
+            → result ≡ min (end_behind (first ∷ [])) (end_of self.now) }
+    {
+        (size + 22).min(self.end)
     }
 
     pub fn into_disk(self) -> D

@@ -4,12 +4,14 @@
 //! begins a journal on an empty disk, [`Opening`] reads one record by record, and
 //! [`Journal::append`] adds one: it writes the record behind a closed gate, syncs, opens the gate,
 //! and syncs. So a crash at any moment leaves the records from before, or these and the new one,
-//! and once the call has answered Ok it leaves the latter.
+//! and once the call has answered Ok it leaves the latter. [`copy_behind`] writes the records from
+//! some place on to a sink.
 //!
 //! A layer above speaks of lists of records alone: a file stands for a list, every image of a disk
 //! stands for a list, or for one of two lists while a record is appended.
 #![tactic(auto)]
 
+mod copying;
 mod error;
 mod first_record;
 mod format;
@@ -20,7 +22,8 @@ mod opening;
 mod record;
 mod window;
 
-pub use error::{AppendError, OpenError, Refused, StartError};
+pub use copying::copy_behind;
+pub use error::{AppendError, CopyError, OpenError, Refused, StartError};
 pub use first_record::{FirstRecord, start};
 pub use format::{HEADER, LONGEST_WRITE, MAX_BODY};
 pub use journal::Journal;

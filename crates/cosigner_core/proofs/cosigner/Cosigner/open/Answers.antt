@@ -2,12 +2,12 @@ use Rattle.std.proofs.Common.{◌≡◌, List, Option, IfSome, Ok, ap, subst, sy
 use Rattle.byte_forms.specs.Types.{Text}
 use Rattle.disk_core.specs.Moments.{Looks}
 use Rattle.disk_core.proofs.Moments.{looked_on}
+use Rattle.journal_core.specs.Ends.{settled_records}
 use Rattle.journal_core.specs.Format.{StandsFor}
 use Rattle.journal_core.specs.Openings.{opening_disk, read_list}
 use Rattle.journal_core.specs.Words.{AllStandFor, disk_of}
 use Rattle.journal_core.proofs.FoldSteps.{cause_begin}
 use Rattle.cosigner_core.specs.Folds.{cosigner_fold, cosigner_of}
-use Rattle.cosigner_core.specs.SettledRecords.{settled_records}
 use Rattle.cosigner_core.specs.Openings.{cosigner_read}
 use Rattle.cosigner_core.proofs.Keeps.{both_told, keeps_sound, of_sound, sound_records}
 use Rattle.cosigner_core.proofs.cosigner.Cosigner.open.Goals as goal

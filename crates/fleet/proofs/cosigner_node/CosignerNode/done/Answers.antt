@@ -2,7 +2,7 @@ use Rattle.std.proofs.Common.{List, [], ◌∷◌, ◌++◌, sym, subst}
 use Rattle.byte_forms.specs.Types.{Text}
 use Rattle.disk_core.specs.Memory.{bytes_of}
 use Rattle.cosigner_core.specs.Folds.{CosignerState}
-use Rattle.cosigner_core.specs.SettledRecords.{settled_of}
+use Rattle.journal_core.specs.Ends.{settled_of}
 use Rattle.cosigner_core.specs.Words.{cosigner_disk, cosigner_end}
 use Rattle.fleet.specs.CosignerCalls.{body_called, cosigner_behind}
 use Rattle.fleet.specs.CosignerNodes.{IsCosignerDisk}

@@ -1,26 +1,32 @@
 -- Records that are copied from a journal, one behind the other.
-use Rattle.std.proofs.Common.{◌≡◌, ℕ, ◌+◌, ◌-◌, ◌<◌, ◌≤◌, List, [], ◌∷◌, ◌++◌, length, take, drop}
-use Rattle.std.proofs.Common.{Option, Some, None, IfSome, subst, sym, ap, ◌∙◌, refl, arith}
-use Rattle.std.proofs.Common.{append_assoc, append-nil}
+use Rattle.std.proofs.Common.{◌≡◌, ℕ, ◌+◌, ◌-◌, ◌<◌, ◌≤◌, min, List, [], ◌∷◌, ◌++◌, length}
+use Rattle.std.proofs.Common.{take, drop, Option, Some, None, IfSome, OnOk, Result, Ok, Err}
+use Rattle.std.proofs.Common.{subst, sym, ap, ◌∙◌, refl, arith, append_assoc, append-nil}
 use Rattle.std.specs.Int.{w32, to_be_bytes}
 use Rattle.std.specs.Io.KnownBytes.{Appends}
 use Rattle.std.proofs.KnownBytes.{Appends-trans, Appends-nil}
 use Rattle.std.proofs.Math.Seq.{take-add}
 use Rattle.std.proofs.lemmas.List.{drop-drop}
 use Rattle.byte_forms.specs.Types.{Text}
+use Rattle.byte_forms.specs.Places.{IsBytes}
+use Rattle.byte_forms.proofs.Steps.{IsBytes-drop, IsBytes-take}
 use Rattle.disk_core.specs.Disk.{part}
-use Rattle.journal_core.specs.Format.{AreRecordsAt, IsRecordAt, behind}
+use Rattle.journal_core.specs.Copies.{sized, sized_text}
+use Rattle.journal_core.specs.Ends.{StandBetween}
+use Rattle.journal_core.specs.Format.{AreRecordsAt, IsRecordAt, behind, end_behind}
 use Rattle.journal_core.proofs.Records.{behind_later}
 use Rattle.mtc_io.specs.Streams.{AppendsPrefix}
 use Rattle.mtc_io.proofs.Streams.{prefix_more, prefix_whole}
-use Rattle.tls_wire.specs.Spelling.{vector}
-use Rattle.cosigner_core.specs.Exports.{records_text}
 
 -- ---- facts where a disk tells its bytes
 
 pub any_some : {X : Type 0} (P : X → Type 0) (told : Option X) → ((x : X) → P x) → IfSome told P
 any_some P None is = tt
 any_some P (Some x) is = is x
+
+pub when_ok : {T E : Type 0} (r : Result T E) (P Q : Type 0) → (P → Q) → OnOk r P → OnOk r Q
+when_ok (Ok x) P Q f is = f is
+when_ok (Err e) P Q f is = tt
 
 -- ---- prefixes
 
@@ -104,7 +110,7 @@ module _ (told later : Option Text) (same : later ≡ told) (place done more cou
 
 -- The part of the file that a record of an export is.
 pub record_part : (bytes body : Text) (gate : ℕ) → IsRecordAt bytes gate body
-    → part (gate + 1) (4 + length body) bytes ≡ vector w32 body
+    → part (gate + 1) (4 + length body) bytes ≡ sized body
 record_part bytes body gate is =
     part-more (gate + 1) 4 (length body) bytes
     ∙ ap (λ (size : Text). size ++ part (gate + 1 + 4) (length body) bytes) is.size
@@ -121,13 +127,13 @@ AtRecord told gate end P = IfSome told (λ bytes. (body : Text) → IsRecordAt b
 pub record_of_part : (P : Text → Type 0) (told later : Option Text) → later ≡ told
     → (gate end size : ℕ) → AtRecord told gate end (λ body. size ≡ length body)
     → IfSome later (λ bytes. P (part (gate + 1) (4 + size) bytes))
-    → AtRecord told gate end (λ body. P (vector w32 body))
+    → AtRecord told gate end (λ body. P (sized body))
 record_of_part P told later same gate end size long is = go told long
     (subst (λ (o : Option Text). IfSome o (λ bytes. P (part (gate + 1) (4 + size) bytes))) same is)
   where
     go : (o : Option Text) → AtRecord o gate end (λ body. size ≡ length body)
         → IfSome o (λ bytes. P (part (gate + 1) (4 + size) bytes))
-        → AtRecord o gate end (λ body. P (vector w32 body))
+        → AtRecord o gate end (λ body. P (sized body))
     go None long is = tt
     go (Some bytes) long is = λ body there within.
         subst P (record_part bytes body gate there)
@@ -135,9 +141,9 @@ record_of_part P told later same gate end size long is = go told long
 
 -- nothing was written of any record
 pub record_none : (told : Option Text) (gate end : ℕ) (a : Option (List ℕ))
-    → AtRecord told gate end (λ body. AppendsPrefix a a (vector w32 body))
+    → AtRecord told gate end (λ body. AppendsPrefix a a (sized body))
 record_none None gate end a = tt
-record_none (Some bytes) gate end a = λ body there within. prefix_none a (vector w32 body)
+record_none (Some bytes) gate end a = λ body there within. prefix_none a (sized body)
 
 -- Up to this gate the records were written; these are left.
 pub record IsCopied (bytes whole : Text) (gate end : ℕ) (old now : Option Text) : Type 0 where
@@ -146,12 +152,12 @@ pub record IsCopied (bytes whole : Text) (gate end : ℕ) (old now : Option Text
   pub there : AreRecordsAt bytes gate rest
   pub last : end ≡ behind gate rest + 1
   pub appended : Appends old now written
-  pub made : written ++ records_text rest ≡ whole
+  pub made : written ++ sized_text rest ≡ whole
 
 -- none was written yet
 pub copied_none : (bytes : Text) (bodies : List Text) (gate end : ℕ) (a : Option Text)
     → AreRecordsAt bytes gate bodies → end ≡ behind gate bodies + 1
-    → IsCopied bytes (records_text bodies) gate end a a
+    → IsCopied bytes (sized_text bodies) gate end a a
 copied_none bytes bodies gate end a there last = record {
   written = [];
   rest = bodies;
@@ -167,7 +173,7 @@ pub copied_all : (bytes whole : Text) (gate end : ℕ) (a b : Option Text)
 copied_all bytes whole gate end a b few is = go is.rest is.last is.made
   where
     go : (rest : List Text) → end ≡ behind gate rest + 1
-        → is.written ++ records_text rest ≡ whole → Appends a b whole
+        → is.written ++ sized_text rest ≡ whole → Appends a b whole
     go [] last made = subst (Appends a b) (sym (append-nil is.written) ∙ made) is.appended
     go (body ∷ rest) last made =
         let later = behind_later (gate + 5 + length body) rest in absurd (omega arith)
@@ -176,17 +182,17 @@ module _ (bytes whole : Text) (gate end : ℕ) (a b c : Option Text) (some : 6 �
   -- a prefix of one record more
   pub copied_prefix : IsCopied bytes whole gate end a b
       → ((body : Text) → IsRecordAt bytes gate body → gate + 6 + length body ≤ end
-      → AppendsPrefix b c (vector w32 body))
+      → AppendsPrefix b c (sized body))
       → AppendsPrefix a c whole
   copied_prefix is more = go is.rest is.there is.last is.made
     where
       go : (rest : List Text) → AreRecordsAt bytes gate rest → end ≡ behind gate rest + 1
-          → is.written ++ records_text rest ≡ whole → AppendsPrefix a c whole
+          → is.written ++ sized_text rest ≡ whole → AppendsPrefix a c whole
       go [] there last made = absurd (omega arith)
       go (body ∷ rest) there last made =
           let later = behind_later (gate + 5 + length body) rest in
           subst (AppendsPrefix a c) made
-          (prefix_more a b c is.written (vector w32 body) (records_text rest) is.appended
+          (prefix_more a b c is.written (sized body) (sized_text rest) is.appended
           (more body there.0 (omega arith)))
 
   -- one record more
@@ -194,23 +200,23 @@ module _ (bytes whole : Text) (gate end : ℕ) (a b c : Option Text) (some : 6 �
       → ((body : Text) → IsRecordAt bytes gate body → gate + 6 + length body ≤ end
       → next ≡ gate + 5 + length body)
       → ((body : Text) → IsRecordAt bytes gate body → gate + 6 + length body ≤ end
-      → Appends b c (vector w32 body))
+      → Appends b c (sized body))
       → IsCopied bytes whole next end a c
   copied_more next is far more = go is.rest is.there is.last is.made
     where
       go : (rest : List Text) → AreRecordsAt bytes gate rest → end ≡ behind gate rest + 1
-          → is.written ++ records_text rest ≡ whole → IsCopied bytes whole next end a c
+          → is.written ++ sized_text rest ≡ whole → IsCopied bytes whole next end a c
       go [] there last made = absurd (omega arith)
       go (body ∷ rest) there last made =
           let later = behind_later (gate + 5 + length body) rest in
           let here : next ≡ gate + 5 + length body = far body there.0 (omega arith) in
           record {
-            written = is.written ++ vector w32 body;
+            written = is.written ++ sized body;
             rest = rest;
             there = subst (λ (n : ℕ). AreRecordsAt bytes n rest) (sym here) there.1;
             last = last ∙ ap (λ (n : ℕ). behind n rest + 1) (sym here);
             appended = Appends-trans a b c _ _ is.appended (more body there.0 (omega arith));
-            made = append_assoc is.written (vector w32 body) (records_text rest) ∙ made;
+            made = append_assoc is.written (sized body) (sized_text rest) ∙ made;
           }
 
 -- a fact of the records from a gate to an end, in the bytes that a disk tells
@@ -218,64 +224,88 @@ abbrev pub OfRecords : Option Text → ℕ → ℕ → (Text → List Text → T
 OfRecords told first end P = IfSome told (λ bytes. (bodies : List Text)
     → AreRecordsAt bytes first bodies → end ≡ behind first bodies + 1 → P bytes bodies)
 
+-- the same from the end behind the gate on
+pub between : (told : Option Text) (from end : ℕ) (P : List Text → Type 0)
+    → OfRecords told (from - 1) end (λ bytes bodies. P bodies)
+    → IfSome told (λ bytes. (bodies : List Text) → StandBetween bytes from end bodies → P bodies)
+between None from end P is = tt
+between (Some bytes) from end P is = λ bodies stand. is bodies stand.0 stand.1
+
 pub records_none : (told : Option Text) (first end : ℕ) (a : Option (List ℕ))
     → OfRecords told first end
-    (λ bytes bodies. IsCopied bytes (records_text bodies) first end a a)
+    (λ bytes bodies. IsCopied bytes (sized_text bodies) first end a a)
 records_none None first end a = tt
 records_none (Some bytes) first end a = λ bodies there last.
     copied_none bytes bodies first end a there last
 
 pub records_all : (told : Option Text) (first gate end : ℕ) (a b : Option (List ℕ))
     → end - gate < 6 → OfRecords told first end
-    (λ bytes bodies. IsCopied bytes (records_text bodies) gate end a b)
-    → OfRecords told first end (λ bytes bodies. Appends a b (records_text bodies))
+    (λ bytes bodies. IsCopied bytes (sized_text bodies) gate end a b)
+    → OfRecords told first end (λ bytes bodies. Appends a b (sized_text bodies))
 records_all None first gate end a b few is = tt
 records_all (Some bytes) first gate end a b few is = λ bodies there last.
-    copied_all bytes (records_text bodies) gate end a b few (is bodies there last)
+    copied_all bytes (sized_text bodies) gate end a b few (is bodies there last)
 
 pub records_whole : (told : Option Text) (first end : ℕ) (a b : Option (List ℕ))
-    → OfRecords told first end (λ bytes bodies. Appends a b (records_text bodies))
-    → OfRecords told first end (λ bytes bodies. AppendsPrefix a b (records_text bodies))
+    → OfRecords told first end (λ bytes bodies. Appends a b (sized_text bodies))
+    → OfRecords told first end (λ bytes bodies. AppendsPrefix a b (sized_text bodies))
 records_whole None first end a b is = tt
 records_whole (Some bytes) first end a b is = λ bodies there last.
-    prefix_whole a b (records_text bodies) (is bodies there last)
+    prefix_whole a b (sized_text bodies) (is bodies there last)
 
 module _ (told later : Option Text) (same : later ≡ told) (first gate end : ℕ)
     (a b c : Option (List ℕ)) (some : 6 ≤ end - gate)
     (copied : OfRecords told first end
-    (λ bytes bodies. IsCopied bytes (records_text bodies) gate end a b)) where
-  pub records_prefix : AtRecord later gate end (λ body. AppendsPrefix b c (vector w32 body))
-      → OfRecords told first end (λ bytes bodies. AppendsPrefix a c (records_text bodies))
+    (λ bytes bodies. IsCopied bytes (sized_text bodies) gate end a b)) where
+  pub records_prefix : AtRecord later gate end (λ body. AppendsPrefix b c (sized body))
+      → OfRecords told first end (λ bytes bodies. AppendsPrefix a c (sized_text bodies))
   records_prefix more = go told copied
       (subst (λ (o : Option Text). AtRecord o gate end
-      (λ body. AppendsPrefix b c (vector w32 body))) same more)
+      (λ body. AppendsPrefix b c (sized body))) same more)
     where
       go : (o : Option Text) → OfRecords o first end
-          (λ bytes bodies. IsCopied bytes (records_text bodies) gate end a b)
-          → AtRecord o gate end (λ body. AppendsPrefix b c (vector w32 body))
-          → OfRecords o first end (λ bytes bodies. AppendsPrefix a c (records_text bodies))
+          (λ bytes bodies. IsCopied bytes (sized_text bodies) gate end a b)
+          → AtRecord o gate end (λ body. AppendsPrefix b c (sized body))
+          → OfRecords o first end (λ bytes bodies. AppendsPrefix a c (sized_text bodies))
       go None is more = tt
       go (Some bytes) is more = λ bodies there last.
-          copied_prefix bytes (records_text bodies) gate end a b c some (is bodies there last) more
+          copied_prefix bytes (sized_text bodies) gate end a b c some (is bodies there last) more
 
   pub records_more : (next : ℕ)
       → AtRecord later gate end (λ body. next ≡ gate + 5 + length body)
-      → AtRecord later gate end (λ body. Appends b c (vector w32 body))
+      → AtRecord later gate end (λ body. Appends b c (sized body))
       → OfRecords told first end
-      (λ bytes bodies. IsCopied bytes (records_text bodies) next end a c)
+      (λ bytes bodies. IsCopied bytes (sized_text bodies) next end a c)
   records_more next far more = go told copied
       (subst (λ (o : Option Text). AtRecord o gate end
       (λ body. next ≡ gate + 5 + length body)) same far)
       (subst (λ (o : Option Text). AtRecord o gate end
-      (λ body. Appends b c (vector w32 body))) same more)
+      (λ body. Appends b c (sized body))) same more)
     where
       go : (o : Option Text) → OfRecords o first end
-          (λ bytes bodies. IsCopied bytes (records_text bodies) gate end a b)
+          (λ bytes bodies. IsCopied bytes (sized_text bodies) gate end a b)
           → AtRecord o gate end (λ body. next ≡ gate + 5 + length body)
-          → AtRecord o gate end (λ body. Appends b c (vector w32 body))
+          → AtRecord o gate end (λ body. Appends b c (sized body))
           → OfRecords o first end
-          (λ bytes bodies. IsCopied bytes (records_text bodies) next end a c)
+          (λ bytes bodies. IsCopied bytes (sized_text bodies) next end a c)
       go None is far more = tt
       go (Some bytes) is far more = λ bodies there last.
-          copied_more bytes (records_text bodies) gate end a b c some next (is bodies there last)
+          copied_more bytes (sized_text bodies) gate end a b c some next (is bodies there last)
           far more
+
+-- The records behind the first one stand behind the end behind it.
+pub behind_first : (bytes first : Text) (bodies : List Text) (from end : ℕ)
+    → AreRecordsAt bytes 16 (first ∷ bodies) → end ≡ end_behind (first ∷ bodies)
+    → from ≡ min (end_behind (first ∷ [])) end → StandBetween bytes from end bodies
+behind_first bytes first bodies from end there last is =
+    let later = behind_later (16 + 5 + length first) bodies in
+    let same : from - 1 ≡ 16 + 5 + length first = omega (arith, is, last, later) in (
+      subst (λ (n : ℕ). AreRecordsAt bytes n bodies) (sym same) there.1,
+      last ∙ ap (λ (n : ℕ). behind n bodies + 1) (sym same),
+    )
+
+-- The first body that stands in bytes are bytes.
+pub first_are_bytes : (bytes first : Text) (bodies : List Text) → IsBytes bytes
+    → AreRecordsAt bytes 16 (first ∷ bodies) → IsBytes first
+first_are_bytes bytes first bodies are there = subst IsBytes there.0.body_is
+    (IsBytes-take (length first) (drop (16 + 5) bytes) (IsBytes-drop (16 + 5) bytes are))

@@ -2,8 +2,8 @@ use Rattle.std.proofs.Common.{◌≡◌, ◌≤◌, ◌-◌, IfSome}
 use Rattle.std.specs.Io.KnownBytes.{Appends}
 use Rattle.disk_core.specs.Disk.{part}
 use Rattle.journal_core.specs.Words.{disk_of}
-use Rattle.cosigner_core.specs.Exports.{IsLookedOn}
-use Rattle.cosigner_core.proofs.export.copy.Given as goal
+use Rattle.journal_core.specs.Copies.{IsLookedOn}
+use Rattle.journal_core.proofs.copying.copy.Given as goal
 
 -- the first `done` bytes were written
 pub record Invariant (g : goal.Over) (l : goal.Live-loop-done g) : Type 0 where

@@ -1,8 +1,8 @@
 use Rattle.std.proofs.Common.{arith, ◌∙◌}
 use Rattle.disk_core.proofs.Moments.{looked_on}
 use Rattle.journal_core.specs.Words.{disk_of}
-use Rattle.cosigner_core.proofs.Copies.{told_prefix, told_whole}
-use Rattle.cosigner_core.proofs.export.copy.Goals as goal
+use Rattle.journal_core.proofs.Copies.{told_prefix, told_whole}
+use Rattle.journal_core.proofs.copying.copy.Goals as goal
 
 pub returns-in_err-copy_piece-clause-prefix : goal.returns-in_err-copy_piece-clause-prefix
 returns-in_err-copy_piece-clause-prefix g c =

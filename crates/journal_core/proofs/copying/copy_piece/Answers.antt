@@ -1,6 +1,6 @@
 use Rattle.disk_core.specs.Disk.{part}
-use Rattle.cosigner_core.proofs.Copies.{any_some, prefix_none}
-use Rattle.cosigner_core.proofs.export.copy_piece.Goals as goal
+use Rattle.journal_core.proofs.Copies.{any_some, prefix_none}
+use Rattle.journal_core.proofs.copying.copy_piece.Goals as goal
 
 pub returns-in-Err-clause-prefix : goal.returns-in-Err-clause-prefix
 returns-in-Err-clause-prefix g c =

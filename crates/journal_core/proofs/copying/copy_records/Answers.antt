@@ -1,13 +1,12 @@
 use Rattle.std.proofs.Common.{◌≡◌, ℕ, ◌+◌, ◌∙◌, length, arith, rules, subst}
-use Rattle.std.specs.Int.{w32}
 use Rattle.std.specs.Io.KnownBytes.{Appends}
 use Rattle.disk_core.proofs.Moments.{looked_on}
 use Rattle.mtc_io.specs.Streams.{AppendsPrefix}
+use Rattle.journal_core.specs.Copies.{sized}
 use Rattle.journal_core.specs.Words.{disk_of, end_of}
-use Rattle.tls_wire.specs.Spelling.{vector}
-use Rattle.cosigner_core.proofs.Copies.{AtRecord, records_all, records_more, records_none}
-use Rattle.cosigner_core.proofs.Copies.{records_prefix, records_whole}
-use Rattle.cosigner_core.proofs.export.copy_records.Goals as goal
+use Rattle.journal_core.proofs.Copies.{AtRecord, records_all, records_more, records_none}
+use Rattle.journal_core.proofs.Copies.{records_prefix, records_whole}
+use Rattle.journal_core.proofs.copying.copy_records.Goals as goal
 
 pub loop-gate-init : goal.loop-gate-init
 loop-gate-init g c = record {
@@ -29,7 +28,7 @@ returns-in_err-gate-clause-prefix g c =
     c.loop-gate.invariant.written
     (subst (λ (n : ℕ). AtRecord (g.D.Disk.told (disk_of c.loop-gate.journal)) c.loop-gate.gate n
     (λ body. AppendsPrefix (g.O.Sink.taken c.loop-gate.out) (g.O.Sink.taken c.copy_record.new.out)
-    (vector w32 body))) c.loop-gate.invariant.kept.end c.copy_record.ensures.prefix)
+    (sized body))) c.loop-gate.invariant.kept.end c.copy_record.ensures.prefix)
 
 pub loop-gate-preserved : goal.loop-gate-preserved
 loop-gate-preserved g c = record {
@@ -45,7 +44,7 @@ loop-gate-preserved g c = record {
       c.loop-gate.invariant.kept.end c.in_ok-gate.ensures.next)
       (subst (λ (n : ℕ). AtRecord (g.D.Disk.told (disk_of c.loop-gate.journal)) c.loop-gate.gate n
       (λ body. Appends (g.O.Sink.taken c.loop-gate.out) (g.O.Sink.taken c.copy_record.new.out)
-      (vector w32 body))) c.loop-gate.invariant.kept.end c.in_ok-gate.ensures.ok);
+      (sized body))) c.loop-gate.invariant.kept.end c.in_ok-gate.ensures.ok);
   kept = record {
     list = c.copy_record.ensures.kept.list ∙ c.loop-gate.invariant.kept.list;
     end = c.copy_record.ensures.kept.end ∙ c.loop-gate.invariant.kept.end;

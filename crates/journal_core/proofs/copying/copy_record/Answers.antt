@@ -1,8 +1,8 @@
 use Rattle.std.specs.Io.KnownBytes.{Appends}
 use Rattle.mtc_io.specs.Streams.{AppendsPrefix}
 use Rattle.journal_core.specs.Words.{disk_of, end_of}
-use Rattle.cosigner_core.proofs.Copies.{record_none, record_of_part}
-use Rattle.cosigner_core.proofs.export.copy_record.Goals as goal
+use Rattle.journal_core.proofs.Copies.{record_none, record_of_part}
+use Rattle.journal_core.proofs.copying.copy_record.Goals as goal
 
 pub returns-in-Err-clause-prefix : goal.returns-in-Err-clause-prefix
 returns-in-Err-clause-prefix g c =

@@ -1,15 +1,15 @@
 use Rattle.std.proofs.Common.{◌≡◌, ◌+◌, ◌-◌, ◌≤◌}
 use Rattle.journal_core.specs.Words.{disk_of, end_of}
-use Rattle.cosigner_core.specs.Exports.{IsLookedOn, records_text}
-use Rattle.cosigner_core.proofs.Copies.{IsCopied, OfRecords}
-use Rattle.cosigner_core.proofs.export.copy_records.Given as goal
+use Rattle.journal_core.specs.Copies.{IsLookedOn, sized_text}
+use Rattle.journal_core.proofs.Copies.{IsCopied, OfRecords}
+use Rattle.journal_core.proofs.copying.copy_records.Given as goal
 
 -- the records before the gate were written
 pub record Invariant (g : goal.Over) (l : goal.Live-loop-gate g) : Type 0 where
   pub end : l.end ≡ end_of l.initial.journal
   pub within : l.gate + 1 ≤ l.end
   pub written : OfRecords (g.D.Disk.told (disk_of l.initial.journal)) l.first
-      (end_of l.initial.journal) (λ bytes bodies. IsCopied bytes (records_text bodies) l.gate
+      (end_of l.initial.journal) (λ bytes bodies. IsCopied bytes (sized_text bodies) l.gate
       (end_of l.initial.journal) (g.O.Sink.taken l.initial.out) (g.O.Sink.taken l.out))
   pub kept : IsLookedOn l.initial.journal l.journal
   pub read : g.D.Disk.faults (disk_of l.journal) ≡ g.D.Disk.faults (disk_of l.initial.journal)
