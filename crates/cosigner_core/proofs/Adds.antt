@@ -1,9 +1,9 @@
 -- What a request makes of a cosigner.
 use Rattle.std.proofs.Common.{◌≡◌, ℕ, ◌+◌, ◌<◌, ◌≤◌, nat_lt, ◌↔◌, Bool, true, false}
-use Rattle.std.proofs.Common.{List, [], ◌∷◌, ◌++◌, length, Option, Some, None, IfSome, option_map}
+use Rattle.std.proofs.Common.{[], ◌∷◌, ◌++◌, length, Option, Some, None, IfSome, option_map}
 use Rattle.std.proofs.Common.{Result, Ok, ◌∙◌}
 use Rattle.std.specs.Prelude.{if◌then◌else◌, is_some}
-use Rattle.std.proofs.Common.{Err, IsErrAnd, IsErrOf, IsTrue, refl, sym, ap, subst, arith}
+use Rattle.std.proofs.Common.{Err, OnErr, IsErrAnd, IsErrOf, IsTrue, refl, sym, ap, subst, arith}
 use Rattle.std.proofs.lemmas.Bool.{ltb-true, lt-ltb}
 use Rattle.byte_forms.specs.Types.{HashFunction, Text}
 use Rattle.byte_forms.specs.Refusals.{answer_of}
@@ -12,18 +12,21 @@ use Rattle.disk_core.specs.Moments.{LeavesOnly}
 use Rattle.tree_core.specs.declared.hashing.TreeHash.{Ghosts as Hashes}
 use Rattle.journal_core.specs.Ends.{settled_of, settled_records}
 use Rattle.journal_core.specs.Format.{StandsForEither, most_bytes}
+use Rattle.journal_core.specs.Owners.{OwnerAppends, owner_over}
 use Rattle.journal_core.specs.Words.{AllStandFor, AppendLeaves, IsUntouched, disk_of, end_of}
 use Rattle.journal_core.specs.Words.{is_broken, records}
 use Rattle.journal_core.specs.declared.journal.Journal.{Journal}
 use Rattle.journal_core.proofs.Appends.{all_kept, untouched_after, untouched_moment}
+use Rattle.journal_core.proofs.Owners.{refused_by, was_sound}
 use Rattle.journal_core.specs.declared.error.AppendError.{AppendError}
 use Rattle.journal_core.specs.declared.error.AppendError.TheVariants.{Broken, Failed, Full}
 use Rattle.cosigner_core.specs.Folds.{CosignerState}
 use Rattle.cosigner_core.specs.SettledRecords.{IsSettledAs}
 use Rattle.cosigner_core.specs.Refusals.{IsOfRequest, CosignKeepsTo, earlier}
 use Rattle.cosigner_core.specs.Refusals.{journal_refusal}
-use Rattle.cosigner_core.specs.Words.{CosignerAppends, CosignerLeaves, cosigner_broken}
-use Rattle.cosigner_core.specs.Words.{cosigner_disk, cosigner_end, cosigner_state}
+use Rattle.cosigner_core.specs.Words.{CosignerAppends, CosignerLeaves}
+use Rattle.cosigner_core.specs.Words.{cosigner_disk, cosigner_end, cosigner_records}
+use Rattle.cosigner_core.specs.Words.{cosigner_owner, cosigner_state, of_cosigner_journal}
 use Rattle.cosigner_core.specs.declared.cosigner.Cosigner.{Cosigner}
 use Rattle.cosigner_core.specs.declared.error.CosignError.{CosignError}
 use Rattle.cosigner_core.specs.declared.error.CosignError.TheVariants.{WrongLog, NotNewer}
@@ -41,9 +44,10 @@ told why = Err why
 abbrev pub done : Answer
 done = Ok tt
 
-was_sound : (b : Bool) → ((b ≡ true) → told Failed ≡ told Broken) → b ≡ false
-was_sound true is = let wrong : told Failed ≡ told Broken = is refl in cc
-was_sound false is = refl
+-- where a call is refused, this
+pub on_err : {T E : Type 0} (r : Result T E) (P : Type 0) → P → OnErr r P
+on_err (Ok x) P is = tt
+on_err (Err e) P is = is
 
 pub some_body : (body written : Text) → body ≡ written → 1 ≤ length written → 1 ≤ length body
 some_body body written is some = subst (λ (b : Text). 1 ≤ length b) (sym is) some
@@ -147,14 +151,20 @@ module _ {H D : Type 0} {hashes : Hashes H} {g : Ghosts D} where
             (it.journal.settled sound));
       })
 
-  grown_by : (old new : Cosigner H D hashes g) (body : Text) (next : CosignerState)
-      → Appended old.journal new.journal body (Ok tt) → cosigner_state new ≡ next
-      → CosignerAppends body next old new (Ok tt)
-  grown_by old new body next did made =
+  -- this record is appended by a call that leaves this journal and this state
+  abbrev Grows : Text → CosignerState → Cosigner H D hashes g → Journal D g → CosignerState
+      → Result (Unit {0}) CosignError → Type 0
+  Grows body next old new now result = OwnerAppends g of_cosigner_journal body next
+      (cosigner_owner old) (owner_over new (settled_records new) now) result
+
+  grown_by : (old : Cosigner H D hashes g) (new : Journal D g) (now : CosignerState) (body : Text)
+      (next : CosignerState)
+      → Appended old.journal new body (Ok tt) → now ≡ next → Grows body next old new now (Ok tt)
+  grown_by old new now body next did made =
       let was = sound_records old.journal did.leaves.was_sound in
       record {
         leaves = record {
-          records = sound_records new.journal did.leaves.sound ∙ did.leaves.records
+          records = sound_records new did.leaves.sound ∙ did.leaves.records
               ∙ ap (option_map (λ list. list ++ body ∷ [])) (sym was);
           state = made;
           end = did.leaves.end;
@@ -162,76 +172,45 @@ module _ {H D : Type 0} {hashes : Hashes H} {g : Ghosts D} where
           sound = did.leaves.sound;
           fine = did.leaves.fine;
         };
-        kept = of_sound old.journal (λ list. AllStandFor g (cosigner_disk new) (list ++ body ∷ []))
-            did.leaves.was_sound (all_kept g (cosigner_disk new) (g.told (cosigner_disk new))
+        kept = of_sound old.journal (λ list. AllStandFor g (disk_of new) (list ++ body ∷ []))
+            did.leaves.was_sound (all_kept g (disk_of new) (g.told (disk_of new))
             (records old.journal) body body did.leaves.records refl did.leaves.all);
         count = did.count;
-        any_moment = moments old.journal new.journal body (Ok tt) did;
-        afterwards = behind_it old.journal new.journal body (Ok tt) did;
+        any_moment = moments old.journal new body (Ok tt) did;
+        afterwards = behind_it old.journal new body (Ok tt) did;
       }
 
-  pub grown : (old new : Cosigner H D hashes g) (written body : Text) (next : CosignerState)
-      → written ≡ body
-      → Appended old.journal new.journal written (Ok tt) → cosigner_state new ≡ next
-      → CosignerAppends body next old new (Ok tt)
-  grown old new written body next is did made =
-      subst (λ (b : Text). CosignerAppends b next old new (Ok tt)) is
-      (grown_by old new written next did made)
+  pub grown : (old : Cosigner H D hashes g) (new : Journal D g) (now : CosignerState)
+      (written body : Text) (next : CosignerState) → written ≡ body
+      → Appended old.journal new written (Ok tt) → now ≡ next
+      → Grows body next old new now (Ok tt)
+  grown old new now written body next is did made =
+      subst (λ (b : Text). Grows b next old new now (Ok tt)) is
+      (grown_by old new now written next did made)
 
-  unappended : (h : HashFunction) (old new : Cosigner H D hashes g) (body : Text)
-      (next : CosignerState) (why : AppendError)
-      → Appended old.journal new.journal body (Err why) → cosigner_state new ≡ cosigner_state old
-      → Keeps h (cosigner_state old) old.journal → CosignerAppends body next old new
-      (Err (Append why))
-  unappended h old new body next Failed did same keeps = record {
-    leaves = record {
-      cause = did.leaves.cause;
-      state = same;
-      end = did.leaves.end;
-      records = (stay_kept h (cosigner_state old) old.journal new.journal body Failed did keeps).1;
-      was_sound = was_sound (cosigner_broken old) did.broken.1;
-      broken = did.leaves.broken;
-    };
+  unappended : (old : Cosigner H D hashes g) (new : Journal D g) (now : CosignerState)
+      (body : Text) (next : CosignerState) (why : AppendError)
+      → Appended old.journal new body (Err why) → now ≡ cosigner_state old
+      → Grows body next old new now (Err (Append why))
+  unappended old new now body next why did same = record {
+    leaves = refused_by old.journal new body (cosigner_records old) (settled_records new)
+        (cosigner_state old) now same why did.leaves did.broken;
     kept = tt;
     count = did.count;
-    any_moment = moments old.journal new.journal body (Err Failed) did;
-    afterwards = behind_it old.journal new.journal body (Err Failed) did;
-  }
-  unappended h old new body next Broken did same keeps = record {
-    leaves = record {
-      disk = did.leaves.disk;
-      state = same;
-      end = did.leaves.end;
-      broken = did.leaves.broken;
-    };
-    kept = tt;
-    count = did.count;
-    any_moment = moments old.journal new.journal body (Err Broken) did;
-    afterwards = behind_it old.journal new.journal body (Err Broken) did;
-  }
-  unappended h old new body next Full did same keeps = record {
-    leaves = record {
-      disk = did.leaves.disk;
-      state = same;
-      end = did.leaves.end;
-      broken = did.leaves.broken;
-    };
-    kept = tt;
-    count = did.count;
-    any_moment = moments old.journal new.journal body (Err Full) did;
-    afterwards = behind_it old.journal new.journal body (Err Full) did;
+    any_moment = moments old.journal new body (Err why) did;
+    afterwards = behind_it old.journal new body (Err why) did;
   }
 
-  pub not_appended : (h : HashFunction) (old new : Cosigner H D hashes g) (written body : Text)
-      (next : CosignerState)
+  pub not_appended : (old : Cosigner H D hashes g) (new : Journal D g) (now : CosignerState)
+      (written body : Text) (next : CosignerState)
       (result : Result (Unit {0}) CosignError) (why : AppendError)
       → IsErrAnd result (λ e. e ≡ Append why) → written ≡ body
-      → Appended old.journal new.journal written (Err why) → cosigner_state new ≡ cosigner_state old
-      → Keeps h (cosigner_state old) old.journal → CosignerAppends body next old new result
-  not_appended h old new written body next result why is same did made keeps =
-      subst (CosignerAppends body next old new) (err_is result (Append why) is)
-      (subst (λ (b : Text). CosignerAppends b next old new (Err (Append why))) same
-      (unappended h old new written next why did made keeps))
+      → Appended old.journal new written (Err why) → now ≡ cosigner_state old
+      → Grows body next old new now result
+  not_appended old new now written body next result why is same did made =
+      subst (Grows body next old new now) (err_is result (Append why) is)
+      (subst (λ (b : Text). Grows b next old new now (Err (Append why))) same
+      (unappended old new now written next why did made))
 
 -- ---- which refusal it is
 

@@ -1,21 +1,28 @@
 -- What a cosigner shows, and what a call that appends a record makes of it.
-use Rattle.std.specs.Prelude.{◌≡◌, ℕ, ◌+◌, ◌≤◌, Bool, true, false, List, [], ◌∷◌, ◌++◌, length}
-use Rattle.std.specs.Prelude.{Option, option_map, IfSome, OnOk, Result, Ok, Err}
+use Rattle.std.specs.Prelude.{◌≡◌, ℕ, Bool, List, Option, Some, None, Result}
 use Rattle.byte_forms.specs.Types.{Text}
-use Rattle.mtc_io.specs.Counts.{Rose}
-use Rattle.disk_core.specs.Moments.{LeavesOnly}
 use Rattle.disk_core.specs.declared.disk.Disk.{Ghosts}
 use Rattle.tree_core.specs.declared.hashing.TreeHash.{Ghosts as Hashes}
 use Rattle.journal_core.specs.Ends.{settled_records}
-use Rattle.journal_core.specs.Format.{StandsForEither}
-use Rattle.journal_core.specs.Words.{AllStandFor, disk_of, end_of, is_broken}
-use Rattle.journal_core.specs.declared.error.AppendError.TheVariants as append_error
+use Rattle.journal_core.specs.Owners.{Owner, OwnerAppends, OwnerHasGrown, OwnerLeaves, owner_over}
+use Rattle.journal_core.specs.Words.{disk_of, end_of, is_broken}
+use Rattle.journal_core.specs.declared.error.AppendError.{AppendError}
 use Rattle.cosigner_core.specs.Folds.{CosignerState}
 use Rattle.cosigner_core.specs.declared.cosigner.Cosigner.{Cosigner}
 use Rattle.cosigner_core.specs.declared.error.CosignError.{CosignError}
 use Rattle.cosigner_core.specs.declared.error.CosignError.TheVariants.{WrongLog, NotNewer}
 use Rattle.cosigner_core.specs.declared.error.CosignError.TheVariants.{BadSubtree, Beyond, BadProof}
 use Rattle.cosigner_core.specs.declared.error.CosignError.TheVariants.{Exhausted, Append}
+
+-- the journal's refusal, where it is one
+abbrev pub of_cosigner_journal : CosignError → Option AppendError
+of_cosigner_journal WrongLog = None
+of_cosigner_journal (NotNewer held) = None
+of_cosigner_journal BadSubtree = None
+of_cosigner_journal (Beyond held) = None
+of_cosigner_journal BadProof = None
+of_cosigner_journal Exhausted = None
+of_cosigner_journal (Append why) = Some why
 
 module _ {H D : Type 0} {hashes : Hashes H} {g : Ghosts D} where
   abbrev pub cosigner_disk : Cosigner H D hashes g → D
@@ -38,13 +45,6 @@ module _ {H D : Type 0} {hashes : Hashes H} {g : Ghosts D} where
   abbrev pub cosigner_state : Cosigner H D hashes g → CosignerState
   cosigner_state it = it.signer
 
-  -- no call of the disk, and the cosigner is as it was
-  pub record CosignerIsUntouched (old new : Cosigner H D hashes g) : Type 0 where
-    pub disk : cosigner_disk new ≡ cosigner_disk old
-    pub state : cosigner_state new ≡ cosigner_state old
-    pub end : cosigner_end new ≡ cosigner_end old
-    pub broken : cosigner_broken new ≡ cosigner_broken old
-
   -- the cosigner shows what it showed before
   pub record IsShown (old new : Cosigner H D hashes g) : Type 0 where
     pub list : cosigner_records new ≡ cosigner_records old
@@ -52,49 +52,24 @@ module _ {H D : Type 0} {hashes : Hashes H} {g : Ghosts D} where
     pub end : cosigner_end new ≡ cosigner_end old
     pub broken : cosigner_broken new ≡ cosigner_broken old
 
-  -- a call of the disk failed: the cosigner is to be opened again, and shows what it showed before
-  pub record CosignerHasBroken (old new : Cosigner H D hashes g) : Type 0 where
-    pub cause : Rose (g.faults (cosigner_disk old)) (g.faults (cosigner_disk new))
-    pub state : cosigner_state new ≡ cosigner_state old
-    pub end : cosigner_end new ≡ cosigner_end old
-    pub records : cosigner_records new ≡ cosigner_records old
-    pub was_sound : cosigner_broken old ≡ false
-    pub broken : cosigner_broken new ≡ true
+  -- what it shows as the owner of its journal
+  abbrev pub cosigner_owner : Cosigner H D hashes g → Owner D CosignerState
+  cosigner_owner it = owner_over it.journal (cosigner_records it) (cosigner_state it)
 
   -- this record more, which makes this cosigner of the old one
-  pub record CosignerHasGrown (body : Text) (next : CosignerState)
-      (old new : Cosigner H D hashes g) : Type 0 where
-    pub records : cosigner_records new ≡ option_map (λ list. list ++ body ∷ [])
-        (cosigner_records old)
-    pub state : cosigner_state new ≡ next
-    pub end : cosigner_end new ≡ cosigner_end old + 5 + length body
-    pub was_sound : cosigner_broken old ≡ false
-    pub sound : cosigner_broken new ≡ false
-    pub fine : g.faults (cosigner_disk new) ≡ g.faults (cosigner_disk old)
+  abbrev pub CosignerHasGrown : Text → CosignerState → Cosigner H D hashes g
+      → Cosigner H D hashes g → Type 0
+  CosignerHasGrown body next old new =
+      OwnerHasGrown g body next (cosigner_owner old) (cosigner_owner new)
 
   -- what a call that appends this record leaves, by its answer
   abbrev pub CosignerLeaves : Text → CosignerState → Cosigner H D hashes g
       → Cosigner H D hashes g → Result (Unit {0}) CosignError → Type 0
-  CosignerLeaves body next old new (Ok answer) = CosignerHasGrown body next old new
-  CosignerLeaves body next old new (Err WrongLog) = CosignerIsUntouched old new
-  CosignerLeaves body next old new (Err (NotNewer held)) = CosignerIsUntouched old new
-  CosignerLeaves body next old new (Err BadSubtree) = CosignerIsUntouched old new
-  CosignerLeaves body next old new (Err (Beyond held)) = CosignerIsUntouched old new
-  CosignerLeaves body next old new (Err BadProof) = CosignerIsUntouched old new
-  CosignerLeaves body next old new (Err Exhausted) = CosignerIsUntouched old new
-  CosignerLeaves body next old new (Err (Append append_error.Failed)) = CosignerHasBroken old new
-  CosignerLeaves body next old new (Err (Append append_error.Broken)) = CosignerIsUntouched old new
-  CosignerLeaves body next old new (Err (Append append_error.Full)) = CosignerIsUntouched old new
+  CosignerLeaves body next old new result =
+      OwnerLeaves g of_cosigner_journal body next (cosigner_owner old) (cosigner_owner new) result
 
-  -- A call that appends this record. At Ok every image of the disk holds the records with it; at
-  -- any moment of the call, and behind it, an image holds the old records, or these and that one.
-  pub record CosignerAppends (body : Text) (next : CosignerState)
-      (old new : Cosigner H D hashes g) (result : Result (Unit {0}) CosignError) : Type 0 where
-    pub leaves : CosignerLeaves body next old new result
-    pub kept : OnOk result (IfSome (cosigner_records old)
-        (λ list. AllStandFor g (cosigner_disk new) (list ++ body ∷ [])))
-    pub count : g.faults (cosigner_disk old) ≤ g.faults (cosigner_disk new)
-    pub any_moment : cosigner_broken old ≡ false → IfSome (cosigner_records old) (λ list.
-        LeavesOnly g (cosigner_disk old) (cosigner_disk new) (StandsForEither list body))
-    pub afterwards : cosigner_broken old ≡ false → IfSome (cosigner_records old) (λ list.
-        (c : Text) → g.may_leave (cosigner_disk new) c → StandsForEither list body c)
+  -- what a call does that appends this record, which makes this cosigner of the old one
+  abbrev pub CosignerAppends : Text → CosignerState → Cosigner H D hashes g
+      → Cosigner H D hashes g → Result (Unit {0}) CosignError → Type 0
+  CosignerAppends body next old new result =
+      OwnerAppends g of_cosigner_journal body next (cosigner_owner old) (cosigner_owner new) result

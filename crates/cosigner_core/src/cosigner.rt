@@ -118,6 +118,7 @@ impl<H: TreeHash, D: Disk> Cosigner<H, D> {
             → IfSome (cosigner_records self.old) (λ list. cosigner_of H.hash (list
             ++ advance_record request.now.size request.now.root request.now.proof.now ∷ [])
             ≡ Ok (holding request.now.size request.now.root (cosigner_state self.old))) }
+        ensures records { OnErr result (cosigner_records self.new ≡ cosigner_records self.old) }
     {
         self.signer.test_advance::<H>(request)?;
         let body = StepRecord::advance(request.size, &request.root, request.proof);
@@ -155,6 +156,7 @@ impl<H: TreeHash, D: Disk> Cosigner<H, D> {
             ++ sign_record (cosigner_state self.old).key.next request.now.start request.now.end
             request.now.hash request.now.proof.now ∷ [])
             ≡ Ok (having_signed (cosigner_state self.old))) }
+        ensures records { OnErr result (cosigner_records self.new ≡ cosigner_records self.old) }
         ensures signature { OnOk result (out.new ≡ signature_by (cosigner_state self.old)
             request.now.start request.now.end request.now.hash) }
         ensures verifies { OnOk result

@@ -5,6 +5,7 @@ pub mod Bodies
 pub mod Copies
 pub mod Ends
 pub mod OpeningSteps
+pub mod Owners
 pub mod ReadOn
 pub mod Records
 pub mod Steps

@@ -4,6 +4,7 @@ pub mod Folds
 pub mod Format
 pub mod Openings
 pub mod Opens
+pub mod Owners
 pub mod Packed
 pub mod Readings
 pub mod Settled

@@ -8,7 +8,7 @@ use Rattle.cosigner_core.specs.Views.{advance_parts}
 use Rattle.cosigner_core.specs.Words.{cosigner_broken, cosigner_end, cosigner_records}
 use Rattle.cosigner_core.specs.Words.{cosigner_state}
 use Rattle.cosigner_core.proofs.Adds.{grown, keeps_append, keeps_second, none_of, not_appended}
-use Rattle.cosigner_core.proofs.Adds.{refused, some_body, stay_kept}
+use Rattle.cosigner_core.proofs.Adds.{on_err, refused, some_body, stay_kept}
 use Rattle.cosigner_core.proofs.Allowed.{added, advance_allowed, valid_step}
 use Rattle.cosigner_core.proofs.Keeps.{keeps_sound, made_of, made_sound}
 use Rattle.cosigner_core.proofs.Spelled.{length-advance}
@@ -28,7 +28,7 @@ append-requires-clause-some g c =
 
 pub returns-in_err-append-clause-appends : goal.returns-in_err-append-clause-appends
 returns-in_err-append-clause-appends g c =
-    not_appended g.H.TreeHash.hash c.args.self.now _ c.as_slice.result.now _ _
+    not_appended c.args.self.now c.append.new.self _ c.as_slice.result.now _ _
     c.from_residual-in_err-append.result c.in_err-append.field-0.0
     c.from_residual-in_err-append.ensures.1
     (c.as_slice.ensures.value ∙ c.advance-body.ensures.bytes)
@@ -40,7 +40,25 @@ returns-in_err-append-clause-appends g c =
       as_read = c.in_err-append.ensures.as_read;
       any_moment = c.in_err-append.ensures.any_moment;
       afterwards = c.in_err-append.ensures.afterwards;
-    }) refl c.args.self.now.settled
+    }) refl
+
+pub returns-in_err-append-clause-records : goal.returns-in_err-append-clause-records
+returns-in_err-append-clause-records g c =
+    let it = c.args.self.now in
+    on_err c.from_residual-in_err-append.result _ (stay_kept g.H.TreeHash.hash (cosigner_state it)
+    it.journal c.append.new.self c.as_slice.result.now c.in_err-append.field-0.0
+    (record {
+      leaves = c.in_err-append.ensures.leaves;
+      broken = c.in_err-append.ensures.broken;
+      told = c.in_err-append.ensures.told;
+      count = c.in_err-append.ensures.count;
+      as_read = c.in_err-append.ensures.as_read;
+      any_moment = c.in_err-append.ensures.any_moment;
+      afterwards = c.in_err-append.ensures.afterwards;
+    }) it.settled).1
+
+pub returns-in_err-test_advance-clause-records : goal.returns-in_err-test_advance-clause-records
+returns-in_err-test_advance-clause-records g c = on_err c.from_residual.result _ refl
 
 pub returns-in_err-append-clause-answer : goal.returns-in_err-append-clause-answer
 returns-in_err-append-clause-answer g c =
@@ -102,7 +120,7 @@ invariant_of-self-2 g c = record {
 
 pub returns-clause-appends : goal.returns-clause-appends
 returns-clause-appends g c =
-    grown c.args.self.now _ c.as_slice.result.now _ _
+    grown c.args.self.now c.append.new.self c.hold.new.self c.as_slice.result.now _ _
     (c.as_slice.ensures.value ∙ c.advance-body.ensures.bytes)
     (record {
       leaves = c.in_ok-append.ensures.leaves;
