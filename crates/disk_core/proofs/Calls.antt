@@ -1,10 +1,13 @@
 -- The calls that a disk in memory tells, by its record.
 use Rattle.std.proofs.Common.{◌≡◌, ℕ, zero, suc, ◌+◌, ◌<◌, ◌≤◌, List, [], ◌∷◌, ◌++◌, length, take}
 use Rattle.std.proofs.Common.{get_or, replicate, refl, ap, sym, ◌∙◌, append_assoc, arith}
+use Rattle.std.proofs.Common.{Bool, true, ◌&&◌}
 use Rattle.std.proofs.lemmas.Grind.{replicate_next}
+use Rattle.std.proofs.lemmas.List.Folds.{list_all-append}
 use Rattle.std.proofs.lemmas.List.{length-append, take_all, take_more}
 use Rattle.byte_forms.specs.Types.{Text}
-use Rattle.disk_core.specs.Calls.{calls_in, looked}
+use Rattle.disk_core.specs.Calls.{are_changes, calls_in, looked}
+use Rattle.disk_core.specs.Fuse.{is_change}
 use Rattle.disk_core.specs.Replay.{State, run, settled, state_now, step}
 use Rattle.disk_core.specs.declared.memory.call.Change.{Change}
 use Rattle.disk_core.specs.declared.memory.call.Made.{Made}
@@ -42,6 +45,14 @@ change_more (first ∷ changes) change =
     (change_more changes change)
     ∙ sym (append_assoc (replicate first.looks looked) (first.made ∷ calls_in changes change.looks)
     (change.made ∷ []))
+
+-- and it is one of them
+pub kept_more : (changes : List Change) (change : Change) → are_changes changes ≡ true
+    → is_change change.made.call ≡ true → are_changes (changes ++ change ∷ []) ≡ true
+kept_more changes change kept is =
+    list_all-append (λ (each : Change). is_change each.made.call) changes (change ∷ [])
+    ∙ ap (λ (b : Bool). b && (is_change change.made.call && true)) kept
+    ∙ ap (λ (b : Bool). b && true) is
 
 -- the changes alone
 abbrev pub kept_calls : List Change → List Made

@@ -1,6 +1,8 @@
 -- The calls of a disk in memory, as its record tells them: each one that changes the file, and how
 -- many that only look came between two of these.
-use Rattle.std.specs.Prelude.{ℕ, true, List, [], ◌∷◌, ◌++◌, replicate}
+use Rattle.std.specs.Prelude.{ℕ, Bool, true, List, [], ◌∷◌, ◌++◌, replicate}
+use Rattle.std.specs.List.{list_all}
+use Rattle.disk_core.specs.Fuse.{is_change}
 use Rattle.disk_core.specs.declared.memory.call.Call.TheVariants.{Len}
 use Rattle.disk_core.specs.declared.memory.call.Change.{Change}
 use Rattle.disk_core.specs.declared.memory.call.Made.{Made}
@@ -14,3 +16,7 @@ abbrev pub calls_in : List Change → ℕ → List Made
 calls_in [] looks = replicate looks looked
 calls_in (change ∷ changes) looks =
     replicate change.looks looked ++ change.made ∷ calls_in changes looks
+
+-- each of them is a write or a sync
+abbrev pub are_changes : List Change → Bool
+are_changes changes = list_all (λ change. is_change change.made.call) changes

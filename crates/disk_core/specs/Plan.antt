@@ -1,6 +1,7 @@
 -- Which calls of a disk in memory fail, and what its record keeps of them.
-use Rattle.std.specs.Prelude.{◌≡◌, ◌⊎◌, Bool, false, if◌then◌else◌, [], ◌∷◌, ◌++◌, length, Contains}
-use Rattle.mtc_io.specs.Counts.{with_count}
+use Rattle.std.specs.Prelude.{◌≡◌, ◌<◌, ◌⊎◌, Bool, false, if◌then◌else◌, [], ◌∷◌, ◌++◌, length}
+use Rattle.std.specs.Prelude.{Contains}
+use Rattle.mtc_io.specs.Counts.{last_count, with_count}
 use Rattle.disk_core.specs.Calls.{looked}
 use Rattle.disk_core.specs.Noted.{made_calls}
 use Rattle.disk_core.specs.declared.memory.call.Call.{Call}
@@ -34,11 +35,14 @@ pub record NotedTurn (plan : Plan) (past : History) (made : Made) (ok : Bool)
   pub failing : plan'.failing ≡ plan.failing
   pub either : IsMade plan past made ok plan' past' ⊎ IsStarved plan past ok plan' past'
 
--- a call that only looks: the record of changes doesn't grow
+-- A call that only looks takes no memory: it is told as long as there is a number for it. The
+-- record of changes doesn't grow.
 pub record LookTurn (plan : Plan) (past : History) (ok : Bool)
     (plan' : Plan) (past' : History) : Type 0 where
   pub turn : NotedTurn plan past looked ok plan' past'
   pub changes : past'.calls.changes.items ≡ past.calls.changes.items
+  pub counted : length (made_calls past.calls) < last_count
+      → made_calls past'.calls ≡ made_calls past.calls ++ looked ∷ []
 
 -- One call of a disk in memory.
 abbrev pub PlanTurn : Plan → History → Call → Bool → Plan → History → Type 0

@@ -27,8 +27,8 @@ abbrev pub StandBetween : Text → ℕ → ℕ → List Text → Type 0
 StandBetween bytes from to list = AreRecordsAt bytes (from - 1) list
     × (to ≡ behind (from - 1) list + 1)
 
--- What is certain of the bytes that a journal's disk tells, also where an append has failed: the
--- records before the end at which that append began.
+-- The records before the end of a journal, in the bytes that its disk tells. An append that fails
+-- leaves the end where it was.
 abbrev pub settled_records : {D : Type 0} {g : Ghosts D} → Journal D g → Option (List Text)
 settled_records {D} {g} journal = option_map (settled_of (end_of journal))
     (g.told (disk_of journal))

@@ -12,7 +12,7 @@ use Rattle.journal_core.specs.declared.error.AppendError.{AppendError}
 use Rattle.journal_core.specs.declared.error.AppendError.TheVariants.{Broken, Failed, Full}
 use Rattle.journal_core.specs.declared.journal.Journal.{Journal}
 
--- its disk, the records that make it where the disk tells its bytes, the end of its journal,
+-- its disk, the records that it shows where the disk tells its bytes, the end of its journal,
 -- whether an append has failed, and its state
 pub record Owner (D S : Type 0) : Type 0 where
   pub disk : D
@@ -21,7 +21,7 @@ pub record Owner (D S : Type 0) : Type 0 where
   pub broken : Bool
   pub state : S
 
--- the owner of this journal, which these records make so
+-- the owner of this journal, which shows these records and this state
 abbrev pub owner_over : {D S : Type 0} {g : Ghosts D} → Journal D g → Option (List Text) → S
     → Owner D S
 owner_over journal list state = record {
@@ -40,7 +40,8 @@ module _ {D S : Type 0} where
     pub end : new.end ≡ old.end
     pub broken : new.broken ≡ old.broken
 
-  -- a call of the disk failed: the owner is to be opened again, and shows what it showed before
+  -- a call of the disk failed: the owner is to be opened again, and has the state and the end that
+  -- it had
   pub record OwnerHasBroken (g : Ghosts D) (old new : Owner D S) : Type 0 where
     pub cause : Rose (g.faults old.disk) (g.faults new.disk)
     pub state : new.state ≡ old.state

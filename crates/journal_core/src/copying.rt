@@ -149,8 +149,8 @@ fn copy_records<D: Disk, O: Sink>(
 }
 
 /// Writes the records behind an end, each behind its length of four bytes, the highest first. It
-/// writes while it reads, takes no memory, and leaves the journal as it was. Where an append has
-/// failed, it writes the records up to the end at which that append began.
+/// writes while it reads, takes no memory, and leaves the journal as it was. It stops at the end of
+/// the journal, which an append that fails leaves where it was.
 ///
 /// Errors: `Read` where the disk fails, and `Write` where the sink does. A prefix is written then.
 pub fn copy_behind<D: Disk, O: Sink>(

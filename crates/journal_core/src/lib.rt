@@ -5,7 +5,7 @@
 //! [`Journal::append`] adds one: it writes the record behind a closed gate, syncs, opens the gate,
 //! and syncs. So a crash at any moment leaves the records from before, or these and the new one,
 //! and once the call has answered Ok it leaves the latter. [`copy_behind`] writes the records from
-//! some place on to a sink.
+//! one of its ends on to a sink.
 //!
 //! A layer above speaks of lists of records alone: a file stands for a list, every image of a disk
 //! stands for a list, or for one of two lists while a record is appended.

@@ -1,7 +1,8 @@
 //! The calls of a disk in memory. Those that only look are counted, and not kept.
 
 ghost use Rattle.std.specs.Prelude.{◌≡◌, ◌<◌, ◌++◌, [], ◌∷◌, length, true, vec_len, vec_capacity};
-ghost use Rattle.disk_core.specs.Calls.{calls_in};
+ghost use Rattle.std.specs.Prelude.{IsTrue};
+ghost use Rattle.disk_core.specs.Calls.{are_changes, calls_in};
 
 use crate::memory::call::{Call, Change, Made};
 use crate::memory::copies::copies;
@@ -16,6 +17,7 @@ pub(crate) struct Calls {
     // How many calls there were.
     pub(crate) made: u64,
     ghost counted: { made ≡ length (calls_in changes.items looks) },
+    ghost kept: { IsTrue (are_changes changes.items) },
 }
 
 // Puts a change behind the others, where there is room.
@@ -30,7 +32,9 @@ fn put(list: &mut Vec<Change>, change: Change)
 }
 
 impl Calls {
-    ghost use Rattle.std.specs.Prelude.{is_ok, IfOk, OnOk};
+    ghost use Rattle.std.specs.Prelude.{is_ok, IfOk, OnOk, OnErr};
+    ghost use Rattle.mtc_io.specs.Counts.{last_count};
+    ghost use Rattle.disk_core.specs.Fuse.{is_change};
     ghost use Rattle.disk_core.specs.Replay.{noted};
     ghost use Rattle.disk_core.specs.Noted.{made_calls, HasRoom};
 
@@ -68,6 +72,7 @@ impl Calls {
         ensures calls { made_calls self.new
             ≡ noted (is_ok result) Call.Len true (made_calls self.old) }
         ensures changes { self.new.changes.items ≡ self.old.changes.items }
+        ensures full { OnErr result (self.old.made ≡ last_count) }
     {
         if self.made == u64::MAX {
             return Err(Memory);
@@ -92,7 +97,8 @@ impl Calls {
     // A change, where there is room.
     #[tactic(auto, using(crate::proofs::Calls::change_more))]
     pub(crate) fn push(&mut self, call: Call, ok: bool)
-        requires { HasRoom self.old }
+        requires room { HasRoom self.old }
+        requires change { IsTrue (is_change call) }
         ensures { made_calls self.new
             ≡ made_calls self.old ++ record { call = call; ok = ok } ∷ [] }
     {
@@ -105,6 +111,7 @@ impl Calls {
 
     // A change, unless no memory or no number is left for it.
     pub(crate) fn note(&mut self, call: Call, ok: bool) -> Result<(), Memory>
+        requires { IsTrue (is_change call) }
         ensures { made_calls self.new ≡ noted (is_ok result) call ok (made_calls self.old) }
     {
         self.reserve()?;

@@ -1,11 +1,13 @@
 //! What a disk in memory held at first, and its calls since: all that it tells is read off these.
 
 ghost use Rattle.std.specs.Prelude.{◌≡◌, ◌+◌, ◌<◌, [], length, true, false, if◌then◌else◌, is_ok};
-ghost use Rattle.std.specs.Prelude.{IfOk, OnOk, OnErr};
+ghost use Rattle.std.specs.Prelude.{IfOk, OnOk, OnErr, IsTrue};
 ghost use Rattle.std.proofs.Props.{props};
 ghost use Rattle.byte_forms.specs.Types.{Text};
 ghost use Rattle.byte_forms.specs.Places.{IsBytes};
 ghost use Rattle.disk_core.specs.Disk.{overwritten, Torn, Follows, NoNew, Only, Elapses};
+ghost use Rattle.mtc_io.specs.Counts.{last_count};
+ghost use Rattle.disk_core.specs.Fuse.{is_change};
 ghost use Rattle.disk_core.specs.Noted.{made_calls};
 ghost use Rattle.disk_core.specs.Replay.{State, after_call, state_now, IsImage, LeftSince, noted};
 ghost use Rattle.disk_core.specs.Replay.{HoldsBytes, HoldsBytes-prop};
@@ -143,6 +145,7 @@ impl History {
         ensures calls { made_calls self.new.calls
             ≡ noted (is_ok result) Call.Len true (made_calls self.old.calls) }
         ensures changes { self.new.calls.changes.items ≡ self.old.calls.changes.items }
+        ensures full { OnErr result (moment_of self.old ≡ last_count) }
         ensures seen { seen_of self.new ≡ seen_of self.old }
         ensures crash { NoNew (left_of self.old) (left_of self.new) }
         ensures time { Elapses (moment_of self.old) (moment_of self.new) (since_of self.old)
@@ -155,7 +158,8 @@ impl History {
 
     // A change that leaves the bytes and the images as they are.
     pub(crate) fn note(&mut self, call: Call, ok: bool) -> Result<(), Memory>
-        requires { (s : State) → after_call s call ok ≡ s }
+        requires change { IsTrue (is_change call) }
+        requires same { (s : State) → after_call s call ok ≡ s }
         ensures first { self.new.first ≡ self.old.first }
         ensures calls { made_calls self.new.calls
             ≡ noted (is_ok result) call ok (made_calls self.old.calls) }

@@ -1,10 +1,11 @@
 //! A disk in memory, which tells all, fails where it is told to, and can crash.
 
 ghost use Rattle.std.specs.Prelude.{◌≡◌, ◌+◌, ◌≤◌, ◌<◌, [], length, Some, is_ok};
-ghost use Rattle.std.specs.Prelude.{if◌then◌else◌, OnOk, OnErr, IfOk};
+ghost use Rattle.std.specs.Prelude.{if◌then◌else◌, OnOk, OnErr, IfOk, IsTrue};
 ghost use Rattle.mtc_io.specs.Counts.{HasCause};
 ghost use Rattle.disk_core.specs.Disk.{overwritten, Torn, Follows, NoNew, Only, Elapses};
 ghost use Rattle.disk_core.specs.History.{seen_of, left_of, moment_of, since_of};
+ghost use Rattle.disk_core.specs.Calls.{are_changes};
 ghost use Rattle.disk_core.specs.Noted.{made_calls};
 ghost use Rattle.disk_core.specs.Plan.{LookTurn, NotedTurn, PlanTurn};
 ghost use Rattle.disk_core.specs.ReplayLaws.{told_seen, told_are, told_length, now_since};
@@ -173,7 +174,8 @@ impl MemDisk {
     /// The calls so far that change the file, the oldest first, and how many that only look came
     /// before each.
     pub fn changes(&self) -> &[Change]
-        ensures { result.now ≡ changes_of self.now }
+        ensures value { result.now ≡ changes_of self.now }
+        ensures kept { IsTrue (are_changes result.now) }
     {
         self.past.calls.changes.as_slice()
     }

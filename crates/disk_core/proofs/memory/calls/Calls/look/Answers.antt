@@ -9,4 +9,4 @@ invariant_of-self c =
     let it = c.args.self.now in
     let more = ap length (look_more it.changes.items it.looks) in
     let longer = length_push (calls_in it.changes.items it.looks) looked in
-    record { counted = omega (arith, more, longer, it.counted) }
+    record { counted = omega (arith, more, longer, it.counted); kept = it.kept }
