@@ -1,13 +1,14 @@
 //! Writing what others may know of a cosigner: all but the first record of its journal, which holds
 //! the secret.
 
-ghost use Rattle.std.specs.Prelude.{◌≡◌, ◌≤◌, ◌+◌, length, List, IfSome, OnOk};
+ghost use Rattle.std.specs.Prelude.{◌≡◌, ◌≤◌, ◌+◌, [], length, List, IfSome, OnOk};
 ghost use Rattle.std.specs.Io.KnownBytes.{Appends};
 ghost use Rattle.byte_forms.specs.Types.{Text};
 ghost use Rattle.mtc_io.specs.Counts.{HasCause};
 ghost use Rattle.mtc_io.specs.Streams.{AppendsPrefix};
 ghost use Rattle.journal_core.specs.Copies.{IsLookedOn, sized_text};
 ghost use Rattle.journal_core.specs.Ends.{StandBetween};
+ghost use Rattle.journal_core.specs.Format.{end_behind};
 ghost use Rattle.journal_core.specs.Words.{disk_of, end_of};
 ghost use Rattle.hss_core.specs.Hss.{one_level_public};
 ghost use Rattle.cosigner_core.specs.Exports.{HasExportCause, front_text};
@@ -38,7 +39,7 @@ pub(crate) fn write_rest<D: Disk, O: Sink>(
     from: u64,
     out: &mut O,
 ) -> Result<(), ExportError>
-    requires begun { 17 ≤ from }
+    requires begun { end_behind [] ≤ from }
     requires within { from ≤ end_of journal.old }
     ensures ok { OnOk result (IfSome (D.told (disk_of journal.old)) (λ bytes.
         (bodies : List Text) → StandBetween bytes from (end_of journal.old) bodies

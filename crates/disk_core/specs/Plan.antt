@@ -20,7 +20,8 @@ pub record IsMade (plan : Plan) (past : History) (made : Made) (ok : Bool)
   pub starved : plan'.starved ≡ plan.starved
   pub faults : plan'.faults ≡ (if ok then plan.faults else with_count plan.faults 1)
 
--- The call finds no memory: it fails, takes no number, and is counted once in each count.
+-- The call finds no memory, or no number is left: it fails, takes none, and is counted once in each
+-- count.
 pub record IsStarved (plan : Plan) (past : History) (ok : Bool)
     (plan' : Plan) (past' : History) : Type 0 where
   pub failed : ok ≡ false

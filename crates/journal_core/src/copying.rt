@@ -1,6 +1,6 @@
 //! Records of a journal, copied as they stand in it.
 
-ghost use Rattle.std.specs.Prelude.{◌≡◌, ◌≤◌, ◌<◌, ◌+◌, ◌^◌, length, List, IfSome, IfOk, OnOk};
+ghost use Rattle.std.specs.Prelude.{◌≡◌, ◌≤◌, ◌<◌, ◌+◌, ◌^◌, [], length, List, IfSome, IfOk, OnOk};
 ghost use Rattle.std.specs.Io.KnownBytes.{Appends};
 ghost use Rattle.mtc_io.specs.Counts.{HasCause};
 ghost use Rattle.mtc_io.specs.Streams.{AppendsPrefix};
@@ -8,7 +8,7 @@ ghost use Rattle.byte_forms.specs.Types.{Text};
 ghost use Rattle.disk_core.specs.Disk.{part};
 ghost use Rattle.journal_core.specs.Copies.{HasCopyCause, IsLookedOn, sized, sized_text};
 ghost use Rattle.journal_core.specs.Ends.{StandBetween};
-ghost use Rattle.journal_core.specs.Format.{AreRecordsAt, IsRecordAt, behind};
+ghost use Rattle.journal_core.specs.Format.{AreRecordsAt, IsRecordAt, behind, end_behind};
 ghost use Rattle.journal_core.specs.Words.{disk_of, end_of};
 
 use crate::error::CopyError;
@@ -158,7 +158,7 @@ pub fn copy_behind<D: Disk, O: Sink>(
     from: u64,
     out: &mut O,
 ) -> Result<(), CopyError>
-    requires begun { 17 ≤ from }
+    requires begun { end_behind [] ≤ from }
     requires within { from ≤ end_of journal.old }
     ensures ok { OnOk result (IfSome (D.told (disk_of journal.old)) (λ bytes.
         (bodies : List Text) → StandBetween bytes from (end_of journal.old) bodies

@@ -102,7 +102,7 @@ impl<D: Disk> Journal<D> {
     /// The disk isn't asked.
     pub fn end_behind_first(&self, size: u64) -> u64
         requires { size ≤ 131072 }
-        ensures least { 17 ≤ result }
+        ensures least { end_behind [] ≤ result }
         ensures most { result ≤ end_of self.now }
         ensures end { (first : Text) → length first ≡ size
             → result ≡ min (end_behind (first ∷ [])) (end_of self.now) }

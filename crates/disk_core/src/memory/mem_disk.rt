@@ -20,8 +20,8 @@ use std::alloc::Global;
 
 /// A disk in memory. It tells its bytes, counts its calls, and fails those whose numbers are
 /// listed; the first call has number 0. It keeps a record of those that change the file. Calls that
-/// only look are counted in it, so it doesn't grow with them. A call that finds no memory fails too
-/// and is counted apart; it takes no number and isn't in the record.
+/// only look are counted in it, so it doesn't grow with them. A call that finds no memory, or no
+/// number, fails too and is counted apart; it takes no number and isn't in the record.
 ///
 /// What it tells is the replay of the record over what it held at first: a write that is done is
 /// seen, and of each write since the last sync, a failed one too, a crash may leave what it may
