@@ -10,7 +10,7 @@ ghost use Rattle.tree_core.specs.Path.{part_of};
 ghost use Rattle.tree_core.specs.Tree.{root_of};
 
 use crate::row::Row;
-use crate::rows::{forget_from, leaf_count, make_room, push_up};
+use crate::rows::{forget_from, kept_count, leaf_count, make_room, push_up};
 use mtc_io::Memory;
 use std::alloc::Global;
 use std::marker::Model;
@@ -72,8 +72,9 @@ impl Rows {
         if count as u64 <= self.room - size {
             return Ok(());
         }
-        // Growth by the size itself keeps the cost of many single leaves linear.
-        let room = size.checked_add(size.max(count as u64)).ok_or(Memory)?;
+        // Growth by as many leaves as are kept keeps the cost of many single leaves linear.
+        let kept = kept_count(self.rows.as_slice());
+        let room = size.checked_add(kept.max(count) as u64).ok_or(Memory)?;
         make_room(self.alloc, &mut self.rows, room)?;
         self.room = room;
         Ok(())
@@ -129,7 +130,8 @@ impl Rows {
         self.hashes(level, place, 1)[0]
     }
 
-    /// Lets the nodes go that stand in the tiles that the first `size` leaves fill.
+    /// Lets the nodes go that stand in the tiles that the first `size` leaves fill. What they took
+    /// is given back where smaller blocks can be had; the room for more leaves stays.
     pub fn forget(&mut self, size: u64)
         requires few { size < 2 ^ 32 }
         requires within { size ≤ count_of self.old.rows }

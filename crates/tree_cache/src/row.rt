@@ -116,11 +116,14 @@ impl Row {
     }
 }
 
-// Drops so many hashes from the front.
+// Drops so many hashes from the front, and gives their room back where a smaller block can be had.
 fn drop_front(hashes: &mut Vec<[u8; 32]>, count: usize)
     requires { count ≤ length hashes.old.items }
     ensures items { hashes.new.items ≡ drop count hashes.old.items }
-    ensures capacity { vec_capacity hashes.new ≡ vec_capacity hashes.old }
+    ensures spare { vec_capacity hashes.old - vec_len hashes.old
+        ≤ vec_capacity hashes.new - vec_len hashes.new }
 {
+    let room = hashes.capacity() - count;
     drop(hashes.drain(..count));
+    hashes.shrink_to(room);
 }

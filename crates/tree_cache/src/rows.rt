@@ -4,7 +4,8 @@ ghost use Rattle.std.specs.Prelude.{◌≡◌, ℕ, ◌+◌, ◌^◌, ◌<◌, �
 ghost use Rattle.std.specs.Prelude.{OnOk};
 ghost use Rattle.byte_forms.specs.Types.{Hash, HashFunction};
 ghost use Rattle.tree_cache.specs.Rows.{AreLong, AreRowsOf, HaveCount, HaveGrown, HaveLevels};
-ghost use Rattle.tree_cache.specs.Rows.{HaveNone, HaveRoom, HoldUpTo, count_of, gone_at, row_count};
+ghost use Rattle.tree_cache.specs.Rows.{HaveNone, HaveRoom, HoldUpTo, count_of, first_row, gone_at};
+ghost use Rattle.tree_cache.specs.Rows.{row_count};
 ghost use Rattle.tree_cache.specs.Tiled.{CanForgetAll, gone_of};
 
 use crate::row::Row;
@@ -42,6 +43,16 @@ pub(crate) fn leaf_count(rows: &[Row]) -> u64
 {
     match rows.first() {
         Some(row) => row_length(row),
+        None => 0,
+    }
+}
+
+// How many leaves are kept.
+pub(crate) fn kept_count(rows: &[Row]) -> usize
+    ensures { result ≡ length (first_row rows.now) }
+{
+    match rows.first() {
+        Some(row) => row.as_slice().len(),
         None => 0,
     }
 }
