@@ -1,10 +1,11 @@
 -- A store whose file was written behind its tiles.
 use Rattle.std.proofs.Common.{◌≡◌, ℕ, zero, suc, ◌+◌, ◌*◌, ◌/◌, ◌%◌, ◌^◌, ◌<◌, ◌≤◌, min, max, List}
 use Rattle.std.proofs.Common.{[], ◌∷◌}
-use Rattle.std.proofs.Common.{◌++◌, length, take, Some, None, Ok, Err, ⊎_elim, refl, sym, ◌∙◌, ap}
-use Rattle.std.proofs.Common.{subst, arith}
+use Rattle.std.proofs.Common.{◌++◌, length, take, drop, Some, None, Ok, Err, ⊎_elim, refl, sym, ◌∙◌}
+use Rattle.std.proofs.Common.{ap, subst, arith}
 use Rattle.std.specs.Prelude.{IfSome, OnOk, Option, Result, is_some, option_map}
 use Rattle.std.proofs.lemmas.Bool.{cases_lt}
+use Rattle.std.proofs.lemmas.List.{length-drop, length-take, take_min}
 use Rattle.disk_core.specs.Disk.{part}
 use Rattle.frame_pool.specs.Frames.{HoldsKey, PoolState}
 use Rattle.frame_pool.specs.declared.key.TileKey.{TileKey}
@@ -61,6 +62,23 @@ tile-behind stored b after level place few there keeps full =
     part-front (tile_at level place) 8192 (tiles_end stored) b after
     (full-there stored stored (tiles_end stored) level place few (omega arith) (omega arith) full)
     (sym (whole-front (tiles_end stored) b after there keeps))
+
+-- The tiles of a size stay where the front up to their end does.
+pub tiles-kept : (h : List ℕ → List ℕ) (leaves : List (List ℕ)) (size : ℕ) (b after : List ℕ)
+    → size < 2 ^ 32 → KeepsFront (tiles_end size) b after → HoldsTiles h leaves size b
+    → HoldsTiles h leaves size after
+tiles-kept h leaves size b after few keeps holds level place full =
+    let tile = holds level place full in
+    let begin = tile_at level place in
+    let within = full-there size size (tiles_end size) level place few (omega arith) (omega arith)
+    full in
+    let cut = length-take 8192 (drop begin b) in
+    let rest = length-drop begin b in
+    let whole = tile.size in
+    let there : begin + 8192 ≤ length b = grind (arith, cut, rest, whole) in
+    subst (λ (x : List ℕ). IsTile h leaves level place x)
+    (part-front begin 8192 (min (tiles_end size) (length b)) b after (omega arith)
+    (take_min (tiles_end size) b ∙ sym keeps.front)) tile
 
 pub sound-behind : (h : List ℕ → List ℕ) (adopted stored : ℕ) (rows : RowsState)
     (pool : PoolState) (b after : List ℕ) → adopted % 256 ≡ 0 → adopted ≤ stored

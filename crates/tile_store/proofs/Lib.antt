@@ -1,7 +1,7 @@
 pub mod Numbers
 pub mod Bytes
 pub mod Halves
-pub mod TileNodes
+pub mod NodeValues
 pub mod Loads
 pub mod Grown
 pub mod Flats

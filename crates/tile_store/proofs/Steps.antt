@@ -7,9 +7,9 @@ use Rattle.std.specs.Prelude.{IfSome, Option, is_some, option_map}
 use Rattle.std.proofs.Math.Seq.{drop-append_seam, take-append_seam}
 use Rattle.std.proofs.lemmas.Bool.{cases_lt}
 use Rattle.std.proofs.lemmas.List.{length-take}
-use Rattle.disk_core.proofs.Moments.{joined, left_now, weaker}
+use Rattle.disk_core.proofs.Moments.{joined, left_now, started, weaker}
 use Rattle.disk_core.specs.Disk.{Only, overwritten, part}
-use Rattle.disk_core.specs.Moments.{LeavesOnly}
+use Rattle.disk_core.specs.Moments.{LeavesOnly, Looks}
 use Rattle.disk_core.specs.declared.disk.Disk.{Ghosts}
 use Rattle.tile_store.proofs.Bytes.{part-front}
 use Rattle.tile_store.proofs.Fronts.{behind-now, front-less, front-on}
@@ -17,8 +17,9 @@ use Rattle.tile_store.proofs.Numbers.{same-number}
 use Rattle.tile_store.specs.Contents.{IsTile}
 use Rattle.tile_store.specs.Layout.{tile_at, tile_number}
 use Rattle.tile_store.specs.Writing.{HoldsFirst, IsImageBehind, IsTileWritten, KeepsFront}
-use Rattle.tree_cache.specs.Rows.{AreRowsOf, RowsState}
-use Rattle.byte_forms.specs.Types.{Hash, HashFunction, Text}
+use Rattle.tile_store.specs.Writing.{TilesAreWritten, WritesBehind}
+use Rattle.tree_cache.specs.Rows.{RowState, RowsState}
+use Rattle.byte_forms.specs.Types.{HashFunction, Text}
 
 -- bytes that were written at a place, and those before it
 over-is : (place : ℕ) (piece old : List ℕ) → overwritten place piece old
@@ -79,16 +80,31 @@ mapped-some f (Some x) y is = (x, (refl, cc))
 
 module _ {T : Type 0} (g : Ghosts T) where
   -- what was written so far, from one number on up to another
-  pub record HavePut (h : HashFunction) (rows : RowsState) (from number : ℕ) (old now : T)
+  pub record HavePut (h : HashFunction) (rows : List RowState) (from number : ℕ) (old now : T)
       : Type 0 where
-    pub moments : LeavesOnly g old now (IsImageBehind g old (8192 * from))
-    pub told : is_some (g.told now) ≡ is_some (g.told old)
-    pub known : g.known old ≤ g.known now
-    pub reach : 8192 * number ≤ g.known now
+    pub behind : WritesBehind g (8192 * from) old now
+    pub written : TilesAreWritten g h rows from number old now
     pub faults : g.faults now ≡ g.faults old
-    pub holds : (before after : Text) → g.told old ≡ Some before → g.told now ≡ Some after
-        → (leaves : List Hash) → AreRowsOf h leaves rows.rows → HoldsFirst h leaves from before
-        → HoldsFirst h leaves number after
+
+  -- nothing was written yet
+  pub put-none : (h : HashFunction) (rows : List RowState) (from : ℕ) (disk : T)
+      → ((c : Text) → g.left_since disk (g.moment disk) c → g.may_leave disk c)
+      → 8192 * from ≤ g.known disk → HavePut h rows from from disk disk
+  put-none h rows from disk only_now reach = record {
+    behind = record {
+      any_moment = started g disk (IsImageBehind g disk (8192 * from)) only_now
+          (behind-now g disk (8192 * from));
+      told = refl;
+      known = omega arith;
+    };
+    written = record {
+      reach = reach;
+      holds = λ before after told_old told_now leaves are first.
+          let same : before ≡ after = cc in
+          subst (HoldsFirst h leaves from) same first;
+    };
+    faults = refl;
+  }
 
   -- images behind one place and then behind a later one
   behind-on : (old mid : T) (low high : ℕ) (image : List ℕ) → low ≤ high
@@ -103,7 +119,7 @@ module _ {T : Type 0} (g : Ghosts T) where
             (front-less low high is.before image within is.keeps);
       }
 
-  pub moments-on : (old mid new : T) (low high : ℕ)
+  moments-on : (old mid new : T) (low high : ℕ)
       → ((t : ℕ) (c : List ℕ) → t ≤ g.moment mid → g.may_leave mid c → g.left_since mid t c)
       → low ≤ high → LeavesOnly g old mid (IsImageBehind g old low)
       → LeavesOnly g mid new (IsImageBehind g mid high)
@@ -114,49 +130,73 @@ module _ {T : Type 0} (g : Ghosts T) where
       (λ c. behind-on old mid low high c within
       (left_now g old mid (IsImageBehind g old low) counts_now first)) second)
 
+  -- what a write leaves behind the others, also where it fails
+  pub behind-put : (old mid new : T) (from at : ℕ)
+      → ((t : ℕ) (c : List ℕ) → t ≤ g.moment mid → g.may_leave mid c → g.left_since mid t c)
+      → 8192 * from ≤ at → WritesBehind g (8192 * from) old mid
+      → LeavesOnly g mid new (IsImageBehind g mid at)
+      → is_some (g.told new) ≡ is_some (g.told mid) → g.known mid ≤ g.known new
+      → WritesBehind g (8192 * from) old new
+  behind-put old mid new from at counts_now order sofar moments told known =
+      let before = sofar.known in
+      record {
+        any_moment = moments-on old mid new (8192 * from) at counts_now order sofar.any_moment
+            moments;
+        told = told ∙ sofar.told;
+        known = omega arith;
+      }
+
   pub put-on : (h : List ℕ → List ℕ) (rows : RowsState) (from number l p : ℕ) (old mid new : T)
       → ((t : ℕ) (c : List ℕ) → t ≤ g.moment mid → g.may_leave mid c → g.left_since mid t c)
       → ((b : List ℕ) → g.told mid ≡ Some b → g.known mid ≤ length b)
-      → from ≤ number → l ≤ 2 → tile_number l p ≡ number → HavePut h rows from number old mid
+      → from ≤ number → l ≤ 2 → tile_number l p ≡ number → HavePut h rows.rows from number old mid
       → LeavesOnly g mid new (IsImageBehind g mid (tile_at l p))
       → is_some (g.told new) ≡ is_some (g.told mid)
       → g.known new ≡ max (tile_at l p + 8192) (g.known mid) → g.faults new ≡ g.faults mid
       → IsTileWritten h rows l p (g.told mid) (g.told new)
-      → HavePut h rows from (number + 1) old new
+      → HavePut h rows.rows from (number + 1) old new
   put-on h rows from number l p old mid new counts_now there order low is sofar moments told known
       faults written =
-      let before = sofar.known in
-      let reach = sofar.reach in
+      let reach = sofar.written.reach in
       record {
-        moments = moments-on old mid new (8192 * from) (tile_at l p) counts_now (omega arith)
-            sofar.moments moments;
-        told = told ∙ sofar.told;
-        known = omega arith;
-        reach = omega arith;
+        behind = behind-put old mid new from (tile_at l p) counts_now (omega arith) sofar.behind
+            moments told (omega arith);
+        written = record {
+          reach = omega arith;
+          holds = λ first after told_old told_new leaves are held.
+              let at = mapped-some (overwritten (tile_at l p) written.tile) (g.told mid) after
+              (sym told_new ∙ written.told) in
+              let within = there at.0 at.1.0 in
+              subst (HoldsFirst h leaves (number + 1)) (sym at.1.1)
+              (holds-more h leaves number l p written.tile at.0 low is (omega arith)
+              (written.is leaves are)
+              (sofar.written.holds first at.0 told_old at.1.0 leaves are held));
+        };
         faults = faults ∙ sofar.faults;
-        holds = λ first after told_old told_new leaves are held.
-            let at = mapped-some (overwritten (tile_at l p) written.tile) (g.told mid) after
-            (sym told_new ∙ written.told) in
-            let within = there at.0 at.1.0 in
-            subst (HoldsFirst h leaves (number + 1)) (sym at.1.1)
-            (holds-more h leaves number l p written.tile at.0 low is (omega arith)
-            (written.is leaves are) (sofar.holds first at.0 told_old at.1.0 leaves are held));
       }
 
-  -- a look, before writing and behind it
-  pub looked-behind : (old new : T) (place : ℕ) → LeavesOnly g old new (g.may_leave old)
-      → LeavesOnly g old new (IsImageBehind g old place)
-  looked-behind old new place looks =
-      weaker g old new (g.may_leave old) (IsImageBehind g old place) (behind-now g old place) looks
+  -- a look writes nothing, so it may stand before writing and behind it
+  pub looks-behind : (old new : T) (place : ℕ) → Looks g old new → WritesBehind g place old new
+  looks-behind old new place looks = record {
+    any_moment = weaker g old new (g.may_leave old) (IsImageBehind g old place)
+        (behind-now g old place) looks.moments;
+    told = ap is_some looks.told;
+    known = looks.known;
+  }
 
-  pub behind-looked : (old mid new : T) (place : ℕ)
+  pub writes-on : (old mid new : T) (place : ℕ)
       → ((t : ℕ) (c : List ℕ) → t ≤ g.moment mid → g.may_leave mid c → g.left_since mid t c)
-      → LeavesOnly g old mid (IsImageBehind g old place) → LeavesOnly g mid new (g.may_leave mid)
-      → LeavesOnly g old new (IsImageBehind g old place)
-  behind-looked old mid new place counts_now first looks =
-      joined g old mid new (IsImageBehind g old place) first
-      (weaker g mid new (g.may_leave mid) (IsImageBehind g old place)
-      (left_now g old mid (IsImageBehind g old place) counts_now first) looks)
+      → WritesBehind g place old mid → WritesBehind g place mid new
+      → WritesBehind g place old new
+  writes-on old mid new place counts_now first second =
+      let before = first.known in
+      let after = second.known in
+      record {
+        any_moment = moments-on old mid new place place counts_now (omega arith)
+            first.any_moment second.any_moment;
+        told = second.told ∙ first.told;
+        known = omega arith;
+      }
 
   -- over certain bytes, those that are told after writing have the same front
   pub front-told : (old new : T) (place : ℕ) (before after : List ℕ)

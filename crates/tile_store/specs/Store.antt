@@ -4,6 +4,8 @@ use Rattle.byte_forms.specs.Types.{Hash}
 use Rattle.disk_core.specs.Moments.{Looks}
 use Rattle.disk_core.specs.declared.disk.Disk.{Ghosts}
 use Rattle.frame_pool.specs.Frames.{PoolState}
+use Rattle.tile_store.specs.Frames.{IsHeld}
+use Rattle.tile_store.specs.Layout.{IsFull, tile_level, tile_place}
 use Rattle.tile_store.specs.Sound.{leaves_with}
 use Rattle.tile_store.specs.declared.store.Tiles.{Tiles}
 use Rattle.tree_cache.specs.Rows.{count_of, spare_of}
@@ -34,6 +36,12 @@ module _ {H T : Type 0} {hashes : Hashes H} {g : Ghosts T} where
   -- the leaf hashes, where the device tells its bytes
   abbrev pub tiles_leaves : Tiles H T hashes g → Option (List Hash)
   tiles_leaves tiles = option_map (leaves_with tiles.adopted tiles.rows) (g.told tiles.disk)
+
+  -- a node is in memory, or a frame holds its tile
+  abbrev pub IsAtHand : Tiles H T hashes g → ℕ → ℕ → Type 0
+  IsAtHand tiles level place =
+      IsFull tiles.adopted (tile_level level) (tile_place level place)
+      → IsHeld tiles.pool (tile_level level) (tile_place level place)
 
   -- The device was only looked at, and all but it, the frames and the nodes that are kept of their
   -- tiles is as it was.

@@ -1,12 +1,14 @@
 -- What writing tiles leaves of a file.
-use Rattle.std.specs.Prelude.{◌≡◌, ℕ, ◌≤◌, ◌<◌, min, List, length, take, Option}
-use Rattle.std.specs.Prelude.{option_map}
+use Rattle.std.specs.Prelude.{◌≡◌, ℕ, ◌*◌, ◌^◌, ◌≤◌, ◌<◌, min, List, length, take, Option, Some}
+use Rattle.std.specs.Prelude.{is_some, option_map}
 use Rattle.byte_forms.specs.Types.{Hash, HashFunction, Text}
 use Rattle.disk_core.specs.Disk.{overwritten, part}
+use Rattle.disk_core.specs.Moments.{LeavesOnly}
 use Rattle.disk_core.specs.declared.disk.Disk.{Ghosts}
 use Rattle.tile_store.specs.Contents.{IsTile}
-use Rattle.tile_store.specs.Layout.{IsFull, tile_at, tile_number}
-use Rattle.tree_cache.specs.Rows.{AreRowsOf, RowsState}
+use Rattle.tile_store.specs.Layout.{IsFull, tile_at, tile_number, tiles_in}
+use Rattle.tree_cache.specs.Rows.{AreRowsOf, RowState, RowsState, count_of, gone_at}
+use Rattle.tree_cache.specs.Tiled.{gone_of}
 
 -- The bytes before a place stay, and the file gets no shorter.
 pub record KeepsFront (place : ℕ) (old new : Text) : Type 0 where
@@ -20,6 +22,21 @@ pub record IsImageBehind {T : Type 0} (g : Ghosts T) (old : T) (place : ℕ) (im
   pub left : g.may_leave old before
   pub keeps : KeepsFront place before image
 
+-- What writing from a place on leaves of a disk, at any moment and also where a call fails.
+pub record WritesBehind {T : Type 0} (g : Ghosts T) (place : ℕ) (old new : T) : Type 0 where
+  pub any_moment : LeavesOnly g old new (IsImageBehind g old place)
+  pub told : is_some (g.told new) ≡ is_some (g.told old)
+  pub known : g.known old ≤ g.known new
+
+-- The rows fill the tiles of the numbers from one on up to another, and none of their nodes is
+-- gone: those that are gone stand in the tiles of other leaves, whose numbers are lower.
+pub record HaveTiles (rows : List RowState) (from to : ℕ) : Type 0 where
+  pub few : count_of rows < 2 ^ 32
+  pub full : to ≤ tiles_in (count_of rows)
+  pub adopted : ℕ
+  pub behind : tiles_in adopted ≤ from
+  pub gone : (level : ℕ) → gone_at rows level ≡ gone_of adopted level
+
 -- The tile of each list for which the rows stand was written over the bytes.
 pub record IsTileWritten (h : HashFunction) (rows : RowsState) (level place : ℕ)
     (old new : Option Text) : Type 0 where
@@ -32,3 +49,12 @@ abbrev pub HoldsFirst : HashFunction → List Hash → ℕ → Text → Type 0
 HoldsFirst h leaves count bytes = (level place : ℕ) → level ≤ 2
     → tile_number level place < count → IsFull (length leaves) level place
     → IsTile h leaves level place (part (tile_at level place) 8192 bytes)
+
+-- The tiles of the numbers from one on up to another were written: where the file had those before
+-- them, it has all up to there.
+pub record TilesAreWritten {T : Type 0} (g : Ghosts T) (h : HashFunction) (rows : List RowState)
+    (from to : ℕ) (old new : T) : Type 0 where
+  pub reach : 8192 * to ≤ g.known new
+  pub holds : (before after : Text) → g.told old ≡ Some before → g.told new ≡ Some after
+      → (leaves : List Hash) → AreRowsOf h leaves rows → HoldsFirst h leaves from before
+      → HoldsFirst h leaves to after

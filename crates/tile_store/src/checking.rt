@@ -1,6 +1,6 @@
 //! Stored tiles compared with the nodes in memory.
 
-ghost use Rattle.std.specs.Prelude.{◌≡◌, ◌↔◌, ℕ, ◌+◌, ◌*◌, ◌^◌, ◌<◌, ◌≤◌, length, IsTrue, IfErr};
+ghost use Rattle.std.specs.Prelude.{◌≡◌, ◌↔◌, ◌+◌, ◌*◌, ◌^◌, ◌<◌, ◌≤◌, length, IsTrue, IfErr};
 ghost use Rattle.std.specs.Prelude.{IfOk, OnOk};
 ghost use Rattle.disk_core.specs.Disk.{part};
 ghost use Rattle.frame_pool.specs.declared.key.TileKey.{TileKey as Key};
@@ -10,9 +10,9 @@ ghost use Rattle.tile_store.specs.Comparing.{HasTileReason, HaveCompared, HaveMa
 ghost use Rattle.tile_store.specs.Contents.{IsTile};
 ghost use Rattle.tile_store.specs.Frames.{HasNoPins};
 ghost use Rattle.tile_store.specs.declared.error.TileError.TheVariants.{BadTile};
-ghost use Rattle.tile_store.specs.Layout.{IsFull, tile_at, tile_number, tiles_in};
+ghost use Rattle.tile_store.specs.Layout.{IsFull, tile_at, tile_number};
+ghost use Rattle.tile_store.specs.Writing.{HaveTiles};
 ghost use Rattle.tree_cache.specs.Rows.{count_of, gone_at};
-ghost use Rattle.tree_cache.specs.Tiled.{gone_of};
 
 use crate::TileError;
 use crate::layout::{TILE, tile_with};
@@ -70,10 +70,7 @@ fn compare<H: TreeHash, T: Disk>(
     from: u64,
     to: u64,
 ) -> Result<(), TileError>
-    requires few { count_of rows.now.rows < 2 ^ 32 }
-    requires full { to ≤ tiles_in (count_of rows.now.rows) }
-    requires gone { (adopted : ℕ) × (tiles_in adopted ≤ from)
-        × ((level : ℕ) → gone_at rows.now.rows level ≡ gone_of adopted level) }
+    requires rows { HaveTiles rows.now.rows from to }
     requires there { 8192 * to ≤ T.known disk.old }
     requires unheld { (key : Key) → from ≤ tile_number key.level key.place
         → IsUnheld pool.old key }
@@ -102,10 +99,7 @@ pub(crate) fn check<H: TreeHash, T: Disk>(
     from: u64,
     to: u64,
 ) -> Result<(), TileError>
-    requires few { count_of rows.now.rows < 2 ^ 32 }
-    requires full { to ≤ tiles_in (count_of rows.now.rows) }
-    requires gone { (adopted : ℕ) × (tiles_in adopted ≤ from)
-        × ((level : ℕ) → gone_at rows.now.rows level ≡ gone_of adopted level) }
+    requires rows { HaveTiles rows.now.rows from to }
     requires order { from < to }
     requires unheld { (key : Key) → from ≤ tile_number key.level key.place
         → IsUnheld pool.old key }

@@ -1,11 +1,11 @@
 //! The nodes inside the tiles that frames hold: they are hashed once, and looked up then.
 
-ghost use Rattle.std.specs.Prelude.{◌≡◌, ℕ, ◌+◌, ◌-◌, ◌*◌, ◌%◌, ◌^◌, ◌<◌, [], length, IsTrue};
-ghost use Rattle.std.specs.Prelude.{slice_index_or, IfOk, IfSome, OnOk};
+ghost use Rattle.std.specs.Prelude.{◌≡◌, ℕ, ◌+◌, ◌-◌, ◌*◌, ◌%◌, ◌^◌, ◌<◌, ◌≤◌, max, [], length};
+ghost use Rattle.std.specs.Prelude.{slice_index_or, IsTrue, IfOk, IfSome, OnOk};
 ghost use Rattle.byte_forms.specs.Types.{Text};
 ghost use Rattle.tile_store.specs.Inside.{ArePaired, HasTileHashes, IsNodeIn};
 
-use crate::reading::{HASH, hashes_below, node_over};
+use crate::reading::{HASH, node_alone};
 use crate::writing::bytes_of;
 use mtc_io::Memory;
 use std::alloc::Global;
@@ -106,8 +106,7 @@ impl<H: TreeHash> TileNodes<H> {
     }
 }
 
-/// The nodes of the tiles that frames hold, of each frame those of the tile whose node was asked
-/// for last.
+/// The nodes of tiles that frames hold or held, of at most one tile for each frame.
 #[derive(Drop)]
 pub(crate) struct FrameNodes<H: TreeHash> {
     tiles: Vec<TileNodes<H>>,
@@ -115,7 +114,9 @@ pub(crate) struct FrameNodes<H: TreeHash> {
 
 impl<H: TreeHash> FrameNodes<H> {
     /// None. It takes no memory.
-    pub(crate) fn new(alloc: Global) -> FrameNodes<H> {
+    pub(crate) fn new(alloc: Global) -> FrameNodes<H>
+        ensures { result.tiles.items ≡ [] }
+    {
         FrameNodes {
             tiles: Vec::new(alloc),
         }
@@ -135,7 +136,9 @@ impl<H: TreeHash> FrameNodes<H> {
     }
 
     // Keeps the nodes of a tile for a frame, in the place of others.
-    fn keep(&mut self, slot: usize, nodes: TileNodes<H>) -> Result<(), Memory> {
+    fn keep(&mut self, slot: usize, nodes: TileNodes<H>) -> Result<(), Memory>
+        ensures { length self.new.tiles.items ≤ max (slot + 1) (length self.old.tiles.items) }
+    {
         match self.tiles.get_mut(slot) {
             Some(kept) => drop(replace(kept, nodes)),
             None => self.tiles.push(nodes)?,
@@ -143,14 +146,19 @@ impl<H: TreeHash> FrameNodes<H> {
         Ok(())
     }
 
-    /// The node of a tile that stands in the frame of a slot. The tile's nodes are kept; where
-    /// memory is refused for them, the one is hashed alone.
+    /// The node of a tile that stands in the frame of a slot. One of the tile's own hashes is
+    /// copied. Another is looked up among the tile's nodes, which are kept then; where memory is
+    /// refused for them, it is hashed alone.
     pub(crate) fn node(&mut self, slot: usize, tile: &[u8], level: u32, place: u64) -> [u8; 32]
         requires whole { length tile.now ≡ 8192 }
         requires small { level < 64 }
-        ensures { IsNodeIn H.hash tile.now (place % 2 ^ (8 - level % 8) * 2 ^ (level % 8))
+        ensures node { IsNodeIn H.hash tile.now (place % 2 ^ (8 - level % 8) * 2 ^ (level % 8))
             (2 ^ (level % 8)) result }
+        ensures few { length self.new.tiles.items ≤ max (slot + 1) (length self.old.tiles.items) }
     {
+        if level % 8 == 0 {
+            return node_alone::<H>(tile, level, place);
+        }
         if let Some(hash) = self.kept(slot, tile, level, place) {
             return hash;
         }
@@ -160,7 +168,7 @@ impl<H: TreeHash> FrameNodes<H> {
                 let _ = self.keep(slot, nodes);
                 hash
             }
-            Err(Memory) => node_over::<H>(hashes_below(tile, level, place), level % 8),
+            Err(Memory) => node_alone::<H>(tile, level, place),
         }
     }
 }

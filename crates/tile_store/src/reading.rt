@@ -1,7 +1,7 @@
 //! Tiles read into frames, and nodes out of them.
 
 ghost use Rattle.std.specs.Prelude.{◌≡◌, ℕ, ◌+◌, ◌-◌, ◌*◌, ◌%◌, ◌^◌, ◌<◌, ◌≤◌, ◌⊎◌, List, length};
-ghost use Rattle.std.specs.Prelude.{Some, IfOk, OnOk, OnErr};
+ghost use Rattle.std.specs.Prelude.{Some, IfOk, IsOk, OnOk, OnErr};
 ghost use Rattle.byte_forms.specs.Types.{Hash, Text};
 ghost use Rattle.disk_core.specs.Moments.{Looks};
 ghost use Rattle.frame_pool.specs.Frames.{HoldsKey, IsUnheld};
@@ -9,6 +9,7 @@ ghost use Rattle.frame_pool.specs.declared.key.TileKey.{TileKey as Key};
 ghost use Rattle.mtc_io.specs.Counts.{HasCause, Rose};
 ghost use Rattle.tile_store.specs.Contents.{hash_in};
 ghost use Rattle.tile_store.specs.Frames.{FramesHold, HasNoPins};
+ghost use Rattle.tile_store.specs.Inside.{IsNodeIn};
 ghost use Rattle.tile_store.specs.Layout.{tile_at};
 ghost use Rattle.tree_core.specs.Path.{part_of};
 ghost use Rattle.tree_core.specs.Tree.{root_of};
@@ -32,6 +33,9 @@ pub(crate) fn load<T: Disk>(disk: &mut T, pool: &mut Pool, key: TileKey) -> Resu
     ensures held { IfOk result (λ slot. HoldsKey pool.new slot.0 key) }
     ensures read { OnOk result (IsUnheld pool.old key
         → Rose (T.moment disk.old) (T.moment disk.new)) }
+    ensures still { (IsUnheld pool.old key → ⊥) → disk.new ≡ disk.old }
+    ensures same { (IsUnheld pool.old key → ⊥) → pool.new ≡ pool.old }
+    ensures sure { (IsUnheld pool.old key → ⊥) → IsOk result }
     ensures frames { (b : Text) → T.told disk.old ≡ Some b → FramesHold b pool.old
         → FramesHold b pool.new }
     ensures keys { (slot : ℕ) (k : Key) → HoldsKey pool.new slot k
@@ -57,7 +61,7 @@ pub(crate) fn load<T: Disk>(disk: &mut T, pool: &mut Pool, key: TileKey) -> Resu
 }
 
 // The node above 2^level hashes.
-pub(crate) fn node_over<H: TreeHash>(hashes: &[u8], level: u32) -> [u8; 32]
+fn node_over<H: TreeHash>(hashes: &[u8], level: u32) -> [u8; 32]
     requires small { level < 8 }
     requires size { length hashes.now ≡ 32 * 2 ^ level }
     ensures { (leaves : List Hash) (base from : ℕ) → ((i : ℕ) → i < 2 ^ level
@@ -92,7 +96,7 @@ fn below(level: u32, place: u64) -> (usize, usize)
 }
 
 // The hashes of a tile that lie below one of its nodes.
-pub(crate) fn hashes_below(tile: &[u8], level: u32, place: u64) -> &[u8]
+fn hashes_below(tile: &[u8], level: u32, place: u64) -> &[u8]
     requires whole { length tile.now ≡ 8192 }
     requires small { level < 64 }
     ensures size { length result.now ≡ 32 * 2 ^ (level % 8) }
@@ -101,4 +105,14 @@ pub(crate) fn hashes_below(tile: &[u8], level: u32, place: u64) -> &[u8]
 {
     let (first, count) = below(level, place);
     &tile[HASH * first..HASH * (first + count)]
+}
+
+// A node of a tile, hashed alone.
+pub(crate) fn node_alone<H: TreeHash>(tile: &[u8], level: u32, place: u64) -> [u8; 32]
+    requires whole { length tile.now ≡ 8192 }
+    requires small { level < 64 }
+    ensures { IsNodeIn H.hash tile.now (place % 2 ^ (8 - level % 8) * 2 ^ (level % 8))
+        (2 ^ (level % 8)) result }
+{
+    node_over::<H>(hashes_below(tile, level, place), level % 8)
 }

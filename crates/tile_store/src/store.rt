@@ -1,8 +1,8 @@
 //! The store of nodes.
 
 ghost use Rattle.std.specs.Prelude.{◌≡◌, ◌↔◌, ℕ, ◌+◌, ◌*◌, ◌%◌, ◌^◌, ◌<◌, ◌≤◌, max, [], ◌∷◌, ◌++◌};
-ghost use Rattle.std.specs.Prelude.{length, Some, option_map, IsSome, IfSome, IfOk, IfErr, OnOk};
-ghost use Rattle.std.specs.Prelude.{OnErr};
+ghost use Rattle.std.specs.Prelude.{length, Some, option_map, IsSome, IfSome, IfOk, IfErr, IsOk};
+ghost use Rattle.std.specs.Prelude.{OnOk, OnErr};
 ghost use Rattle.std.proofs.Props.{props};
 ghost use Rattle.byte_forms.specs.Types.{Text};
 ghost use Rattle.disk_core.specs.Moments.{LeavesOnly, Looks};
@@ -51,6 +51,7 @@ pub struct Tiles<H: TreeHash, T: Disk> {
     ghost within: { stored ≤ count_of rows.rows },
     ghost reach: { tiles_end stored ≤ T.Disk.known disk },
     ghost gone: { (level : ℕ) → gone_at rows.rows level ≡ gone_of adopted level },
+    ghost beside: { length inside.tiles.items ≤ length pool.keys },
     ghost some: { 1 ≤ length pool.keys },
     ghost free: { HasNoPins pool },
     ghost keys: { (slot : ℕ) (key : Key) → HoldsKey pool slot key
@@ -64,8 +65,9 @@ impl<H: TreeHash, T: Disk> Tiles<H, T> {
     ghost use Rattle.tile_store.specs.Contents.{HoldsTiles, IsTile};
     ghost use Rattle.tile_store.specs.Frames.{IsHeld};
     ghost use Rattle.tile_store.specs.Layout.{tile_level, tile_place};
-    ghost use Rattle.tile_store.specs.Store.{TilesStay, tiles_adopted, tiles_count, tiles_disk};
-    ghost use Rattle.tile_store.specs.Store.{tiles_leaves, tiles_pool, tiles_spare, tiles_stored};
+    ghost use Rattle.tile_store.specs.Store.{IsAtHand, TilesStay, tiles_adopted, tiles_count};
+    ghost use Rattle.tile_store.specs.Store.{tiles_disk, tiles_leaves, tiles_pool, tiles_spare};
+    ghost use Rattle.tile_store.specs.Store.{tiles_stored};
     ghost use Rattle.tile_store.specs.Writing.{IsImageBehind};
     ghost use Rattle.tree_proofs.specs.Told.{IsRootOf};
 
@@ -128,9 +130,13 @@ impl<H: TreeHash, T: Disk> Tiles<H, T> {
 
     /// The hash of the `2^level` leaves from `place * 2^level` on, as [`Nodes::node`]. Where its
     /// tile is adopted, at Ok a frame holds that tile, and where none did before it was read from
-    /// the device in this call. `Failed` comes only where the count of the device's faults rose.
-    /// The nodes inside a tile are hashed together and kept, in 16,352 bytes for each frame; where
-    /// memory is refused for them, the one is hashed alone.
+    /// the device in this call. A node in memory, or one whose tile a frame holds, makes no call of
+    /// the device, changes no frame and doesn't fail. `Failed` comes only where the count of the
+    /// device's faults rose.
+    ///
+    /// The nodes inside a tile are hashed together and kept, in 16,352 bytes for each frame, and
+    /// once more while they are replaced. Where memory is refused for them, the one is hashed
+    /// alone.
     pub fn tile_node(&mut self, level: u32, place: u64) -> Result<[u8; 32], Failed>
         requires { (place + 1) * 2 ^ level ≤ tiles_count self.old }
         ensures value { IfOk result (IsRootOf H.hash (tiles_leaves self.old) (place * 2 ^ level)
@@ -143,6 +149,9 @@ impl<H: TreeHash, T: Disk> Tiles<H, T> {
             (IsFull (tiles_adopted self.old) (tile_level level) (tile_place level place)
             → (IsHeld (tiles_pool self.old) (tile_level level) (tile_place level place) → ⊥)
             → Rose (T.moment (tiles_disk self.old)) (T.moment (tiles_disk self.new))) }
+        ensures still { IsAtHand self.old level place → tiles_disk self.new ≡ tiles_disk self.old }
+        ensures same { IsAtHand self.old level place → tiles_pool self.new ≡ tiles_pool self.old }
+        ensures sure { IsAtHand self.old level place → IsOk result }
         ensures stays { TilesStay self.old self.new }
         ensures cause { HasCause (T.faults (tiles_disk self.old)) (T.faults (tiles_disk self.new))
             result }
@@ -162,6 +171,11 @@ impl<H: TreeHash, T: Disk> Tiles<H, T> {
         ensures held { IfOk result (λ slot. HoldsKey (tiles_pool self.new) slot.0 key) }
         ensures read { OnOk result (IsUnheld (tiles_pool self.old) key
             → Rose (T.moment (tiles_disk self.old)) (T.moment (tiles_disk self.new))) }
+        ensures still { (IsUnheld (tiles_pool self.old) key → ⊥)
+            → tiles_disk self.new ≡ tiles_disk self.old }
+        ensures same { (IsUnheld (tiles_pool self.old) key → ⊥)
+            → tiles_pool self.new ≡ tiles_pool self.old }
+        ensures sure { (IsUnheld (tiles_pool self.old) key → ⊥) → IsOk result }
         ensures stays { TilesStay self.old self.new }
         ensures cause { HasCause (T.faults (tiles_disk self.old)) (T.faults (tiles_disk self.new))
             result }
@@ -229,11 +243,12 @@ impl<H: TreeHash, T: Disk> Tiles<H, T> {
 
     /// Reads back each tile that the first `size` leaves fill and that is not adopted yet, in the
     /// order in which they became full, and compares it with the nodes in memory. At Ok they are
-    /// adopted, and these nodes are dropped from memory.
+    /// adopted, and these nodes are let go.
     ///
     /// Errors, whichever comes first: `Failed`; `BadTile`, exactly where the file ends before the
     /// end of a tile or has other hashes there, with the first such tile. Then all but the frames
-    /// is as it was. It takes no memory.
+    /// is as it was. It wants no memory, and gives back what these nodes took where smaller blocks
+    /// can be had; the spare leaves keep their room.
     pub fn adopt(&mut self, size: u64) -> Result<(), TileError>
         requires multiple { size % 256 ≡ 0 }
         requires within { size ≤ tiles_count self.old }
@@ -242,6 +257,8 @@ impl<H: TreeHash, T: Disk> Tiles<H, T> {
         ensures looks { Looks T.Disk (tiles_disk self.old) (tiles_disk self.new) }
         ensures adopted { OnOk result (tiles_adopted self.new
             ≡ max size (tiles_adopted self.old)) }
+        ensures stored { OnOk result (tiles_stored self.new
+            ≡ max size (tiles_stored self.old)) }
         ensures stands { OnOk result (IfSome (T.told (tiles_disk self.old)) (λ bytes.
             IfSome (tiles_leaves self.old) (λ leaves. (level place : ℕ)
             → IsNewTile (tiles_adopted self.old) size level place

@@ -7,10 +7,10 @@ ghost use Rattle.disk_core.specs.Disk.{Only};
 ghost use Rattle.disk_core.specs.Moments.{LeavesOnly};
 ghost use Rattle.mtc_io.specs.Counts.{HasCause};
 ghost use Rattle.tile_store.specs.Contents.{IsTile, hash_in};
-ghost use Rattle.tile_store.specs.Layout.{IsFull, tile_at, tiles_in};
-ghost use Rattle.tile_store.specs.Writing.{HoldsFirst, IsImageBehind, IsTileWritten, KeepsFront};
+ghost use Rattle.tile_store.specs.Layout.{IsFull, tile_at};
+ghost use Rattle.tile_store.specs.Writing.{HaveTiles, IsImageBehind, IsTileWritten, KeepsFront};
+ghost use Rattle.tile_store.specs.Writing.{TilesAreWritten, WritesBehind};
 ghost use Rattle.tree_cache.specs.Rows.{AreRowsOf, count_of, gone_at};
-ghost use Rattle.tree_cache.specs.Tiled.{gone_of};
 
 use crate::layout::{place_of, tile_with};
 use disk_core::{Disk, settle};
@@ -68,20 +68,11 @@ fn put_all<H: TreeHash, T: Disk>(
     from: u64,
     to: u64,
 ) -> Result<(), Failed>
-    requires few { count_of rows.now.rows < 2 ^ 32 }
-    requires full { to ≤ tiles_in (count_of rows.now.rows) }
-    requires gone { (adopted : ℕ) × (tiles_in adopted ≤ from)
-        × ((level : ℕ) → gone_at rows.now.rows level ≡ gone_of adopted level) }
+    requires rows { HaveTiles rows.now.rows from to }
     requires place { 8192 * from ≤ T.known disk.old }
-    ensures holds { OnOk result ((before after : Text) → T.told disk.old ≡ Some before
-        → T.told disk.new ≡ Some after → (leaves : List Hash)
-        → AreRowsOf H.hash leaves rows.now.rows → HoldsFirst H.hash leaves from before
-        → HoldsFirst H.hash leaves to after) }
-    ensures any_moment { LeavesOnly T.Disk disk.old disk.new
-        (IsImageBehind T.Disk disk.old (8192 * from)) }
-    ensures told { is_some (T.told disk.new) ≡ is_some (T.told disk.old) }
-    ensures known { T.known disk.old ≤ T.known disk.new }
-    ensures reach { OnOk result (8192 * to ≤ T.known disk.new) }
+    ensures written { OnOk result
+        (TilesAreWritten T.Disk H.hash rows.now.rows from to disk.old disk.new) }
+    ensures behind { WritesBehind T.Disk (8192 * from) disk.old disk.new }
     ensures cause { HasCause (T.faults disk.old) (T.faults disk.new) result }
 {
     for number in from..to {
@@ -97,24 +88,15 @@ pub(crate) fn write_tiles<H: TreeHash, T: Disk>(
     from: u64,
     to: u64,
 ) -> Result<(), Failed>
-    requires few { count_of rows.now.rows < 2 ^ 32 }
-    requires full { to ≤ tiles_in (count_of rows.now.rows) }
-    requires gone { (adopted : ℕ) × (tiles_in adopted ≤ from)
-        × ((level : ℕ) → gone_at rows.now.rows level ≡ gone_of adopted level) }
+    requires rows { HaveTiles rows.now.rows from to }
     requires place { 8192 * from ≤ T.known disk.old }
-    ensures holds { OnOk result ((before after : Text) → T.told disk.old ≡ Some before
-        → T.told disk.new ≡ Some after → (leaves : List Hash)
-        → AreRowsOf H.hash leaves rows.now.rows → HoldsFirst H.hash leaves from before
-        → HoldsFirst H.hash leaves to after) }
+    ensures written { OnOk result
+        (TilesAreWritten T.Disk H.hash rows.now.rows from to disk.old disk.new) }
     ensures durable { OnOk result (IfSome (T.told disk.new)
         (λ bytes. Only bytes (T.may_leave disk.new))) }
     ensures front { (before after : Text) → T.told disk.old ≡ Some before
         → T.told disk.new ≡ Some after → KeepsFront (8192 * from) before after }
-    ensures any_moment { LeavesOnly T.Disk disk.old disk.new
-        (IsImageBehind T.Disk disk.old (8192 * from)) }
-    ensures told { is_some (T.told disk.new) ≡ is_some (T.told disk.old) }
-    ensures known { T.known disk.old ≤ T.known disk.new }
-    ensures reach { OnOk result (8192 * to ≤ T.known disk.new) }
+    ensures behind { WritesBehind T.Disk (8192 * from) disk.old disk.new }
     ensures cause { HasCause (T.faults disk.old) (T.faults disk.new) result }
 {
     settle(disk)?;

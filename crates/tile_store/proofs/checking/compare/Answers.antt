@@ -17,21 +17,21 @@ loop-number-init g c =
 pub matches-requires-clause-full : goal.matches-requires-clause-full
 matches-requires-clause-full g c =
     let number = c.tile_with-key.ensures.number in
-    let full = c.requires.full in
+    let full = c.requires.rows.full in
     number-full (count_of c.args.rows.now.rows) c.tile_with-key.result.level
     c.tile_with-key.result.place c.tile_with-key.ensures.low (omega arith)
 
 pub matches-requires-clause-kept : goal.matches-requires-clause-kept
 matches-requires-clause-kept g c =
     let key = c.tile_with-key.result in
-    let gone = c.requires.gone in
+    let rows = c.requires.rows in
     let number = c.tile_with-key.ensures.number in
     let order = c.loop-number.auto.number in
-    let adopted = gone.1 in
-    subst (λ n. n ≤ 256 * key.place) (sym (gone.2 (8 * key.level)))
-    (gone-kept gone.0 key.level key.place
+    let behind = rows.behind in
+    subst (λ n. n ≤ 256 * key.place) (sym (rows.gone (8 * key.level)))
+    (gone-kept rows.adopted key.level key.place
     (λ full.
-    let before = full-number gone.0 key.level key.place c.tile_with-key.ensures.low full in
+    let before = full-number rows.adopted key.level key.place c.tile_with-key.ensures.low full in
     let no : ⊥ = omega arith in
     absurd no))
 

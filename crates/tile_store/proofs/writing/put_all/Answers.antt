@@ -1,39 +1,45 @@
 use Rattle.std.proofs.Common.{◌*◌, ◌≤◌, sym, subst, arith}
 use Rattle.tile_store.proofs.Numbers.{full-number, gone-kept, number-full}
-use Rattle.tile_store.proofs.Steps.{moments-on, put-on}
+use Rattle.tile_store.proofs.Steps.{behind-put, put-none, put-on}
 use Rattle.tile_store.specs.Layout.{tile_at}
 use Rattle.tree_cache.specs.Rows.{count_of}
 use Rattle.tile_store.proofs.writing.put_all.Goals as goal
 
+pub loop-number-init : goal.loop-number-init
+loop-number-init g c =
+    put-none g.T.Disk g.H.TreeHash.hash c.args.rows.now.rows c.args.from c.args.disk.now
+    (g.met.T.Disk.only_now c.args.disk.now) c.requires.place
+
 pub put-requires-clause-full : goal.put-requires-clause-full
 put-requires-clause-full g c =
     let number = c.tile_with.ensures.number in
-    let full = c.requires.full in
+    let full = c.requires.rows.full in
     number-full (count_of c.args.rows.now.rows) c.tile_with.result.level c.tile_with.result.place
     c.tile_with.ensures.low (omega arith)
 
 pub put-requires-clause-kept : goal.put-requires-clause-kept
 put-requires-clause-kept g c =
     let key = c.tile_with.result in
-    let gone = c.requires.gone in
+    let rows = c.requires.rows in
     let number = c.tile_with.ensures.number in
     let order = c.loop-number.auto.number in
-    let adopted = gone.1 in
-    subst (λ n. n ≤ 256 * key.place) (sym (gone.2 (8 * key.level)))
-    (gone-kept gone.0 key.level key.place
+    let behind = rows.behind in
+    subst (λ n. n ≤ 256 * key.place) (sym (rows.gone (8 * key.level)))
+    (gone-kept rows.adopted key.level key.place
     (λ full.
-    let before = full-number gone.0 key.level key.place c.tile_with.ensures.low full in
+    let before = full-number rows.adopted key.level key.place c.tile_with.ensures.low full in
     let no : ⊥ = omega arith in
     absurd no))
 
-pub returns-in_err-put-clause-any_moment : goal.returns-in_err-put-clause-any_moment
-returns-in_err-put-clause-any_moment g c =
+pub returns-in_err-put-clause-behind : goal.returns-in_err-put-clause-behind
+returns-in_err-put-clause-behind g c =
     let number = c.tile_with.ensures.number in
     let order = c.loop-number.auto.number in
-    moments-on g.T.Disk c.args.disk.now c.loop-number.disk c.put.new.disk (8192 * c.args.from)
+    let known = c.in_err-put.ensures.known_err in
+    behind-put g.T.Disk c.args.disk.now c.loop-number.disk c.put.new.disk c.args.from
     (tile_at c.tile_with.result.level c.tile_with.result.place)
-    (g.met.T.Disk.counts_now c.loop-number.disk) (omega arith) c.loop-number.invariant.moments
-    c.put.ensures.any_moment
+    (g.met.T.Disk.counts_now c.loop-number.disk) (omega arith) c.loop-number.invariant.behind
+    c.put.ensures.any_moment c.put.ensures.told (omega arith)
 
 pub loop-number-preserved : goal.loop-number-preserved
 loop-number-preserved g c =
@@ -45,9 +51,14 @@ loop-number-preserved g c =
     c.put.ensures.any_moment c.put.ensures.told c.in_ok-put.ensures.known
     c.in_ok-put.ensures.cause.fine c.in_ok-put.ensures.written
 
-pub returns-clause-holds : goal.returns-clause-holds
-returns-clause-holds g c = λ before after told_old told_now leaves are first level place low below
-    full.
+pub returns-clause-written : goal.returns-clause-written
+returns-clause-written g c =
     let past = c.loop-number-test.false in
-    c.loop-number.invariant.holds before after told_old told_now leaves are first level place low
-    (omega arith) full
+    let written = c.loop-number.invariant.written in
+    let reach = written.reach in
+    record {
+      reach = omega arith;
+      holds = λ before after told_old told_now leaves are first level place low below full.
+          written.holds before after told_old told_now leaves are first level place low
+          (omega arith) full;
+    }

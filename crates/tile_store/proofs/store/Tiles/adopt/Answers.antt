@@ -50,6 +50,7 @@ invariant_of-self g c =
           subst (λ n. tiles_end n ≤ g.T.Disk.known tiles.disk) (sym is) before)
           (cases_lt tiles.stored c.args.size);
       gone = c.forget.ensures.gone;
+      beside = tiles.beside;
       some = tiles.some;
       free = tiles.free;
       keys = λ slot key holds.

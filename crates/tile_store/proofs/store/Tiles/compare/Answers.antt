@@ -7,11 +7,19 @@ use Rattle.tile_store.specs.Layout.{tiles_in}
 use Rattle.tile_store.specs.Sound.{leaves_with}
 use Rattle.tile_store.proofs.store.Tiles.compare.Goals as goal
 
-pub check-requires-clause-gone : goal.check-requires-clause-gone
-check-requires-clause-gone g c =
+pub check-requires-clause-rows : goal.check-requires-clause-rows
+check-requires-clause-rows g c =
     let tiles = c.args.self.now in
     let from = c.count_tiles-from.ensures in
-    (tiles.adopted, omega arith, tiles.gone)
+    let to = c.count_tiles-to.ensures in
+    let within = c.requires.within in
+    record {
+      few = tiles.few;
+      full = omega arith;
+      adopted = tiles.adopted;
+      behind = omega arith;
+      gone = tiles.gone;
+    }
 
 pub check-requires-clause-unheld : goal.check-requires-clause-unheld
 check-requires-clause-unheld g c = λ key behind slot there held.
@@ -38,6 +46,9 @@ invariant_of-self g c =
           let reach = tiles.reach in
           omega arith;
       gone = tiles.gone;
+      beside = let count = compared.count in
+          let beside = tiles.beside in
+          omega arith;
       some = let count = compared.count in
           let some = tiles.some in
           omega arith;

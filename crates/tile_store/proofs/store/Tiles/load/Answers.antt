@@ -40,6 +40,9 @@ invariant_of-self g c =
           let reach = tiles.reach in
           omega arith;
       gone = tiles.gone;
+      beside = let count = c.load.ensures.count in
+          let beside = tiles.beside in
+          omega arith;
       some = let count = c.load.ensures.count in
           let some = tiles.some in
           omega arith;

@@ -1,6 +1,6 @@
-use Rattle.std.proofs.Common.{◌≡◌, [], refl, ap, arith}
+use Rattle.std.proofs.Common.{◌≡◌, [], length, refl, ap, arith}
 use Rattle.tile_store.proofs.Grown.{gone-none, leaves-none, no-pins, sound-new}
-use Rattle.tile_store.proofs.TileNodes.{when-told}
+use Rattle.tile_store.proofs.NodeValues.{when-told}
 use Rattle.tile_store.specs.Sound.{leaves_with}
 use Rattle.tree_cache.specs.Rows.{count_of}
 use Rattle.tile_store.proofs.store.Tiles.new.Goals as goal
@@ -15,6 +15,8 @@ invariant_of-result g c =
       within = omega arith;
       reach = omega arith;
       gone = λ level. gone-none c.new.result.rows level c.new.ensures.rows;
+      beside = let none = ap length c.new-2.ensures in
+          omega arith;
       some = c.sound.ensures.some;
       free = no-pins c.args.pool c.sound.ensures c.requires;
       keys = λ slot key holds. absurd (c.requires slot key holds);

@@ -17,6 +17,7 @@ invariant_of-self g c =
       within = omega arith;
       reach = tiles.reach;
       gone = λ level. c.push.ensures.gone level ∙ tiles.gone level;
+      beside = tiles.beside;
       some = tiles.some;
       free = tiles.free;
       keys = tiles.keys;

@@ -14,6 +14,7 @@ invariant_of-self g c =
       within = let within = tiles.within in omega arith;
       reach = tiles.reach;
       gone = λ level. grown.gone level ∙ tiles.gone level;
+      beside = tiles.beside;
       some = tiles.some;
       free = tiles.free;
       keys = tiles.keys;

@@ -34,6 +34,7 @@ invariant_of-self g c =
           subst (λ n. tiles_end n ≤ g.T.Disk.known tiles.disk) (sym is) old)
           (cases_lt tiles.stored c.args.size);
       gone = tiles.gone;
+      beside = tiles.beside;
       some = tiles.some;
       free = tiles.free;
       keys = tiles.keys;

@@ -2,7 +2,7 @@ use Rattle.std.proofs.Common.{◌≡◌, ◌+◌, ◌-◌, ◌*◌, ◌/◌, ◌
 use Rattle.std.proofs.Common.{ap, subst, sym}
 use Rattle.std.proofs.Common.{arith, rules}
 use Rattle.tile_store.proofs.Numbers.{full-more, gone-below}
-use Rattle.tile_store.proofs.TileNodes.{frame-tile, tile-node, when-told}
+use Rattle.tile_store.proofs.NodeValues.{frame-tile, tile-node, when-told}
 use Rattle.tile_store.specs.Contents.{IsTile}
 use Rattle.tile_store.specs.Layout.{IsFull}
 use Rattle.tile_store.specs.Sound.{leaves_with}
@@ -69,5 +69,5 @@ returns-clause-value g c =
     ∙ ap (λ r. leaves_with old.adopted r b) stays.rows) in
     let count = count-rows h (leaves_with old.adopted old.rows b) old.rows.rows before.stands in
     tile-node h (leaves_with old.adopted old.rows b) c.args.level c.args.place
-    c.frame-tile.result.now c.node.result tile c.node.ensures
+    c.frame-tile.result.now c.node.result tile c.node.ensures.node
     (subst (λ n. (c.args.place + 1) * 2 ^ c.args.level ≤ n) count c.requires))

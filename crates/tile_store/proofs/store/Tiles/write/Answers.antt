@@ -4,17 +4,32 @@ use Rattle.std.specs.Prelude.{IfSome}
 use Rattle.byte_forms.specs.Types.{Text}
 use Rattle.tile_store.proofs.Kept.{first-of, leaves-behind, on-ok-from, sound-behind, tiles-of}
 use Rattle.tile_store.proofs.Kept.{told-before, told-both}
-use Rattle.tile_store.proofs.TileNodes.{when-told}
+use Rattle.tile_store.proofs.NodeValues.{when-told}
 use Rattle.tile_store.specs.Contents.{HoldsTiles}
 use Rattle.tile_store.specs.Sound.{leaves_with}
 use Rattle.tile_store.specs.Writing.{HoldsFirst, KeepsFront}
 use Rattle.tree_cache.proofs.Pushes.{count-rows}
 use Rattle.tile_store.proofs.store.Tiles.write.Goals as goal
 
+pub write_tiles-requires-clause-rows : goal.write_tiles-requires-clause-rows
+write_tiles-requires-clause-rows g c =
+    let tiles = c.args.self.now in
+    let from = c.count_tiles-from.ensures in
+    let to = c.count_tiles-to.ensures in
+    let written = tiles.written in
+    let size = c.requires in
+    record {
+      few = tiles.few;
+      full = omega arith;
+      adopted = tiles.adopted;
+      behind = omega arith;
+      gone = tiles.gone;
+    }
+
 pub invariant_of-self : goal.invariant_of-self
 invariant_of-self g c =
     let tiles = c.args.self.now in
-    let known = c.write_tiles.ensures.known in
+    let known = c.write_tiles.ensures.behind.known in
     let reach = tiles.reach in
     record {
       few = tiles.few;
@@ -23,6 +38,7 @@ invariant_of-self g c =
       within = tiles.within;
       reach = omega arith;
       gone = tiles.gone;
+      beside = tiles.beside;
       some = tiles.some;
       free = tiles.free;
       keys = tiles.keys;
@@ -30,7 +46,7 @@ invariant_of-self g c =
           let few = tiles.few in
           let within = tiles.within in
           let before = told-before (g.T.Disk.told tiles.disk)
-          (g.T.Disk.told c.write_tiles.new.disk) after c.write_tiles.ensures.told told in
+          (g.T.Disk.told c.write_tiles.new.disk) after c.write_tiles.ensures.behind.told told in
           let there = g.met.T.Disk.known_there tiles.disk before.0 before.1 in
           sound-behind g.H.TreeHash.hash tiles.adopted tiles.stored tiles.rows tiles.pool before.0
           after tiles.whole tiles.written (omega arith) (omega arith)
@@ -44,7 +60,7 @@ returns-clause-list g c =
     let tiles = c.args.self.now in
     let reach = tiles.reach in
     told-both (g.T.Disk.told tiles.disk) (g.T.Disk.told c.write_tiles.new.disk)
-    (leaves_with tiles.adopted tiles.rows) c.write_tiles.ensures.told
+    (leaves_with tiles.adopted tiles.rows) c.write_tiles.ensures.behind.told
     (λ b after told_old told_new.
     let there = g.met.T.Disk.known_there tiles.disk b told_old in
     leaves-behind tiles.adopted tiles.stored tiles.rows b after tiles.whole tiles.written
@@ -57,8 +73,8 @@ returns-clause-holds g c =
     let tiles = c.args.self.now in
     let h = g.H.TreeHash.hash in
     let new = c.write_tiles.new.disk in
-    on-ok-from c.write_tiles.result c.write_tiles.ensures.holds c.write_tiles.ensures.durable
-    (λ holds durable.
+    on-ok-from c.write_tiles.result c.write_tiles.ensures.written c.write_tiles.ensures.durable
+    (λ written durable.
     when-told (g.T.Disk.told tiles.disk) (leaves_with tiles.adopted tiles.rows)
     (λ leaves. (image : Text) → g.T.Disk.may_leave new image
     → HoldsTiles h leaves c.args.size image)
@@ -70,13 +86,13 @@ returns-clause-holds g c =
     let count = count-rows h (leaves_with tiles.adopted tiles.rows b) tiles.rows.rows
     sound.stands in
     let later = told-before (g.T.Disk.told new) (g.T.Disk.told tiles.disk) b
-    (sym c.write_tiles.ensures.told) told in
+    (sym c.write_tiles.ensures.behind.told) told in
     let only : Only later.0 (g.T.Disk.may_leave new) =
     subst (λ t. IfSome t (λ bytes. Only bytes (g.T.Disk.may_leave new))) later.1 durable in
     λ image left.
     subst (HoldsTiles h leaves c.args.size) (sym (only image left))
     (tiles-of h leaves c.args.size later.0 (omega arith) (omega arith)
     (subst (λ n. HoldsFirst h leaves n later.0) c.count_tiles-to.ensures
-    (holds b later.0 told later.1 leaves sound.stands
+    (written.holds b later.0 told later.1 leaves sound.stands
     (subst (λ n. HoldsFirst h leaves n b) (sym c.count_tiles-from.ensures)
     (first-of h leaves tiles.stored b sound.tiles)))))))
