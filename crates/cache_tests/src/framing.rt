@@ -84,44 +84,48 @@ fn fault(alloc: Global, frames: usize, script: &[Ask]) -> Result<Option<Ask>, Me
     Ok(None)
 }
 
+// One frame.
+const ONE: [Ask; 6] = [
+    Ask::Unpinned(1),
+    Ask::Claim(7, 0),
+    Ask::Held(7, Some(0)),
+    Ask::Release(7),
+    Ask::Claim(8, 0),
+    Ask::Held(7, None),
+];
+
+// The least empty frame first, and then the one that was claimed first.
+const OLDEST: [Ask; 9] = [
+    Ask::Claim(1, 0),
+    Ask::Claim(2, 1),
+    Ask::Claim(3, 2),
+    Ask::Release(2),
+    Ask::Claim(4, 1),
+    Ask::Claim(5, 0),
+    Ask::Claim(6, 2),
+    Ask::Claim(7, 1),
+    Ask::Held(4, None),
+];
+
+// A pinned frame is passed over, and one that is unpinned has its old turn.
+const PINNED: [Ask; 12] = [
+    Ask::Claim(1, 0),
+    Ask::Claim(2, 1),
+    Ask::Claim(3, 2),
+    Ask::Pin(1),
+    Ask::Unpinned(2),
+    Ask::Claim(4, 1),
+    Ask::Claim(5, 2),
+    Ask::Held(1, Some(0)),
+    Ask::Unpin(1),
+    Ask::Unpinned(3),
+    Ask::Claim(6, 0),
+    Ask::Held(1, None),
+];
+
 #[test]
 fn frames_hold_keys_as_scripts_say(rt: HostRuntime) -> Result<(), Fail> {
-    let one: [Ask; 6] = [
-        Ask::Unpinned(1),
-        Ask::Claim(7, 0),
-        Ask::Held(7, Some(0)),
-        Ask::Release(7),
-        Ask::Claim(8, 0),
-        Ask::Held(7, None),
-    ];
-    // the least empty frame first, and then the one that was claimed first
-    let oldest: [Ask; 9] = [
-        Ask::Claim(1, 0),
-        Ask::Claim(2, 1),
-        Ask::Claim(3, 2),
-        Ask::Release(2),
-        Ask::Claim(4, 1),
-        Ask::Claim(5, 0),
-        Ask::Claim(6, 2),
-        Ask::Claim(7, 1),
-        Ask::Held(4, None),
-    ];
-    // a pinned frame is passed over, and one that is unpinned has its old turn
-    let pinned: [Ask; 12] = [
-        Ask::Claim(1, 0),
-        Ask::Claim(2, 1),
-        Ask::Claim(3, 2),
-        Ask::Pin(1),
-        Ask::Unpinned(2),
-        Ask::Claim(4, 1),
-        Ask::Claim(5, 2),
-        Ask::Held(1, Some(0)),
-        Ask::Unpin(1),
-        Ask::Unpinned(3),
-        Ask::Claim(6, 0),
-        Ask::Held(1, None),
-    ];
-    let scripts: [(usize, &[Ask]); 3] = [(1, &one), (3, &oldest), (3, &pinned)];
+    let scripts: [(usize, &[Ask]); 3] = [(1, &ONE), (3, &OLDEST), (3, &PINNED)];
     for (frames, script) in scripts {
         let found = fault(rt.alloc(), frames, script)?;
         assert!(rt; found.is_none(), "{frames} frames: {found:?}");

@@ -7,9 +7,8 @@ use mtc_io::{Bytes, Failed, Memory};
 use std::alloc::Global;
 use std::test::Fail;
 use tile_store::{TileError, Tiles};
-use tree_cache::Cache;
 use tree_core::{Sha, leaf};
-use tree_proofs::Nodes;
+use tree_proofs::{Listed, Nodes};
 
 // The leaf hash of a place.
 fn leaf_at(place: u64) -> [u8; 32] {
@@ -82,8 +81,9 @@ fn full_tiles_are_stored(rt: HostRuntime) -> Result<(), Fail> {
         (511, 8192),
         (512, 16_384),
     ] {
-        let bytes = file(rt.alloc(), size)?;
-        assert!(rt; bytes.len() == length, "{size}");
+        let mut tiles = grown(rt.alloc(), device(rt.alloc(), &[], &[])?, 1, size)?;
+        assert!(rt; stored(&mut tiles, size) == Some(Ok(())), "{size}");
+        assert!(rt; tiles.into_disk().bytes().len() == length, "{size}");
     }
     let bytes = file(rt.alloc(), 512)?;
     for place in 0..512 {
@@ -95,12 +95,21 @@ fn full_tiles_are_stored(rt: HostRuntime) -> Result<(), Fail> {
     Ok(())
 }
 
+// So many leaves, whose nodes are made anew from their hashes.
+fn leaves(alloc: Global, size: u64) -> Result<Listed<Sha>, Memory> {
+    let mut listed = Listed::new(alloc);
+    for place in 0..size {
+        listed.push(&leaf_at(place))?;
+    }
+    Ok(listed)
+}
+
 // Whether both have the same nodes.
-fn agree(tiles: &mut Tiles<Sha, MemDisk>, cache: &mut Cache<Sha>, size: u64) -> bool {
+fn agree(tiles: &mut Tiles<Sha, MemDisk>, listed: &mut Listed<Sha>, size: u64) -> bool {
     for level in 0..11 {
         for place in 0..size >> level {
             let found = node(tiles, level, place);
-            if found.is_none() || found != node(cache, level, place) {
+            if found.is_none() || found != node(listed, level, place) {
                 return false;
             }
         }
@@ -109,7 +118,7 @@ fn agree(tiles: &mut Tiles<Sha, MemDisk>, cache: &mut Cache<Sha>, size: u64) -> 
 }
 
 #[test]
-fn adopted_nodes_are_those_in_memory(rt: HostRuntime) -> Result<(), Fail> {
+fn adopted_nodes_are_those_of_the_leaves(rt: HostRuntime) -> Result<(), Fail> {
     for (frames, size, tiled) in [
         (1, 255, 0),
         (1, 256, 256),
@@ -118,15 +127,12 @@ fn adopted_nodes_are_those_in_memory(rt: HostRuntime) -> Result<(), Fail> {
         (1, 512, 512),
         (3, 1025, 1024),
     ] {
-        let mut cache = Cache::new(rt.alloc());
-        for place in 0..size {
-            cache.push(&leaf_at(place))?;
-        }
+        let mut listed = leaves(rt.alloc(), size)?;
         let mut tiles = grown(rt.alloc(), device(rt.alloc(), &[], &[])?, frames, size)?;
         assert!(rt; stored(&mut tiles, tiled) == Some(Ok(())), "{size}");
-        assert!(rt; agree(&mut tiles, &mut cache, size), "{size}");
+        assert!(rt; agree(&mut tiles, &mut listed, size), "{size}");
         assert!(rt; adopted(&mut tiles, tiled) == Some(Ok(())), "{size}");
-        assert!(rt; agree(&mut tiles, &mut cache, size), "{size}");
+        assert!(rt; agree(&mut tiles, &mut listed, size), "{size}");
     }
     Ok(())
 }
@@ -236,6 +242,9 @@ fn an_adopted_node_is_read_through_a_frame(rt: HostRuntime) -> Result<(), Fail> 
     assert!(rt; tiles.held_tile(first).is_none() && tiles.held_tile(second).is_none());
     assert!(rt; node(&mut tiles, 0, 1) == Some(Ok(leaf_at(1))));
     assert!(rt; tiles.held_tile(first) == bytes.as_slice().get(..8192));
+    // a node of a held tile asks nothing of the device, whose next call fails
+    assert!(rt; node(&mut tiles, 0, 2) == Some(Ok(leaf_at(2))));
+    assert!(rt; matches!(node(&mut tiles, 3, 31), Some(Ok(_))));
     assert!(rt; node(&mut tiles, 0, 256) == Some(Err(Failed)));
     assert!(rt; tiles.held_tile(second).is_none());
     assert!(rt; node(&mut tiles, 0, 256) == Some(Ok(leaf_at(256))));
@@ -253,5 +262,24 @@ fn a_tile_of_the_next_level_is_compared(rt: HostRuntime) -> Result<(), Fail> {
     let wanted = Err(TileError::BadTile { level: 1, place: 0 });
     assert!(rt; adopted(&mut tiles, 65_536) == Some(wanted));
     assert!(rt; adopted(&mut tiles, 65_280) == Some(Ok(())));
+    Ok(())
+}
+
+#[test]
+fn nodes_of_the_next_level_come_out_of_its_tile(rt: HostRuntime) -> Result<(), Fail> {
+    let bytes = file(rt.alloc(), 65_536)?;
+    let disk = device(rt.alloc(), bytes.as_slice(), &[])?;
+    let mut tiles = grown(rt.alloc(), disk, 1, 65_536)?;
+    let mut listed = leaves(rt.alloc(), 65_536)?;
+    assert!(rt; adopted(&mut tiles, 65_536) == Some(Ok(())));
+    let above = TileKey { level: 1, place: 0 };
+    for (level, place) in [(8, 0), (8, 255), (9, 77), (12, 15), (15, 1)] {
+        let found = node(&mut tiles, level, place);
+        assert!(rt; found.is_some(), "{level} {place}");
+        assert!(rt; found == node(&mut listed, level, place), "{level} {place}");
+        assert!(rt; tiles.held_tile(above).is_some(), "{level} {place}");
+    }
+    assert!(rt; node(&mut tiles, 7, 511) == node(&mut listed, 7, 511));
+    assert!(rt; tiles.held_tile(above).is_none());
     Ok(())
 }
