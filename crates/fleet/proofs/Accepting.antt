@@ -1,11 +1,14 @@
 -- Stores accept the certificates of the entries of a drill.
-use Rattle.std.proofs.Common.{◌≡◌, ◌∙◌, ℕ, false, length, Some, Ok, refl, ap, subst, arith}
+use Rattle.std.proofs.Common.{◌≡◌, ◌∙◌, ℕ, [], false, length, slice_index_or, Some, Ok, refl, ap}
+use Rattle.std.proofs.Common.{subst, arith}
 use Rattle.std.specs.Prelude.{pos}
 use Rattle.byte_forms.specs.Types.{Hash, HashFunction, Text}
+use Rattle.tls_wire.specs.Anchors.{text_of}
 use Rattle.tls_wire.specs.Arcs.{IsAnchorId}
 use Rattle.tree_core.specs.Path.{part_of}
 use Rattle.tree_core.specs.Tree.{tree_hash}
 use Rattle.cert_fields.specs.Extensions.{has_unknown_critical}
+use Rattle.cert_names.specs.LogNames.{name_with}
 use Rattle.log_entry.specs.Reading.{entry_in}
 use Rattle.policy_core.specs.Acceptance.{accepted_by}
 use Rattle.policy_core.specs.Judgement.{accepted, judgement}
@@ -15,7 +18,8 @@ use Rattle.authority_core.specs.Acceptance.{IsSetUpFor, StoresAccept}
 use Rattle.authority_core.specs.Certificates.{proof_for}
 use Rattle.authority_core.specs.Issuing.{entry_for, tbs_for}
 use Rattle.authority_core.specs.Requests.{CanBeIssued, RequestParts}
-use Rattle.fleet.specs.Entries.{request_for}
+use Rattle.fleet.specs.Entries.{drill_log_id, request_for}
+use Rattle.fleet.specs.LightStores.{IsDueEntry}
 use Rattle.fleet.specs.Stores.{IsDrillEntry, StoresAcceptNow}
 use Rattle.fleet.proofs.FirstEntries.{all_of}
 
@@ -39,6 +43,29 @@ AcceptsWith h s index size signatures hash bytes =
     ≡ Ok (accepted (accepted_by store (proof_for h s index 0 size signatures) hash) index
     (proof_for h s index 0 size signatures) hash)
 
+-- the entry of a drill is read
+is_read : (h : HashFunction) (s : LogState) (index : ℕ) → ((b : Text) → length (h b) ≡ 32)
+    → AreRead h → IsDrillEntry h s index
+    → entry_in (slice_index_or s.entries index [])
+    ≡ Ok (Some (tbs_for h s.settings.id (request_for index)))
+is_read h s index sized read is =
+    ap entry_in is.entry ∙ read h s.settings.id (request_for index) sized is.id is.can
+
+-- and is due
+pub due_entry : (h : HashFunction) (s : LogState) (index : ℕ) → ((b : Text) → length (h b) ≡ 32)
+    → AreRead h → AreKnown h → s.settings.id ≡ drill_log_id → IsDrillEntry h s index
+    → IsDueEntry (slice_index_or s.entries index [])
+due_entry h s index sized read known id is = record {
+  own = record {
+    fields = tbs_for h s.settings.id (request_for index);
+    read = is_read h s index sized read is;
+    issuer = ap (λ (x : Text). name_with (text_of x)) id;
+    known = known h s.settings.id (request_for index) is.can;
+  };
+  begun = omega arith;
+  lasting = omega arith;
+}
+
 -- the moment lies in the validity of the entry
 at_now : (h : HashFunction) (s : LogState) (index size : ℕ) (signatures bytes : Text)
     → ((b : Text) → length (h b) ≡ 32) → AreRead h → AreKnown h
@@ -48,8 +75,7 @@ at_now h s index size signatures bytes sized read known accepts is =
     λ store set.
     accepts (record {
       fields = tbs_for h s.settings.id (request_for index);
-      read = ap entry_in is.entry
-          ∙ read h s.settings.id (request_for index) sized is.id is.can;
+      read = is_read h s index sized read is;
       issuer = refl;
       known = known h s.settings.id (request_for index) is.can;
     }) store (pos 1767225600) set (omega arith) (omega arith)

@@ -9,13 +9,18 @@ use Rattle.cosigner_core.specs.Folds.{CosignerState, cosigner_of}
 use Rattle.fleet.specs.CosignerNodes.{IsCosignerDisk}
 use Rattle.fleet.specs.Nodes.{records_on}
 
+-- the records of a disk whose images stand for these
+pub records_grown : (disk : MemDisk) (list : List Text) → images_of disk (bytes_of disk)
+    → ((c : Text) → images_of disk c → StandsFor c list) → records_on disk ≡ list
+records_grown disk list reads images =
+    records_of-stands (bytes_of disk) list (images (bytes_of disk) reads)
+
 -- a disk whose images stand for records that make this cosigner
 pub is_disk : (h : HashFunction) (s : CosignerState) (disk : MemDisk) (list : List Text)
     → images_of disk (bytes_of disk) → ((c : Text) → images_of disk c → StandsFor c list)
     → cosigner_of h list ≡ Ok s → IsCosignerDisk h s disk
 is_disk h s disk list reads images valid =
-    let same : list ≡ records_on disk =
-    sym (records_of-stands (bytes_of disk) list (images (bytes_of disk) reads)) in
+    let same : list ≡ records_on disk = sym (records_grown disk list reads images) in
     record {
       holds = subst (λ (l : List Text). StandsFor (bytes_of disk) l) same
           (images (bytes_of disk) reads);

@@ -1,5 +1,5 @@
 -- The log of a drill, whose device was only looked at.
-use Rattle.std.proofs.Common.{◌≡◌, ◌∙◌, List, Option, Some, Ok, sym, ap, subst}
+use Rattle.std.proofs.Common.{◌≡◌, ◌∙◌, List, Some, Ok, sym, ap, subst}
 use Rattle.byte_forms.specs.Types.{Text, HashFunction}
 use Rattle.disk_core.specs.Memory.{bytes_of, images_of}
 use Rattle.disk_core.specs.declared.memory.mem_disk.MemDisk.{MemDisk}

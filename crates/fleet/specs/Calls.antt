@@ -24,7 +24,7 @@ abbrev pub log_called : HashFunction → LogState → LogCall → LogState
 log_called h s (Issue request) = issued_log h s request
 log_called h s Mark = with_mark s
 
--- how many records of its kind the log has
+-- how many entries the log has, or how many landmarks, by the kind of the call
 abbrev pub count_in : LogState → LogCall → ℕ
 count_in s (Issue request) = length s.entries
 count_in s Mark = length s.marks

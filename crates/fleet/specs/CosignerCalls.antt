@@ -33,6 +33,11 @@ IsSignature s (Cosign r) out =
     Verifies (one_level_public s.key.key) (signed_text s.id s.log r.start r.end r.hash) out
     × (length out < 2 ^ 14)
 
+-- The number of the one-time key of a Sign fits in four bytes.
+abbrev pub IsNumbered : CosignerState → CosignerCall → Type 0
+IsNumbered s (Advance r) = Unit {0}
+IsNumbered s (Cosign r) = s.key.next < 2 ^ 32
+
 module _ {H D : Type 0} {hashes : Hashes H} {g : Ghosts D} where
   -- A call of a cosigner: the records with that of the call are a cosigner's, and each image of the
   -- disk stands for the old records or for these. Where it is done, the cosigner has grown by its
@@ -50,15 +55,15 @@ module _ {H D : Type 0} {hashes : Hashes H} {g : Ghosts D} where
     pub kept : done ≡ true → IfSome (cosigner_records old) (λ list. AllStandFor g
         (cosigner_disk new) (list ++ body_called (cosigner_state old) call ∷ []))
     pub signed : done ≡ true → IsSignature (cosigner_state old) call out
+    pub numbered : done ≡ true → IsNumbered (cosigner_state old) call
     -- what is read is one of the images
     pub reads : IfSome (g.told (cosigner_disk new)) (g.may_leave (cosigner_disk new))
 
-  -- An open cosigner with this state, over the records that make it.
-  pub record IsCosignerWith (h : HashFunction) (s : CosignerState) (it : Cosigner H D hashes g)
-      : Type 0 where
+  -- An open cosigner with this state, over these records, which make it.
+  pub record IsCosignerWith (h : HashFunction) (s : CosignerState) (list : List Text)
+      (it : Cosigner H D hashes g) : Type 0 where
     pub sound : cosigner_broken it ≡ false
     pub state : cosigner_state it ≡ s
-    pub list : List Text
     pub records : cosigner_records it ≡ Some list
     pub valid : cosigner_of h list ≡ Ok s
 

@@ -12,3 +12,9 @@ pub mod Views
 pub mod Fleets
 pub mod Trios
 pub mod Stores
+pub mod Listed
+pub mod Audits
+pub mod AuditViews
+pub mod LightStores
+pub mod Counts
+pub mod Tallies

@@ -1,4 +1,5 @@
--- The log of a drill as its state.
+-- The log of a drill as its state, and the stops in its calls.
+use Rattle.std.specs.Prelude.{ℕ, length}
 use Rattle.tree_core.specs.declared.hashing.TreeHash.{Ghosts as Hashes}
 use Rattle.issuance_log.specs.Folds.{LogState}
 use Rattle.issuance_log.specs.Words.{log_state}
@@ -7,3 +8,7 @@ use Rattle.fleet.specs.declared.log_node.LogNode.{LogNode}
 -- what the log of a drill shows
 abbrev pub log_shown : {H : Type 0} {hashes : Hashes H} → LogNode H hashes → LogState
 log_shown node = log_state node.log
+
+-- how many stops were made in its calls
+abbrev pub log_stops : {H : Type 0} {hashes : Hashes H} → LogNode H hashes → ℕ
+log_stops node = length node.stops.items

@@ -2,7 +2,7 @@
 use Rattle.std.specs.Prelude.{◌≡◌, ◌⊎◌, List, [], ◌∷◌, ◌++◌, Ok}
 use Rattle.std.proofs.Props.{props}
 use Rattle.byte_forms.specs.Types.{Text, HashFunction}
-use Rattle.disk_core.specs.Memory.{bytes_of, images_of}
+use Rattle.disk_core.specs.Memory.{bytes_of, failing_of, images_of, starved_of}
 use Rattle.disk_core.specs.declared.memory.mem_disk.MemDisk.{MemDisk}
 use Rattle.journal_core.specs.Format.{StandsFor, StandsForEither, records_of}
 use Rattle.journal_core.specs.Settled.{StandsFor-prop}
@@ -13,6 +13,11 @@ use Rattle.fleet.specs.declared.calls.LogCall.{LogCall}
 -- the records of a disk in memory
 abbrev pub records_on : MemDisk → List Text
 records_on disk = records_of (bytes_of disk)
+
+-- The disk lists no call that fails, and each call has found memory.
+pub record FailsNone (disk : MemDisk) : Type 0 where
+  pub none_listed : failing_of disk ≡ []
+  pub none_starved : starved_of disk ≡ 0
 
 -- What a disk holds and all that a crash now may leave of it stand for its records, and these make
 -- this log.

@@ -138,7 +138,8 @@ checkpoint_after h zero size = empty_checkpoint h
 checkpoint_after h (suc before) size =
     record { size = size; root = tree_hash h (entries_to h size) }
 
--- A cosigner of the drill: its id and secret, what it holds, and that it has signed in each round.
+-- A cosigner of the drill: its id and secret, what it holds, and that it has used as many one-time
+-- keys as there were rounds, or more.
 pub record IsCosignerWithin (number last count : ℕ) (checkpoint : Checkpoint) (s : CosignerState)
     : Type 0 where
   pub id : s.id ≡ id_of last

@@ -8,9 +8,9 @@ use Rattle.fleet.specs.declared.round.Round.{Round}
 use Rattle.fleet.specs.declared.turns.Stop.{Stop}
 use Rattle.fleet.specs.declared.turns.Three.{Three}
 
--- A drill so far, and the number for the next draw.
+-- A drill so far: the number for its next draw, the entries, the landmarks, and the stops.
 pub record Drill : Type 0 where
-  pub number : ℕ
+  pub next : ℕ
   pub size : ℕ
   pub marks : List ℕ
   pub stops : ℕ
@@ -19,7 +19,7 @@ pub record Drill : Type 0 where
 
 -- a new log has the null entry
 abbrev pub begun : ℕ → Drill
-begun number = record { number = number; size = 1; marks = []; stops = 0; written = [] }
+begun number = record { next = number; size = 1; marks = []; stops = 0; written = [] }
 
 -- how many of these are stopped
 abbrev pub stops_in : List (Option Stop) → ℕ
@@ -47,10 +47,10 @@ marks_behind marks (Some turn) size = marks ++ size ∷ []
 
 -- the drill behind this round
 abbrev pub behind_round : Drill → Round → ℕ → Drill
-behind_round d r number =
+behind_round d r next =
     let size = d.size + length r.entries in
     record {
-      number = number;
+      next = next;
       size = size;
       marks = marks_behind d.marks r.landmark size;
       stops = d.stops + stops_of r;
@@ -59,7 +59,7 @@ behind_round d r number =
 
 -- the drill behind its next round
 unfoldable pub after_round : Drill → Drill
-after_round d = behind_round d (round d.size d.number).0 (round d.size d.number).1
+after_round d = behind_round d (round d.size d.next).0 (round d.size d.next).1
 
 -- the drill behind so many rounds
 unfoldable pub after_rounds : ℕ → Drill → Drill

@@ -21,7 +21,7 @@ pub(crate) enum LogCall {
     Mark,
 }
 
-// Issues a request. It is not refused: an error that isn't the device's is want of memory.
+// Issues a request. An error that isn't the device's is answered as want of memory.
 fn issue_on<H: TreeHash, D: Disk>(
     alloc: Global,
     log: &mut Log<H, D>,
@@ -61,7 +61,7 @@ pub(crate) fn call_log<H: TreeHash, D: Disk>(
     }
 }
 
-/// Opens the log on a device that stands for one. Only want of memory is met there.
+/// Opens the log on a device that stands for one. Each error is answered as want of memory.
 pub(crate) fn open_log<H: TreeHash, D: Disk + Drop>(
     alloc: Global,
     disk: D,

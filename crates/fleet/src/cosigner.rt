@@ -1,14 +1,16 @@
 //! The cosigners of a drill.
 
-ghost use Rattle.std.specs.Prelude.{◌≡◌, ◌<◌, List, Ok, IfOk};
+ghost use Rattle.std.specs.Prelude.{◌≡◌, ◌<◌, ◌+◌, List, [], ◌∷◌, ◌++◌, length, Ok, IfOk};
 ghost use Rattle.byte_forms.specs.Types.{Text};
 ghost use Rattle.disk_core.specs.Memory.{bytes_of, images_of};
 ghost use Rattle.journal_core.specs.Format.{StandsFor};
 ghost use Rattle.cosigner_core.specs.Folds.{CosignerState, cosigner_of, holding, new_cosigner};
-ghost use Rattle.fleet.specs.CosignerCalls.{IsCosignerWith, IsSignature, cosigner_behind};
-ghost use Rattle.fleet.specs.CosignerNodes.{HasSigned, IsLeftBy, IsReopened, cosigner_settings};
-ghost use Rattle.fleet.specs.CosignerNodes.{secret_of};
-ghost use Rattle.fleet.specs.CosignerViews.{cosigner_shown};
+ghost use Rattle.fleet.specs.CosignerCalls.{IsCosignerWith, IsNumbered, IsSignature, body_called};
+ghost use Rattle.fleet.specs.CosignerCalls.{cosigner_behind};
+ghost use Rattle.fleet.specs.CosignerNodes.{HasMore, HasRecorded, HasSigned, IsLeftBy, IsReopened};
+ghost use Rattle.fleet.specs.CosignerNodes.{cosigner_settings, secret_of};
+ghost use Rattle.fleet.specs.CosignerViews.{cosigner_shown, cosigner_stops, records_shown};
+ghost use Rattle.fleet.specs.Rounds.{stops_in};
 ghost use Rattle.fleet.specs.declared.cosigner_calls.CosignerCall.TheVariants.{Cosign};
 
 use crate::cosigner_calls::{CosignerCall, call_cosigner, open_cosigner};
@@ -37,28 +39,36 @@ fn secret_of(alloc: Global, last: u8, number: u64) -> Result<[u8; 48], Memory>
     Ok(secret)
 }
 
-// A cosigner on a device that stands for its records.
-fn opened<H: TreeHash>(alloc: Global, disk: MemDisk) -> Result<CosignerNode<H>, Memory>
-    ensures { IfOk result (λ it. (list : List Text) (s : CosignerState)
+// A cosigner on a device that stands for its records, with the stops so far.
+fn opened<H: TreeHash>(
+    alloc: Global,
+    disk: MemDisk,
+    stops: Vec<Stop>,
+) -> Result<CosignerNode<H>, Memory>
+    ensures state { IfOk result (λ it. (list : List Text) (s : CosignerState)
         → StandsFor (bytes_of disk) list → cosigner_of H.hash list ≡ Ok s
-        → cosigner_shown it ≡ s) }
+        → (cosigner_shown it ≡ s) × (records_shown it ≡ list)) }
+    ensures stops { IfOk result (λ it. cosigner_stops it ≡ length stops.items) }
 {
     Ok(CosignerNode {
         cosigner: open_cosigner(alloc, disk)?,
+        stops,
     })
 }
 
-// The cosigner behind a fuse.
+// The cosigner behind a fuse, and the stops so far.
 fn fused<H: TreeHash>(
     alloc: Global,
     node: CosignerNode<H>,
     passes: u64,
-) -> Result<Cosigner<H, Fuse<MemDisk>>, Memory>
-    ensures { IfOk result (IsCosignerWith H.hash (cosigner_shown node)) }
+) -> Result<(Cosigner<H, Fuse<MemDisk>>, Vec<Stop>), Memory>
+    ensures state { IfOk result
+        (λ x. IsCosignerWith H.hash (cosigner_shown node) (records_shown node) x.0) }
+    ensures stops { IfOk result (λ x. length x.1.items ≡ cosigner_stops node) }
 {
     let fuse = Fuse::new(node.cosigner.into_disk(), passes);
     let cosigner = open_cosigner(alloc, fuse)?;
-    Ok(cosigner)
+    Ok((cosigner, node.stops))
 }
 
 // What a call leaves of the device behind the fuse, and whether it was done. It may find no memory.
@@ -67,8 +77,9 @@ fn halted<H: TreeHash>(
     call: &CosignerCall<'_>,
     out: &mut SigBuf,
 ) -> Result<(MemDisk, bool), Memory>
-    ensures { IfOk result (λ left. (s : CosignerState) → IsCosignerWith H.hash s cosigner
-        → IsLeftBy H.hash call.now s (images_of left.0) out.new left.1) }
+    ensures { IfOk result (λ left. (s : CosignerState) (list : List Text)
+        → IsCosignerWith H.hash s list cosigner
+        → IsLeftBy H.hash call.now s list (images_of left.0) out.new left.1) }
 {
     let mut cosigner = cosigner;
     let done = call_cosigner(&mut cosigner, call, out)?;
@@ -80,7 +91,7 @@ fn halted<H: TreeHash>(
 }
 
 // The call is made behind a fuse, and the cosigner is opened again on an image of what is left:
-// whether the call was done.
+// whether the call was done. This is the one place where a stop is counted.
 fn stopped<H: TreeHash>(
     alloc: Global,
     node: CosignerNode<H>,
@@ -88,21 +99,24 @@ fn stopped<H: TreeHash>(
     stop: Stop,
     out: &mut SigBuf,
 ) -> Result<(CosignerNode<H>, bool), Memory>
-    ensures { IfOk result (λ it. IsReopened call.now (cosigner_shown node) (cosigner_shown it.0)
-        out.new it.1) }
+    ensures state { IfOk result (λ it. IsReopened call.now (cosigner_shown node)
+        (cosigner_shown it.0) (records_shown node) (records_shown it.0) out.new it.1) }
+    ensures stops { IfOk result (λ it. cosigner_stops it.0 ≡ cosigner_stops node + 1) }
 {
-    let cosigner = fused(alloc, node, stop.passes)?;
+    let (cosigner, mut stops) = fused(alloc, node, stop.passes)?;
     let (left, done) = halted(cosigner, call, out)?;
     let image = left.crash(stop.pick)?;
-    let again = opened(alloc, image)?;
+    stops.push(stop)?;
+    let again = opened(alloc, image, stops)?;
     Ok((again, done))
 }
 
 impl<H: TreeHash> CosignerNode<H> {
     /// A new cosigner on an empty device.
     pub(crate) fn create(alloc: Global, last: u8, number: u64) -> Result<CosignerNode<H>, Memory>
-        ensures { IfOk result (λ it. cosigner_shown it
+        ensures state { IfOk result (λ it. cosigner_shown it
             ≡ new_cosigner H.hash (cosigner_settings last) (secret_of last number)) }
+        ensures stops { IfOk result (λ it. cosigner_stops it ≡ 0) }
     {
         let settings = CosignerSettings {
             id: id_of(alloc, last)?,
@@ -114,7 +128,7 @@ impl<H: TreeHash> CosignerNode<H> {
         let disk = MemDisk::new(alloc, Vec::new(alloc));
         match create(alloc, disk, &settings, &secret) {
             Ok(journal) => {
-                let node = opened(alloc, journal.into_disk())?;
+                let node = opened(alloc, journal.into_disk(), Vec::new(alloc))?;
                 Ok(node)
             }
             Err(_) => Err(Memory),
@@ -125,7 +139,11 @@ impl<H: TreeHash> CosignerNode<H> {
     fn done(mut self, call: &CosignerCall<'_>, out: &mut SigBuf) -> Result<CosignerNode<H>, Memory>
         ensures state { IfOk result (λ it. cosigner_shown it
             ≡ cosigner_behind (cosigner_shown self) call.now) }
+        ensures records { IfOk result (λ it. records_shown it
+            ≡ records_shown self ++ body_called (cosigner_shown self) call.now ∷ []) }
         ensures signed { IfOk result (λ it. IsSignature (cosigner_shown self) call.now out.new) }
+        ensures numbered { IfOk result (λ it. IsNumbered (cosigner_shown self) call.now) }
+        ensures stops { IfOk result (λ it. cosigner_stops it ≡ cosigner_stops self) }
     {
         if call_cosigner(&mut self.cosigner, call, out)? {
             Ok(self)
@@ -143,20 +161,25 @@ impl<H: TreeHash> CosignerNode<H> {
         turn: Turn,
     ) -> Result<CosignerNode<H>, Memory>
         requires { (cosigner_shown self).held.size < request.now.size }
-        ensures { IfOk result (λ it. cosigner_shown it
+        ensures state { IfOk result (λ it. cosigner_shown it
             ≡ holding request.now.size request.now.root (cosigner_shown self)) }
+        ensures grows { IfOk result (λ it. HasMore (records_shown self) (records_shown it)) }
+        ensures stops { IfOk result
+            (λ it. cosigner_stops it ≡ cosigner_stops self + stops_in (turn ∷ [])) }
     {
         let call = CosignerCall::Advance(*request);
         let mut out = SigBuf::new();
         let Some(stop) = turn else {
-            return self.done(&call, &mut out);
+            let done = self.done(&call, &mut out)?;
+            return Ok(done);
         };
         let (before, _) = self.cosigner.held();
         let (node, _) = stopped(alloc, self, &call, stop, &mut out)?;
         if before < node.cosigner.held().0 {
             Ok(node)
         } else {
-            node.done(&call, &mut out)
+            let again = node.done(&call, &mut out)?;
+            Ok(again)
         }
     }
 
@@ -169,18 +192,24 @@ impl<H: TreeHash> CosignerNode<H> {
         turn: Turn,
         out: &mut SigBuf,
     ) -> Result<CosignerNode<H>, Memory>
-        ensures { IfOk result (λ it. HasSigned (Cosign request.now) turn (cosigner_shown self)
+        ensures state { IfOk result (λ it. HasSigned (Cosign request.now) turn (cosigner_shown self)
             (cosigner_shown it) out.new) }
+        ensures grows { IfOk result (λ it. HasMore (records_shown self) (records_shown it)) }
+        ensures recorded { IfOk result (λ it. HasRecorded request.now (records_shown it)) }
+        ensures stops { IfOk result
+            (λ it. cosigner_stops it ≡ cosigner_stops self + stops_in (turn ∷ [])) }
     {
         let call = CosignerCall::Cosign(*request);
         let Some(stop) = turn else {
-            return self.done(&call, out);
+            let signed = self.done(&call, out)?;
+            return Ok(signed);
         };
         let (node, done) = stopped(alloc, self, &call, stop, out)?;
         if done {
             Ok(node)
         } else {
-            node.done(&call, out)
+            let again = node.done(&call, out)?;
+            Ok(again)
         }
     }
 }

@@ -21,8 +21,7 @@ pub(crate) enum CosignerCall<'a> {
     Cosign(SubtreeRequest<'a>),
 }
 
-// Holds the root of a larger log. It is not refused: an error that isn't the device's has no other
-// cause than want of memory.
+// Holds the root of a larger log. An error that isn't the device's is answered as want of memory.
 fn advance_on<H: TreeHash, D: Disk>(
     cosigner: &mut Cosigner<H, D>,
     request: &AdvanceRequest<'_>,
@@ -67,7 +66,7 @@ pub(crate) fn call_cosigner<H: TreeHash, D: Disk>(
     }
 }
 
-/// Opens the cosigner on a device that stands for one. Only want of memory is met there.
+/// Opens the cosigner on a device that stands for one. Each error is answered as want of memory.
 pub(crate) fn open_cosigner<H: TreeHash, D: Disk + Drop>(
     alloc: Global,
     disk: D,

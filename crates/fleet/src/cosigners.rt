@@ -1,10 +1,13 @@
 //! What a cosigner does in a round.
 
-ghost use Rattle.std.specs.Prelude.{◌≡◌, ◌<◌, length, IfOk};
+ghost use Rattle.std.specs.Prelude.{◌≡◌, ◌<◌, ◌≤◌, ◌+◌, [], ◌∷◌, length, IfOk};
+ghost use Rattle.tls_wire.specs.Spelling.{AreHashes};
 ghost use Rattle.issuance_log.specs.Words.{LogStays, log_state};
-ghost use Rattle.fleet.specs.CosignerViews.{cosigner_shown};
+ghost use Rattle.fleet.specs.CosignerNodes.{HasMore};
+ghost use Rattle.fleet.specs.CosignerViews.{cosigner_shown, cosigner_stops, records_shown};
 ghost use Rattle.fleet.specs.Played.{holding_all};
-ghost use Rattle.fleet.specs.Trios.{IsSigned};
+ghost use Rattle.fleet.specs.Rounds.{stops_in};
+ghost use Rattle.fleet.specs.Trios.{HasRecordedAll, IsSigned};
 
 use crate::cosigner_node::CosignerNode;
 use crate::ids::{LOG, id_of};
@@ -19,6 +22,15 @@ use std::alloc::Global;
 use tls_wire::{put_vec8, put_vec16};
 use tree_core::TreeHash;
 
+// The type of a proof makes its hashes as long as hashes are: the clause says it, and the call does
+// nothing.
+fn are_hashes(proof: &[[u8; 32]])
+    requires { length proof.now ≤ 128 }
+    ensures { AreHashes proof.now }
+{
+    let _few = proof.len();
+}
+
 /// The cosigner holds the root of the log.
 pub(crate) fn advanced<H: TreeHash, D: Disk>(
     alloc: Global,
@@ -29,6 +41,9 @@ pub(crate) fn advanced<H: TreeHash, D: Disk>(
     requires { (cosigner_shown node).held.size < length (log_state log.old).entries }
     ensures state { IfOk result (λ it. cosigner_shown it
         ≡ holding_all H.hash (log_state log.old) (cosigner_shown node)) }
+    ensures grows { IfOk result (λ it. HasMore (records_shown node) (records_shown it)) }
+    ensures stops { IfOk result
+        (λ it. cosigner_stops it ≡ cosigner_stops node + stops_in (turn ∷ [])) }
     ensures stays { LogStays log.old log.new }
 {
     let id = id_of(alloc, LOG)?;
@@ -55,6 +70,10 @@ pub(crate) fn signed<H: TreeHash, D: Disk>(
 ) -> Result<CosignerNode<H>, Memory>
     ensures state { IfOk result (λ it. IsSigned H.hash (log_state log.old) turn
         (cosigner_shown node) (cosigner_shown it) signatures.old signatures.new) }
+    ensures recorded { IfOk result (λ it. HasRecordedAll H.hash (log_state log.old)
+        (records_shown node) (records_shown it)) }
+    ensures stops { IfOk result
+        (λ it. cosigner_stops it ≡ cosigner_stops node + stops_in (turn ∷ [])) }
     ensures stays { LogStays log.old log.new }
 {
     let id = id_of(alloc, LOG)?;
@@ -67,6 +86,7 @@ pub(crate) fn signed<H: TreeHash, D: Disk>(
         hash,
         proof: proof.as_slice(),
     };
+    are_hashes(request.proof);
     let mut out = SigBuf::new();
     let node = node.cosign(alloc, &request, turn, &mut out)?;
     put_vec8(signatures, node.cosigner.id().as_bytes())?;

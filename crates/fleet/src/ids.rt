@@ -16,7 +16,7 @@ pub(crate) fn id_of(alloc: Global, last: u8) -> Result<AnchorId, Memory>
 {
     match AnchorId::from_bytes(alloc, &[0x81, 0xFD, 0x59, last]) {
         Ok(id) => Ok(id),
-        // These bytes are an anchor id, so memory was refused.
+        // Where N is below 128 these bytes are an anchor id, so memory was refused.
         Err(_) => Err(Memory),
     }
 }

@@ -8,6 +8,7 @@
 //! out what it has made.
 #![tactic(auto)]
 
+mod audits;
 mod calls;
 mod cosigner;
 mod cosigner_calls;
@@ -16,8 +17,12 @@ mod cosigner_trio;
 mod cosigners;
 mod dice;
 mod drill;
+mod exports;
+mod handed;
 mod ids;
+mod judged_cert;
 mod light;
+mod listed;
 mod log;
 mod log_node;
 mod made;
@@ -31,4 +36,4 @@ mod trio;
 mod turns;
 
 pub use drill::fleet;
-pub use made::{Certs, Fleet};
+pub use made::{Certs, Counts, Fleet};

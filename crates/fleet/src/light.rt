@@ -1,15 +1,19 @@
 //! Certificates without signatures.
 
-ghost use Rattle.issuance_log.specs.Words.{LogStays};
+ghost use Rattle.std.specs.Prelude.{◌≡◌, ◌≤◌, ◌++◌, IfOk, OnOk};
+ghost use Rattle.landmarks.specs.Landmarks.{active_of, landmarks_of};
+ghost use Rattle.issuance_log.specs.Words.{LogStays, log_state};
+ghost use Rattle.fleet.specs.LightStores.{AreOfLandmarks, IsDue, IsLit, TrustsActive};
+ghost use Rattle.fleet.specs.LightStores.{cover_with, with_hash};
 
 use crate::ids::{LOG, id_of};
 use crate::requests::NOT_BEFORE;
-use authority_core::light_cert;
+use authority_core::{entries_say_what_was_asked, light_cert};
 use cert_names::log_name;
 use disk_core::Disk;
 use issuance_log::Log;
 use landmarks::{Landmarks, active, of_marks, subtrees};
-use mtc_io::{Bytes, Failed, Memory};
+use mtc_io::{Failed, Memory};
 use policy_core::{Cosigners, Revoked, Rules, Store, Subtrees, Trusted};
 use relying_party::judge;
 use std::alloc::Global;
@@ -18,7 +22,8 @@ use tree_proofs::node_of;
 
 // A subtree of the log with its hash.
 fn trusted<H: TreeHash, D: Disk>(log: &mut Log<H, D>, span: Span) -> Result<Trusted, Memory>
-    ensures { LogStays log.old log.new }
+    ensures hash { IfOk result (λ t. t ≡ with_hash H.hash (log_state log.old).entries span) }
+    ensures stays { LogStays log.old log.new }
 {
     // The subtrees of a landmark are subtrees of the log.
     if !subtree_ok(span.start, span.end) || log.size() < span.end {
@@ -40,7 +45,9 @@ fn put_cover<H: TreeHash, D: Disk>(
     cover: &Cover,
     trust: &mut Vec<Trusted>,
 ) -> Result<(), Memory>
-    ensures { LogStays log.old log.new }
+    ensures put { OnOk result (trust.new.items
+        ≡ trust.old.items ++ cover_with H.hash (log_state log.old).entries cover.now) }
+    ensures stays { LogStays log.old log.new }
 {
     let first = trusted(log, cover.first)?;
     trust.push(first)?;
@@ -58,7 +65,9 @@ fn active_subtrees<H: TreeHash, D: Disk>(
     log: &mut Log<H, D>,
     landmarks: &Landmarks,
 ) -> Result<Subtrees, Memory>
-    ensures { LogStays log.old log.new }
+    ensures active { IfOk result (AreOfLandmarks H.hash (log_state log.old).entries landmarks.now
+        (active_of landmarks.now).start (active_of landmarks.now).end) }
+    ensures stays { LogStays log.old log.new }
 {
     let mut trust = Vec::new(alloc);
     let numbers = active(landmarks);
@@ -69,43 +78,51 @@ fn active_subtrees<H: TreeHash, D: Disk>(
 }
 
 // The landmarks of the log.
-fn landmarks_of<H: TreeHash, D: Disk>(alloc: Global, log: &Log<H, D>) -> Result<Landmarks, Memory> {
+fn landmarks_of<H: TreeHash, D: Disk>(alloc: Global, log: &Log<H, D>) -> Result<Landmarks, Memory>
+    ensures { IfOk result (λ l. l
+        ≡ landmarks_of (log_state log.now).marks (log_state log.now).settings.max_active) }
+{
     log.sound();
     of_marks(alloc, log.marks(), log.settings().max_active)
 }
 
 // The store that trusts the active subtrees of the log, and no cosigner.
 fn landmark_store<H: TreeHash, D: Disk>(alloc: Global, log: &mut Log<H, D>) -> Result<Store, Memory>
-    ensures { LogStays log.old log.new }
+    ensures trusts { IfOk result (TrustsActive H.hash (log_state log.old)) }
+    ensures stays { LogStays log.old log.new }
 {
     let landmarks = landmarks_of(alloc, log)?;
+    let subtrees = active_subtrees(alloc, log, &landmarks)?;
     let id = id_of(alloc, LOG)?;
     Ok(Store {
         name: log_name(alloc, &id)?,
         log: id,
         cosigners: Cosigners::from_vec(Vec::new(alloc)),
         rules: Rules::from_vec(Vec::new(alloc)),
-        subtrees: active_subtrees(alloc, log, &landmarks)?,
+        subtrees,
         revoked: Revoked::from_vec(Vec::new(alloc)),
     })
 }
 
-/// The certificate of the newest entry without signatures, where it is accepted by the active
-/// subtrees alone.
-pub(crate) fn light_certificate<H: TreeHash, D: Disk>(
+/// 1 where the certificate of the newest entry without signatures is accepted by the active
+/// subtrees alone, or else 0. It is where that entry is one of the drill's log.
+pub(crate) fn one_light<H: TreeHash, D: Disk>(
     alloc: Global,
     log: &mut Log<H, D>,
-) -> Result<Option<Bytes>, Memory>
-    ensures { LogStays log.old log.new }
+) -> Result<u64, Memory>
+    ensures few { IfOk result (λ count. count ≤ 1) }
+    ensures accepted { IfOk result (λ count. IsDue H.hash (log_state log.old) → count ≡ 1) }
+    ensures only { IfOk result (λ count. count ≡ 1 → IsLit H.hash (log_state log.old)) }
+    ensures stays { LogStays log.old log.new }
 {
+    entries_say_what_was_asked();
     let store = landmark_store(alloc, log)?;
     let newest = log.size() - 1;
     let Ok(cert) = light_cert(alloc, log, newest) else {
         return Err(Memory);
     };
-    if judge::<H>(cert.as_slice(), &store, NOT_BEFORE).is_ok() {
-        Ok(Some(cert))
-    } else {
-        Ok(None)
+    match judge::<H>(cert.as_slice(), &store, NOT_BEFORE) {
+        Ok(_) => Ok(1),
+        Err(_) => Ok(0),
     }
 }

@@ -1,6 +1,6 @@
 //! The log of a drill.
 
-ghost use Rattle.std.specs.Prelude.{◌≡◌, List, length, Ok, IfOk};
+ghost use Rattle.std.specs.Prelude.{◌≡◌, ◌+◌, List, [], ◌∷◌, length, Ok, IfOk};
 ghost use Rattle.byte_forms.specs.Types.{Text};
 ghost use Rattle.disk_core.specs.Memory.{bytes_of, images_of};
 ghost use Rattle.journal_core.specs.Format.{StandsFor};
@@ -8,9 +8,10 @@ ghost use Rattle.issuance_log.specs.Folds.{LogState, log_of, new_log, with_mark}
 ghost use Rattle.authority_core.specs.Issues.{issued_log};
 ghost use Rattle.fleet.specs.Calls.{IsLogWith, count_in, log_called};
 ghost use Rattle.fleet.specs.Entries.{log_settings, request_for};
-ghost use Rattle.fleet.specs.LogNodes.{log_shown};
+ghost use Rattle.fleet.specs.LogNodes.{log_shown, log_stops};
 ghost use Rattle.fleet.specs.Nodes.{IsEither, IsLeft};
 ghost use Rattle.fleet.specs.Played.{issued_to};
+ghost use Rattle.fleet.specs.Rounds.{stops_in};
 
 use crate::calls::{LogCall, call_log, open_log};
 use crate::ids::{LOG, id_of};
@@ -28,27 +29,30 @@ const ACTIVE: u32 = 4;
 
 const LIMIT: u32 = 64;
 
-// A log on a device that stands for its records.
-fn opened<H: TreeHash>(alloc: Global, disk: MemDisk) -> Result<LogNode<H>, Memory>
-    ensures { IfOk result (λ it. (list : List Text) (s : LogState) → StandsFor (bytes_of disk) list
-        → log_of H.hash list ≡ Ok s → log_shown it ≡ s) }
+// A log on a device that stands for its records, with the stops so far.
+fn opened<H: TreeHash>(alloc: Global, disk: MemDisk, stops: Vec<Stop>) -> Result<LogNode<H>, Memory>
+    ensures state { IfOk result (λ it. (list : List Text) (s : LogState)
+        → StandsFor (bytes_of disk) list → log_of H.hash list ≡ Ok s → log_shown it ≡ s) }
+    ensures stops { IfOk result (λ it. log_stops it ≡ length stops.items) }
 {
     Ok(LogNode {
         log: open_log(alloc, disk)?,
+        stops,
     })
 }
 
-// The log behind a fuse.
+// The log behind a fuse, and the stops so far.
 fn fused<H: TreeHash>(
     alloc: Global,
     node: LogNode<H>,
     passes: u64,
-) -> Result<Log<H, Fuse<MemDisk>>, Memory>
-    ensures { IfOk result (IsLogWith H.hash (log_shown node)) }
+) -> Result<(Log<H, Fuse<MemDisk>>, Vec<Stop>), Memory>
+    ensures state { IfOk result (λ x. IsLogWith H.hash (log_shown node) x.0) }
+    ensures stops { IfOk result (λ x. length x.1.items ≡ log_stops node) }
 {
     let fuse = Fuse::new(node.log.into_disk(), passes);
     let log = open_log(alloc, fuse)?;
-    Ok(log)
+    Ok((log, node.stops))
 }
 
 // What a call leaves of the device behind the fuse. It may find no memory.
@@ -69,26 +73,30 @@ fn halted<H: TreeHash>(
     Ok(left)
 }
 
-// The call is made behind a fuse, and the log is opened again on an image of what is left.
+// The call is made behind a fuse, and the log is opened again on an image of what is left. This is
+// the one place where a stop is counted.
 fn stopped<H: TreeHash>(
     alloc: Global,
     node: LogNode<H>,
     call: &LogCall,
     stop: Stop,
 ) -> Result<LogNode<H>, Memory>
-    ensures { IfOk result (λ it. IsEither H.hash call.now (log_shown node) (log_shown it)) }
+    ensures state { IfOk result (λ it. IsEither H.hash call.now (log_shown node) (log_shown it)) }
+    ensures stops { IfOk result (λ it. log_stops it ≡ log_stops node + 1) }
 {
-    let log = fused(alloc, node, stop.passes)?;
+    let (log, mut stops) = fused(alloc, node, stop.passes)?;
     let left = halted(alloc, log, call)?;
     let image = left.crash(stop.pick)?;
-    let again = opened(alloc, image)?;
+    stops.push(stop)?;
+    let again = opened(alloc, image, stops)?;
     Ok(again)
 }
 
 impl<H: TreeHash> LogNode<H> {
     /// A new log on an empty device.
     pub(crate) fn create(alloc: Global) -> Result<LogNode<H>, Memory>
-        ensures { IfOk result (λ it. log_shown it ≡ new_log log_settings) }
+        ensures state { IfOk result (λ it. log_shown it ≡ new_log log_settings) }
+        ensures stops { IfOk result (λ it. log_stops it ≡ 0) }
     {
         let settings = LogSettings {
             id: id_of(alloc, LOG)?,
@@ -98,14 +106,14 @@ impl<H: TreeHash> LogNode<H> {
         let disk = MemDisk::new(alloc, Vec::new(alloc));
         match create(alloc, disk, &settings) {
             Ok(journal) => {
-                let node = opened(alloc, journal.into_disk())?;
+                let node = opened(alloc, journal.into_disk(), Vec::new(alloc))?;
                 Ok(node)
             }
             Err(_) => Err(Memory),
         }
     }
 
-    // How many records were added by calls of this kind.
+    // How many entries it has, or how many landmarks, by the kind of the call.
     fn count(&self, call: &LogCall) -> u64
         ensures { result ≡ count_in (log_shown self.now) call.now }
     {
@@ -117,7 +125,9 @@ impl<H: TreeHash> LogNode<H> {
 
     // The call without a stop.
     fn done(mut self, alloc: Global, call: &LogCall) -> Result<LogNode<H>, Memory>
-        ensures { IfOk result (λ it. log_shown it ≡ log_called H.hash (log_shown self) call.now) }
+        ensures state { IfOk result (λ it.
+            log_shown it ≡ log_called H.hash (log_shown self) call.now) }
+        ensures stops { IfOk result (λ it. log_stops it ≡ log_stops self) }
     {
         if call_log(alloc, &mut self.log, call)? {
             Ok(self)
@@ -129,24 +139,29 @@ impl<H: TreeHash> LogNode<H> {
     // The call, with a stop or without one. Behind a stop it is made again, unless its record was
     // recovered.
     fn asked(self, alloc: Global, call: &LogCall, turn: Turn) -> Result<LogNode<H>, Memory>
-        ensures { IfOk result (λ it. log_shown it ≡ log_called H.hash (log_shown self) call.now) }
+        ensures state { IfOk result (λ it.
+            log_shown it ≡ log_called H.hash (log_shown self) call.now) }
+        ensures stops { IfOk result (λ it. log_stops it ≡ log_stops self + stops_in (turn ∷ [])) }
     {
         let Some(stop) = turn else {
-            return self.done(alloc, call);
+            let done = self.done(alloc, call)?;
+            return Ok(done);
         };
         let before = self.count(call);
         let node = stopped(alloc, self, call, stop)?;
         if before < node.count(call) {
             Ok(node)
         } else {
-            node.done(alloc, call)
+            let again = node.done(alloc, call)?;
+            Ok(again)
         }
     }
 
     /// Issues the next entry.
     pub(crate) fn issue(self, alloc: Global, turn: Turn) -> Result<LogNode<H>, Memory>
-        ensures { IfOk result (λ it. log_shown it ≡ issued_log H.hash (log_shown self)
+        ensures state { IfOk result (λ it. log_shown it ≡ issued_log H.hash (log_shown self)
             (request_for (length (log_shown self).entries))) }
+        ensures stops { IfOk result (λ it. log_stops it ≡ log_stops self + stops_in (turn ∷ [])) }
     {
         let request = request_for(alloc, self.log.size())?;
         self.asked(alloc, &LogCall::Issue(request), turn)
@@ -155,8 +170,9 @@ impl<H: TreeHash> LogNode<H> {
     /// Issues an entry for each turn.
     #[tactic(auto, unfolding(crate::specs::Played::issued_to))]
     pub(crate) fn issue_all(self, alloc: Global, turns: &Turns) -> Result<LogNode<H>, Memory>
-        ensures { IfOk result (λ it. log_shown it
+        ensures state { IfOk result (λ it. log_shown it
             ≡ issued_to H.hash (length turns.now) (log_shown self)) }
+        ensures stops { IfOk result (λ it. log_stops it ≡ log_stops self + stops_in turns.now) }
     {
         let mut node = self;
         for turn in turns.as_slice() {
@@ -167,7 +183,8 @@ impl<H: TreeHash> LogNode<H> {
 
     /// Sets a landmark.
     pub(crate) fn mark(self, alloc: Global, turn: Turn) -> Result<LogNode<H>, Memory>
-        ensures { IfOk result (λ it. log_shown it ≡ with_mark (log_shown self)) }
+        ensures state { IfOk result (λ it. log_shown it ≡ with_mark (log_shown self)) }
+        ensures stops { IfOk result (λ it. log_stops it ≡ log_stops self + stops_in (turn ∷ [])) }
     {
         self.asked(alloc, &LogCall::Mark, turn)
     }

@@ -35,10 +35,23 @@ impl Certs {
     }
 }
 
+/// What a drill came to, in numbers: the entries and the landmarks of the log, the records that
+/// sign in the journals of the cosigners, the stops that were made, the certificates that were
+/// accepted by all three cosigners, the audits that found the entry at its index, and the
+/// certificates without signatures that were accepted.
+#[derive(Clone, Copy, Debug, PartialEq, Eq)]
+pub struct Counts {
+    pub entries: u64,
+    pub landmarks: u64,
+    pub signatures: u64,
+    pub stops: u64,
+    pub verified: u64,
+    pub stands: u64,
+    pub light: u64,
+}
+
 /// What a drill has made: the devices of the log and of the cosigners `32473.2`, `32473.3` and
-/// `32473.4`, the certificates of its rounds, how many of them were accepted by all three
-/// cosigners, the number of stops, and the number of certificates without signatures that were
-/// accepted.
+/// `32473.4`, the certificates of its rounds, and what it came to in numbers.
 #[derive(Debug, Drop)]
 pub struct Fleet {
     pub log: MemDisk,
@@ -46,7 +59,5 @@ pub struct Fleet {
     pub second: MemDisk,
     pub third: MemDisk,
     pub certs: Certs,
-    pub verified: u64,
-    pub stops: u64,
-    pub light: u64,
+    pub counts: Counts,
 }

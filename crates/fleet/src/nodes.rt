@@ -11,8 +11,8 @@ use policy_core::Store;
 use tree_core::TreeHash;
 
 /// The log and its cosigners, which hold no more than it has; the store of a relying party that
-/// knows them; the certificates of the rounds, and how many of them it accepted by all cosigners;
-/// and the certificates without signatures that were accepted.
+/// knows them; the certificates of the rounds; how many of them it accepted by all cosigners; how
+/// many audits of them stood; and how many certificates without signatures were accepted.
 #[derive(Drop)]
 pub(crate) struct FleetNodes<H: TreeHash> {
     pub(crate) log: LogNode<H>,
@@ -20,7 +20,8 @@ pub(crate) struct FleetNodes<H: TreeHash> {
     pub(crate) store: Store,
     pub(crate) certs: Vec<Bytes>,
     pub(crate) verified: u64,
-    pub(crate) light: Vec<Bytes>,
+    pub(crate) stands: u64,
+    pub(crate) light: u64,
     ghost first_holds: { (cosigner_shown trio.first).held.size
         ≤ length (log_shown log).entries },
     ghost second_holds: { (cosigner_shown trio.second).held.size

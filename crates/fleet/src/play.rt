@@ -1,16 +1,22 @@
 //! A round of a drill.
 
-ghost use Rattle.std.specs.Prelude.{◌≡◌, ◌≤◌, [], ◌∷◌, ◌++◌, length, IfOk};
+ghost use Rattle.std.specs.Prelude.{◌≡◌, ◌≤◌, ◌+◌, [], ◌∷◌, ◌++◌, length, IfOk};
+ghost use Rattle.byte_forms.specs.Types.{Text};
 ghost use Rattle.authority_core.specs.Certificates.{IsWritten};
-ghost use Rattle.fleet.specs.LogNodes.{log_shown};
+ghost use Rattle.fleet.specs.AuditViews.{AllStand};
+ghost use Rattle.fleet.specs.LightStores.{IsDue};
+ghost use Rattle.fleet.specs.LogNodes.{log_shown, log_stops};
 ghost use Rattle.fleet.specs.Played.{HasCertified, HasPlayed, IsAfter, all_holding, issued_to};
 ghost use Rattle.fleet.specs.Played.{mark_shown};
-ghost use Rattle.fleet.specs.Rounds.{begun};
+ghost use Rattle.fleet.specs.Rounds.{begun, landmark_turns, stops_in, three_turns};
 ghost use Rattle.fleet.specs.Stores.{StoresAcceptNow};
+ghost use Rattle.fleet.specs.Tallies.{AddTo, AddUp, all_stops};
+ghost use Rattle.fleet.specs.Trios.{HaveMore, HaveRecorded};
 ghost use Rattle.fleet.specs.Views.{shown};
 
+use crate::audits::audited;
 use crate::cosigner_trio::Trio;
-use crate::light::light_certificate;
+use crate::light::one_light;
 use crate::log_node::{LogNode, looked_at};
 use crate::nodes::FleetNodes;
 use crate::round::Round;
@@ -22,20 +28,16 @@ use mtc_proof::check_signatures;
 use std::alloc::Global;
 use tree_core::TreeHash;
 
-// The newest certificate without signatures is put behind the others, where it is accepted.
-fn put_light<H: TreeHash>(
-    alloc: Global,
-    log: LogNode<H>,
-    light: &mut Vec<Bytes>,
-) -> Result<LogNode<H>, Memory>
-    ensures { IfOk result (λ it. log_shown it ≡ log_shown log) }
+// The certificate of the newest entry without signatures is judged: 1 where it is accepted.
+fn judged_light<H: TreeHash>(alloc: Global, log: LogNode<H>) -> Result<(LogNode<H>, u64), Memory>
+    ensures same { IfOk result (λ x. log_shown x.0 ≡ log_shown log) }
+    ensures no_stop { IfOk result (λ x. log_stops x.0 ≡ log_stops log) }
+    ensures few { IfOk result (λ x. x.1 ≤ 1) }
+    ensures accepted { IfOk result (λ x. IsDue H.hash (log_shown log) → x.1 ≡ 1) }
 {
     let mut inner = log.log;
-    let newest = light_certificate(alloc, &mut inner)?;
-    if let Some(cert) = newest {
-        light.push(cert)?;
-    }
-    Ok(looked_at(inner))
+    let count = one_light(alloc, &mut inner)?;
+    Ok((looked_at(inner, log.stops), count))
 }
 
 // One certificate more.
@@ -55,6 +57,7 @@ fn certificate<H: TreeHash>(
     signatures: &Bytes,
 ) -> Result<(LogNode<H>, Bytes), Memory>
     ensures same { IfOk result (λ x. log_shown x.0 ≡ log_shown log) }
+    ensures no_stop { IfOk result (λ x. log_stops x.0 ≡ log_stops log) }
     ensures written { IfOk result (λ x. IsWritten H.hash (log_shown log) index 0
         (length (log_shown log).entries) signatures.now x.1) }
     ensures accepts { IfOk result (λ x. StoresAcceptNow H.hash (log_shown log) index
@@ -69,35 +72,41 @@ fn certificate<H: TreeHash>(
     let Ok(bytes) = cert(alloc, &mut inner, index, 0, size, signatures.as_slice()) else {
         return Err(Memory);
     };
-    Ok((looked_at(inner), bytes))
+    Ok((looked_at(inner, log.stops), bytes))
 }
 
 impl<H: TreeHash> FleetNodes<H> {
     /// New nodes.
     pub(crate) fn begin(alloc: Global, number: u64) -> Result<FleetNodes<H>, Memory>
-        ensures { IfOk result (λ it. IsAfter H.hash number 0 (begun number) (shown it)) }
+        ensures state { IfOk result (λ it. IsAfter H.hash number 0 (begun number) (shown it)) }
+        ensures counts { IfOk result (AddUp H.hash number 0) }
     {
         let log = LogNode::create(alloc)?;
         let trio = Trio::create(alloc, number)?;
         let store = trio.store(alloc)?;
         let certs = Vec::new(alloc);
-        let light = Vec::new(alloc);
         Ok(FleetNodes {
             log,
             trio,
             store,
             certs,
             verified: 0,
-            light,
+            stands: 0,
+            light: 0,
         })
     }
 
     // The log issues an entry for each turn, and each cosigner holds its root.
     fn grow(self, alloc: Global, entries: &Turns, turns: &Three) -> Result<FleetNodes<H>, Memory>
         requires { 1 ≤ length entries.now }
-        ensures { IfOk result (λ it. shown it
+        ensures state { IfOk result (λ it. shown it
             ≡ all_holding H.hash (issued_to H.hash (length entries.now) (shown self).log)
             (shown self)) }
+        ensures records { IfOk result (λ it. HaveMore self.trio it.trio) }
+        ensures stops { IfOk result (λ it. all_stops it ≡ all_stops self + stops_in entries.now
+            + stops_in (three_turns turns.now)) }
+        ensures stands { IfOk result (λ it. it.stands ≡ self.stands) }
+        ensures light { IfOk result (λ it. it.light ≡ self.light) }
     {
         let log = self.log.issue_all(alloc, entries)?;
         let (trio, log) = self.trio.advance(alloc, log, turns)?;
@@ -107,30 +116,44 @@ impl<H: TreeHash> FleetNodes<H> {
             store: self.store,
             certs: self.certs,
             verified: self.verified,
+            stands: self.stands,
             light: self.light,
         })
     }
 
     // A landmark is set, and the certificate of the newest entry without signatures judged.
     fn mark(self, alloc: Global, turn: Turn) -> Result<FleetNodes<H>, Memory>
-        ensures { IfOk result (λ it. shown it ≡ mark_shown (Some turn) (shown self)) }
+        requires { self.light ≤ 15 }
+        ensures state { IfOk result (λ it. shown it ≡ mark_shown (Some turn) (shown self)) }
+        ensures trio { IfOk result (λ it. it.trio ≡ self.trio) }
+        ensures stops { IfOk result (λ it. all_stops it ≡ all_stops self + stops_in (turn ∷ [])) }
+        ensures stands { IfOk result (λ it. it.stands ≡ self.stands) }
+        ensures light { IfOk result (λ it. IsDue H.hash (log_shown it.log)
+            → it.light ≡ self.light + 1) }
     {
         let log = self.log.mark(alloc, turn)?;
-        let mut light = self.light;
-        let log = put_light(alloc, log, &mut light)?;
+        let (judged, light) = judged_light(alloc, log)?;
         Ok(FleetNodes {
-            log,
+            log: judged,
             trio: self.trio,
             store: self.store,
             certs: self.certs,
             verified: self.verified,
-            light,
+            stands: self.stands,
+            light: self.light + light,
         })
     }
 
     // The landmark of a round, if it has one.
     fn mark_in(self, alloc: Global, landmark: Option<Turn>) -> Result<FleetNodes<H>, Memory>
-        ensures { IfOk result (λ it. shown it ≡ mark_shown landmark (shown self)) }
+        requires { self.light ≤ 15 }
+        ensures state { IfOk result (λ it. shown it ≡ mark_shown landmark (shown self)) }
+        ensures trio { IfOk result (λ it. it.trio ≡ self.trio) }
+        ensures stops { IfOk result
+            (λ it. all_stops it ≡ all_stops self + stops_in (landmark_turns landmark)) }
+        ensures stands { IfOk result (λ it. it.stands ≡ self.stands) }
+        ensures light { IfOk result (λ it. IsDue H.hash (log_shown it.log)
+            → it.light ≡ self.light + length (landmark_turns landmark)) }
     {
         match landmark {
             Some(turn) => self.mark(alloc, turn),
@@ -139,15 +162,27 @@ impl<H: TreeHash> FleetNodes<H> {
     }
 
     // Each cosigner signs all of the log, and the certificate of an entry is written with the
-    // signatures and judged.
+    // signatures, judged, and audited with what each cosigner has recorded.
     fn certify(self, alloc: Global, index: u64, turns: &Three) -> Result<FleetNodes<H>, Memory>
-        requires { self.verified ≤ 15 }
-        ensures { IfOk result (λ it. HasCertified H.hash index turns.now (shown self) (shown it)) }
+        requires verified { self.verified ≤ 15 }
+        requires stands { self.stands ≤ 45 }
+        ensures state { IfOk result
+            (λ it. HasCertified H.hash index turns.now (shown self) (shown it)) }
+        ensures records { IfOk result
+            (λ it. HaveRecorded H.hash (log_shown self.log) self.trio it.trio) }
+        ensures stops { IfOk result
+            (λ it. all_stops it ≡ all_stops self + stops_in (three_turns turns.now)) }
+        ensures stands { IfOk result (λ it. (cert : Text)
+            → it.certs.items ≡ self.certs.items ++ cert ∷ []
+            → AllStand H.hash self.store cert (log_shown it.log) it.trio
+            → it.stands ≡ self.stands + 3) }
+        ensures light { IfOk result (λ it. it.light ≡ self.light) }
     {
         let mut signatures = Bytes::new(alloc);
         let (trio, log) = self.trio.cosign(alloc, self.log, turns, &mut signatures)?;
         let (log, bytes) = certificate(alloc, log, index, &signatures)?;
         let verified = self.verified + one_accepted::<H>(&bytes, &self.store);
+        let (log, trio, stands) = audited(alloc, log, trio, &self.store, &bytes)?;
         let certs = with_cert(self.certs, bytes)?;
         Ok(FleetNodes {
             log,
@@ -155,6 +190,7 @@ impl<H: TreeHash> FleetNodes<H> {
             store: self.store,
             certs,
             verified,
+            stands: self.stands + stands,
             light: self.light,
         })
     }
@@ -162,8 +198,11 @@ impl<H: TreeHash> FleetNodes<H> {
     /// Plays a round.
     pub(crate) fn play(self, alloc: Global, round: &Round) -> Result<FleetNodes<H>, Memory>
         requires some { 1 ≤ length round.now.entries }
-        requires few { self.verified ≤ 15 }
-        ensures { IfOk result (λ it. HasPlayed H.hash round.now (shown self) (shown it)) }
+        requires verified { self.verified ≤ 15 }
+        requires stands { self.stands ≤ 45 }
+        requires light { self.light ≤ 15 }
+        ensures state { IfOk result (λ it. HasPlayed H.hash round.now (shown self) (shown it)) }
+        ensures counts { IfOk result (AddTo H.hash round.now self) }
     {
         let grown = self.grow(alloc, &round.entries, &round.advances)?;
         let marked = grown.mark_in(alloc, round.landmark)?;

@@ -1,10 +1,13 @@
 //! The three cosigners of a drill.
 
-ghost use Rattle.std.specs.Prelude.{◌≡◌, ◌<◌, length, IfOk};
-ghost use Rattle.fleet.specs.CosignerViews.{cosigner_shown};
-ghost use Rattle.fleet.specs.LogNodes.{log_shown};
+ghost use Rattle.std.specs.Prelude.{◌≡◌, ◌<◌, ◌+◌, [], ◌∷◌, length, IfOk};
+ghost use Rattle.fleet.specs.CosignerNodes.{HasMore};
+ghost use Rattle.fleet.specs.CosignerViews.{cosigner_shown, cosigner_stops, records_shown};
+ghost use Rattle.fleet.specs.LogNodes.{log_shown, log_stops};
 ghost use Rattle.fleet.specs.Played.{holding_all};
-ghost use Rattle.fleet.specs.Trios.{AreNew, HaveAdvanced, HaveSigned, IsSigned};
+ghost use Rattle.fleet.specs.Rounds.{stops_in, three_turns};
+ghost use Rattle.fleet.specs.Trios.{AreNew, HasRecordedAll, HaveAdvanced, HaveMore, HaveRecorded};
+ghost use Rattle.fleet.specs.Trios.{HaveSigned, IsSigned, trio_stops};
 
 use crate::cosigner_node::CosignerNode;
 use crate::cosigner_trio::Trio;
@@ -25,11 +28,15 @@ fn advanced_on<H: TreeHash>(
     requires { (cosigner_shown node).held.size < length (log_shown log).entries }
     ensures state { IfOk result (λ x. cosigner_shown x.0
         ≡ holding_all H.hash (log_shown log) (cosigner_shown node)) }
+    ensures grows { IfOk result (λ x. HasMore (records_shown node) (records_shown x.0)) }
+    ensures stops { IfOk result
+        (λ x. cosigner_stops x.0 ≡ cosigner_stops node + stops_in (turn ∷ [])) }
     ensures same { IfOk result (λ x. log_shown x.1 ≡ log_shown log) }
+    ensures no_stop { IfOk result (λ x. log_stops x.1 ≡ log_stops log) }
 {
     let mut inner = log.log;
     let node = advanced(alloc, node, &mut inner, turn)?;
-    Ok((node, looked_at(inner)))
+    Ok((node, looked_at(inner, log.stops)))
 }
 
 // The cosigner signs all of the log, which stays as it was.
@@ -42,17 +49,23 @@ fn signed_on<H: TreeHash>(
 ) -> Result<(CosignerNode<H>, LogNode<H>), Memory>
     ensures state { IfOk result (λ x. IsSigned H.hash (log_shown log) turn (cosigner_shown node)
         (cosigner_shown x.0) signatures.old signatures.new) }
+    ensures recorded { IfOk result (λ x. HasRecordedAll H.hash (log_shown log)
+        (records_shown node) (records_shown x.0)) }
+    ensures stops { IfOk result
+        (λ x. cosigner_stops x.0 ≡ cosigner_stops node + stops_in (turn ∷ [])) }
     ensures same { IfOk result (λ x. log_shown x.1 ≡ log_shown log) }
+    ensures no_stop { IfOk result (λ x. log_stops x.1 ≡ log_stops log) }
 {
     let mut inner = log.log;
     let node = signed(alloc, node, &mut inner, turn, signatures)?;
-    Ok((node, looked_at(inner)))
+    Ok((node, looked_at(inner, log.stops)))
 }
 
 impl<H: TreeHash> Trio<H> {
     /// New cosigners: `32473.2` to `32473.4` of the drill with this number.
     pub(crate) fn create(alloc: Global, number: u64) -> Result<Trio<H>, Memory>
-        ensures { IfOk result (AreNew H.hash number) }
+        ensures state { IfOk result (AreNew H.hash number) }
+        ensures stops { IfOk result (λ it. trio_stops it ≡ 0) }
     {
         Ok(Trio {
             first: CosignerNode::create(alloc, 2, number)?,
@@ -72,7 +85,11 @@ impl<H: TreeHash> Trio<H> {
         requires second { (cosigner_shown self.second).held.size < length (log_shown log).entries }
         requires third { (cosigner_shown self.third).held.size < length (log_shown log).entries }
         ensures state { IfOk result (λ x. HaveAdvanced H.hash (log_shown log) self x.0) }
+        ensures grows { IfOk result (λ x. HaveMore self x.0) }
+        ensures stops { IfOk result
+            (λ x. trio_stops x.0 ≡ trio_stops self + stops_in (three_turns turns.now)) }
         ensures same { IfOk result (λ x. log_shown x.1 ≡ log_shown log) }
+        ensures no_stop { IfOk result (λ x. log_stops x.1 ≡ log_stops log) }
     {
         let (first, log) = advanced_on(alloc, self.first, log, turns.first)?;
         let (second, log) = advanced_on(alloc, self.second, log, turns.second)?;
@@ -95,7 +112,11 @@ impl<H: TreeHash> Trio<H> {
     ) -> Result<(Trio<H>, LogNode<H>), Memory>
         ensures state { IfOk result (λ x. HaveSigned H.hash (log_shown log) turns.now self x.0
             signatures.old signatures.new) }
+        ensures recorded { IfOk result (λ x. HaveRecorded H.hash (log_shown log) self x.0) }
+        ensures stops { IfOk result
+            (λ x. trio_stops x.0 ≡ trio_stops self + stops_in (three_turns turns.now)) }
         ensures same { IfOk result (λ x. log_shown x.1 ≡ log_shown log) }
+        ensures no_stop { IfOk result (λ x. log_stops x.1 ≡ log_stops log) }
     {
         let (first, log) = signed_on(alloc, self.first, log, turns.first, signatures)?;
         let (second, log) = signed_on(alloc, self.second, log, turns.second, signatures)?;

@@ -1,22 +1,24 @@
-use Rattle.std.proofs.Common.{◌∙◌, sym, subst}
+use Rattle.std.proofs.Common.{◌≡◌, ◌∙◌, Some, sym, subst, ap}
 use Rattle.disk_core.specs.declared.memory.mem_disk.MemDisk.{MemDisk}
+use Rattle.cosigner_core.specs.Words.{cosigner_disk}
 use Rattle.fleet.specs.CosignerNodes.{IsCosignerDisk}
 use Rattle.fleet.specs.CosignerViews.{cosigner_shown}
 use Rattle.fleet.specs.Nodes.{records_on}
 use Rattle.fleet.proofs.cosigner.fused.Goals as goal
 
-pub returns : goal.returns
-returns g c =
+pub returns-clause-state : goal.returns-clause-state
+returns-clause-state g c =
+    let same : c.new-fuse.result.disk ≡ cosigner_disk c.args.node.cosigner =
+    c.new-fuse.ensures.disk ∙ c.into_disk.ensures in
     let stands : IsCosignerDisk g.H.TreeHash.hash (cosigner_shown c.args.node)
     c.new-fuse.result.disk =
     subst (λ (d : MemDisk). IsCosignerDisk g.H.TreeHash.hash (cosigner_shown c.args.node) d)
-    (sym (c.new-fuse.ensures.disk ∙ c.into_disk.ensures)) c.args.node.stands in
+    (sym same) c.args.node.stands in
     let found = c.in_ok-cosigner.ensures.found (records_on c.new-fuse.result.disk)
     (cosigner_shown c.args.node) stands.holds stands.valid in
     record {
       sound = c.in_ok-cosigner.ensures.sound;
       state = found.1;
-      list = records_on c.new-fuse.result.disk;
-      records = found.0;
-      valid = stands.valid;
+      records = found.0 ∙ ap (λ (d : MemDisk). Some (records_on d)) same;
+      valid = c.args.node.stands.valid;
     }

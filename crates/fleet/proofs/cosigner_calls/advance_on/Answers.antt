@@ -10,6 +10,7 @@ returns-in-Ok g c = λ out. record {
   grown = λ is. c.in-Ok.ensures.appends.leaves;
   kept = λ is. c.in-Ok.ensures.appends.kept;
   signed = λ is. tt;
+  numbered = λ is. tt;
   reads = told_reads (g.D.Disk.told (cosigner_disk c.advance.new.self))
       (g.D.Disk.may_leave (cosigner_disk c.advance.new.self))
       (g.met.D.Disk.reads_image (cosigner_disk c.advance.new.self));
@@ -25,6 +26,7 @@ returns-in-Err-Append-Failed g c = λ out. record {
   grown = λ is. absurd cc;
   kept = λ is. absurd cc;
   signed = λ is. absurd cc;
+  numbered = λ is. absurd cc;
   reads = told_reads (g.D.Disk.told (cosigner_disk c.advance.new.self))
       (g.D.Disk.may_leave (cosigner_disk c.advance.new.self))
       (g.met.D.Disk.reads_image (cosigner_disk c.advance.new.self));

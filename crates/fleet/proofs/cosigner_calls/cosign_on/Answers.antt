@@ -1,5 +1,9 @@
-use Rattle.cosigner_core.specs.Words.{cosigner_disk}
+use Rattle.cosigner_core.specs.Records.{sign_record}
+use Rattle.cosigner_core.specs.Refusals.{journal_refusal}
+use Rattle.cosigner_core.specs.Views.{subtree_parts}
+use Rattle.cosigner_core.specs.Words.{cosigner_broken, cosigner_disk, cosigner_end, cosigner_state}
 use Rattle.fleet.proofs.FailedCalls.{failed_none}
+use Rattle.fleet.proofs.Numbered.{numbered}
 use Rattle.fleet.proofs.ReadImages.{told_reads}
 use Rattle.fleet.proofs.cosigner_calls.cosign_on.Goals as goal
 
@@ -10,6 +14,12 @@ returns-in-Ok g c = record {
   grown = λ is. c.in-Ok.ensures.appends.leaves;
   kept = λ is. c.in-Ok.ensures.appends.kept;
   signed = λ is. (c.in-Ok.ensures.verifies, c.in-Ok.ensures.short);
+  numbered = λ is.
+      let it = c.args.cosigner.now in
+      let r = subtree_parts c.args.request.now in
+      numbered g.H.TreeHash.hash (cosigner_state it) r (journal_refusal (cosigner_broken it)
+      (cosigner_end it) (sign_record (cosigner_state it).key.next r.start r.end r.hash r.proof))
+      c.in-Ok.ensures.answer;
   reads = told_reads (g.D.Disk.told (cosigner_disk c.cosign.new.self))
       (g.D.Disk.may_leave (cosigner_disk c.cosign.new.self))
       (g.met.D.Disk.reads_image (cosigner_disk c.cosign.new.self));
@@ -25,6 +35,7 @@ returns-in-Err-Append-Failed g c = record {
   grown = λ is. absurd cc;
   kept = λ is. absurd cc;
   signed = λ is. absurd cc;
+  numbered = λ is. absurd cc;
   reads = told_reads (g.D.Disk.told (cosigner_disk c.cosign.new.self))
       (g.D.Disk.may_leave (cosigner_disk c.cosign.new.self))
       (g.met.D.Disk.reads_image (cosigner_disk c.cosign.new.self));

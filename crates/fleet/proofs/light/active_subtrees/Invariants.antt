@@ -1,5 +1,11 @@
-use Rattle.issuance_log.specs.Words.{LogStays}
+use Rattle.landmarks.specs.Landmarks.{active_of}
+use Rattle.issuance_log.specs.Words.{LogStays, log_state}
+use Rattle.fleet.specs.LightStores.{AreOfLandmarks}
 use Rattle.fleet.proofs.light.active_subtrees.Given as goal
 
 abbrev pub invariant-loop-number : goal.invariant-loop-number
-invariant-loop-number g l = LogStays l.fn.log l.log
+invariant-loop-number g l = record {
+  stays : LogStays l.fn.log l.log;
+  active : AreOfLandmarks g.H.TreeHash.hash (log_state l.fn.log).entries l.fn.landmarks
+      (active_of l.fn.landmarks).start l.number l.trust.items;
+}

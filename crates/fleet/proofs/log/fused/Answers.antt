@@ -4,8 +4,8 @@ use Rattle.fleet.specs.LogNodes.{log_shown}
 use Rattle.fleet.specs.Nodes.{IsLogDisk, records_on}
 use Rattle.fleet.proofs.log.fused.Goals as goal
 
-pub returns : goal.returns
-returns g c =
+pub returns-clause-state : goal.returns-clause-state
+returns-clause-state g c =
     let stands : IsLogDisk g.H.TreeHash.hash (log_shown c.args.node) c.new-fuse.result.disk =
     subst (λ (d : MemDisk). IsLogDisk g.H.TreeHash.hash (log_shown c.args.node) d)
     (sym (c.new-fuse.ensures.disk ∙ c.into_disk.ensures)) c.args.node.stands in

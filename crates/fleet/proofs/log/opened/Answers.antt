@@ -1,4 +1,4 @@
 use Rattle.fleet.proofs.log.opened.Goals as goal
 
-pub returns : goal.returns
-returns g c = λ list s stands is. (c.in_ok-open_log.ensures.found list s stands is).1
+pub returns-clause-state : goal.returns-clause-state
+returns-clause-state g c = λ list s stands is. (c.in_ok-open_log.ensures.found list s stands is).1

@@ -19,8 +19,8 @@ some_is xs ys e = cc
 abbrev settings_with : Text → Text → CosignerSettings
 settings_with id log = record { id = id; log = log; lms = H5; ots = W4 }
 
-pub returns-in-Ok : goal.returns-in-Ok
-returns-in-Ok g c =
+pub returns-in-Ok-clause-state : goal.returns-in-Ok-clause-state
+returns-in-Ok-clause-state g c =
     let h = g.H.TreeHash.hash in
     let id : Text = c.in_ok-id_of.field-0 in
     let log : Text = c.in_ok-id_of-2.field-0 in
@@ -36,9 +36,9 @@ returns-in-Ok g c =
     ∙ some_is (records_on c.in-Ok.journal.disk)
     (cosigner_record (settings_with id log) c.in_ok-secret.secret ∷ [])
     c.in-Ok.ensures.ok.list in
-    c.in_ok-node-in-Ok.ensures (records_on c.into_disk.result)
+    (c.in_ok-node-in-Ok.ensures.state (records_on c.into_disk.result)
     (new_cosigner h (cosigner_settings c.args.last) (secret_of c.args.last c.args.number)) holds
     (ap (cosigner_of h) first ∙ c.in-Ok.ensures.valid h
     ∙ ap (λ (s : CosignerSettings). Ok (new_cosigner h s c.in_ok-secret.secret)) same
     ∙ ap (λ (t : Text). Ok (new_cosigner h (cosigner_settings c.args.last) t))
-    c.in_ok-secret.ensures)
+    c.in_ok-secret.ensures)).0

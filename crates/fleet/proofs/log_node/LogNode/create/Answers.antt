@@ -13,8 +13,8 @@ use Rattle.fleet.proofs.log_node.LogNode.create.Goals as goal
 some_is : (xs ys : List Text) → Some xs ≡ Some ys → xs ≡ ys
 some_is xs ys e = cc
 
-pub returns-in-Ok : goal.returns-in-Ok
-returns-in-Ok g c =
+pub returns-in-Ok-clause-state : goal.returns-in-Ok-clause-state
+returns-in-Ok-clause-state g c =
     let settings : Settings =
     record { id = c.in_ok-id_of.field-0; max_active = 4; limit = 64 } in
     let same : settings ≡ log_settings =
@@ -26,6 +26,6 @@ returns-in-Ok g c =
     ap records_on c.into_disk.ensures
     ∙ some_is (records_on c.in-Ok.journal.disk) (settings_record settings ∷ [])
     c.in-Ok.ensures.ok.list in
-    c.in_ok-node-in-Ok.ensures (records_on c.into_disk.result) (new_log log_settings) holds
+    c.in_ok-node-in-Ok.ensures.state (records_on c.into_disk.result) (new_log log_settings) holds
     (ap (log_of g.H.TreeHash.hash) first ∙ c.in-Ok.ensures.valid g.H.TreeHash.hash
     ∙ ap (λ (s : Settings). Ok (new_log s)) same)

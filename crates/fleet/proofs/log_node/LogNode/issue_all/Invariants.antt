@@ -1,8 +1,11 @@
-use Rattle.std.proofs.Common.{◌≡◌}
-use Rattle.fleet.specs.LogNodes.{log_shown}
+use Rattle.std.proofs.Common.{◌≡◌, ◌+◌, take}
+use Rattle.fleet.specs.LogNodes.{log_shown, log_stops}
 use Rattle.fleet.specs.Played.{issued_to}
+use Rattle.fleet.specs.Rounds.{stops_in}
 use Rattle.fleet.proofs.log_node.LogNode.issue_all.Given as goal
 
 abbrev pub invariant-loop-turn : goal.invariant-loop-turn
-invariant-loop-turn g l =
-    log_shown l.node ≡ issued_to g.H.TreeHash.hash l.turn-index (log_shown l.fn.self)
+invariant-loop-turn g l = record {
+  state : log_shown l.node ≡ issued_to g.H.TreeHash.hash l.turn-index (log_shown l.fn.self);
+  stops : log_stops l.node ≡ log_stops l.fn.self + stops_in (take l.turn-index l.turns);
+}

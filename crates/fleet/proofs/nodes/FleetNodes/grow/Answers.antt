@@ -12,7 +12,7 @@ pub advance-requires-clause-first : goal.advance-requires-clause-first
 advance-requires-clause-first g c =
     let longer : length (log_shown c.in_ok-log.log).entries
     ≡ length (log_shown c.args.self.log).entries + length c.args.entries.now =
-    ap (λ (s : LogState). length s.entries) c.in_ok-log.ensures
+    ap (λ (s : LogState). length s.entries) c.in_ok-log.ensures.state
     ∙ issued_length g.H.TreeHash.hash (length c.args.entries.now) (log_shown c.args.self.log) in
     omega (arith, longer, c.args.self.first_holds, c.requires)
 
@@ -20,7 +20,7 @@ pub advance-requires-clause-second : goal.advance-requires-clause-second
 advance-requires-clause-second g c =
     let longer : length (log_shown c.in_ok-log.log).entries
     ≡ length (log_shown c.args.self.log).entries + length c.args.entries.now =
-    ap (λ (s : LogState). length s.entries) c.in_ok-log.ensures
+    ap (λ (s : LogState). length s.entries) c.in_ok-log.ensures.state
     ∙ issued_length g.H.TreeHash.hash (length c.args.entries.now) (log_shown c.args.self.log) in
     omega (arith, longer, c.args.self.second_holds, c.requires)
 
@@ -28,16 +28,17 @@ pub advance-requires-clause-third : goal.advance-requires-clause-third
 advance-requires-clause-third g c =
     let longer : length (log_shown c.in_ok-log.log).entries
     ≡ length (log_shown c.args.self.log).entries + length c.args.entries.now =
-    ap (λ (s : LogState). length s.entries) c.in_ok-log.ensures
+    ap (λ (s : LogState). length s.entries) c.in_ok-log.ensures.state
     ∙ issued_length g.H.TreeHash.hash (length c.args.entries.now) (log_shown c.args.self.log) in
     omega (arith, longer, c.args.self.third_holds, c.requires)
 
-pub returns : goal.returns
-returns g c =
+pub returns-clause-state : goal.returns-clause-state
+returns-clause-state g c =
     let h = g.H.TreeHash.hash in
     let held = c.in_ok-trio.ensures.state in
     let same : log_shown c.in_ok-log.log
-    ≡ issued_to h (length c.args.entries.now) (log_shown c.args.self.log) = c.in_ok-log.ensures in
+    ≡ issued_to h (length c.args.entries.now) (log_shown c.args.self.log) =
+    c.in_ok-log.ensures.state in
     all_are h (issued_to h (length c.args.entries.now) (log_shown c.args.self.log))
     (shown c.args.self) _ (c.in_ok-trio.ensures.same ∙ same)
     (held.first
@@ -47,3 +48,19 @@ returns g c =
     (held.third
     ∙ ap (λ (l : LogState). holding_all h l (cosigner_shown c.args.self.trio.third)) same)
     refl refl refl
+
+pub returns-clause-stops : goal.returns-clause-stops
+returns-clause-stops g c =
+    let issued = c.in_ok-log.ensures.stops in
+    let advanced = c.in_ok-trio.ensures.stops in
+    let looked = c.in_ok-trio.ensures.no_stop in
+    omega (arith, issued, advanced, looked)
+
+pub returns-clause-records : goal.returns-clause-records
+returns-clause-records g c = c.in_ok-trio.ensures.grows
+
+pub returns-clause-stands : goal.returns-clause-stands
+returns-clause-stands g c = refl
+
+pub returns-clause-light : goal.returns-clause-light
+returns-clause-light g c = refl

@@ -1,0 +1,116 @@
+//! What the nodes of a drill hand out.
+
+ghost use Rattle.std.specs.Prelude.{◌≡◌, ◌≤◌, ◌^◌, length, IfOk};
+ghost use Rattle.std.specs.List.{count_by};
+ghost use Rattle.cosigner_core.specs.Counts.{indices_of};
+ghost use Rattle.fleet.specs.CosignerViews.{IsStill, records_shown};
+ghost use Rattle.fleet.specs.Counts.{is_sign, signs_on};
+ghost use Rattle.fleet.specs.Fleets.{IsDiskOf, IsHandedOut};
+ghost use Rattle.fleet.specs.Nodes.{FailsNone};
+ghost use Rattle.fleet.specs.Tallies.{all_stops};
+
+use crate::audits::kept_in;
+use crate::cosigner_node::CosignerNode;
+use crate::made::{Certs, Counts, Fleet};
+use crate::nodes::FleetNodes;
+use cosigner_core::Step;
+use disk_core::MemDisk;
+use mtc_io::Memory;
+use std::alloc::Global;
+use tree_core::TreeHash;
+
+fn is_sign(step: &Step) -> bool
+    ensures { result ≡ is_sign step.now }
+{
+    matches!(step, Step::Sign { .. })
+}
+
+fn signs_among(steps: &[Step]) -> u64
+    ensures { result ≡ count_by is_sign steps.now }
+{
+    steps.iter().filter(|step| is_sign(step)).count() as u64
+}
+
+// The cosigner, and how many records of its journal are Signs, as its export tells.
+fn signatures<H: TreeHash>(
+    alloc: Global,
+    node: CosignerNode<H>,
+) -> Result<(CosignerNode<H>, u64), Memory>
+    ensures same { IfOk result (λ x. IsStill node x.0) }
+    ensures count { IfOk result (λ x. x.1 ≡ length (indices_of (records_shown node))) }
+    ensures few { IfOk result (λ x. x.1 ≤ 2 ^ 25) }
+{
+    let (node, text) = node.export(alloc)?;
+    let kept = kept_in::<H>(alloc, text.as_slice())?;
+    let count = signs_among(kept.steps.as_slice());
+    Ok((node, count))
+}
+
+// The device, which lists no call that fails, and found memory for each.
+fn whole(disk: MemDisk) -> Result<MemDisk, Memory>
+    ensures same { IfOk result (λ it. it ≡ disk) }
+    ensures fails_none { IfOk result FailsNone }
+{
+    if !disk.failing().is_empty() || disk.starved() > 0 {
+        return Err(Memory);
+    }
+    Ok(disk)
+}
+
+// The device of a cosigner, and how many of its records are Signs.
+fn cosigner_out<H: TreeHash>(alloc: Global, node: CosignerNode<H>) -> Result<(MemDisk, u64), Memory>
+    ensures disk { IfOk result (λ x. IsDiskOf H.hash node x.0) }
+    ensures count { IfOk result (λ x. x.1 ≡ signs_on x.0) }
+    ensures few { IfOk result (λ x. x.1 ≤ 2 ^ 25) }
+{
+    let (node, count) = signatures(alloc, node)?;
+    let disk = whole(node.cosigner.into_disk())?;
+    Ok((disk, count))
+}
+
+impl<H: TreeHash> FleetNodes<H> {
+    // How many stops were made.
+    fn stops(&self) -> u64
+        requires { all_stops self.now ≤ 2 ^ 32 }
+        ensures { result ≡ all_stops self.now }
+    {
+        let log = self.log.stops.len() as u64;
+        let first = self.trio.first.stops.len() as u64;
+        let second = self.trio.second.stops.len() as u64;
+        let third = self.trio.third.stops.len() as u64;
+        log + (first + second + third)
+    }
+
+    /// The devices, the certificates, and what was counted.
+    pub(crate) fn handed_out(self, alloc: Global) -> Result<Fleet, Memory>
+        requires { all_stops self ≤ 2 ^ 32 }
+        ensures { IfOk result (IsHandedOut H.hash self) }
+    {
+        let stops = self.stops();
+        let log = self.log;
+        let entries = log.log.size();
+        let landmarks = log.log.marks().len() as u64;
+        let trio = self.trio;
+        let (first, one) = cosigner_out(alloc, trio.first)?;
+        let (second, two) = cosigner_out(alloc, trio.second)?;
+        let (third, three) = cosigner_out(alloc, trio.third)?;
+        let disk = whole(log.log.into_disk())?;
+        let counts = Counts {
+            entries,
+            landmarks,
+            signatures: one + two + three,
+            stops,
+            verified: self.verified,
+            stands: self.stands,
+            light: self.light,
+        };
+        Ok(Fleet {
+            log: disk,
+            first,
+            second,
+            third,
+            certs: Certs::from_vec(self.certs),
+            counts,
+        })
+    }
+}

@@ -1,0 +1,82 @@
+//! The items of a drill's log, as they are handed out.
+
+ghost use Rattle.std.specs.Prelude.{◌≡◌, ◌<◌, ◌++◌, length, Ok, IfOk, OnOk};
+ghost use Rattle.entry_list.specs.Items.{file_text, listed_text};
+ghost use Rattle.entry_list.specs.Reading.{items_in};
+ghost use Rattle.issuance_log.specs.Words.{LogStays, log_state};
+ghost use Rattle.fleet.specs.Listed.{IsListedAt, log_items};
+ghost use Rattle.fleet.specs.LogNodes.{log_shown, log_stops};
+
+use crate::log_node::{LogNode, looked_at};
+use disk_core::Disk;
+use issuance_log::Log;
+use mtc_io::{Bytes, Memory};
+use std::alloc::Global;
+use tls_wire::put_vec16;
+use tree_core::TreeHash;
+
+// The item at an index: the entry and its key, in the place of what the two byte strings held.
+fn read_item<H: TreeHash, D: Disk>(
+    log: &mut Log<H, D>,
+    index: u64,
+    entry: &mut Bytes,
+    key: &mut Bytes,
+) -> Result<(), Memory>
+    requires { index < length (log_state log.old).entries }
+    ensures item { OnOk result (IsListedAt (log_state log.old) index entry.new key.new) }
+    ensures stays { LogStays log.old log.new }
+{
+    log.sound();
+    match log.entry(index, entry, key) {
+        Ok(()) => Ok(()),
+        // The log has the item, so memory was refused.
+        Err(_) => Err(Memory),
+    }
+}
+
+// Puts the item at an index behind the bytes, by way of two byte strings.
+fn put_item<H: TreeHash, D: Disk>(
+    log: &mut Log<H, D>,
+    index: u64,
+    entry: &mut Bytes,
+    key: &mut Bytes,
+    out: &mut Bytes,
+) -> Result<(), Memory>
+    requires { index < length (log_state log.old).entries }
+    ensures text { OnOk result
+        (out.new ≡ out.old ++ listed_text (log_items (log_state log.old)) index) }
+    ensures stays { LogStays log.old log.new }
+{
+    read_item(log, index, entry, key)?;
+    put_vec16(out, entry.as_slice())?;
+    put_vec16(out, key.as_slice())
+}
+
+// The file of all items.
+fn item_file<H: TreeHash, D: Disk>(alloc: Global, log: &mut Log<H, D>) -> Result<Bytes, Memory>
+    ensures text { IfOk result (λ text. text
+        ≡ file_text (log_items (log_state log.old)) (length (log_state log.old).entries)) }
+    ensures stays { LogStays log.old log.new }
+{
+    let mut out = Bytes::new(alloc);
+    let mut entry = Bytes::new(alloc);
+    let mut key = Bytes::new(alloc);
+    for index in 0..log.size() {
+        put_item(log, index, &mut entry, &mut key, &mut out)?;
+    }
+    Ok(out)
+}
+
+impl<H: TreeHash> LogNode<H> {
+    /// The file of its items, which is read as these.
+    pub(crate) fn listed(self, alloc: Global) -> Result<(LogNode<H>, Bytes), Memory>
+        ensures same { IfOk result (λ x. log_shown x.0 ≡ log_shown self) }
+        ensures no_stop { IfOk result (λ x. log_stops x.0 ≡ log_stops self) }
+        ensures read { IfOk result (λ x. items_in H.hash x.1 ≡ Ok (log_items (log_shown self))) }
+    {
+        let mut inner = self.log;
+        inner.sound();
+        let text = item_file(alloc, &mut inner)?;
+        Ok((looked_at(inner, self.stops), text))
+    }
+}
