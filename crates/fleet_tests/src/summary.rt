@@ -1,4 +1,4 @@
-//! What a drill has made, counted anew from what it handed out.
+//! What a drill has handed out, counted anew.
 
 use cosigner_core::{Cosigner, Export, Step, read_export};
 use disk_core::MemDisk;
@@ -10,17 +10,6 @@ use relying_party::judge;
 use std::alloc::Global;
 use tls_wire::AnchorId;
 use tree_core::Sha;
-
-/// The numbers of a drill, in the order in which it prints them.
-#[derive(Clone, Copy, Debug, PartialEq, Eq)]
-pub struct Counts {
-    pub entries: u64,
-    pub landmarks: u64,
-    pub signatures: u64,
-    pub stops: u64,
-    pub verified: u64,
-    pub light: u64,
-}
 
 fn open_log(alloc: Global, disk: &MemDisk) -> Result<Log<Sha, MemDisk>, Memory> {
     match Log::open(alloc, disk.lend()?) {
@@ -101,28 +90,23 @@ fn is_verified(bytes: &[u8], store: &Store) -> bool {
     }
 }
 
-/// Counts anew.
-pub fn counts_of(alloc: Global, fleet: &Fleet) -> Result<Counts, Memory> {
+/// The entries, the landmarks, the Sign records, and the certificates that a relying party accepts
+/// who knows the cosigners by their exports.
+pub fn recounted(alloc: Global, fleet: &Fleet) -> Result<(u64, u64, u64, u64), Memory> {
     let log = open_log(alloc, &fleet.log)?;
     let first = export_of(alloc, &fleet.first)?;
     let second = export_of(alloc, &fleet.second)?;
     let third = export_of(alloc, &fleet.third)?;
-    let exports = [&first, &second, &third];
-    let store = store_of(alloc, exports)?;
+    let store = store_of(alloc, [&first, &second, &third])?;
     let mut verified = 0u64;
     for bytes in fleet.certs.as_slice() {
         if is_verified(bytes.as_slice(), &store) {
             verified = verified.saturating_add(1);
         }
     }
-    Ok(Counts {
-        entries: log.size(),
-        landmarks: log.marks().len() as u64,
-        signatures: signs(&first)
-            .saturating_add(signs(&second))
-            .saturating_add(signs(&third)),
-        stops: fleet.stops,
-        verified,
-        light: fleet.light,
-    })
+    let signatures = signs(&first)
+        .saturating_add(signs(&second))
+        .saturating_add(signs(&third));
+    let landmarks = log.marks().len() as u64;
+    Ok((log.size(), landmarks, signatures, verified))
 }
