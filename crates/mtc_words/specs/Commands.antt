@@ -1,6 +1,7 @@
 -- What contracts see of a command.
 use Rattle.std.specs.Prelude.{◌≡◌, ℕ, ◌==◌, ◌&&◌, ◌||◌, Bool, true, nat_le, List, Result, Ok, Err}
 use Rattle.byte_forms.specs.Types.{Text}
+use Rattle.issuance_log.specs.Settings.{most_active, most_entries}
 use Rattle.mtc_words.specs.declared.command.Command.{Command}
 use Rattle.mtc_words.specs.declared.command.Command.TheVariants.{Member, Show, Verify, InitLog}
 use Rattle.mtc_words.specs.declared.command.Command.TheVariants.{Issue, Checkpoint, Entries}
@@ -81,17 +82,11 @@ abbrev pub is_time : ℕ → Bool
 is_time n = nat_le n last_moment
 
 -- The numbers of active landmarks that a log may have, and of entries.
-abbrev pub most_active_asked : ℕ
-most_active_asked = 10000
-
-abbrev pub most_entries_asked : ℕ
-most_entries_asked = 1048576
-
 abbrev pub is_active : ℕ → Bool
-is_active n = nat_le 1 n && nat_le n most_active_asked
+is_active n = nat_le 1 n && nat_le n most_active
 
 abbrev pub is_limit : ℕ → Bool
-is_limit n = nat_le 2 n && nat_le n most_entries_asked
+is_limit n = nat_le 2 n && nat_le n most_entries
 
 -- Every number.
 abbrev pub is_any : ℕ → Bool

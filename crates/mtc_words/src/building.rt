@@ -10,16 +10,12 @@ ghost use Rattle.mtc_words.specs.Words.{command_from, number_word, id_word};
 use crate::command::Command;
 use crate::error::WordError;
 use crate::name::Name;
+use issuance_log::{MOST_ACTIVE, MOST_ENTRIES};
 use std::alloc::Global;
 use tls_wire::{AnchorError, AnchorId, read_number};
 
 // The last second of the year 9999.
 const LAST_MOMENT: u64 = 253_402_300_799;
-
-// The most active landmarks, and the most entries, that `init-log` may be asked for.
-const MOST_ACTIVE: u64 = 10_000;
-
-const MOST_ENTRIES: u64 = 1_048_576;
 
 // A height of keys that are made.
 fn height(place: usize, word: &str) -> Result<u64, WordError>
@@ -56,7 +52,7 @@ fn active(place: usize, word: &str) -> Result<u64, WordError>
     ensures { result ≡ number_word place is_active word.now }
 {
     match read_number(word.as_bytes()) {
-        Some(count) if 1 <= count && count <= MOST_ACTIVE => Ok(count),
+        Some(count) if 1 <= count && count <= MOST_ACTIVE as u64 => Ok(count),
         _ => Err(WordError::BadNumber(place)),
     }
 }
@@ -66,7 +62,7 @@ fn limit(place: usize, word: &str) -> Result<u64, WordError>
     ensures { result ≡ number_word place is_limit word.now }
 {
     match read_number(word.as_bytes()) {
-        Some(count) if 2 <= count && count <= MOST_ENTRIES => Ok(count),
+        Some(count) if 2 <= count && count <= MOST_ENTRIES as u64 => Ok(count),
         _ => Err(WordError::BadNumber(place)),
     }
 }
