@@ -9,7 +9,7 @@ use Rattle.mtc_words.specs.declared.command.Command.TheVariants.{Consist, Subtre
 use Rattle.mtc_words.specs.declared.command.Command.TheVariants.{InitCosigner, Advance, Cosign}
 use Rattle.mtc_words.specs.declared.command.Command.TheVariants.{Export}
 use Rattle.mtc_words.specs.declared.command.Command.TheVariants.{Landmark, Landmarks, LightCert}
-use Rattle.mtc_words.specs.declared.command.Command.TheVariants.{TrustLandmarks, Cert, Audit}
+use Rattle.mtc_words.specs.declared.command.Command.TheVariants.{TrustLandmarks, Cert, Audit, Drill}
 use Rattle.mtc_words.specs.declared.error.WordError.{WordError}
 
 -- A command with the values of its words: a text is the list of its bytes, and so is an id.
@@ -34,6 +34,7 @@ pub data CommandValue : Type 0 where
   trust_landmarks : List ℕ → ℕ → List ℕ → CommandValue
   cert : Text → ℕ → ℕ → ℕ → Text → CommandValue
   audit : Text → Text → ℕ → Text → Text → CommandValue
+  drill : ℕ → CommandValue
 
 -- The values of a command's words.
 abbrev pub command_value : Command → CommandValue
@@ -61,6 +62,7 @@ command_value (Cert journal index start end signatures) =
     cert journal.now index start end signatures.now
 command_value (Audit certificate store moment items kept) =
     audit certificate.now store.now moment items.now kept.now
+command_value (Drill number) = drill number
 
 -- The answer, with the command seen by its values.
 abbrev pub said : Result Command WordError → Result CommandValue WordError
@@ -115,3 +117,4 @@ IsInRange (light_cert journal index) = Unit {0}
 IsInRange (trust_landmarks list active items) = is_active active ≡ true
 IsInRange (cert journal index start end signatures) = Unit {0}
 IsInRange (audit certificate store moment items kept) = is_time moment ≡ true
+IsInRange (drill number) = Unit {0}

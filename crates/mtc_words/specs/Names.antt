@@ -7,7 +7,7 @@ use Rattle.mtc_words.specs.declared.name.Name.TheVariants.{Checkpoint, Entries, 
 use Rattle.mtc_words.specs.declared.name.Name.TheVariants.{Keygen, InitCosigner, Advance, Cosign}
 use Rattle.mtc_words.specs.declared.name.Name.TheVariants.{Export}
 use Rattle.mtc_words.specs.declared.name.Name.TheVariants.{Landmark, Landmarks, LightCert}
-use Rattle.mtc_words.specs.declared.name.Name.TheVariants.{TrustLandmarks, Cert, Audit}
+use Rattle.mtc_words.specs.declared.name.Name.TheVariants.{TrustLandmarks, Cert, Audit, Drill}
 
 -- The command that a word names.
 unfoldable pub named_command : Text → Option Name
@@ -32,7 +32,8 @@ named_command word =
     else (if bytes_eq word (codes "trust-landmarks") then Some TrustLandmarks
     else (if bytes_eq word (codes "cert") then Some Cert
     else (if bytes_eq word (codes "audit") then Some Audit
-    else None)))))))))))))))))))
+    else (if bytes_eq word (codes "drill") then Some Drill
+    else None))))))))))))))))))))
 
 -- How many words stand behind a command.
 abbrev pub word_count : Name → ℕ
@@ -56,3 +57,4 @@ word_count LightCert = 2
 word_count TrustLandmarks = 3
 word_count Cert = 5
 word_count Audit = 5
+word_count Drill = 1

@@ -15,12 +15,12 @@ use Rattle.mtc_words.specs.declared.name.Name.TheVariants.{Checkpoint, Entries, 
 use Rattle.mtc_words.specs.declared.name.Name.TheVariants.{Keygen, InitCosigner, Advance, Cosign}
 use Rattle.mtc_words.specs.declared.name.Name.TheVariants.{Export}
 use Rattle.mtc_words.specs.declared.name.Name.TheVariants.{Landmark, Landmarks, LightCert}
-use Rattle.mtc_words.specs.declared.name.Name.TheVariants.{TrustLandmarks, Cert, Audit}
+use Rattle.mtc_words.specs.declared.name.Name.TheVariants.{TrustLandmarks, Cert, Audit, Drill}
 use Rattle.mtc_words.specs.Commands.{CommandValue, member, show, verify, init_log, issue}
 use Rattle.mtc_words.specs.Commands.{checkpoint, entries, consist, subtree, keygen, is_height}
 use Rattle.mtc_words.specs.Commands.{is_width, is_time, is_active, is_limit, is_any}
 use Rattle.mtc_words.specs.Commands.{init_cosigner, advance, cosign, landmark, landmarks}
-use Rattle.mtc_words.specs.Commands.{export, light_cert, trust_landmarks, cert, audit}
+use Rattle.mtc_words.specs.Commands.{export, light_cert, trust_landmarks, cert, audit, drill}
 use Rattle.mtc_words.specs.Names.{named_command, word_count}
 
 -- Empty, or begins with a hyphen.
@@ -114,6 +114,9 @@ command_from Cert ws = do
 command_from Audit ws = do
   moment ← number_word 3 is_time (word ws 2)
   Ok (audit (word ws 0) (word ws 1) moment (word ws 3) (word ws 4))
+command_from Drill ws = do
+  number ← number_word 1 is_any (word ws 0)
+  Ok (drill number)
 
 -- The fault, or else the command.
 abbrev pub unless_fault : {A : Type 0} → Option WordError → Result A WordError → Result A WordError

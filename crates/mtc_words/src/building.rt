@@ -215,6 +215,15 @@ fn audit<'a>(words: &'a [String]) -> Result<Command<'a>, WordError>
     ))
 }
 
+fn drill<'a>(words: &'a [String]) -> Result<Command<'a>, WordError>
+    requires { length words.now ≡ word_count Name.Drill }
+    ensures exact { said result ≡ command_from Name.Drill (map string_bytes words.now) }
+    ensures range { IfOk result (λ command. IsInRange (command_value command)) }
+{
+    let number = number(1, words[0].as_str())?;
+    Ok(Command::Drill(number))
+}
+
 // The command of this name with its words, of which there are as many as it wants.
 pub fn build<'a>(alloc: Global, name: Name, words: &'a [String]) -> Result<Command<'a>, WordError>
     requires { length words.now ≡ word_count name }
@@ -243,5 +252,6 @@ pub fn build<'a>(alloc: Global, name: Name, words: &'a [String]) -> Result<Comma
         Name::TrustLandmarks => trust_landmarks(words),
         Name::Cert => cert(words),
         Name::Audit => audit(words),
+        Name::Drill => drill(words),
     }
 }

@@ -57,4 +57,7 @@ pub enum Command<'a> {
     /// `verify` does, and hold what is accepted against the entries of a log and the export of a
     /// cosigner.
     Audit(&'a str, &'a str, u64, &'a str, &'a str),
+    /// `drill NUMBER`: play the drill with this number on devices in memory, and print what came of
+    /// it.
+    Drill(u64),
 }

@@ -26,6 +26,7 @@ pub enum Name {
     TrustLandmarks,
     Cert,
     Audit,
+    Drill,
 }
 
 // The name that a word is, if it is one.
@@ -54,6 +55,7 @@ pub fn read_name(word: &str) -> Option<Name>
         "trust-landmarks" => Some(Name::TrustLandmarks),
         "cert" => Some(Name::Cert),
         "audit" => Some(Name::Audit),
+        "drill" => Some(Name::Drill),
         _ => None,
     }
 }
@@ -64,7 +66,7 @@ pub fn wanted_count(name: Name) -> usize
 {
     match name {
         Name::Member | Name::Show | Name::Checkpoint => 1,
-        Name::Export | Name::Landmark | Name::Landmarks => 1,
+        Name::Export | Name::Landmark | Name::Landmarks | Name::Drill => 1,
         Name::Issue | Name::Entries | Name::Advance | Name::Cosign | Name::LightCert => 2,
         Name::Verify | Name::Consist | Name::Keygen | Name::TrustLandmarks => 3,
         Name::InitLog | Name::Subtree => 4,
