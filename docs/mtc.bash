@@ -3,7 +3,7 @@
 _mtc() {
     local word=${COMP_WORDS[COMP_CWORD]} kinds=()
     if [ "$COMP_CWORD" -eq 1 ]; then
-        COMPREPLY=($(compgen -W 'member show verify init-log issue checkpoint entries consist subtree keygen init-cosigner advance cosign export landmark landmarks light-cert trust-landmarks cert audit' -- "$word"))
+        COMPREPLY=($(compgen -W 'member show verify init-log issue checkpoint entries consist subtree keygen init-cosigner advance cosign export landmark landmarks light-cert trust-landmarks cert audit drill' -- "$word"))
         return
     fi
     case ${COMP_WORDS[1]} in
@@ -27,6 +27,7 @@ _mtc() {
         trust-landmarks) kinds=(LIST MAXACTIVE ENTRIES) ;;
         cert) kinds=(J INDEX START END SIGNATURES) ;;
         audit) kinds=(CERT STORE NOW ENTRIES EXPORT) ;;
+        drill) kinds=(NUMBER) ;;
     esac
     case ${kinds[COMP_CWORD - 2]-} in
         J | S | FILE | CERT | STORE | REQUEST | SECRET | SIGNATURES | LIST | ENTRIES | EXPORT) COMPREPLY=($(compgen -f -- "$word")) ;;

@@ -1,5 +1,5 @@
 #!/usr/bin/env python3
-"""Refuses each allocation of each command in turn, over real files.
+"""Refuses each allocation of each command in turn, over real files; of a drill, which makes many, one in so many.
 
 The command then ends with status 8, one line that says so, nothing on standard output and every file as it was; or with
 its outcome, as if nothing had been refused. The allocations are those of the C library, of which a preloaded library
@@ -29,8 +29,11 @@ COMMANDS = [
     "advance early advance", "cosign cosigner subtree", "cosign early subtree", "export cosigner", "landmark log",
     "landmarks log", "light-cert log 2", "light-cert log 4", "trust-landmarks list 2 entries",
     "cert log 2 0 4 signatures", "audit cert store " + MOMENT + " entries export",
-    "audit light trusting " + MOMENT + " entries empty", "audit light trusting " + MOMENT + " few empty",
+    "audit light trusting " + MOMENT + " entries empty", "audit light trusting " + MOMENT + " few empty", "drill 7",
 ]
+
+# Of the allocations of this command one in so many is refused.
+STEPS = {"drill 7": 997}
 
 
 def make_log(folder):
@@ -100,18 +103,18 @@ class Refusals:
         return came, (ended.returncode, ended.stdout, ended.stderr.decode(), files_of(self.folder.path))
 
     def faults(self, words):
-        """How many allocations the command makes, and what is wrong where one of them is refused."""
-        wanted, number, wrong = self.ended(words, 0)[1], 0, []
+        """How many allocations of the command were refused, and what is wrong where one of them was."""
+        wanted, number, wrong, step = self.ended(words, 0)[1], 0, [], STEPS.get(words, 1)
         # The command isn't known before its words are kept.
         lines = ["mtc: Memory\n", f"mtc: {words.split()[0]}: Memory\n"]
         allowed = [wanted, *((8, b"", line, self.files) for line in lines)]
         while True:
-            came, found = self.ended(words, number + 1)
+            came, found = self.ended(words, number + step)
             if not came:
                 # A command keeps its words, so one that asks for nothing isn't watched.
                 same = number > 0 and found == wanted
-                return number, wrong if same else [*wrong, f"{words}: {number} allocations, {found[:3]}"]
-            number += 1
+                return number // step, wrong if same else [*wrong, f"{words}: {number} allocations, {found[:3]}"]
+            number += step
             if found not in allowed:
                 wrong.append(f"{words}: allocation {number}: {found[:3]}")
 

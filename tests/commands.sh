@@ -196,6 +196,13 @@ audit k other 1767225600 y x|7|-|mtc: audit: k: Absent
 audit f k 1767225600 y x|7|-|mtc: audit: k: Absent
 audit f other 1767225600 k x|7|-|mtc: audit: k: Absent
 audit f other 1767225600 y k|7|-|mtc: audit: k: Absent
+drill 7|0|bdada2c469064269|
+drill 7|0|bdada2c469064269|
+drill|1|-|mtc: drill: WrongCount 0 1
+drill 7 7|1|-|mtc: drill: WrongCount 2 1
+drill 07|1|-|mtc: drill: BadNumber 1
+drill 9223372036854775808|1|-|mtc: drill: BadNumber 1
+drill -7|1|-|mtc: drill: BadWord 1
 TABLE
 if [ "$(cat j w m o | sha256sum | cut -d' ' -f1)" != 153ee80fdbc66fc3537da1ad8c52b9d396d1b3c54c20f578ea8d95bd831e0b36 ]; then
     echo "wrong: the journals"

@@ -13,6 +13,8 @@ mod desk;
 #[cfg(test)]
 mod devices;
 #[cfg(test)]
+mod drills;
+#[cfg(test)]
 mod exports;
 #[cfg(test)]
 mod logs;

@@ -44,6 +44,11 @@ cosign s r t => WrongCount 3 2
 advance s -r => BadWord 2
 cert j 1 0 4 => WrongCount 4 5
 cert j 1 0 x s => BadNumber 4
+drill => WrongCount 0 1
+drill 7 7 => WrongCount 2 1
+drill -7 => BadWord 1
+drill 07 => BadNumber 1
+drill 9223372036854775808 => BadNumber 1
 ";
 
 // The fault that is meant; its first number is 0 where it has none.
@@ -96,7 +101,7 @@ fn words_are_refused_by_their_first_fault(rt: HostRuntime) -> Result<(), Fail> {
         assert!(rt; is_refused(rt.alloc(), line)?, "{line}");
         count = count.saturating_add(1);
     }
-    assert!(rt; count == 37);
+    assert!(rt; count == 42);
     Ok(())
 }
 

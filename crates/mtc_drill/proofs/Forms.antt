@@ -1,0 +1,67 @@
+-- The summary of a drill is of its form.
+use Rattle.std.proofs.Common.{◌≡◌, ◌≤◌, ◌+◌, ◌-◌, ◌||◌, ℕ, zero, suc, Bool, true, false, List, refl}
+use Rattle.std.proofs.Common.{arith, sym, subst, true≢false}
+use Rattle.std.specs.Str.{bytes_eq}
+use Rattle.std.proofs.lemmas.Slice.Eq.{bytes_eq-Decides}
+use Rattle.fleet.specs.Counts.{IsCounted}
+use Rattle.fleet.specs.Rounds.{drill_of}
+use Rattle.fleet.specs.declared.made.Counts.{Counts}
+use Rattle.mtc_drill.specs.Summary.{counts_with, is_summary, is_summary_from, summary_text}
+
+one_holds : (a b : Bool) → a ≡ true → (a || b) ≡ true
+one_holds true b is = refl
+one_holds false b is = absurd (true≢false (sym is))
+
+other_holds : (a b : Bool) → b ≡ true → (a || b) ≡ true
+other_holds true b is = refl
+other_holds false b is = is
+
+same : (x : List ℕ) → bytes_eq x x ≡ true
+same x = (bytes_eq-Decides x x).1 refl
+
+is_from : (number first more past : ℕ) → past ≤ more
+    → is_summary_from number (summary_text number (counts_with number (first + past))) first more
+    ≡ true
+is_from number first zero past few =
+    let none : first ≡ first + past = omega (arith, few) in
+    subst (λ k. bytes_eq (summary_text number (counts_with number k))
+    (summary_text number (counts_with number first)) ≡ true) none
+    (same (summary_text number (counts_with number first)))
+is_from number first (suc more) zero few =
+    let none : first ≡ first + zero = omega (arith) in
+    one_holds _ _ (subst (λ k. bytes_eq (summary_text number (counts_with number k))
+    (summary_text number (counts_with number first)) ≡ true) none
+    (same (summary_text number (counts_with number first))))
+is_from number first (suc more) (suc past) few =
+    let next : first + 1 + past ≡ first + suc past = omega (arith) in
+    other_holds _ _ (subst
+    (λ k. is_summary_from number (summary_text number (counts_with number k)) (first + 1) more
+    ≡ true) next (is_from number (first + 1) more past (omega (arith, few))))
+
+-- the numbers of a drill are those with its signatures
+is_made : (c : Counts) (entries landmarks stops verified stands light : ℕ) → c.entries ≡ entries
+    → c.landmarks ≡ landmarks → c.stops ≡ stops → c.verified ≡ verified → c.stands ≡ stands
+    → c.light ≡ light → c ≡ record {
+      entries = entries;
+      landmarks = landmarks;
+      signatures = c.signatures;
+      stops = stops;
+      verified = verified;
+      stands = stands;
+      light = light;
+    }
+is_made c entries landmarks stops verified stands light a b d e f g =
+    rw (sym a, sym b, sym d, sym e, sym f, sym g) refl
+
+is_with : (number : ℕ) (c : Counts) → IsCounted number c → c ≡ counts_with number c.signatures
+is_with number c is = is_made c _ _ _ _ _ _ is.entries is.landmarks is.stops is.verified is.stands
+    is.light
+
+pub is_one : (number : ℕ) (c : Counts) → IsCounted number c
+    → is_summary number (summary_text number c) ≡ true
+is_one number c is =
+    let past : 48 + (c.signatures - 48) ≡ c.signatures = omega (arith, is.some_signatures) in
+    subst (λ x. is_summary number (summary_text number x) ≡ true) (sym (is_with number c is))
+    (subst (λ k. is_summary number (summary_text number (counts_with number k)) ≡ true) past
+    (is_from number 48 (drill_of number).stops (c.signatures - 48)
+    (omega (arith, is.some_signatures, is.few_signatures))))
