@@ -3,7 +3,7 @@ use Rattle.std.proofs.Common.{inl, inr, ℕ, List, Result, Ok, Err}
 use Rattle.byte_forms.specs.Types.{HashFunction}
 use Rattle.mtc_words.specs.declared.error.WordError.{WordError}
 use Rattle.mtc_words.specs.Commands.{CommandValue, member, show, verify, keygen, init_cosigner}
-use Rattle.mtc_words.specs.Commands.{advance, cosign, export, trust_landmarks, audit}
+use Rattle.mtc_words.specs.Commands.{advance, cosign, export, trust_landmarks, audit, drill}
 use Rattle.node_history.specs.Rules.{AreRecords}
 use Rattle.mtc_top.specs.Facts.{facts, facts_of}
 
@@ -15,6 +15,7 @@ records_of_command h (verify certificate store moment) list is = absurd is
 records_of_command h (keygen height width file) list is = absurd is
 records_of_command h (trust_landmarks file active items) list is = absurd is
 records_of_command h (audit certificate store moment items kept) list is = absurd is
+records_of_command h (drill number) list is = absurd is
 records_of_command h (init_cosigner journal id log height width file) list is = inr is
 records_of_command h (advance journal request) list is = inr is
 records_of_command h (cosign journal request) list is = inr is

@@ -1,17 +1,18 @@
 -- What is to be known of each command: one line for each. Each command's own outcome stands in a
--- file of its own, in mtc_reads, mtc_logs, mtc_cosigner or mtc_monitor.
+-- file of its own, in mtc_reads, mtc_logs, mtc_cosigner, mtc_monitor or mtc_drill.
 use Rattle.std.specs.Prelude.{List, [], ◌∷◌, Option, None, Some, Result, Ok, Err}
 use Rattle.byte_forms.specs.Types.{HashFunction, Text}
 use Rattle.mtc_words.specs.declared.error.WordError.{WordError}
 use Rattle.mtc_words.specs.Commands.{CommandValue, member, show, verify, init_log, issue}
 use Rattle.mtc_words.specs.Commands.{checkpoint, entries, consist, subtree, keygen}
 use Rattle.mtc_words.specs.Commands.{init_cosigner, advance, cosign, export, landmark, landmarks}
-use Rattle.mtc_words.specs.Commands.{light_cert, trust_landmarks, cert, audit}
+use Rattle.mtc_words.specs.Commands.{light_cert, trust_landmarks, cert, audit, drill}
 use Rattle.mtc_answers.specs.Steps.{Files, Outcome, stops}
 use Rattle.mtc_answers.specs.declared.answer.Stopped.TheVariants.{BadWords}
 use Rattle.mtc_cosigner.specs.InitOutcome.{init_cosigner_outcome}
 use Rattle.mtc_cosigner.specs.KeygenOutcome.{keygen_outcome}
 use Rattle.mtc_cosigner.specs.Works.{IsCosigner, advance_outcome, cosign_outcome, export_outcome}
+use Rattle.mtc_drill.specs.Summary.{drill_outcome}
 use Rattle.mtc_logs.specs.CertCommand.{cert_outcome}
 use Rattle.mtc_logs.specs.IssueCommand.{issue_outcome}
 use Rattle.mtc_logs.specs.LogOutcomes.{init_log_outcome}
@@ -97,6 +98,7 @@ facts_of h (cert journal index start end file) = on_journal (IsLog h) journal No
 facts_of h (audit certificate store moment items kept) =
     reads_files (certificate ∷ (store ∷ (items ∷ (kept ∷ []))))
     (audit_outcome h certificate store moment items kept)
+facts_of h (drill number) = reads_files [] (λ files. drill_outcome number)
 
 -- The same where the words say this. Words that are no command name no file.
 abbrev pub facts : HashFunction → Result CommandValue WordError → Facts

@@ -17,6 +17,7 @@ use mtc_cosigner::export::export;
 use mtc_cosigner::init_cosigner::init_cosigner;
 use mtc_cosigner::keygen::keygen;
 use mtc_cosigner::requests::{advance, cosign};
+use mtc_drill::drill;
 use mtc_io::Sink;
 use mtc_logs::cert::cert;
 use mtc_logs::init_log::init_log;
@@ -57,9 +58,7 @@ fn perform<'a, H: TreeHash, R: Room>(
         Command::Issue(journal, request) => issue::<H, R>(alloc, room, journal, request),
         Command::Checkpoint(log) => on_log::<H, R>(alloc, room, log, Work::Checkpoint),
         Command::Entries(log, size) => on_log::<H, R>(alloc, room, log, Work::Entries(size)),
-        Command::Consist(log, old, new) => {
-            on_log::<H, R>(alloc, room, log, Work::Consist(old, new))
-        }
+        Command::Consist(log, old, to) => on_log::<H, R>(alloc, room, log, Work::Consist(old, to)),
         Command::Subtree(log, start, end, size) => {
             on_log::<H, R>(alloc, room, log, Work::Subtree(start, end, size))
         }
@@ -80,6 +79,7 @@ fn perform<'a, H: TreeHash, R: Room>(
         Command::Audit(cert, store, now, entries, export) => {
             audit::<H, R>(alloc, room, cert, store, now, entries, export)
         }
+        Command::Drill(number) => drill::<H>(alloc, number),
     }
 }
 
