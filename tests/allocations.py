@@ -33,7 +33,7 @@ COMMANDS = [
 ]
 
 # Of the allocations of this command one in so many is refused.
-STEPS = {"drill 7": 997}
+STEPS = {"drill 7": 97}
 
 
 def make_log(folder):
