@@ -1,5 +1,6 @@
 //! Drills in numbers, and what is counted anew of one.
 
+use crate::audits::found_entries;
 use crate::summary::recounted;
 use fleet::{Counts, fleet};
 use std::test::Fail;
@@ -40,5 +41,6 @@ fn what_drill_7_hands_out_is_counted_anew(rt: HostRuntime) -> Result<(), Fail> {
     let made = fleet::<Sha>(rt.alloc(), 7)?;
     let found = recounted(rt.alloc(), &made)?;
     assert!(rt; found == (32, 6, 48, 16), "{found:?}");
+    assert!(rt; found_entries(rt.alloc(), &made)? == 48);
     Ok(())
 }

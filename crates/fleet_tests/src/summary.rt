@@ -4,22 +4,22 @@ use cosigner_core::{Cosigner, Export, Step, read_export};
 use disk_core::MemDisk;
 use fleet::Fleet;
 use issuance_log::Log;
-use mtc_io::{MemSink, Memory};
+use mtc_io::{Bytes, MemSink, Memory};
 use policy_core::{By, Cosigners, Known, Places, Revoked, Rule, Rules, Store, Subtrees};
 use relying_party::judge;
 use std::alloc::Global;
 use tls_wire::AnchorId;
 use tree_core::Sha;
 
-fn open_log(alloc: Global, disk: &MemDisk) -> Result<Log<Sha, MemDisk>, Memory> {
+pub(crate) fn open_log(alloc: Global, disk: &MemDisk) -> Result<Log<Sha, MemDisk>, Memory> {
     match Log::open(alloc, disk.lend()?) {
         Ok(log) => Ok(log),
         Err(_) => Err(Memory),
     }
 }
 
-// What others may know of the cosigner on a device.
-fn export_of(alloc: Global, disk: &MemDisk) -> Result<Export, Memory> {
+/// The export of the cosigner on a device.
+pub(crate) fn exported(alloc: Global, disk: &MemDisk) -> Result<Bytes, Memory> {
     let Ok(mut cosigner) = Cosigner::<Sha, MemDisk>::open(alloc, disk.lend()?) else {
         return Err(Memory);
     };
@@ -27,7 +27,13 @@ fn export_of(alloc: Global, disk: &MemDisk) -> Result<Export, Memory> {
     if cosigner.export(&mut out).is_err() {
         return Err(Memory);
     }
-    match read_export::<Sha>(alloc, out.taken()) {
+    Bytes::copy_of(alloc, out.taken())
+}
+
+// What others may know of the cosigner on a device.
+fn export_of(alloc: Global, disk: &MemDisk) -> Result<Export, Memory> {
+    let bytes = exported(alloc, disk)?;
+    match read_export::<Sha>(alloc, bytes.as_slice()) {
         Ok(Some(export)) => Ok(export),
         _ => Err(Memory),
     }
@@ -52,7 +58,7 @@ fn known(alloc: Global, export: &Export) -> Result<Known, Memory> {
 }
 
 // The store with the rule two of three.
-fn store_of(alloc: Global, exports: [&Export; 3]) -> Result<Store, Memory> {
+fn store_with(alloc: Global, exports: [&Export; 3]) -> Result<Store, Memory> {
     let mut cosigners = Vec::new(alloc);
     let mut places = Vec::new(alloc);
     let mut rules = Vec::new(alloc);
@@ -90,6 +96,14 @@ fn is_verified(bytes: &[u8], store: &Store) -> bool {
     }
 }
 
+/// The store of a relying party who knows the cosigners by their exports.
+pub(crate) fn store_of(alloc: Global, fleet: &Fleet) -> Result<Store, Memory> {
+    let first = export_of(alloc, &fleet.first)?;
+    let second = export_of(alloc, &fleet.second)?;
+    let third = export_of(alloc, &fleet.third)?;
+    store_with(alloc, [&first, &second, &third])
+}
+
 /// The entries, the landmarks, the Sign records, and the certificates that a relying party accepts
 /// who knows the cosigners by their exports.
 pub fn recounted(alloc: Global, fleet: &Fleet) -> Result<(u64, u64, u64, u64), Memory> {
@@ -97,7 +111,7 @@ pub fn recounted(alloc: Global, fleet: &Fleet) -> Result<(u64, u64, u64, u64), M
     let first = export_of(alloc, &fleet.first)?;
     let second = export_of(alloc, &fleet.second)?;
     let third = export_of(alloc, &fleet.third)?;
-    let store = store_of(alloc, [&first, &second, &third])?;
+    let store = store_with(alloc, [&first, &second, &third])?;
     let mut verified = 0u64;
     for bytes in fleet.certs.as_slice() {
         if is_verified(bytes.as_slice(), &store) {
