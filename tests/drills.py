@@ -2,15 +2,15 @@
 """Plays drills, and compares what they print with the draws of their numbers, which are counted here anew.
 
 Of the number of signatures only the bounds are compared: 48, and one more for each stop. Each drill is played twice, and has
-to print the same bytes. Prints what is wrong, the time and the most memory of a drill. Not part of the gate.
-Usage: tests/drills.py [COUNT [FIRST]]      so many drills, 100 if nothing is said, from this number on, 0 if nothing is said
+to print the same bytes. Prints what is wrong, and the longest processor time and the most memory of a drill. Needs a built
+program and GNU time. Not part of the gate.
+Usage: tests/drills.py [COUNT [FIRST]]      so many drills, 100 if nothing is said, from this number on, 0 if nothing is said;
+                                     and that of the largest number
 """
 
 import re
-import resource
 import subprocess
 import sys
-import time
 from pathlib import Path
 
 ROOT = Path(__file__).resolve().parent.parent
@@ -67,24 +67,27 @@ def wrong_lines(number, text):
 
 
 def played(number):
-    """What a drill prints, or what is wrong."""
-    ended = subprocess.run([ROOT / "mtc", "drill", str(number)], capture_output=True)
-    if (ended.returncode, ended.stderr) != (0, b""):
-        return f"status {ended.returncode} {ended.stderr.decode()}"
-    return ended.stdout.decode()
+    """What a drill prints, or what is wrong; its processor time in seconds, and the most memory that it held, in KB."""
+    # A process that is made by Python counts Python's own memory as held, so GNU time stands in between.
+    words = ["/usr/bin/time", "-q", "-f", "%U %M", ROOT / "crates/mtc_main/out/mtc_main", "drill", str(number)]
+    ended = subprocess.run(words, capture_output=True)
+    *said, measured = ended.stderr.decode().splitlines()
+    seconds, held = measured.split()
+    text = f"status {ended.returncode} {said}" if ended.returncode or said else ended.stdout.decode()
+    return text, float(seconds), int(held)
 
 
 def main(words):
     count, first = int(words[0]) if words else 100, int(words[1]) if words[1:] else 0
-    numbers, wrong, began = [*range(first, first + count), LAST], [], time.monotonic()
+    numbers, wrong, most, longest = [*range(first, first + count), LAST], [], 0, 0.0
     for number in numbers:
-        text = played(number)
+        text, seconds, held = played(number)
+        again, *_ = played(number)
         wrong += wrong_lines(number, text)
-        if played(number) != text:
+        if again != text:
             wrong.append(f"drill {number}: other bytes the second time")
-    seconds = (time.monotonic() - began) / len(numbers) / 2
-    held = resource.getrusage(resource.RUSAGE_CHILDREN).ru_maxrss // 1024
-    print(*wrong, f"{len(numbers)} drills, {len(wrong)} wrong; {seconds:.2f} s each, at most {held} MB", sep="\n")
+        most, longest = max(most, held), max(longest, seconds)
+    print(*wrong, f"{len(numbers)} drills, {len(wrong)} wrong; at most {longest:.2f} s and {most} KB", sep="\n")
     return bool(wrong)
 
 
