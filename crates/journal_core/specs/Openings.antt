@@ -65,6 +65,7 @@ module _ {D : Type 0} {g : Ghosts D} where
   pub record HasEnded (old new : Opening D g) : Type 0 where
     pub list : read_list new ≡ read_list old
     pub ended : is_ended new ≡ true
+    pub place : next_place new ≡ next_place old
     pub goes_on : refusal new ≡ None
     pub stands : IfSome (g.told (opening_disk new))
         (λ bytes. IfSome (read_list new) (StandsFor bytes))

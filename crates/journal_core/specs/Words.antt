@@ -31,6 +31,13 @@ HoldsLength place read list = (front : List Text) (body : Text) (back : List Tex
     → list ≡ front ++ body ∷ back
     → place ≡ end_behind front → length read ≡ 4 → read ≡ to_be_bytes w32 (length body)
 
+-- Where the length of the body behind some of these records stands at a place, the number is this
+-- length.
+abbrev pub HasSize : ℕ → ℕ → List Text → Type 0
+HasSize place size list = (front : List Text) (body : Text) (back : List Text)
+    → list ≡ front ++ body ∷ back
+    → place ≡ end_behind front → (size ≡ length body) × (length body ≤ 131072)
+
 module _ {D : Type 0} {g : Ghosts D} where
   abbrev pub disk_of : Journal D g → D
   disk_of journal = journal.disk

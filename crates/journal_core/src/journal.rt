@@ -1,7 +1,7 @@
 //! A journal that is open for more records.
 
 ghost use Rattle.std.specs.Prelude.{◌≡◌, ◌↔◌, ◌≤◌, ◌<◌, ◌+◌, min, max, [], ◌∷◌, length, true};
-ghost use Rattle.std.specs.Prelude.{false, is_some, Some, IsTrue, IsErrOf, IfSome, OnOk};
+ghost use Rattle.std.specs.Prelude.{false, is_some, Some, IsTrue, IsErrOf, IfSome, IfOk, OnOk};
 ghost use Rattle.std.proofs.Props.{props};
 ghost use Rattle.byte_forms.specs.Types.{Text};
 ghost use Rattle.mtc_io.specs.Counts.{HasCause};
@@ -13,6 +13,7 @@ ghost use Rattle.journal_core.specs.Settled.{IsSettled, IsSettled-prop, StandsFo
 
 use crate::error::AppendError;
 use crate::format::pack;
+use crate::record::number;
 use disk_core::{Disk, look_at, write_synced};
 use mtc_io::Failed;
 
@@ -37,7 +38,7 @@ pub struct Journal<D: Disk> {
 
 impl<D: Disk> Journal<D> {
     ghost use Rattle.journal_core.specs.Words.{disk_of, end_of, is_broken, records, AppendLeaves};
-    ghost use Rattle.journal_core.specs.Words.{HoldsBody, HoldsLength};
+    ghost use Rattle.journal_core.specs.Words.{HoldsBody, HoldsLength, HasSize};
 
     /// Adds a record of 1 to 131,072 bytes. At Ok a crash leaves the records with it; at any moment
     /// of the call it leaves the old records, or these and the new one. Whatever it answers, it
@@ -89,6 +90,23 @@ impl<D: Disk> Journal<D> {
     {
         look_at(&mut self.disk, place, out)?;
         Ok(())
+    }
+
+    /// The number in the four bytes at a place. Where they stand before a body it is its length, at
+    /// most 131,072. So it is also where an append has failed.
+    pub fn read_size(&mut self, place: u64) -> Result<u32, Failed>
+        requires { place + 4 ≤ end_of self.old }
+        ensures size { IfOk result (λ size. IfSome (records self.old) (HasSize place size)) }
+        ensures records { records self.new ≡ records self.old }
+        ensures end { end_of self.new ≡ end_of self.old }
+        ensures broken { is_broken self.new ≡ is_broken self.old }
+        ensures looks { Looks D.Disk (disk_of self.old) (disk_of self.new) }
+        ensures cause { HasCause (D.faults (disk_of self.old)) (D.faults (disk_of self.new))
+            result }
+    {
+        let mut length = [0; 4];
+        self.read(place, &mut length)?;
+        Ok(number(&length))
     }
 
     /// The place behind the closed gate. The next body would begin four bytes further on.

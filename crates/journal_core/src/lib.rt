@@ -7,8 +7,9 @@
 //! and once the call has answered Ok it leaves the latter. [`copy_behind`] writes the records from
 //! one of its ends on to a sink.
 //!
-//! A layer above speaks of lists of records alone: a file stands for a list, every image of a disk
-//! stands for a list, or for one of two lists while a record is appended.
+//! A layer above speaks of lists of records, and may read one again at its place: a file stands for
+//! a list, every image of a disk stands for a list, or for one of two lists while a record is
+//! appended.
 #![tactic(auto)]
 
 mod copying;

@@ -83,6 +83,7 @@ fn measure<D: Disk>(disk: &mut D) -> Result<Option<u64>, Failed>
 
 impl<D: Disk> Opening<D> {
     ghost use Rattle.journal_core.specs.Openings.{opening_disk, read_list, is_ended, last_body};
+    ghost use Rattle.journal_core.specs.Openings.{next_place};
     ghost use Rattle.journal_core.specs.Openings.{HasBegun, Steps, Nexts};
     ghost use Rattle.journal_core.specs.contracts.opening.Opening.{the_row};
     ghost use Rattle.std.specs.Borrow.{sem};
@@ -148,12 +149,22 @@ impl<D: Disk> Opening<D> {
         self.count
     }
 
+    /// The place of the next gate, behind the records that were read. The length of the next body
+    /// stands one byte further on. What a journal calls its end lies there too.
+    pub fn place(&self) -> u64
+        ensures value { result ≡ next_place self.now }
+        ensures list { IfSome (read_list self.now) (λ list. result + 1 ≡ end_behind list) }
+    {
+        self.place
+    }
+
     /// The journal, once its closed gate was read.
     pub fn ready(self) -> Journal<D>
         requires { is_ended self ≡ true }
         ensures list { records result ≡ read_list self }
         ensures disk { disk_of result ≡ opening_disk self }
         ensures sound { is_broken result ≡ false }
+        ensures place { end_of result ≡ next_place self + 1 }
         ensures all { IfSome (records result) (AllStandFor D.Disk (disk_of result)) }
         ensures end { IfSome (records result) (λ list. end_of result ≡ end_behind list) }
     {

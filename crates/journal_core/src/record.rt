@@ -45,8 +45,8 @@ fn read_gate<D: Disk>(
     Ok(window.buffer[gate])
 }
 
-// The number that four bytes spell, the highest first.
-fn number(bytes: &[u8]) -> u32
+/// The number that four bytes spell, the highest first.
+pub(crate) fn number(bytes: &[u8]) -> u32
     requires { length bytes.now ≡ 4 }
     ensures { to_be_bytes w32 result ≡ bytes.now }
 {

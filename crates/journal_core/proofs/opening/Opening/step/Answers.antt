@@ -117,6 +117,7 @@ returns-then-self g c =
       record {
         list = refl;
         ended = c.if-self.true;
+        place = refl;
         goes_on = c.in-None.is;
         stands = ended_stands g.D.Disk c.args.self.now.disk c.args.self.now.place
             c.args.self.now.reading closed;
@@ -150,6 +151,7 @@ returns-in-Ok-None g c =
         list = same_list g.D.Disk c.args.self.now.disk c.read_record.new.disk looks place
             c.args.self.now.reading;
         ended = refl;
+        place = refl;
         goes_on = c.in-None.is;
         stands = ended_stands g.D.Disk c.read_record.new.disk place reading closed;
         walk = ended_walk g.D.Disk c.read_record.new.disk place reading closed;
