@@ -33,7 +33,7 @@ module _ {H D : Type 0} {hashes : Hashes H} {g : Ghosts D} where
   abbrev pub cosigner_records : Cosigner H D hashes g → Option (List Text)
   cosigner_records it = settled_records it.journal
 
-  -- the place behind the closed gate of the journal
+  -- the end of its journal
   abbrev pub cosigner_end : Cosigner H D hashes g → ℕ
   cosigner_end it = end_of it.journal
 

@@ -86,7 +86,7 @@ fn read_next<H: TreeHash, D: Disk>(
     }
 }
 
-// The records behind the first one, up to the closed gate.
+// The records behind the first one, up to the end of the journal.
 fn read_rest<H: TreeHash, D: Disk>(
     opening: &mut Opening<D>,
     contents: &mut Contents,
