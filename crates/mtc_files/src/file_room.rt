@@ -5,7 +5,9 @@ ghost use Rattle.mtc_io.specs.Counts.{Rose, with_count};
 ghost use Rattle.mtc_room.specs.Room.{Lending};
 ghost use Rattle.disk_core.specs.File.{file_faults, file_moment};
 
-use crate::journal::{create_empty, lock_and_sync, open_to_write};
+use crate::journal::{
+    create_empty, lock_and_sync, lock_and_sync_tiles, open_or_create, open_to_write,
+};
 use disk_core::{Disk, FileDisk};
 use mtc_io::{Failed, Source, StdSource};
 use mtc_room::{Room, RoomError};
@@ -14,7 +16,8 @@ use std::io::{self, ErrorKind};
 use std::rt::Files;
 
 /// The files of the system. It tells nothing of them: what a file holds is taken as it comes. A
-/// journal is lent to this process alone, and its name is on the disk before it is lent.
+/// journal, or the file of its tiles, is lent to this process alone, and its name is on the disk
+/// before it is lent.
 #[derive(Drop)]
 pub struct FileRoom<'a, R> {
     files: &'a R,
@@ -117,6 +120,17 @@ impl<'a, R: Files<File = File>> Room for FileRoom<'a, R> {
             }
             Err(why) if why.kind() == ErrorKind::AlreadyExists => Err(RoomError::Exists),
             Err(_) => Err(self.fail()),
+        }
+    }
+
+    fn scratch(&mut self, name: &str) -> Result<FileDisk, Failed> {
+        let held = match open_or_create(self.files, name) {
+            Ok(file) => lock_and_sync_tiles(self.files, file, name),
+            Err(why) => Err(why),
+        };
+        match self.lend(held) {
+            Ok(disk) => Ok(disk),
+            Err(_) => Err(Failed),
         }
     }
 

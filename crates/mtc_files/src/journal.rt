@@ -1,4 +1,4 @@
-//! The file of a journal: how it is opened, made, locked and synced.
+//! The file of a journal, and that of its tiles: how each is opened, made, locked and synced.
 
 use journal_core::{HEADER, LONGEST_WRITE};
 use std::fs::{self, File, OpenFile};
@@ -8,7 +8,7 @@ use std::os::unix::fs::{FileExt, MetadataExt, OpenOptionsExt};
 use std::path::Path;
 use std::rt::Files;
 
-// The mode of a new journal: it is read and written by its owner alone.
+// The mode of a new file: it is read and written by its owner alone.
 const OWNER_ALONE: u32 = 0o600;
 // The descriptors of the standard streams are those up to this one, that of standard error.
 const LAST_STREAM: i32 = 2;
@@ -40,18 +40,49 @@ pub fn create_empty<R: Files>(files: &R, name: &str) -> io::Result<R::File> {
         .open(files, name)
 }
 
+/// Opens a file to read and to write, or makes an empty one where there is none, which its owner
+/// alone may read and write.
+pub fn open_or_create<R: Files>(files: &R, name: &str) -> io::Result<R::File> {
+    File::options()
+        .read(true)
+        .write(true)
+        .create(true)
+        .mode(OWNER_ALONE)
+        .open(files, name)
+}
+
 /// Locks an open file for this process alone, without waiting, and syncs it and the folder of its
 /// name. The name has to lead to the file that was locked. The end of a journal is written again
 /// before the sync, so that it carries these bytes to the disk also where the sync of an earlier
 /// command failed. The lock is held until the file is closed.
 pub fn lock_and_sync<R: Files<File = File>>(files: &R, file: File, name: &str) -> io::Result<File> {
+    let file = lock(files, file, name)?;
+    sync_with_end(&file)?;
+    sync_folder(files, name)?;
+    Ok(file)
+}
+
+/// Locks the file of tiles as [`lock_and_sync`] does that of a journal, and syncs it and the folder
+/// of its name. Nothing of it is written again: what a journal relies on was synced before its
+/// record, and what wasn't is written by the next one that stores tiles.
+pub fn lock_and_sync_tiles<R: Files<File = File>>(
+    files: &R,
+    file: File,
+    name: &str,
+) -> io::Result<File> {
+    let file = lock(files, file, name)?;
+    file.sync_all()?;
+    sync_folder(files, name)?;
+    Ok(file)
+}
+
+// Locks an open file for this process alone, without waiting. The name has to lead to it.
+fn lock<R: Files<File = File>>(files: &R, file: File, name: &str) -> io::Result<File> {
     let file = move_off_streams(file)?;
     file.try_lock()?;
     if !leads_to(files, name, &file)? {
         return Err(io::Error::from(ErrorKind::NotFound));
     }
-    sync_with_end(&file)?;
-    sync_folder(files, name)?;
     Ok(file)
 }
 

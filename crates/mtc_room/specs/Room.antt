@@ -3,7 +3,7 @@
 use Rattle.std.specs.Prelude.{◌≡◌, ◌≢◌, ℕ, ◌+◌, ◌≤◌, Option, None, Some, Result, is_ok}
 use Rattle.std.specs.Prelude.{IsSome, IsErrOf, OnOk, if◌then◌else◌}
 use Rattle.byte_forms.specs.Types.{Text}
-use Rattle.mtc_io.specs.Counts.{Rose}
+use Rattle.mtc_io.specs.Counts.{Rose, HasCause}
 use Rattle.mtc_room.specs.declared.error.RoomError.{RoomError}
 use Rattle.mtc_room.specs.declared.error.RoomError.TheVariants.{Absent, Exists, Failed}
 
@@ -17,6 +17,13 @@ pub record Lending {T : Type 0} (lent lent' faults faults' : ℕ)
   pub failed : IsErrOf result Failed → Rose faults faults'
   pub absent : IsErrOf result Absent → faults' ≡ faults
   pub exists : IsErrOf result Exists → faults' ≡ faults
+
+-- A call that lends, and is refused for a fault alone: on Ok one object more is out, and no fault
+-- is counted.
+pub record LendsOrFails {T E : Type 0} (lent lent' faults faults' : ℕ)
+    (result : Result T E) : Type 0 where
+  pub out : lent' ≡ (if is_ok result then lent + 1 else lent)
+  pub cause : HasCause faults faults' result
 
 -- the file of this name, and its device, are as they were
 pub record Stays {D : Type 0} (file file' : Text → Option Text)

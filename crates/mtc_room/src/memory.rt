@@ -12,7 +12,7 @@ ghost use Rattle.disk_core.specs.Memory.{starved_of, images_of, IsFresh};
 use crate::RoomError;
 use crate::room::Room;
 use disk_core::{Disk, MemDisk};
-use mtc_io::{Bytes, MemSource, Memory};
+use mtc_io::{Bytes, Failed, MemSource, Memory};
 use std::alloc::Global;
 use std::collections::BTreeMap;
 
@@ -164,7 +164,8 @@ impl MemRoom {
 impl Room for MemRoom {
     ghost use Rattle.mtc_room.specs.Memory.{state, bytes_in, disk_in, count_after};
     ghost use Rattle.mtc_room.specs.MemoryLaws.{told_in};
-    ghost use Rattle.mtc_room.specs.Room.{Lending, Stays, AllStay, OthersStay, LendsBytes};
+    ghost use Rattle.mtc_room.specs.Room.{Lending, LendsOrFails, Stays, AllStay, OthersStay};
+    ghost use Rattle.mtc_room.specs.Room.{LendsBytes};
 
     type Src = MemSource;
 
@@ -269,6 +270,53 @@ impl Room for MemRoom {
         match self.make(name) {
             Ok(disk) => self.lend_out(Ok(disk)),
             Err(why) => self.lend_out(Err(why)),
+        }
+    }
+
+    fn scratch(&mut self, name: &str) -> Result<MemDisk, Failed>
+        requires { (state self.old).lent < 2 ^ 32 }
+        ensures lending { LendsOrFails (state self.old).lent (state self.new).lent
+            (state self.old).faults (state self.new).faults result }
+        ensures others { OthersStay (bytes_in self.old) (bytes_in self.new)
+            (disk_in self.old) (disk_in self.new) name.now }
+        ensures err { OnErr result (Stays (bytes_in self.old) (bytes_in self.new)
+            (disk_in self.old) (disk_in self.new) name.now) }
+        ensures tells { ⊤ → ⊤ }
+        ensures kept { ⊤ → IsSome (bytes_in self.old name.now)
+            → Stays (bytes_in self.old) (bytes_in self.new)
+            (disk_in self.old) (disk_in self.new) name.now }
+        ensures made { OnOk result (⊤ → bytes_in self.old name.now ≡ None
+            → bytes_in self.new name.now ≡ Some []) }
+        ensures bytes { IfOk result (λ d. ⊤
+            → LendsBytes (bytes_in self.new name.now) (Some (bytes_of d))) }
+        ensures device { IfOk result (λ d. ⊤
+            → IsSomeAnd (disk_in self.new name.now) (λ e. SameDevice ⟦<MemDisk as Disk>⟧ e d)) }
+        ensures only { IfOk result (λ d. ⊤ → bytes_in self.old name.now ≡ None
+            → (c : Text) → images_of d c → c ≡ []) }
+        ensures time { IfOk result (λ d. ⊤ → bytes_in self.old name.now ≡ None
+            → length (calls_of d) ≡ 0) }
+        ensures begins { IfOk result (λ d. faults_of d ≡ 0) }
+        ensures counted { IfOk result (λ d. IsSomeAnd (disk_in self.new name.now)
+            (λ e. (failing_of d ≡ failing_of e) × (made_of d ≡ made_of e))) }
+        ensures listed { OnOk result (bytes_in self.old name.now ≡ None
+            → (state self.new).file name.now
+            ≡ Some (record { bytes = []; failing = (state self.old).fresh_failing })) }
+        ensures fresh_failing { (state self.new).fresh_failing ≡ (state self.old).fresh_failing }
+        ensures starved { OnOk result ((state self.new).starved ≡ (state self.old).starved) }
+        ensures starved_err { OnErr result ((state self.new).starved
+            ≡ with_count (state self.old).starved 1) }
+    {
+        let Some(disk) = self.files.get(name) else {
+            let made = self.make(name);
+            return match self.lend_out(made) {
+                Ok(disk) => Ok(disk),
+                Err(_) => Err(Failed),
+            };
+        };
+        let copy = disk.lend();
+        match self.lend_out(copy) {
+            Ok(disk) => Ok(disk),
+            Err(_) => Err(Failed),
         }
     }
 

@@ -7,14 +7,14 @@ ghost use Rattle.byte_forms.specs.Types.{Text};
 
 use crate::RoomError;
 use disk_core::Disk;
-use mtc_io::Source;
+use mtc_io::{Failed, Source};
 
 /// The files that the program may reach, by name.
 pub trait Room {
     ghost use Rattle.mtc_io.specs.Counts.{with_count};
     ghost use Rattle.disk_core.specs.Same.{SameDevice};
-    ghost use Rattle.mtc_room.specs.Room.{Lending, Stays, AllStay, OthersStay, LendsBytes};
-    ghost use Rattle.mtc_room.specs.Room.{TellsFile};
+    ghost use Rattle.mtc_room.specs.Room.{Lending, LendsOrFails, Stays, AllStay, OthersStay};
+    ghost use Rattle.mtc_room.specs.Room.{LendsBytes, TellsFile};
 
     /// What gives a file's bytes.
     type Src: Source;
@@ -98,6 +98,33 @@ pub trait Room {
         ensures exists { IsErrOf result RoomError.Exists → tells self.old
             → IsSome (file self.old name.now) }
         ensures never { IsErrOf result RoomError.Absent → ⊥ };
+
+    /// Lends the device of a file that exists, as [`Room::disk`], or makes an empty one and lends
+    /// its device, as [`Room::fresh`]. It is for files that are made of what stands in others.
+    /// `Failed` comes only with a fault of the room, and makes no file in a room that tells its
+    /// files.
+    fn scratch(&mut self, name: &str) -> Result<Self::Dsk, Failed>
+        requires { lent self.old < 2 ^ 32 }
+        ensures lending { LendsOrFails (lent self.old) (lent self.new)
+            (faults self.old) (faults self.new) result }
+        ensures others { OthersStay (file self.old) (file self.new)
+            (device self.old) (device self.new) name.now }
+        ensures err { OnErr result (Stays (file self.old) (file self.new)
+            (device self.old) (device self.new) name.now) }
+        ensures tells { tells self.old → tells self.new }
+        ensures kept { tells self.old → IsSome (file self.old name.now)
+            → Stays (file self.old) (file self.new) (device self.old) (device self.new) name.now }
+        ensures made { OnOk result (tells self.old → file self.old name.now ≡ None
+            → file self.new name.now ≡ Some []) }
+        ensures bytes { IfOk result (λ d. tells self.old
+            → LendsBytes (file self.new name.now) (Self.Dsk.told d)) }
+        ensures device { IfOk result (λ d. tells self.old
+            → IsSomeAnd (device self.new name.now) (λ e. SameDevice Self.Dsk.Disk e d)) }
+        ensures only { IfOk result (λ d. tells self.old → file self.old name.now ≡ None
+            → (c : Text) → Self.Dsk.may_leave d c → c ≡ []) }
+        ensures time { IfOk result (λ d. tells self.old → file self.old name.now ≡ None
+            → Self.Dsk.moment d ≡ 0) }
+        ensures begins { IfOk result (λ d. Self.Dsk.faults d ≡ 0) };
 
     /// Takes a source back, and adds its faults to its own.
     fn done(&mut self, source: Self::Src)
