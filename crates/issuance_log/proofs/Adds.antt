@@ -1,31 +1,29 @@
 -- What an item or a landmark more makes of a log.
 use Rattle.std.proofs.Common.{◌≡◌, ◌≢◌, ℕ, ◌+◌, ◌^◌, ◌<◌, ◌≤◌, ◌==◌, nat_lt, not}
 use Rattle.std.proofs.Common.{if◌then◌else◌, Bool, true, false, List, [], ◌∷◌, ◌++◌, length}
-use Rattle.std.proofs.Common.{Option, Some, None, IfSome, option_map, Ok, Err, refl, sym, ap}
+use Rattle.std.proofs.Common.{Option, Some, None, IfSome, option_map, Ok, refl, sym, ap}
 use Rattle.std.proofs.Common.{◌∙◌, subst, arith}
-use Rattle.std.proofs.lemmas.Bool.{ltb-true, ltb-false, not-false}
+use Rattle.std.proofs.lemmas.Bool.{leb-false, ltb-true, ltb-false, not-false}
 use Rattle.std.proofs.lemmas.Bool.Decides.{nat_tests}
 use Rattle.byte_forms.specs.Types.{Text}
 use Rattle.disk_core.specs.declared.disk.Disk.{Ghosts}
 use Rattle.disk_core.specs.Moments.{LeavesOnly}
 use Rattle.journal_core.specs.Format.{StandsForEither}
-use Rattle.journal_core.proofs.Appends.{untouched_moment, untouched_after}
 use Rattle.journal_core.specs.declared.error.AppendError.{AppendError}
 use Rattle.journal_core.specs.declared.error.AppendError.TheVariants.{Broken}
 use Rattle.log_entry.specs.Matching.{matches}
-use Rattle.tree_core.specs.declared.hashing.TreeHash.{Ghosts as Hashes}
-use Rattle.issuance_log.specs.Folds.{LogState, view_in, with_item, with_mark, log_of}
+use Rattle.issuance_log.specs.Folds.{LogState, LogView, with_item, with_mark, with_tiles, log_of}
 use Rattle.issuance_log.specs.Marks.{last_mark}
-use Rattle.issuance_log.specs.Records.{entry_record, landmark_record}
-use Rattle.issuance_log.specs.Refusals.{add_refusal, mark_refusal}
+use Rattle.issuance_log.specs.Records.{entry_record, landmark_record, tiles_record}
+use Rattle.issuance_log.specs.Refusals.{add_refusal, full_size, mark_refusal, tile_refusal}
 use Rattle.issuance_log.specs.Settings.{most_item}
-use Rattle.issuance_log.specs.Sound.{IsSound}
+use Rattle.issuance_log.specs.Shown.{recorded_items, shown_with}
+use Rattle.issuance_log.specs.Sound.{HasSoundNumbers}
 use Rattle.issuance_log.specs.declared.error.LogError.{LogError}
 use Rattle.issuance_log.specs.declared.error.LogError.TheVariants.{Append}
-use Rattle.issuance_log.specs.declared.log.Log.{Log}
-use Rattle.issuance_log.specs.Words.{log_disk, LogLeaves, LogAppends}
 use Rattle.issuance_log.proofs.Growth.{last_in, size_fits}
-use Rattle.issuance_log.proofs.Spelled.{length-entry, log_added, log_marked}
+use Rattle.issuance_log.proofs.Shown.{shown_size}
+use Rattle.issuance_log.proofs.Spelled.{length-entry, log_added, log_marked, log_tiled}
 
 -- a log that isn't full has room
 pub room_of : (size limit : ℕ) → not (nat_lt size limit) ≡ false → size < limit
@@ -41,9 +39,14 @@ pub record_few : (body entry key : List ℕ) → body ≡ entry_record entry key
 record_few body entry key is few = let size : length body ≡ 5 + length entry + length key =
     ap length is ∙ length-entry entry key in omega arith
 
-pub same_item : (entry other key other_key : List ℕ) (s t : LogState) → entry ≡ other
-    → key ≡ other_key → s ≡ t → with_item entry key s ≡ with_item other other_key t
-same_item entry other key other_key s t one two three = cc
+-- a landmark that is above the last one
+pub above_last : (v : LogView) (last size : ℕ) → HasSoundNumbers v → last ≡ last_mark v.marks
+    → size ≡ v.size → last ≢ size → last_mark v.marks < v.size
+above_last v last size sound one two other =
+    apart (last_mark v.marks) v.size (last_in v sound) (λ same. other (one ∙ same ∙ sym two))
+  where
+    apart : (a b : ℕ) → a ≤ b → a ≢ b → a < b
+    apart a b few differ = grind arith
 
 -- a refusal that is none of its tests
 passed : (b : Bool) (e : LogError) (o : Option LogError) → (if b then Some e else o) ≡ None
@@ -59,80 +62,82 @@ unbroken false o is = refl
 below : (a b : ℕ) → a ≤ b → (a == b) ≡ false → a < b
 below a b few other = grind (arith, nat_tests)
 
--- a last landmark that isn't at the size is below it
-pub above_last : (h : List ℕ → List ℕ) (s : LogState) (last size : ℕ) → last ≡ last_mark s.marks
-    → size ≡ length s.entries → last ≢ size → IsSound h s
-    → last_mark s.marks < length s.entries
-above_last h s last size one two other sound =
-    apart (last_mark s.marks) (length s.entries) (last_in h s sound)
-    (λ same. other (one ∙ same ∙ sym two))
-  where
-    apart : (a b : ℕ) → a ≤ b → a ≢ b → a < b
-    apart a b few differ = grind arith
+-- What is not refused of a log that shows this makes, behind its records, the log with it.
+abbrev pub MakesBehind : (List ℕ → List ℕ) → LogView → List ℕ → (LogState → LogState)
+    → Option (List (List ℕ)) → Type 0
+MakesBehind h v body next records =
+    IfSome records (λ list. log_of h (list ++ body ∷ []) ≡ Ok (next (shown_with v list)))
 
--- behind the records with this one, which make that log, the log is as it shows
-pub agrees_behind : (h : List ℕ → List ℕ) (old new : Option (List (List ℕ)))
-    (body record_ : List ℕ) (t shown : LogState)
-    → new ≡ option_map (λ list. list ++ body ∷ []) old → body ≡ record_ → shown ≡ t
-    → IfSome old (λ list. log_of h (list ++ record_ ∷ []) ≡ Ok t)
-    → IfSome new (λ list. log_of h list ≡ Ok shown)
-agrees_behind h None new body record_ t shown news body_is made is =
-    subst (λ (o : Option (List (List ℕ))). IfSome o (λ list. log_of h list ≡ Ok shown))
-    (sym news) tt
-agrees_behind h (Some list) new body record_ t shown news body_is made is =
-    subst (λ (o : Option (List (List ℕ))). IfSome o (λ list. log_of h list ≡ Ok shown)) (sym news)
-    (ap (λ (b : List ℕ). log_of h (list ++ b ∷ [])) body_is ∙ is ∙ ap Ok (sym made))
+-- The records make the log that is shown, with as many items as are shown at least.
+pub record MakesShown (h : List ℕ → List ℕ) (v : LogView) (list : List (List ℕ)) : Type 0 where
+  pub made : log_of h list ≡ Ok (shown_with v list)
+  pub within : v.size ≤ length (recorded_items list)
 
-module _ (h : List ℕ → List ℕ) (s : LogState) (entry key : List ℕ) (belongs : matches h entry key
-    ≡ true) where
-  -- behind the records of a log the new record makes the log with the item
-  pub added_to : (records : Option (List (List ℕ))) → IfSome records (λ list. log_of h list ≡ Ok s)
-      → length s.entries < s.settings.limit → length entry + length key ≤ most_item
-      → IfSome records (λ list. log_of h (list ++ entry_record entry key ∷ [])
-      ≡ Ok (with_item entry key s))
-  added_to None is room few = tt
-  added_to (Some list) is room few = log_added h list s entry key is room few belongs
-
-  -- the same of an item that is not refused
-  pub added_unrefused : (records : Option (List (List ℕ))) (broken : Bool) (end : ℕ)
-      → (broken ≡ false → IfSome records (λ list. log_of h list ≡ Ok s)) → IsSound h s
-      → add_refusal (view_in s) broken end entry key ≡ None
-      → IfSome records (λ list. log_of h (list ++ entry_record entry key ∷ [])
-      ≡ Ok (with_item entry key s))
+module _ (h : List ℕ → List ℕ) (v : LogView) (sound : HasSoundNumbers v) where
+  pub added_unrefused : (entry key : List ℕ) → matches h entry key ≡ true
+      → (records : Option (List (List ℕ))) (broken : Bool) (end : ℕ)
+      → (broken ≡ false → IfSome records (MakesShown h v))
+      → add_refusal v broken end entry key ≡ None
+      → MakesBehind h v (entry_record entry key) (with_item entry key) records
   unfolding add_refusal
-  added_unrefused records broken end agrees sound none =
+  added_unrefused entry key belongs records broken end agrees none =
       let first = passed _ _ _ none in
       let second = passed _ _ _ first.1 in
       let few = sound.few in
-      let room : length s.entries < s.settings.limit = below _ _ few first.0 in
-      added_to records (agrees (unbroken broken _ second.1)) room
+      let room : v.size < v.settings.limit = below _ _ few first.0 in
+      each records (agrees (unbroken broken _ second.1)) room
       (ltb-false most_item (length entry + length key) second.0)
-
-module _ (h : List ℕ → List ℕ) (s : LogState) (records : Option (List (List ℕ))) where
-  -- behind the records of a log the record of a landmark makes the log with it
-  pub marked_to : IfSome records (λ list. log_of h list ≡ Ok s) → length s.entries < 2 ^ 64
-      → last_mark s.marks < length s.entries
-      → IfSome records (λ list. log_of h (list ++ landmark_record (length s.entries) ∷ [])
-      ≡ Ok (with_mark s))
-  marked_to is fits above = each records is
     where
-      each : (o : Option (List (List ℕ))) → IfSome o (λ list. log_of h list ≡ Ok s)
-          → IfSome o (λ list. log_of h (list ++ landmark_record (length s.entries) ∷ [])
-          ≡ Ok (with_mark s))
-      each None is = tt
-      each (Some list) is = log_marked h list s is fits above
+      each : (o : Option (List (List ℕ))) → IfSome o (MakesShown h v)
+          → v.size < v.settings.limit → length entry + length key ≤ most_item
+          → MakesBehind h v (entry_record entry key) (with_item entry key) o
+      each None is room few = tt
+      each (Some list) is room few =
+          log_added h list (shown_with v list) entry key is.made
+          (subst (λ (n : ℕ). n < v.settings.limit) (sym (shown_size v list is.within)) room)
+          few belongs
 
-  -- the same of a landmark that is not refused
-  pub marked_unrefused : (broken : Bool) (end : ℕ)
-      → (broken ≡ false → IfSome records (λ list. log_of h list ≡ Ok s)) → IsSound h s
-      → mark_refusal (view_in s) broken end ≡ None
-      → IfSome records (λ list. log_of h (list ++ landmark_record (length s.entries) ∷ [])
-      ≡ Ok (with_mark s))
+  pub marked_unrefused : (records : Option (List (List ℕ))) (broken : Bool) (end : ℕ)
+      → (broken ≡ false → IfSome records (MakesShown h v))
+      → mark_refusal v broken end ≡ None
+      → MakesBehind h v (landmark_record v.size) with_mark records
   unfolding mark_refusal
-  marked_unrefused broken end agrees sound none =
+  marked_unrefused records broken end agrees none =
       let first = passed _ _ _ none in
-      marked_to (agrees (unbroken broken _ first.1)) (size_fits h s sound)
-      (below _ _ (last_in h s sound) first.0)
+      let fits = size_fits v sound in
+      each records (agrees (unbroken broken _ first.1)) (omega arith)
+      (below _ _ (last_in v sound) first.0)
+    where
+      each : (o : Option (List (List ℕ))) → IfSome o (MakesShown h v) → v.size < 2 ^ 64
+          → last_mark v.marks < v.size → MakesBehind h v (landmark_record v.size) with_mark o
+      each None is fits above = tt
+      each (Some list) is fits above =
+          let size = shown_size v list is.within in
+          ap (λ (n : ℕ). log_of h (list ++ landmark_record n ∷ [])) (sym size)
+          ∙ log_marked h list (shown_with v list) is.made
+          (subst (λ (n : ℕ). n < 2 ^ 64) (sym size) fits)
+          (subst (λ (n : ℕ). last_mark v.marks < n) (sym size) above)
+
+  pub tiled_unrefused : (records : Option (List (List ℕ))) (broken : Bool) (end : ℕ)
+      → (broken ≡ false → IfSome records (MakesShown h v))
+      → tile_refusal v broken end ≡ None
+      → MakesBehind h v (tiles_record (full_size v)) (with_tiles (full_size v)) records
+  unfolding tile_refusal
+  tiled_unrefused records broken end agrees none =
+      let first = passed _ _ _ none in
+      let fits = size_fits v sound in
+      each records (agrees (unbroken broken _ first.1)) (omega arith)
+      (leb-false (full_size v) v.tiled first.0)
+    where
+      each : (o : Option (List (List ℕ))) → IfSome o (MakesShown h v) → v.size < 2 ^ 32
+          → v.tiled < full_size v
+          → MakesBehind h v (tiles_record (full_size v)) (with_tiles (full_size v)) o
+      each None is fits above = tt
+      each (Some list) is fits above =
+          let size = shown_size v list is.within in
+          log_tiled h list (shown_with v list) (full_size v) is.made (omega arith)
+          (omega arith) above
+          (subst (λ (n : ℕ). full_size v ≤ n) (sym size) (omega arith))
 
 -- what a crash leaves of a journal, where the record was written as these bytes
 module _ {D : Type 0} (g : Ghosts D) (list : Option (List Text)) (old new : D) (body record_ : Text)
@@ -146,18 +151,3 @@ module _ {D : Type 0} (g : Ghosts D) (list : Option (List Text)) (old new : D) (
       → IfSome list (λ l. (c : Text) → g.may_leave new c → StandsForEither l record_ c)
   after_is left = subst (λ (b : Text). IfSome list
       (λ l. (c : Text) → g.may_leave new c → StandsForEither l b c)) is left
-
--- a call that left the log alone
-module _ {H D X : Type 0} {hashes : Hashes H} {g : Ghosts D} (body : Text) (next : LogState)
-    (log : Log H D hashes g) (only_now : (c : Text) → g.left_since (log_disk log)
-    (g.moment (log_disk log)) c → g.may_leave (log_disk log) c) where
-  pub left_alone : (why : LogError) → LogLeaves {X = X} body next log log (Err why)
-      → LogAppends {X = X} body next log log (Err why)
-  left_alone why leaves = record {
-    leaves = leaves;
-    kept = tt;
-    count = omega arith;
-    any_moment = λ sound. untouched_moment g (log_disk log) _ body (log.journal.settled sound)
-        only_now;
-    afterwards = λ sound. untouched_after g (log_disk log) _ body (log.journal.settled sound);
-  }

@@ -1,21 +1,19 @@
 -- Records that are taken one by one behind the first record of a log.
-use Rattle.std.proofs.Common.{◌≡◌, ℕ, ◌+◌, ◌<◌, ◌≤◌, ◌==◌, ◌&&◌, nat_lt, Bool, true, false}
+use Rattle.std.proofs.Common.{◌≡◌, ℕ, ◌+◌, ◌<◌, ◌≤◌, Bool, true, false}
 use Rattle.std.proofs.Common.{List, [], ◌∷◌, ◌++◌, length, drop, get_or, Option, Some, None, Result}
-use Rattle.std.proofs.Common.{Ok, Err, IfOk, is_ok, option_map, refl, ap, sym, ◌∙◌}
+use Rattle.std.proofs.Common.{Ok, Err, is_ok, option_map, refl, ap, sym, ◌∙◌}
 use Rattle.std.specs.Prelude.{if◌then◌else◌}
 use Rattle.byte_forms.specs.Types.{Text, HashFunction}
 use Rattle.byte_forms.specs.Readings.{◌>>=◌, some_or}
 use Rattle.byte_forms.proofs.Steps.{bind_ok, ok_is, some_or_ok}
 use Rattle.journal_core.specs.Folds.{Fold, state_behind, taken_from}
 use Rattle.journal_core.proofs.Bodies.{none_left, rest_at}
-use Rattle.log_entry.specs.Matching.{matches}
-use Rattle.issuance_log.specs.Folds.{LogState, begun_log, changed, log_behind, log_fold, log_of}
-use Rattle.issuance_log.specs.Folds.{new_log, next_log, with_item}
-use Rattle.issuance_log.specs.Folds.{with_mark}
-use Rattle.issuance_log.specs.Marks.{last_mark}
-use Rattle.issuance_log.specs.Records.{item_in, mark_in, settings_in}
-use Rattle.issuance_log.specs.Results.{HasTried}
+use Rattle.issuance_log.specs.Folds.{LogState, begun_log, log_behind, log_fold, log_of, new_log}
+use Rattle.issuance_log.specs.Folds.{next_log, takes_entry, takes_landmark, takes_tiles, view_in}
+use Rattle.issuance_log.specs.Folds.{with_item, with_mark, with_tiles}
+use Rattle.issuance_log.specs.Records.{item_in, mark_in, tiled_in, settings_in}
 use Rattle.issuance_log.specs.Settings.{Settings}
+use Rattle.issuance_log.proofs.Spelled.{changed_log}
 
 module _ {S E : Type 0} (fold : Fold S E) where
   -- the first of these records is taken, or breaks the rules
@@ -74,28 +72,6 @@ module _ {S E : Type 0} (fold : Fold S E) where
       ap (λ (r : Result S ℕ). is_ok r) (sym (taken_none k s body [] next)
       ∙ ap (taken_from fold k s) (sym (none_left bodies i body past)) ∙ so_far)
 
-pub last_tried : {E : Type 0} (h : HashFunction) (wanted : Result LogState ℕ) (k : ℕ)
-    (s t : LogState) (bodies : List Text) (i : ℕ) (body : Text) (result : Result Bool E)
-    → length bodies ≤ i
-    → taken_from (log_fold h) k s (drop i bodies ++ body ∷ []) ≡ wanted
-    → HasTried (next_log h s body) t result → IfOk result (λ may. may ≡ is_ok wanted)
-last_tried h wanted k s t bodies i body (Ok true) past so_far tried =
-    last_follows (log_fold h) wanted k s t bodies i body past so_far tried
-last_tried h wanted k s t bodies i body (Ok false) past so_far tried =
-    last_not (log_fold h) wanted k s bodies i body past so_far tried
-last_tried h wanted k s t bodies i body (Err refused) past so_far tried = tt
-
--- what a record that was tried says
-pub was_taken : (wanted : Option LogState) (t : LogState) (E : Type 0) (b : Bool)
-    → HasTried {E = E} wanted t (Ok b) → b ≡ true → wanted ≡ Some t
-was_taken wanted t E true tried is = tried
-was_taken wanted t E false tried is = let wrong : false ≡ true = is in absurd cc
-
-pub was_not : (wanted : Option LogState) (t : LogState) (E : Type 0) (b : Bool)
-    → HasTried {E = E} wanted t (Ok b) → b ≡ false → wanted ≡ None
-was_not wanted t E false tried is = tried
-was_not wanted t E true tried is = let wrong : true ≡ false = is in absurd cc
-
 -- ---- the first record
 
 pub begins_so : (h : HashFunction) (first : Text) (s : Settings) (bodies : List Text)
@@ -113,21 +89,23 @@ pub when : (b : Bool) (s t : LogState) → (if b then Some s else None) ≡ Some
 when true s t is = some_is s t is
 when false s t is = let wrong : None ≡ Some t = is in absurd cc
 
-by_item : (h : HashFunction) (s t : LogState) (item : Option (Text × Text)) (mark : Option ℕ)
-    → changed h s item mark ≡ Some t → t.settings ≡ s.settings
-by_item h s t (Some x) mark is =
+by_item : (h : HashFunction) (s t : LogState) (item : Option (Text × Text)) (mark tiled : Option ℕ)
+    → changed_log h s item mark tiled ≡ Some t → t.settings ≡ s.settings
+by_item h s t (Some x) mark tiled is =
     sym (ap (λ (u : LogState). u.settings)
-    (when (nat_lt (length s.entries) s.settings.limit && matches h x.0 x.1)
-    (with_item x.0 x.1 s) t is))
-by_item h s t None None is = let wrong : None ≡ Some t = is in absurd cc
-by_item h s t None (Some size) is =
+    (when (takes_entry h (view_in s) x) (with_item x.0 x.1 s) t is))
+by_item h s t None (Some size) tiled is =
     sym (ap (λ (u : LogState). u.settings)
-    (when (size == length s.entries && nat_lt (last_mark s.marks) size) (with_mark s) t is))
+    (when (takes_landmark (view_in s) size) (with_mark s) t is))
+by_item h s t None None (Some size) is =
+    sym (ap (λ (u : LogState). u.settings)
+    (when (takes_tiles (view_in s) size) (with_tiles size s) t is))
+by_item h s t None None None is = let wrong : None ≡ Some t = is in absurd cc
 
 next_keeps : (h : HashFunction) (s t : LogState) (body : Text) → next_log h s body ≡ Some t
     → t.settings ≡ s.settings
 unfolding next_log
-next_keeps h s t body is = by_item h s t (item_in body) (mark_in body) is
+next_keeps h s t body is = by_item h s t (item_in body) (mark_in body) (tiled_in body) is
 
 behind_keeps : (h : HashFunction) (k : ℕ) (s t : LogState) (bodies : List Text)
     → taken_from (log_fold h) k s bodies ≡ Ok t → t.settings ≡ s.settings

@@ -1,12 +1,13 @@
--- A log with one item or one landmark more is sound.
-use Rattle.std.proofs.Common.{◌≡◌, ◌⊎◌, inl, inr, ℕ, suc, ◌-◌, ◌^◌, ◌<◌, ◌≤◌, List, [], ◌∷◌, ◌++◌}
-use Rattle.std.proofs.Common.{length, get_or, subst, ap, sym, ◌∙◌, arith}
-use Rattle.std.proofs.lemmas.List.{length-append, get_or_append_left}
+-- A log with one item, one landmark or other tiles more is sound.
+use Rattle.std.proofs.Common.{◌≡◌, ◌⊎◌, inl, inr, ℕ, suc, ◌+◌, ◌-◌, ◌%◌, ◌^◌, ◌<◌, ◌≤◌, List, []}
+use Rattle.std.proofs.Common.{◌∷◌, ◌++◌, length, get_or, subst, ap, sym, ◌∙◌, arith}
+use Rattle.std.proofs.lemmas.List.{length-append, length_push, get_or_append_left}
 use Rattle.std.proofs.Math.Seq.{get_or-append_seam}
 use Rattle.byte_forms.specs.Types.{Text, HashFunction}
-use Rattle.issuance_log.specs.Folds.{LogState, with_item, with_mark}
+use Rattle.issuance_log.specs.Folds.{LogState, LogView, one_item_more, one_mark_more, tiled_to}
+use Rattle.issuance_log.specs.Folds.{view_in, with_item}
 use Rattle.issuance_log.specs.Marks.{last_mark, AreRising}
-use Rattle.issuance_log.specs.Sound.{IsItem, IsSound}
+use Rattle.issuance_log.specs.Sound.{HasSoundNumbers, IsItem, IsSound}
 
 last_behind : (mark other : ℕ) (marks : List ℕ)
     → last_mark (mark ∷ other ∷ marks) ≡ last_mark (other ∷ marks)
@@ -45,44 +46,63 @@ last_within from to (mark ∷ other ∷ marks) is =
     (last_within mark to (other ∷ marks) is.1)
 
 -- the last landmark is no larger than the log, whose size is told in eight bytes
-pub last_in : (h : HashFunction) (s : LogState) → IsSound h s
-    → last_mark s.marks ≤ length s.entries
-last_in h s is = last_within 0 (length s.entries) s.marks is.marks
+pub last_in : (v : LogView) → HasSoundNumbers v → last_mark v.marks ≤ v.size
+last_in v is = last_within 0 v.size v.marks is.marks
 
-pub size_fits : (h : HashFunction) (s : LogState) → IsSound h s → length s.entries < 2 ^ 64
-size_fits h s is =
+pub size_fits : (v : LogView) → HasSoundNumbers v → v.size < 2 ^ 32
+size_fits v is =
     let few = is.few in
     let limit = is.allowed.few in
     omega arith
 
-pub sound_marked : (h : HashFunction) (s : LogState) → IsSound h s
-    → last_mark s.marks < length s.entries → IsSound h (with_mark s)
-sound_marked h s is above = record {
+pub numbers_marked : (v : LogView) → HasSoundNumbers v → last_mark v.marks < v.size
+    → HasSoundNumbers (one_mark_more v)
+numbers_marked v is above = record {
   allowed = is.allowed;
   some = is.some;
   few = is.few;
-  even = is.even;
-  first_entry = is.first_entry;
-  first_key = is.first_key;
-  items = is.items;
-  marks = rising_with 0 (length s.entries) s.marks is.marks is.some above;
+  marks = rising_with 0 v.size v.marks is.marks is.some above;
+  multiple = is.multiple;
+  tiled = is.tiled;
 }
 
+pub numbers_with : (v : LogView) → HasSoundNumbers v → v.size < v.settings.limit
+    → HasSoundNumbers (one_item_more v)
+numbers_with v is room = record {
+  allowed = is.allowed;
+  some = omega (arith, is.some);
+  few = omega (arith, room);
+  marks = rising_on 0 v.size (v.size + 1) v.marks (omega arith) is.marks;
+  multiple = is.multiple;
+  tiled = omega (arith, is.tiled);
+}
+
+pub numbers_tiled : (v : LogView) (size : ℕ) → HasSoundNumbers v → size % 256 ≡ 0
+    → size ≤ v.size → HasSoundNumbers (tiled_to size v)
+numbers_tiled v size is multiple within = record {
+  allowed = is.allowed;
+  some = is.some;
+  few = is.few;
+  marks = is.marks;
+  multiple = multiple;
+  tiled = within;
+}
+
+-- a log with one item more is sound, and one with other numbers
 pub sound_with : (h : HashFunction) (s : LogState) (entry key : Text) → IsSound h s
     → length s.entries < s.settings.limit → IsItem h entry key
     → IsSound h (with_item entry key s)
 sound_with h s entry key is few item = record {
-  allowed = is.allowed;
-  some = simp length-append (omega arith);
-  few = simp length-append (omega arith);
+  numbers = subst HasSoundNumbers
+      (ap (λ (n : ℕ). record { settings = s.settings; size = n; marks = s.marks; tiled = s.tiled })
+      (sym (length_push s.entries entry)))
+      (numbers_with (view_in s) is.numbers few);
   even = simp length-append (omega (arith, is.even));
-  first_entry = get_or_append_left s.entries (entry ∷ []) [] 0 (omega (arith, is.some))
+  first_entry = get_or_append_left s.entries (entry ∷ []) [] 0 (omega (arith, is.numbers.some))
       ∙ is.first_entry;
-  first_key = get_or_append_left s.keys (key ∷ []) [] 0 (omega (arith, is.some, is.even))
+  first_key = get_or_append_left s.keys (key ∷ []) [] 0 (omega (arith, is.numbers.some, is.even))
       ∙ is.first_key;
   items = λ i one below. at i one (here i below);
-  marks = rising_on 0 (length s.entries) (length (s.entries ++ entry ∷ [])) s.marks
-      (simp length-append (omega arith)) is.marks;
 }
   where
     here : (i : ℕ) → i < length (s.entries ++ entry ∷ [])

@@ -1,5 +1,5 @@
 -- What the records of a log spell.
-use Rattle.std.proofs.Common.{◌≡◌, inl, inr, ℕ, ◌^◌, ◌<◌, ◌&&◌, ◌==◌, nat_lt, nat_le}
+use Rattle.std.proofs.Common.{◌≡◌, inl, inr, ℕ, ◌%◌, ◌^◌, ◌<◌, ◌&&◌, ◌==◌, nat_lt, nat_le}
 use Rattle.std.proofs.Common.{if◌then◌else◌, Bool, true, false, List, ◌++◌, length, Option, Some}
 use Rattle.std.proofs.Common.{None, option_map, option_and_then, Result, Ok, Err, refl, subst, ap}
 use Rattle.std.proofs.Common.{sym, ◌∙◌, arith}
@@ -13,25 +13,21 @@ use Rattle.tls_wire.specs.Spelling.{number, vector}
 use Rattle.tls_wire.specs.declared.fault.AnchorBytesError.{AnchorBytesError}
 use Rattle.tls_wire.proofs.AnchorForm.{anchor_takes}
 use Rattle.log_entry.specs.Matching.{matches}
-use Rattle.issuance_log.specs.Folds.{LogState, new_log, with_item, with_mark, with_landmark}
-use Rattle.issuance_log.specs.Folds.{changed, begun_log, next_log}
+use Rattle.issuance_log.specs.Folds.{LogState, new_log, with_item, with_mark, with_tiles, view_in}
+use Rattle.issuance_log.specs.Folds.{begun_log, next_log, takes_entry, takes_landmark, takes_tiles}
 use Rattle.issuance_log.specs.Marks.{last_mark}
 use Rattle.issuance_log.specs.Records.{log_tag, settings_at, with_id, log_settings_with, tagged}
-use Rattle.issuance_log.specs.Records.{settings_in, item_in, mark_in, settings_record}
+use Rattle.issuance_log.specs.Records.{settings_in, item_in, mark_in, tiled_in, settings_record}
 use Rattle.issuance_log.specs.Records.{landmark_record}
 use Rattle.issuance_log.specs.Rules.{IsFirst, IsNext}
 use Rattle.issuance_log.specs.Settings.{Settings, most_active, most_entries, are_allowed}
 use Rattle.issuance_log.specs.Settings.{AreAllowed}
 use Rattle.issuance_log.proofs.Spelled.{some_value, FitSettings, settings_text, settings_form}
 use Rattle.issuance_log.proofs.Spelled.{settings_again, item_takes, mark_takes, tagged_takes}
-use Rattle.issuance_log.proofs.Spelled.{next_added, next_marked}
+use Rattle.issuance_log.proofs.Spelled.{changed_log, next_added, next_marked, next_tiled}
+use Rattle.issuance_log.proofs.Spelled.{tiled_takes}
 
-option_from : {X : Type 0} (f : X → Option LogState) (o : Option X) (t : LogState)
-    → option_and_then f o ≡ Some t → (x : X) × (o ≡ Some x) × (f x ≡ Some t)
-option_from {X} f None t is = let wrong : None ≡ Some t = is in cc
-option_from {X} f (Some x) t is = (x, refl, is)
-
-test_from : {X : Type 0} (b : Bool) (o : Option X) (x : X) → (if b then o else None) ≡ Some x
+pub test_from : {X : Type 0} (b : Bool) (o : Option X) (x : X) → (if b then o else None) ≡ Some x
     → (b ≡ true) × (o ≡ Some x)
 test_from {X} true o x is = (refl, is)
 test_from {X} false o x is = let wrong : None ≡ Some x = is in cc
@@ -41,27 +37,29 @@ pub is_next : (h : List ℕ → List ℕ) (s : LogState) (body : List ℕ) (t : 
 is_next h s body t (inl is) =
     ap (next_log h s) is.spelled ∙ next_added h s is.entry is.key is.room is.short_entry
     is.short_key is.belongs ∙ ap Some (sym is.made)
-is_next h s body t (inr is) =
+is_next h s body t (inr (inl is)) =
     ap (next_log h s) is.spelled ∙ next_marked h s is.fits is.above ∙ ap Some (sym is.made)
+is_next h s body t (inr (inr is)) =
+    ap (next_log h s) is.spelled
+    ∙ next_tiled h s is.size is.fits is.multiple is.above is.within ∙ ap Some (sym is.made)
 
 pub next_is : (h : List ℕ → List ℕ) (s : LogState) (body : List ℕ) (t : LogState) → IsBytes body
     → next_log h s body ≡ Some t → IsNext h s body t
 unfolding next_log
-next_is h s body t bytes is = go (item_in body) refl is
+next_is h s body t bytes is =
+    go (item_in body) (mark_in body) (tiled_in body) refl refl refl is
   where
-    go : (o : Option (List ℕ × List ℕ)) → item_in body ≡ o
-        → changed h s o (mark_in body) ≡ Some t → IsNext h s body t
-    go (Some item) was is =
-        let entry = item.0 in
-        let key = item.1 in
-        let spelled = item_takes body entry key bytes was in
-        let made = test_from (nat_lt (length s.entries) s.settings.limit && matches h entry key)
-        (Some (with_item entry key s)) t is in
-        let tests = and_parts (nat_lt (length s.entries) s.settings.limit)
-        (matches h entry key) made.0 in
+    go : (item : Option (List ℕ × List ℕ)) (mark tiled : Option ℕ) → item_in body ≡ item
+        → mark_in body ≡ mark → tiled_in body ≡ tiled
+        → changed_log h s item mark tiled ≡ Some t → IsNext h s body t
+    go (Some x) mark tiled one two three is =
+        let spelled = item_takes body x.0 x.1 bytes one in
+        let made = test_from (takes_entry h (view_in s) x) (Some (with_item x.0 x.1 s)) t is in
+        let tests = and_parts (nat_lt (length s.entries) s.settings.limit) (matches h x.0 x.1)
+        made.0 in
         inl (record {
-          entry = entry;
-          key = key;
+          entry = x.0;
+          key = x.1;
           spelled = spelled.0;
           short_entry = spelled.1;
           short_key = spelled.2;
@@ -69,21 +67,34 @@ next_is h s body t bytes is = go (item_in body) refl is
           room = ltb-true (length s.entries) s.settings.limit tests.0;
           made = sym (some_value _ _ made.1);
         })
-    go None was is =
-        let mark = option_from (with_landmark s) (mark_in body) t is in
-        let size = mark.0 in
-        let spelled = mark_takes body size bytes mark.1 in
-        let made = test_from (size == length s.entries && nat_lt (last_mark s.marks) size)
-        (Some (with_mark s)) t mark.2 in
+    go None (Some size) tiled one two three is =
+        let spelled = mark_takes body size bytes two in
+        let made = test_from (takes_landmark (view_in s) size) (Some (with_mark s)) t is in
         let tests = and_parts (size == length s.entries) (nat_lt (last_mark s.marks) size)
         made.0 in
         let same : size ≡ length s.entries = eqb-true size (length s.entries) tests.0 in
-        inr (record {
+        inr (inl (record {
           spelled = spelled.0 ∙ ap landmark_record same;
           fits = subst (λ (n : ℕ). n < 2 ^ 64) same spelled.1;
           above = subst (λ (n : ℕ). last_mark s.marks < n) same (ltb-true _ _ tests.1);
           made = sym (some_value _ _ made.1);
-        })
+        }))
+    go None None (Some size) one two three is =
+        let spelled = tiled_takes body size bytes three in
+        let made = test_from (takes_tiles (view_in s) size) (Some (with_tiles size s)) t is in
+        let tests = and_parts (size % 256 == 0)
+        (nat_lt s.tiled size && nat_le size (length s.entries)) made.0 in
+        let both = and_parts (nat_lt s.tiled size) (nat_le size (length s.entries)) tests.1 in
+        inr (inr (record {
+          size = size;
+          spelled = spelled.0;
+          fits = spelled.1;
+          multiple = eqb-true (size % 256) 0 tests.0;
+          above = ltb-true s.tiled size both.0;
+          within = leb-true size (length s.entries) both.1;
+          made = sym (some_value _ _ made.1);
+        }))
+    go None None None one two three is = let wrong : None ≡ Some t = is in absurd cc
 
 pub is_first : (body : List ℕ) (s : LogState) → IsFirst body s → begun_log body ≡ Some s
 unfolding begun_log

@@ -1,32 +1,22 @@
 -- A log is what it shows over every disk, with the first items in its records.
-use Rattle.std.proofs.Common.{◌≡◌, ℕ, ◌+◌, ◌≤◌, ◌==◌, ◌&&◌, nat_lt, List, [], ◌∷◌, ◌++◌, length}
-use Rattle.std.proofs.Common.{take, Option, Some, None, IfSome, option_map, Ok, refl, ap, sym}
-use Rattle.std.proofs.Common.{subst, ◌∙◌, inl, inr, arith}
-use Rattle.std.specs.Prelude.{◌↔◌, Bool, true, false, map, flat_map, option_to_list, is_ok}
-use Rattle.std.specs.Prelude.{is_some, Result, Err, IsErrOf, IsTrue}
-use Rattle.std.proofs.lemmas.List.{append_assoc, append-nil, length-append, length-map, length-take}
-use Rattle.std.proofs.lemmas.List.{map-append, take-append-le, take_all}
+use Rattle.std.proofs.Common.{◌≡◌, ℕ, ◌+◌, ◌≤◌, List, [], ◌∷◌, ◌++◌, length, take, Option, Some}
+use Rattle.std.proofs.Common.{None, Ok, refl, ap, subst, sym, ◌∙◌, arith}
+use Rattle.std.specs.Prelude.{map, flat_map, option_to_list}
+use Rattle.std.proofs.lemmas.List.{append_assoc, append-nil, length-append, length-map}
+use Rattle.std.proofs.lemmas.List.{length-take-le, map-append, take-append-le, take_all}
 use Rattle.std.proofs.lemmas.Grind.{flat_map-append}
 use Rattle.byte_forms.specs.Types.{Text, HashFunction}
 use Rattle.byte_forms.specs.Readings.{some_or}
 use Rattle.byte_forms.proofs.Steps.{bind_ok, ok_is, some_or_ok}
-use Rattle.disk_core.specs.declared.disk.Disk.{Ghosts}
 use Rattle.journal_core.specs.Folds.{taken_from}
-use Rattle.journal_core.specs.Format.{StandsForEither, records_of}
-use Rattle.journal_core.specs.Words.{AppendLeaves, disk_of, is_broken, records}
-use Rattle.journal_core.specs.declared.error.AppendError.{AppendError}
-use Rattle.journal_core.specs.declared.error.AppendError.TheVariants.{Broken, Failed, Full}
-use Rattle.journal_core.specs.declared.journal.Journal.{Journal}
-use Rattle.journal_core.proofs.Records.{records_of-stands}
-use Rattle.log_entry.specs.Matching.{matches}
-use Rattle.issuance_log.specs.Folds.{LogState, LogView, changed, log_fold, log_of, new_log}
-use Rattle.issuance_log.specs.Folds.{next_log, null_entry, view_in, with_item, with_mark}
-use Rattle.issuance_log.specs.Marks.{last_mark}
-use Rattle.issuance_log.specs.Records.{IsShort, entry_record, item_in, landmark_record}
-use Rattle.issuance_log.specs.Records.{mark_in}
+use Rattle.issuance_log.specs.Folds.{LogState, LogView, log_fold, log_of, new_log, next_log}
+use Rattle.issuance_log.specs.Folds.{null_entry, takes_entry, takes_landmark, takes_tiles, view_in}
+use Rattle.issuance_log.specs.Folds.{with_item, with_mark, with_tiles}
+use Rattle.issuance_log.specs.Records.{IsShort, entry_record, item_in, landmark_record, mark_in}
+use Rattle.issuance_log.specs.Records.{tiled_in, tiles_record}
 use Rattle.issuance_log.specs.Shown.{recorded_items, shown_with}
 use Rattle.issuance_log.proofs.Behind.{only_begins, when}
-use Rattle.issuance_log.proofs.Spelled.{item_again, mark_alone}
+use Rattle.issuance_log.proofs.Spelled.{changed_log, item_again, mark_alone, tiles_no_item}
 
 -- the entries and the keys of items
 abbrev pub entries_of : List (Text × Text) → List Text
@@ -36,36 +26,41 @@ abbrev pub keys_of : List (Text × Text) → List Text
 keys_of items = map (λ item. item.1) items
 
 -- the items in the records behind the first
-abbrev later_items : List Text → List (Text × Text)
+abbrev pub later_items : List Text → List (Text × Text)
 later_items bodies = flat_map (λ body. option_to_list (item_in body)) bodies
 
 -- the items of a log are those of another one, and these behind them
-record HasItems (s t : LogState) (items : List (Text × Text)) : Type 0 where
-  entries : t.entries ≡ s.entries ++ entries_of items
-  keys : t.keys ≡ s.keys ++ keys_of items
+pub record HasItems (s t : LogState) (items : List (Text × Text)) : Type 0 where
+  pub entries : t.entries ≡ s.entries ++ entries_of items
+  pub keys : t.keys ≡ s.keys ++ keys_of items
 
-by_items : (h : HashFunction) (s t : LogState) (item : Option (Text × Text)) (mark : Option ℕ)
-    → changed h s item mark ≡ Some t → HasItems s t (option_to_list item)
-by_items h s t (Some x) mark is =
-    let made = when (nat_lt (length s.entries) s.settings.limit && matches h x.0 x.1)
-    (with_item x.0 x.1 s) t is in
+no_items : (s t u : LogState) → u.entries ≡ s.entries → u.keys ≡ s.keys → u ≡ t → HasItems s t []
+no_items s t u entries keys made = record {
+  entries = sym (ap (λ (x : LogState). x.entries) made) ∙ entries ∙ sym (append-nil s.entries);
+  keys = sym (ap (λ (x : LogState). x.keys) made) ∙ keys ∙ sym (append-nil s.keys);
+}
+
+by_items : (h : HashFunction) (s t : LogState) (item : Option (Text × Text))
+    (mark tiled : Option ℕ) → changed_log h s item mark tiled ≡ Some t
+    → HasItems s t (option_to_list item)
+by_items h s t (Some x) mark tiled is =
+    let made = when (takes_entry h (view_in s) x) (with_item x.0 x.1 s) t is in
     record {
       entries = sym (ap (λ (u : LogState). u.entries) made);
       keys = sym (ap (λ (u : LogState). u.keys) made);
     }
-by_items h s t None None is = let wrong : None ≡ Some t = is in absurd cc
-by_items h s t None (Some size) is =
-    let made = when (size == length s.entries && nat_lt (last_mark s.marks) size) (with_mark s) t
-    is in
-    record {
-      entries = sym (ap (λ (u : LogState). u.entries) made) ∙ sym (append-nil s.entries);
-      keys = sym (ap (λ (u : LogState). u.keys) made) ∙ sym (append-nil s.keys);
-    }
+by_items h s t None (Some size) tiled is =
+    no_items s t (with_mark s) refl refl
+    (when (takes_landmark (view_in s) size) (with_mark s) t is)
+by_items h s t None None (Some size) is =
+    no_items s t (with_tiles size s) refl refl
+    (when (takes_tiles (view_in s) size) (with_tiles size s) t is)
+by_items h s t None None None is = let wrong : None ≡ Some t = is in absurd cc
 
-next_items : (h : HashFunction) (s t : LogState) (body : Text) → next_log h s body ≡ Some t
+pub next_items : (h : HashFunction) (s t : LogState) (body : Text) → next_log h s body ≡ Some t
     → HasItems s t (option_to_list (item_in body))
 unfolding next_log
-next_items h s t body is = by_items h s t (item_in body) (mark_in body) is
+next_items h s t body is = by_items h s t (item_in body) (mark_in body) (tiled_in body) is
 
 behind_items : (h : HashFunction) (k : ℕ) (s t : LogState) (bodies : List Text)
     → taken_from (log_fold h) k s bodies ≡ Ok t → HasItems s t (later_items bodies)
@@ -98,8 +93,13 @@ behind_items h k s t (body ∷ bodies) is =
 
 -- what is shown, with these entries and keys
 abbrev made : LogView → List Text → List Text → LogState
-made v entries keys =
-    record { settings = v.settings; entries = entries; keys = keys; marks = v.marks }
+made v entries keys = record {
+  settings = v.settings;
+  entries = entries;
+  keys = keys;
+  marks = v.marks;
+  tiled = v.tiled;
+}
 
 rebuilt : (s : LogState) (entries keys : List Text) → entries ≡ s.entries → keys ≡ s.keys
     → made (view_in s) entries keys ≡ s
@@ -130,7 +130,7 @@ shown_so h list s is =
     ∙ take_all size s.keys (omega (arith, some, even)))
 
 -- a record more has its items behind the others
-recorded_more : (list : List Text) (body : Text) → (rest : List (Text × Text))
+pub recorded_more : (list : List Text) (body : Text) → (rest : List (Text × Text))
     × (recorded_items (list ++ body ∷ []) ≡ recorded_items list ++ rest)
 recorded_more [] body = (recorded_items (body ∷ []), refl)
 recorded_more (first ∷ bodies) body = (
@@ -199,82 +199,53 @@ shown_added v list entry key few_entry few_key some size =
     (one_more (λ item. item.0) v.size (recorded_items list) _ (entry, key) size more)
     (one_more (λ item. item.1) v.size (recorded_items list) _ (entry, key) size more)
 
--- and stays so with a record more
-still_shown : (s : LogState) (list : List Text) (body : Text) → shown_with (view_in s) list ≡ s
-    → shown_with (view_in s) (list ++ body ∷ []) ≡ s
-still_shown s list body is =
-    let n = length s.entries in
-    let taken : length (take n (entries_of (recorded_items list))) ≡ n =
-    ap (λ (u : LogState). length u.entries) is in
-    let least = length-take n (entries_of (recorded_items list)) in
-    let size = length-map (recorded_items list) (λ item. item.0) in
-    shown_longer (view_in s) list body (grind (arith, taken, least, size)) ∙ is
+-- Records that make a log have as many items as it has entries.
+pub all_shown : (h : HashFunction) (list : List Text) (s : LogState) → log_of h list ≡ Ok s
+    → length s.entries ≡ length (recorded_items list)
+all_shown h list s is =
+    let begun = only_begins h list s is in
+    let items : List (Text × Text) = recorded_items (begun.0 ∷ begun.1.0) in
+    let has = behind_items h 1 (new_log s.settings) s begun.1.0 begun.1.1.2 in
+    let entries : s.entries ≡ entries_of items = has.entries in
+    ap (λ (l : List Text). length l) entries ∙ length-map items (λ item. item.0)
+    ∙ ap (λ l. length (recorded_items l)) (sym begun.1.1.0)
 
--- the log is what its records tell
-abbrev pub IsShown : LogState → Option (List Text) → Type 0
-IsShown s records = IfSome records (λ list. shown_with (view_in s) list ≡ s)
+-- as many as are shown, where they are there
+pub shown_size : (v : LogView) (list : List Text) → v.size ≤ length (recorded_items list)
+    → length (shown_with v list).entries ≡ v.size
+shown_size v list within =
+    length-take-le v.size (entries_of (recorded_items list))
+    (subst (λ (n : ℕ). v.size ≤ n)
+    (sym (length-map (recorded_items list) (λ item. item.0))) within)
 
-pub agrees_shown : (h : HashFunction) (s : LogState) (records : Option (List Text))
-    → IfSome records (λ list. log_of h list ≡ Ok s) → IsShown s records
-agrees_shown h s None is = tt
-agrees_shown h s (Some list) is = shown_so h list s is
+-- So the log that records make, as it is shown, has all of their items.
+pub all_are_shown : (h : HashFunction) (v : LogView) (list : List Text)
+    → log_of h list ≡ Ok (shown_with v list) → v.size ≤ length (recorded_items list)
+    → v.size ≡ length (recorded_items list)
+all_are_shown h v list is within =
+    sym (shown_size v list within) ∙ all_shown h list (shown_with v list) is
 
--- also behind an append that failed
-pub failed_shown : (s : LogState) (body : Text) (old : Option (List Text)) (told : Option Text)
-    → is_some (option_map records_of told) ≡ is_some old
-    → IfSome old (λ list. IfSome told (StandsForEither list body)) → IsShown s old
-    → IsShown s (option_map records_of told)
-failed_shown s body old None same either is = tt
-failed_shown s body None (Some b) same either is = absurd cc
-failed_shown s body (Some list) (Some b) same either is = elim either [
-  | inl stands ↦ subst (λ (l : List Text). shown_with (view_in s) l ≡ s)
-      (sym (records_of-stands b list stands)) is
-  | inr stands ↦ subst (λ (l : List Text). shown_with (view_in s) l ≡ s)
-      (sym (records_of-stands b (list ++ body ∷ []) stands)) (still_shown s list body is)
-]
+-- what is shown over every disk, of the log that is shown
+pub shown_view : (v : LogView) (list : List Text) → v.size ≤ length (recorded_items list)
+    → view_in (shown_with v list) ≡ v
+shown_view v list within =
+    ap (λ (n : ℕ). record { settings = v.settings; size = n; marks = v.marks; tiled = v.tiled })
+    (shown_size v list within)
 
-abbrev has_failed : Result (Unit {0}) AppendError
-has_failed = Err Failed
+-- a Tiles has no item
+pub recorded_tiles : (list : List Text) (size : ℕ) → 1 ≤ length (recorded_items list)
+    → recorded_items (list ++ tiles_record size ∷ []) ≡ recorded_items list
+recorded_tiles [] size some = absurd (omega arith)
+recorded_tiles (first ∷ bodies) size some =
+    ap (λ l. (null_entry, []) ∷ l)
+    (flat_map-append (λ b. option_to_list (item_in b)) bodies (tiles_record size ∷ []))
+    ∙ ap (λ o. recorded_items (first ∷ bodies) ++ (option_to_list o ++ [])) (tiles_no_item size)
+    ∙ append-nil (recorded_items (first ∷ bodies))
 
-not_broken : (b : Bool) → (IsErrOf has_failed Broken ↔ IsTrue b) → b ≡ false
-not_broken false is = refl
-not_broken true is = let wrong = is.1 refl in absurd cc
-
--- the records behind an append that was refused
-pub refused_shown : {D : Type 0} {g : Ghosts D} (s : LogState) (body : Text)
-    (old new : Journal D g) (result : Result (Unit {0}) AppendError)
-    → is_ok result ≡ false → AppendLeaves body old new result
-    → (IsErrOf result Broken ↔ IsTrue (is_broken old))
-    → is_some (records new) ≡ is_some (records old)
-    → (is_broken old ≡ false → IfSome (records old) (λ list.
-    IfSome (g.told (disk_of new)) (StandsForEither list body)))
-    → IsShown s (records old) → IsShown s (records new)
-refused_shown {g = g} s body old new (Ok done) same leaves broken told either is = absurd cc
-refused_shown {g = g} s body old new (Err Failed) same leaves broken told either is =
-    failed_shown s body (records old) (g.told (disk_of new)) told
-    (either (not_broken (is_broken old) broken)) is
-refused_shown {g = g} s body old new (Err Broken) same leaves broken told either is =
-    subst (λ d. IsShown s (option_map records_of (g.told d))) (sym leaves.disk) is
-refused_shown {g = g} s body old new (Err Full) same leaves broken told either is =
-    subst (λ d. IsShown s (option_map records_of (g.told d))) (sym leaves.disk) is
-
--- nor does it make other records of a log
-pub refused_agrees : {D : Type 0} {g : Ghosts D} (h : HashFunction) (s : LogState) (body : Text)
-    (old new : Journal D g) (result : Result (Unit {0}) AppendError)
-    → is_ok result ≡ false → AppendLeaves body old new result
-    → (is_broken old ≡ false → IfSome (records old) (λ list. log_of h list ≡ Ok s))
-    → is_broken new ≡ false → IfSome (records new) (λ list. log_of h list ≡ Ok s)
-refused_agrees {g = g} h s body old new (Ok done) same leaves agrees sound = absurd cc
-refused_agrees {g = g} h s body old new (Err Failed) same leaves agrees sound =
-    let wrong : true ≡ false = sym leaves.broken ∙ sound in absurd cc
-refused_agrees {g = g} h s body old new (Err Broken) same leaves agrees sound =
-    subst (λ d. IfSome (option_map records_of (g.told d)) (λ list. log_of h list ≡ Ok s))
-    (sym leaves.disk) (agrees (sym leaves.broken ∙ sound))
-refused_agrees {g = g} h s body old new (Err Full) same leaves agrees sound =
-    subst (λ d. IfSome (option_map records_of (g.told d)) (λ list. log_of h list ≡ Ok s))
-    (sym leaves.disk) (agrees (sym leaves.broken ∙ sound))
-
-pub told_so : (s : LogState) (records : Option (List Text)) → IsShown s records
-    → IfSome (option_map (shown_with (view_in s)) records) (λ t. t ≡ s)
-told_so s None is = tt
-told_so s (Some list) is = is
+-- what is shown behind a record without an item
+pub shown_none : (v w : LogView) (list : List Text) (body : Text)
+    → recorded_items (list ++ body ∷ []) ≡ recorded_items list → w.size ≡ v.size
+    → (shown_with w (list ++ body ∷ [])).entries ≡ (shown_with v list).entries
+shown_none v w list body same size =
+    ap (λ l. take w.size (entries_of l)) same
+    ∙ ap (λ (n : ℕ). take n (entries_of (recorded_items list))) size

@@ -1,5 +1,5 @@
 -- The records of a log are read as they are spelled.
-use Rattle.std.proofs.Common.{◌≡◌, ℕ, ◌+◌, ◌^◌, ◌<◌, ◌≤◌, ◌&&◌, ◌==◌, nat_lt, if◌then◌else◌, Bool}
+use Rattle.std.proofs.Common.{◌≡◌, ℕ, ◌+◌, ◌%◌, ◌^◌, ◌==◌, ◌<◌, ◌≤◌, if◌then◌else◌, Bool}
 use Rattle.std.proofs.Common.{true, false, List, [], ◌∷◌, ◌++◌, length, Option, Some, None}
 use Rattle.std.proofs.Common.{option_map, option_and_then, Result, Ok, Err, refl, ap, sym, ◌∙◌}
 use Rattle.std.proofs.Common.{arith}
@@ -20,11 +20,13 @@ use Rattle.tls_wire.specs.declared.cursor.Short.{Short}
 use Rattle.tls_wire.proofs.Numbers.{wide8, wide16, wide32, wide64, number_form}
 use Rattle.tls_wire.proofs.Vectors.{vector_form}
 use Rattle.tls_wire.proofs.AnchorForm.{anchor_again}
-use Rattle.issuance_log.specs.Folds.{LogState, new_log, with_item, with_mark, with_entry}
-use Rattle.issuance_log.specs.Folds.{with_landmark, changed, begun_log, next_log, log_fold, log_of}
+use Rattle.issuance_log.specs.Folds.{LogState, new_log, with_item, with_mark, with_tiles, view_in}
+use Rattle.issuance_log.specs.Folds.{changed, begun_log, next_log, log_fold, log_of, takes_entry}
+use Rattle.issuance_log.specs.Folds.{takes_landmark, takes_tiles}
 use Rattle.issuance_log.specs.Marks.{last_mark}
 use Rattle.log_entry.specs.Matching.{matches}
-use Rattle.issuance_log.specs.Records.{log_tag, entry_tag, landmark_tag, settings_at, entry_at}
+use Rattle.issuance_log.specs.Records.{log_tag, entry_tag, landmark_tag, tiles_tag, settings_at}
+use Rattle.issuance_log.specs.Records.{entry_at, tiled_in, tiles_record}
 use Rattle.issuance_log.specs.Records.{with_id, log_settings_with, tagged, settings_in}
 use Rattle.issuance_log.specs.Records.{item_in, mark_in, settings_record, IsShort, entry_record}
 use Rattle.issuance_log.specs.Records.{landmark_record}
@@ -43,6 +45,10 @@ pub length-entry : (entry key : List ℕ)
     → length (entry_record entry key) ≡ 5 + length entry + length key
 unfolding entry_record
 length-entry entry key = simp length-append (omega arith)
+
+pub length-tiles : (size : ℕ) → length (tiles_record size) ≡ 9
+unfolding tiles_record
+length-tiles size = simp length-append (omega arith)
 
 pub length-landmark : (size : ℕ) → length (landmark_record size) ≡ 9
 unfolding landmark_record
@@ -147,17 +153,21 @@ no_item body Unfit is none = none
 no_item body Memory is none = let wrong : Memory ≡ Unfit = is in cc
 
 -- the log behind an Entry, and behind any other record
-pub next_item : (h : List ℕ → List ℕ) (s : LogState) (body : List ℕ) (item : List ℕ × List ℕ)
-    → item_in body ≡ Some item → next_log h s body ≡ with_entry h s item
-unfolding next_log
-next_item h s body item is =
-    ap (λ (o : Option (List ℕ × List ℕ)). changed h s o (mark_in body)) is
+-- what a record makes of a log, by what it says
+abbrev pub changed_log : (h : List ℕ → List ℕ) → LogState → Option (List ℕ × List ℕ) → Option ℕ
+    → Option ℕ → Option LogState
+changed_log h s item mark tiled =
+    changed h (view_in s) (λ x. with_item x.0 x.1 s) (with_mark s) (λ size. with_tiles size s) item
+    mark tiled
 
-pub next_other : (h : List ℕ → List ℕ) (s : LogState) (body : List ℕ) → item_in body ≡ None
-    → next_log h s body ≡ option_and_then (with_landmark s) (mark_in body)
+pub next_says : (h : List ℕ → List ℕ) (s : LogState) (body : List ℕ)
+    (item : Option (List ℕ × List ℕ)) (mark tiled : Option ℕ) → item_in body ≡ item
+    → mark_in body ≡ mark → tiled_in body ≡ tiled
+    → next_log h s body ≡ changed_log h s item mark tiled
 unfolding next_log
-next_other h s body none =
-    ap (λ (o : Option (List ℕ × List ℕ)). changed h s o (mark_in body)) none
+next_says h s body item mark tiled one two three =
+    ap (λ o. changed_log h s o (mark_in body) (tiled_in body)) one
+    ∙ ap (λ o. changed_log h s item o (tiled_in body)) two ∙ ap (changed_log h s item mark) three
 
 -- ---- a Landmark
 
@@ -180,6 +190,30 @@ pub mark_alone : (size : ℕ) → item_in (landmark_record size) ≡ None
 unfolding item_in landmark_record
 mark_alone size = ap (tagged entry_tag entry_at)
     ((number_form w8 (2 ^ 8) wide8).again landmark_tag 0 (number w64 size) (omega arith) tt)
+
+-- ---- a Tiles
+
+pub tiled_again : (size : ℕ) → size < 2 ^ 64 → tiled_in (tiles_record size) ≡ Some size
+unfolding tiled_in tiles_record
+tiled_again size fits = tagged_again tiles_tag (omega arith) (number w64) IsLong (number_at w64)
+    (number_form w64 (2 ^ 64) wide64) size fits
+
+pub tiled_takes : (body : List ℕ) (size : ℕ) → IsBytes body → tiled_in body ≡ Some size
+    → (body ≡ tiles_record size) × (size < 2 ^ 64)
+unfolding tiled_in tiles_record
+tiled_takes body size bytes is = tagged_takes tiles_tag (omega arith) (number w64) IsLong
+    (number_at w64) (number_form w64 (2 ^ 64) wide64) body size bytes is
+
+-- a Tiles is neither an Entry nor a Landmark
+pub tiles_no_item : (size : ℕ) → item_in (tiles_record size) ≡ None
+unfolding item_in tiles_record
+tiles_no_item size = ap (tagged entry_tag entry_at)
+    ((number_form w8 (2 ^ 8) wide8).again tiles_tag 0 (number w64 size) (omega arith) tt)
+
+pub tiles_no_mark : (size : ℕ) → mark_in (tiles_record size) ≡ None
+unfolding mark_in tiles_record
+tiles_no_mark size = ap (tagged landmark_tag (number_at w64))
+    ((number_form w8 (2 ^ 8) wide8).again tiles_tag 0 (number w64 size) (omega arith) tt)
 
 -- ---- a Log
 
@@ -245,9 +279,10 @@ pub next_added : (h : List ℕ → List ℕ) (s : LogState) (entry key : List �
     → matches h entry key ≡ true → next_log h s (entry_record entry key)
     ≡ Some (with_item entry key s)
 next_added h s entry key room few_entry few_key belongs =
-    let test : (nat_lt (length s.entries) s.settings.limit && matches h entry key) ≡ true =
+    let test : takes_entry h (view_in s) (entry, key) ≡ true =
     rw (lt-ltb (length s.entries) s.settings.limit room, belongs) refl in
-    next_item h s (entry_record entry key) (entry, key) (item_again entry key few_entry few_key)
+    next_says h s (entry_record entry key) (Some (entry, key)) _ _
+    (item_again entry key few_entry few_key) refl refl
     ∙ ap (λ (b : Bool). if b then Some (with_item entry key s) else None) test
 
 -- of one Landmark more
@@ -256,11 +291,26 @@ pub next_marked : (h : List ℕ → List ℕ) (s : LogState) → length s.entrie
     → next_log h s (landmark_record (length s.entries)) ≡ Some (with_mark s)
 next_marked h s fits above =
     let size = length s.entries in
-    let test : (size == size && nat_lt (last_mark s.marks) size) ≡ true =
+    let test : takes_landmark (view_in s) size ≡ true =
     rw (eq-eqb size size refl, lt-ltb (last_mark s.marks) size above) refl in
-    next_other h s (landmark_record size) (mark_alone size)
-    ∙ ap (option_and_then (with_landmark s)) (mark_again size fits)
+    next_says h s (landmark_record size) None (Some size) _ (mark_alone size)
+    (mark_again size fits) refl
     ∙ ap (λ (b : Bool). if b then Some (with_mark s) else None) test
+
+-- of one Tiles more
+pub next_tiled : (h : List ℕ → List ℕ) (s : LogState) (size : ℕ) → size < 2 ^ 64
+    → size % 256 ≡ 0 → s.tiled < size → size ≤ length s.entries
+    → next_log h s (tiles_record size) ≡ Some (with_tiles size s)
+next_tiled h s size fits multiple above within =
+    let test : takes_tiles (view_in s) size ≡ true =
+    rw (
+      eq-eqb (size % 256) 0 multiple,
+      lt-ltb s.tiled size above,
+      le-leb size (length s.entries) within,
+    ) refl in
+    next_says h s (tiles_record size) None None (Some size) (tiles_no_item size)
+    (tiles_no_mark size) (tiled_again size fits)
+    ∙ ap (λ (b : Bool). if b then Some (with_tiles size s) else None) test
 
 pub log_added : (h : List ℕ → List ℕ) (list : List (List ℕ)) (s : LogState) (entry key : List ℕ)
     → log_of h list ≡ Ok s → length s.entries < s.settings.limit
@@ -276,3 +326,11 @@ pub log_marked : (h : List ℕ → List ℕ) (list : List (List ℕ)) (s : LogSt
 log_marked h list s is fits above =
     state_next (log_fold h) list s (landmark_record (length s.entries)) (with_mark s) is
     (next_marked h s fits above)
+
+pub log_tiled : (h : List ℕ → List ℕ) (list : List (List ℕ)) (s : LogState) (size : ℕ)
+    → log_of h list ≡ Ok s → size < 2 ^ 64 → size % 256 ≡ 0 → s.tiled < size
+    → size ≤ length s.entries
+    → log_of h (list ++ tiles_record size ∷ []) ≡ Ok (with_tiles size s)
+log_tiled h list s size is fits multiple above within =
+    state_next (log_fold h) list s (tiles_record size) (with_tiles size s) is
+    (next_tiled h s size fits multiple above within)

@@ -1,36 +1,41 @@
 -- What the records of a journal make of a log. The first one begins it, and each later one changes
 -- it by what it says.
-use Rattle.std.specs.Prelude.{ℕ, ◌==◌, ◌&&◌, nat_lt, List, [], ◌∷◌, ◌++◌, length, Option, Some}
-use Rattle.std.specs.Prelude.{None, option_map, option_and_then, Result, is_ok, if◌then◌else◌, Bool}
+use Rattle.std.specs.Prelude.{ℕ, ◌+◌, ◌%◌, ◌==◌, ◌&&◌, nat_lt, nat_le, List, [], ◌∷◌, ◌++◌, length}
+use Rattle.std.specs.Prelude.{Option, Some, None, option_map, Result, is_ok}
+use Rattle.std.specs.Prelude.{if◌then◌else◌, Bool}
 use Rattle.byte_forms.specs.Types.{Text, HashFunction}
 use Rattle.journal_core.specs.Folds.{Fold, state_behind, taken_from}
 use Rattle.log_entry.specs.Matching.{matches}
 use Rattle.issuance_log.specs.Marks.{last_mark}
-use Rattle.issuance_log.specs.Records.{settings_in, item_in, mark_in}
+use Rattle.issuance_log.specs.Records.{settings_in, item_in, mark_in, tiled_in}
 use Rattle.issuance_log.specs.Settings.{Settings}
 use Rattle.issuance_log.specs.declared.error.LogOpenError.{LogOpenError}
 use Rattle.issuance_log.specs.declared.error.LogOpenError.TheVariants.{BadRecord, Open}
 
--- A log: its settings, its entries by their index, the key of each, and the sizes at its landmarks.
+-- A log: its settings, its entries by their index, the key of each, the sizes at its landmarks, and
+-- the last size whose full tiles are stored, 0 where there is none.
 pub record LogState : Type 0 where
   pub settings : Settings
   pub entries : List Text
   pub keys : List Text
   pub marks : List ℕ
+  pub tiled : ℕ
 
--- What its refusals look at: the settings, how many entries there are, and the landmarks.
+-- What it shows over every disk: the settings, how many entries there are, the landmarks, and the
+-- last size of its tiles.
 pub record LogView : Type 0 where
   pub settings : Settings
   pub size : ℕ
   pub marks : List ℕ
+  pub tiled : ℕ
 
 abbrev pub view_in : LogState → LogView
-view_in s = record { settings = s.settings; size = length s.entries; marks = s.marks }
+view_in s =
+    record { settings = s.settings; size = length s.entries; marks = s.marks; tiled = s.tiled }
 
--- what is kept of a log: the log, and how many items and landmarks more need no memory
-pub record LogContents : Type 0 where
-  pub state : LogState
-  pub spare : ℕ
+-- what is kept of the numbers: what the log shows, and how many landmarks more need no memory
+pub record LogNumbers : Type 0 where
+  pub view : LogView
   pub mark_spare : ℕ
 
 -- the null entry
@@ -39,8 +44,13 @@ null_entry = 0 ∷ 0 ∷ []
 
 -- a new log has the null entry, without a key
 abbrev pub new_log : Settings → LogState
-new_log settings =
-    record { settings = settings; entries = null_entry ∷ []; keys = [] ∷ []; marks = [] }
+new_log settings = record {
+  settings = settings;
+  entries = null_entry ∷ [];
+  keys = [] ∷ [];
+  marks = [];
+  tiled = 0;
+}
 
 -- one item more
 abbrev pub with_item : Text → Text → LogState → LogState
@@ -50,29 +60,59 @@ with_item entry key s = record s { entries = s.entries ++ entry ∷ []; keys = s
 abbrev pub with_mark : LogState → LogState
 with_mark s = record s { marks = s.marks ++ length s.entries ∷ [] }
 
+-- the tiles of this size
+abbrev pub with_tiles : ℕ → LogState → LogState
+with_tiles size s = record s { tiled = size }
+
+-- what the three make of what a log shows over every disk
+abbrev pub one_item_more : LogView → LogView
+one_item_more v = record v { size = v.size + 1 }
+
+abbrev pub one_mark_more : LogView → LogView
+one_mark_more v = record v { marks = v.marks ++ v.size ∷ [] }
+
+abbrev pub tiled_to : ℕ → LogView → LogView
+tiled_to size v = record v { tiled = size }
+
 -- the log that a first record begins
 unfoldable pub begun_log : Text → Option LogState
 begun_log body = option_map new_log (settings_in body)
 
--- an Entry: its key matches, and the log isn't full
-abbrev pub with_entry : HashFunction → LogState → Text × Text → Option LogState
-with_entry h s x =
-    if nat_lt (length s.entries) s.settings.limit && matches h x.0 x.1
-    then Some (with_item x.0 x.1 s) else None
+-- Whether a log that shows this takes an Entry: its key matches, and the log isn't full.
+abbrev pub takes_entry : HashFunction → LogView → Text × Text → Bool
+takes_entry h v x = nat_lt v.size v.settings.limit && matches h x.0 x.1
 
 -- a Landmark: it is the size, and above the last one
-abbrev pub with_landmark : LogState → ℕ → Option LogState
-with_landmark s size =
-    if size == length s.entries && nat_lt (last_mark s.marks) size then Some (with_mark s) else None
+abbrev pub takes_landmark : LogView → ℕ → Bool
+takes_landmark v size = size == v.size && nat_lt (last_mark v.marks) size
 
--- by the item of an Entry, or else the size of a Landmark; any other record breaks the rules
-abbrev pub changed : HashFunction → LogState → Option (Text × Text) → Option ℕ → Option LogState
-changed h s (Some item) mark = with_entry h s item
-changed h s None mark = option_and_then (with_landmark s) mark
+-- a Tiles: a multiple of 256, above the last one and within the size
+abbrev pub takes_tiles : LogView → ℕ → Bool
+takes_tiles v size = (size % 256 == 0) && (nat_lt v.tiled size && nat_le size v.size)
+
+-- what a record makes of something, by what it says: an item, a landmark or tiles, each where the
+-- log takes it; any other record breaks the rules
+abbrev pub changed : {S : Type 0} → HashFunction → LogView → (Text × Text → S) → S → (ℕ → S)
+    → Option (Text × Text) → Option ℕ → Option ℕ → Option S
+changed h v item mark tiles (Some x) at to =
+    if takes_entry h v x then Some (item x) else None
+changed h v item mark tiles None (Some size) to =
+    if takes_landmark v size then Some mark else None
+changed h v item mark tiles None None (Some size) =
+    if takes_tiles v size then Some (tiles size) else None
+changed h v item mark tiles None None None = None
 
 -- the log behind one record more, or none where the record breaks the rules
 unfoldable pub next_log : HashFunction → LogState → Text → Option LogState
-next_log h s body = changed h s (item_in body) (mark_in body)
+next_log h s body =
+    changed h (view_in s) (λ x. with_item x.0 x.1 s) (with_mark s) (λ size. with_tiles size s)
+    (item_in body) (mark_in body) (tiled_in body)
+
+-- what it shows over every disk behind one record more
+unfoldable pub next_view : HashFunction → LogView → Text → Option LogView
+next_view h v body =
+    changed h v (λ x. one_item_more v) (one_mark_more v) (λ size. tiled_to size v)
+    (item_in body) (mark_in body) (tiled_in body)
 
 -- A log as a kind of journal.
 abbrev pub log_fold : HashFunction → Fold LogState LogOpenError

@@ -1,7 +1,12 @@
+pub mod Counted
+pub mod Entries
 pub mod Faults
 pub mod Folds
+pub mod Gathered
+pub mod Items
 pub mod Marks
 pub mod Openings
+pub mod Places
 pub mod Records
 pub mod Refusals
 pub mod Results

@@ -24,6 +24,9 @@ entry_tag = 2
 abbrev pub landmark_tag : ℕ
 landmark_tag = 3
 
+abbrev pub tiles_tag : ℕ
+tiles_tag = 4
+
 -- ---- spelled
 
 -- Log: the id behind its length of one byte, the most active landmarks and the limit in
@@ -43,6 +46,10 @@ entry_record entry key = number w8 entry_tag ++ (vector w16 entry ++ vector w16 
 -- Landmark: the size in eight bytes
 unfoldable pub landmark_record : ℕ → Text
 landmark_record size = number w8 landmark_tag ++ number w64 size
+
+-- Tiles: the size in eight bytes
+unfoldable pub tiles_record : ℕ → Text
+tiles_record size = number w8 tiles_tag ++ number w64 size
 
 -- ---- read
 
@@ -81,3 +88,7 @@ item_in body = tagged entry_tag entry_at (number_at w8 (at body 0))
 -- the size in a Landmark
 unfoldable pub mark_in : Text → Option ℕ
 mark_in body = tagged landmark_tag (number_at w64) (number_at w8 (at body 0))
+
+-- the size in a Tiles
+unfoldable pub tiled_in : Text → Option ℕ
+tiled_in body = tagged tiles_tag (number_at w64) (number_at w8 (at body 0))

@@ -1,17 +1,19 @@
 -- What the calls of a log refuse, as functions of what it shows.
-use Rattle.std.specs.Prelude.{◌≡◌, ◌≢◌, ℕ, ◌+◌, ◌==◌, nat_lt, Bool, [], length, slice_index_or}
-use Rattle.std.specs.Prelude.{Option, Some, None, option_map, Result, Ok, Err, if◌then◌else◌}
+use Rattle.std.specs.Prelude.{◌≡◌, ◌≢◌, ℕ, ◌+◌, ◌*◌, ◌/◌, ◌==◌, nat_le, nat_lt, Bool, [], length}
+use Rattle.std.specs.Prelude.{slice_index_or, Option, Some, None, option_map, Result, Ok, Err}
+use Rattle.std.specs.Prelude.{if◌then◌else◌}
 use Rattle.byte_forms.specs.Types.{Text}
 use Rattle.journal_core.specs.Format.{most_bytes}
 use Rattle.journal_core.specs.declared.error.AppendError.{AppendError}
 use Rattle.journal_core.specs.declared.error.AppendError.TheVariants as append_error
 use Rattle.issuance_log.specs.Folds.{LogState, LogView}
 use Rattle.issuance_log.specs.Marks.{last_mark}
-use Rattle.issuance_log.specs.Records.{entry_record, landmark_record}
+use Rattle.issuance_log.specs.Records.{entry_record, landmark_record, tiles_record}
 use Rattle.issuance_log.specs.Settings.{most_item}
 use Rattle.issuance_log.specs.declared.error.LogError.{LogError}
 use Rattle.issuance_log.specs.declared.error.LogError.TheVariants.{Full, TooLarge, NoSuchEntry}
-use Rattle.issuance_log.specs.declared.error.LogError.TheVariants.{NothingNew, Append, Memory}
+use Rattle.issuance_log.specs.declared.error.LogError.TheVariants.{NothingNew, Failed, Append}
+use Rattle.issuance_log.specs.declared.error.LogError.TheVariants.{Memory}
 
 -- The refusal of a record that the journal settles, the first that holds: of a journal that an
 -- append has broken, and of one whose file would pass 2^31 bytes.
@@ -34,6 +36,17 @@ mark_refusal v broken end =
     if last_mark v.marks == v.size then Some NothingNew
     else option_map Append (append_refusal broken end (landmark_record v.size))
 
+-- the greatest multiple of 256 that isn't above the size
+abbrev pub full_size : LogView → ℕ
+full_size v = v.size / 256 * 256
+
+-- The refusal of tiles: where this number isn't above the last size of tiles, and what the journal
+-- refuses.
+unfoldable pub tile_refusal : LogView → Bool → ℕ → Option LogError
+tile_refusal v broken end =
+    if nat_le (full_size v) v.tiled then Some NothingNew
+    else option_map Append (append_refusal broken end (tiles_record (full_size v)))
+
 -- The answer to an item keeps to its refusal. Memory may be refused behind the first two tests, and
 -- a fault told where there is no refusal.
 abbrev pub ItemKeepsTo : Option LogError → Result ℕ LogError → Type 0
@@ -42,6 +55,7 @@ ItemKeepsTo wanted (Err Full) = wanted ≡ Some Full
 ItemKeepsTo wanted (Err TooLarge) = wanted ≡ Some TooLarge
 ItemKeepsTo wanted (Err NoSuchEntry) = ⊥
 ItemKeepsTo wanted (Err NothingNew) = ⊥
+ItemKeepsTo wanted (Err Failed) = ⊥
 ItemKeepsTo wanted (Err (Append append_error.Failed)) = wanted ≡ None
 ItemKeepsTo wanted (Err (Append append_error.Broken)) = wanted ≡ Some (Append append_error.Broken)
 ItemKeepsTo wanted (Err (Append append_error.Full)) = wanted ≡ Some (Append append_error.Full)
@@ -54,10 +68,25 @@ MarkKeepsTo wanted (Err Full) = ⊥
 MarkKeepsTo wanted (Err TooLarge) = ⊥
 MarkKeepsTo wanted (Err NoSuchEntry) = ⊥
 MarkKeepsTo wanted (Err NothingNew) = wanted ≡ Some NothingNew
+MarkKeepsTo wanted (Err Failed) = ⊥
 MarkKeepsTo wanted (Err (Append append_error.Failed)) = wanted ≡ None
 MarkKeepsTo wanted (Err (Append append_error.Broken)) = wanted ≡ Some (Append append_error.Broken)
 MarkKeepsTo wanted (Err (Append append_error.Full)) = wanted ≡ Some (Append append_error.Full)
 MarkKeepsTo wanted (Err Memory) = wanted ≢ Some NothingNew
+
+-- And so does the answer to tiles. Behind the first test memory may be refused, and then a fault of
+-- the disk of the tiles told, also where the journal would refuse.
+abbrev pub TilesKeepTo : Option LogError → Result ℕ LogError → Type 0
+TilesKeepTo wanted (Ok size) = wanted ≡ None
+TilesKeepTo wanted (Err Full) = ⊥
+TilesKeepTo wanted (Err TooLarge) = ⊥
+TilesKeepTo wanted (Err NoSuchEntry) = ⊥
+TilesKeepTo wanted (Err NothingNew) = wanted ≡ Some NothingNew
+TilesKeepTo wanted (Err Failed) = wanted ≢ Some NothingNew
+TilesKeepTo wanted (Err (Append append_error.Failed)) = wanted ≡ None
+TilesKeepTo wanted (Err (Append append_error.Broken)) = wanted ≡ Some (Append append_error.Broken)
+TilesKeepTo wanted (Err (Append append_error.Full)) = wanted ≡ Some (Append append_error.Full)
+TilesKeepTo wanted (Err Memory) = wanted ≢ Some NothingNew
 
 -- the entry and the key at an index
 unfoldable pub item_at : LogState → ℕ → Result (Text × Text) LogError
@@ -66,11 +95,11 @@ item_at s index =
     then Ok (slice_index_or s.entries index [], slice_index_or s.keys index [])
     else Err NoSuchEntry
 
--- two byte strings hold that item; both are empty after a refusal, for which memory alone may be
--- the reason beside it
+-- two byte strings hold that item; after a refusal, for which memory or a fault may be the reason
+-- beside it, this says nothing of them
 abbrev pub GivesItem : Result (Text × Text) LogError → Result (Unit {0}) LogError
     → Text → Text → Type 0
 GivesItem wanted (Ok done) entry key = wanted ≡ Ok (entry, key)
 GivesItem wanted (Err why) entry key =
-    (why ≢ Memory → wanted ≡ Err why) × (wanted ≡ Err NoSuchEntry → why ≡ NoSuchEntry)
-    × (entry ≡ []) × (key ≡ [])
+    (why ≢ Memory → why ≢ Failed → wanted ≡ Err why)
+    × (wanted ≡ Err NoSuchEntry → why ≡ NoSuchEntry)

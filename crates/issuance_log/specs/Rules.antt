@@ -1,11 +1,12 @@
 -- The rules of a log's records, each for itself.
-use Rattle.std.specs.Prelude.{◌≡◌, ◌⊎◌, ◌^◌, ◌<◌, true, length}
+use Rattle.std.specs.Prelude.{◌≡◌, ◌⊎◌, ℕ, ◌%◌, ◌^◌, ◌<◌, ◌≤◌, true, length}
 use Rattle.byte_forms.specs.Types.{Text, HashFunction}
 use Rattle.log_entry.specs.Matching.{matches}
 use Rattle.tls_wire.specs.Arcs.{IsAnchorId}
-use Rattle.issuance_log.specs.Folds.{LogState, new_log, with_item, with_mark}
+use Rattle.issuance_log.specs.Folds.{LogState, new_log, with_item, with_mark, with_tiles}
 use Rattle.issuance_log.specs.Marks.{last_mark}
 use Rattle.issuance_log.specs.Records.{settings_record, IsShort, entry_record, landmark_record}
+use Rattle.issuance_log.specs.Records.{tiles_record}
 use Rattle.issuance_log.specs.Settings.{Settings, AreAllowed}
 
 -- The first record is a Log with an anchor id and allowed numbers. It makes a log of the null
@@ -36,6 +37,18 @@ pub record IsLandmarkRecord (s : LogState) (body : Text) (t : LogState) : Type 0
   pub above : last_mark s.marks < length s.entries
   pub made : t ≡ with_mark s
 
--- Each later record is one or the other.
+-- A Tiles is a multiple of 256, above the last one and within the size. It makes the log with the
+-- tiles of this size.
+pub record IsTilesRecord (s : LogState) (body : Text) (t : LogState) : Type 0 where
+  pub size : ℕ
+  pub spelled : body ≡ tiles_record size
+  pub fits : size < 2 ^ 64
+  pub multiple : size % 256 ≡ 0
+  pub above : s.tiled < size
+  pub within : size ≤ length s.entries
+  pub made : t ≡ with_tiles size s
+
+-- Each later record is one of the three.
 abbrev pub IsNext : HashFunction → LogState → Text → LogState → Type 0
-IsNext h s body t = IsEntryRecord h s body t ⊎ IsLandmarkRecord s body t
+IsNext h s body t =
+    IsEntryRecord h s body t ⊎ (IsLandmarkRecord s body t ⊎ IsTilesRecord s body t)

@@ -19,4 +19,5 @@ shown_with v list = record {
   entries = take v.size (map (λ item. item.0) (recorded_items list));
   keys = take v.size (map (λ item. item.1) (recorded_items list));
   marks = v.marks;
+  tiled = v.tiled;
 }

@@ -1,11 +1,23 @@
--- What holds of every log, over any disk.
-use Rattle.std.specs.Prelude.{◌≡◌, ℕ, ◌<◌, ◌≤◌, true, [], length, slice_index_or}
+-- What holds of every log.
+use Rattle.std.specs.Prelude.{◌≡◌, ℕ, ◌<◌, ◌≤◌, ◌%◌, true, List, [], ◌∷◌, length, slice_index_or}
+use Rattle.std.proofs.Props.{props}
 use Rattle.byte_forms.specs.Types.{Text, HashFunction}
 use Rattle.log_entry.specs.Matching.{matches}
-use Rattle.issuance_log.specs.Folds.{LogState, null_entry}
+use Rattle.issuance_log.specs.Folds.{LogState, LogView, view_in, null_entry}
 use Rattle.issuance_log.specs.Marks.{AreRising}
 use Rattle.issuance_log.specs.Records.{IsShort}
 use Rattle.issuance_log.specs.Settings.{AreAllowed}
+
+-- Over any disk. Its numbers are allowed, its entries are within its limit, and there is one at
+-- least. Its landmarks rise up to its size at most, and its tiles are those of a multiple of 256 up
+-- to its size.
+pub record HasSoundNumbers (v : LogView) : Type 0 where
+  pub allowed : AreAllowed v.settings.max_active v.settings.limit
+  pub some : 1 ≤ v.size
+  pub few : v.size ≤ v.settings.limit
+  pub marks : AreRising 0 v.size v.marks
+  pub multiple : v.tiled % 256 ≡ 0
+  pub tiled : v.tiled ≤ v.size
 
 -- An item of a log behind the first: the entry reads as one of type 1, to which the key belongs,
 -- and the length of each is told in two bytes.
@@ -14,15 +26,26 @@ pub record IsItem (h : HashFunction) (entry key : Text) : Type 0 where
   pub short_entry : IsShort entry
   pub short_key : IsShort key
 
--- Its numbers are allowed, its entries are within its limit, and each has a key: the null entry
--- none, each later one that which belongs to it. Its landmarks rise up to its size at most.
+-- Where its disk tells the records: beside the numbers, each entry has a key, the null entry none,
+-- and each later one that which belongs to it.
 pub record IsSound (h : HashFunction) (s : LogState) : Type 0 where
-  pub allowed : AreAllowed s.settings.max_active s.settings.limit
-  pub some : 1 ≤ length s.entries
-  pub few : length s.entries ≤ s.settings.limit
+  pub numbers : HasSoundNumbers (view_in s)
   pub even : length s.keys ≡ length s.entries
   pub first_entry : slice_index_or s.entries 0 [] ≡ null_entry
   pub first_key : slice_index_or s.keys 0 [] ≡ []
   pub items : (i : ℕ) → 1 ≤ i → i < length s.entries
       → IsItem h (slice_index_or s.entries i []) (slice_index_or s.keys i [])
-  pub marks : AreRising 0 (length s.entries) s.marks
+
+-- each has one proof at most
+AreRising-prop : (from to : ℕ) (marks : List ℕ) → IsProp (AreRising from to marks)
+AreRising-prop from to [] = hlevel props
+AreRising-prop from to (mark ∷ marks) = hlevel (props, AreRising-prop mark to marks)
+
+pub HasSoundNumbers-prop : (v : LogView) → IsProp (HasSoundNumbers v)
+HasSoundNumbers-prop v = hlevel (props, AreRising-prop 0 v.size v.marks)
+
+IsItem-prop : (h : HashFunction) (entry key : Text) → IsProp (IsItem h entry key)
+IsItem-prop h entry key = hlevel props
+
+pub IsSound-prop : (h : HashFunction) (s : LogState) → IsProp (IsSound h s)
+IsSound-prop h s = hlevel (props, HasSoundNumbers-prop (view_in s), IsItem-prop)

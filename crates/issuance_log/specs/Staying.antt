@@ -3,32 +3,55 @@ use Rattle.std.proofs.Common.{refl, ◌∙◌}
 use Rattle.byte_forms.specs.Types.{Text}
 use Rattle.disk_core.proofs.Moments.{looked_on, no_look}
 use Rattle.disk_core.specs.declared.disk.Disk.{Ghosts}
-use Rattle.issuance_log.specs.Words.{LogStays, log_disk}
+use Rattle.issuance_log.specs.Words.{LogAsksTiles, LogStays, log_disk, log_tiles_disk}
 use Rattle.issuance_log.specs.declared.log.Log.{Log}
 use Rattle.tree_core.specs.declared.hashing.TreeHash.{Ghosts as Hashes}
 
-module _ {H D : Type 0} {hashes : Hashes H} {g : Ghosts D} where
+module _ {H D T : Type 0} {hashes : Hashes H} {g : Ghosts D} {k : Ghosts T} where
   -- without a call
-  pub stays_alone : (log : Log H D hashes g)
-      → ((c : Text) → g.left_since (log_disk log) (g.moment (log_disk log)) c
-      → g.may_leave (log_disk log) c) → LogStays log log
-  stays_alone log only_now = record {
-    looks = no_look g (log_disk log) only_now;
-    fine = refl;
-    state = refl;
-    records = refl;
+  pub asks_alone : (log : Log H D T hashes g k)
+      → ((c : Text) → k.left_since (log_tiles_disk log) (k.moment (log_tiles_disk log)) c
+      → k.may_leave (log_tiles_disk log) c) → LogAsksTiles log log
+  asks_alone log only_now = record {
+    disk = refl;
+    tiles = no_look k (log_tiles_disk log) only_now;
+    view = refl;
     end = refl;
     broken = refl;
   }
 
   -- in two calls
-  pub stays_both : (old mid new : Log H D hashes g) → LogStays old mid → LogStays mid new
+  pub asks_both : (old mid new : Log H D T hashes g k) → LogAsksTiles old mid
+      → LogAsksTiles mid new → LogAsksTiles old new
+  asks_both old mid new first second = record {
+    disk = second.disk ∙ first.disk;
+    tiles = looked_on k (log_tiles_disk old) (log_tiles_disk mid) (log_tiles_disk new) first.tiles
+        second.tiles;
+    view = second.view ∙ first.view;
+    end = second.end ∙ first.end;
+    broken = second.broken ∙ first.broken;
+  }
+
+  pub stays_alone : (log : Log H D T hashes g k)
+      → ((c : Text) → g.left_since (log_disk log) (g.moment (log_disk log)) c
+      → g.may_leave (log_disk log) c)
+      → ((c : Text) → k.left_since (log_tiles_disk log) (k.moment (log_tiles_disk log)) c
+      → k.may_leave (log_tiles_disk log) c) → LogStays log log
+  stays_alone log only_now tiles_now = record {
+    looks = no_look g (log_disk log) only_now;
+    tiles = no_look k (log_tiles_disk log) tiles_now;
+    view = refl;
+    end = refl;
+    broken = refl;
+  }
+
+  pub stays_both : (old mid new : Log H D T hashes g k) → LogStays old mid → LogStays mid new
       → LogStays old new
   stays_both old mid new first second = record {
     looks = looked_on g (log_disk old) (log_disk mid) (log_disk new) first.looks second.looks;
-    fine = second.fine ∙ first.fine;
-    state = second.state ∙ first.state;
-    records = second.records ∙ first.records;
+    tiles = looked_on k (log_tiles_disk old) (log_tiles_disk mid) (log_tiles_disk new) first.tiles
+        second.tiles;
+    view = second.view ∙ first.view;
     end = second.end ∙ first.end;
     broken = second.broken ∙ first.broken;
   }

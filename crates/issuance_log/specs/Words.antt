@@ -1,18 +1,25 @@
 -- What a log shows, and what a call that appends a record makes of it.
-use Rattle.std.specs.Prelude.{◌≡◌, ℕ, Bool, List, Option, Some, None, option_map, Result}
-use Rattle.byte_forms.specs.Types.{Text}
-use Rattle.disk_core.specs.Moments.{Looks}
+use Rattle.std.specs.Prelude.{◌≡◌, ℕ, Bool, false, List, [], ◌∷◌, ◌++◌, map, Option, Some, None}
+use Rattle.std.specs.Prelude.{option_map, option_and_then, IfSome, Result, Ok, Err}
+use Rattle.byte_forms.specs.Types.{Hash, Text}
+use Rattle.disk_core.specs.Moments.{LeavesOnly, Looks}
 use Rattle.disk_core.specs.declared.disk.Disk.{Ghosts}
+use Rattle.tile_store.specs.Contents.{HoldsTiles}
+use Rattle.tile_store.specs.Store.{tiles_disk}
+use Rattle.tile_store.specs.declared.store.Tiles.{Tiles}
+use Rattle.tree_core.specs.Tree.{leaf_hash}
 use Rattle.tree_core.specs.declared.hashing.TreeHash.{Ghosts as Hashes}
-use Rattle.journal_core.specs.Owners.{Owner, OwnerAppends, OwnerHasGrown, OwnerLeaves, owner_over}
+use Rattle.journal_core.specs.Format.{StandsFor}
+use Rattle.journal_core.specs.Owners.{Owner, OwnerAppends, OwnerHasGrown, owner_over}
 use Rattle.journal_core.specs.Words.{disk_of, end_of, is_broken, records}
 use Rattle.journal_core.specs.declared.error.AppendError.{AppendError}
-use Rattle.journal_core.specs.declared.journal.Journal.{Journal}
-use Rattle.issuance_log.specs.Folds.{LogState, LogView, view_in}
+use Rattle.issuance_log.specs.Folds.{LogState, LogView}
+use Rattle.issuance_log.specs.Items.{items_tiles}
 use Rattle.issuance_log.specs.Shown.{shown_with}
 use Rattle.issuance_log.specs.declared.error.LogError.{LogError}
 use Rattle.issuance_log.specs.declared.error.LogError.TheVariants.{Full, TooLarge, NoSuchEntry}
-use Rattle.issuance_log.specs.declared.error.LogError.TheVariants.{NothingNew, Append, Memory}
+use Rattle.issuance_log.specs.declared.error.LogError.TheVariants.{NothingNew, Failed, Append}
+use Rattle.issuance_log.specs.declared.error.LogError.TheVariants.{Memory}
 use Rattle.issuance_log.specs.declared.log.Log.{Log}
 
 -- the journal's refusal, where it is one
@@ -21,67 +28,117 @@ of_log_journal Full = None
 of_log_journal TooLarge = None
 of_log_journal NoSuchEntry = None
 of_log_journal NothingNew = None
+of_log_journal Failed = None
 of_log_journal (Append why) = Some why
 of_log_journal Memory = None
 
-module _ {H D : Type 0} {hashes : Hashes H} {g : Ghosts D} where
-  abbrev pub journal_of : Log H D hashes g → Journal D g
-  journal_of log = log.journal
-
-  abbrev pub log_disk : Log H D hashes g → D
+module _ {H D T : Type 0} {hashes : Hashes H} {g : Ghosts D} {k : Ghosts T} where
+  -- the disk of the journal
+  abbrev pub log_disk : Log H D T hashes g k → D
   log_disk log = disk_of log.journal
 
-  -- the records, where the disk tells its bytes
-  abbrev pub log_records : Log H D hashes g → Option (List Text)
+  abbrev pub log_tiles : Log H D T hashes g k → Tiles H T hashes k
+  log_tiles log = items_tiles log.items
+
+  -- the disk of the tiles
+  abbrev pub log_tiles_disk : Log H D T hashes g k → T
+  log_tiles_disk log = tiles_disk (log_tiles log)
+
+  -- the records, where the journal's disk tells its bytes
+  abbrev pub log_records : Log H D T hashes g k → Option (List Text)
   log_records log = records log.journal
 
-  -- the place behind the closed gate of the journal
-  abbrev pub log_end : Log H D hashes g → ℕ
+  -- the end of its journal
+  abbrev pub log_end : Log H D T hashes g k → ℕ
   log_end log = end_of log.journal
 
   -- an append has failed
-  abbrev pub log_broken : Log H D hashes g → Bool
+  abbrev pub log_broken : Log H D T hashes g k → Bool
   log_broken log = is_broken log.journal
 
-  -- the settings, the items and the landmarks
-  abbrev pub log_state : Log H D hashes g → LogState
-  log_state log = log.contents.state
+  -- Over every disk: the settings, how many entries there are, the landmarks, and the last size of
+  -- the tiles.
+  abbrev pub view_of : Log H D T hashes g k → LogView
+  view_of log = log.numbers.view
 
-  -- what its refusals look at
-  abbrev pub view_of : Log H D hashes g → LogView
-  view_of log = view_in (log_state log)
-
-  -- The log as its disk tells it, where it does: what it shows over every disk, with the first
+  -- The log as its journal tells it, where it does: what it shows over every disk, with the first
   -- items in the records.
-  abbrev pub told_state : Log H D hashes g → Option LogState
+  abbrev pub told_state : Log H D T hashes g k → Option LogState
   told_state log = option_map (shown_with (view_of log)) (log_records log)
 
-  -- The disk was only looked at, and no call of it failed. The log shows what it showed, with the
-  -- same records and the same end, and is broken where it was.
-  pub record LogStays (old new : Log H D hashes g) : Type 0 where
+  -- the records, where the disk of the tiles tells its bytes too; and the log as both tell it
+  abbrev pub both_records : Log H D T hashes g k → Option (List Text)
+  both_records log = option_and_then (λ tiles. log_records log) (k.told (log_tiles_disk log))
+
+  abbrev pub told_by_both : Log H D T hashes g k → Option LogState
+  told_by_both log = option_map (shown_with (view_of log)) (both_records log)
+
+  -- the hashes of its entries, where both disks tell their bytes
+  abbrev pub log_leaves : Log H D T hashes g k → Option (List Hash)
+  log_leaves log = option_map (λ s. map (leaf_hash hashes.hash) s.entries) (told_by_both log)
+
+  -- The disks were only looked at. The log shows what it showed, with the same records and the same
+  -- end, and is broken where it was.
+  pub record LogStays (old new : Log H D T hashes g k) : Type 0 where
     pub looks : Looks g (log_disk old) (log_disk new)
-    pub fine : g.faults (log_disk new) ≡ g.faults (log_disk old)
-    pub state : log_state new ≡ log_state old
-    pub records : log_records new ≡ log_records old
+    pub tiles : Looks k (log_tiles_disk old) (log_tiles_disk new)
+    pub view : view_of new ≡ view_of old
+    pub end : log_end new ≡ log_end old
+    pub broken : log_broken new ≡ log_broken old
+
+  -- so it is, and the disk of the journal had no call
+  pub record LogAsksTiles (old new : Log H D T hashes g k) : Type 0 where
+    pub disk : log_disk new ≡ log_disk old
+    pub tiles : Looks k (log_tiles_disk old) (log_tiles_disk new)
+    pub view : view_of new ≡ view_of old
     pub end : log_end new ≡ log_end old
     pub broken : log_broken new ≡ log_broken old
 
   -- what it shows as the owner of its journal
-  abbrev pub log_owner : Log H D hashes g → Owner D LogState
-  log_owner log = owner_over log.journal (log_records log) (log_state log)
+  abbrev pub log_owner : Log H D T hashes g k → Owner D LogView
+  log_owner log = owner_over log.journal (log_records log) (view_of log)
 
-  -- this record more, which makes this log of the old one
-  abbrev pub LogHasGrown : Text → LogState → Log H D hashes g → Log H D hashes g → Type 0
-  LogHasGrown body next old new = OwnerHasGrown g body next (log_owner old) (log_owner new)
+  -- this record more, which makes this of what the log shows over every disk
+  abbrev pub LogHasGrown : Text → (LogView → LogView) → Log H D T hashes g k
+      → Log H D T hashes g k → Type 0
+  LogHasGrown body seen old new =
+      OwnerHasGrown g body (seen (view_of old)) (log_owner old) (log_owner new)
 
-  -- what a call that appends this record leaves, by its answer
-  abbrev pub LogLeaves : {X : Type 0} → Text → LogState → Log H D hashes g → Log H D hashes g
-      → Result X LogError → Type 0
-  LogLeaves body next old new result =
-      OwnerLeaves g of_log_journal body next (log_owner old) (log_owner new) result
+  -- the journal tells the log so, and both disks the hashes of its entries
+  pub record LogIsTold (state : Option LogState) (all : Option (List Hash))
+      (log : Log H D T hashes g k) : Type 0 where
+    pub told : told_state log ≡ state
+    pub leaves : log_leaves log ≡ all
 
-  -- what a call does that appends this record, which makes this log of the old one
-  abbrev pub LogAppends : {X : Type 0} → Text → LogState → Log H D hashes g → Log H D hashes g
-      → Result X LogError → Type 0
-  LogAppends body next old new result =
-      OwnerAppends g of_log_journal body next (log_owner old) (log_owner new) result
+  -- What is told behind a call that appends a record, by its answer: at Ok this of what was told
+  -- before, and else what was told before.
+  abbrev pub LogTells : {X : Type 0} → (LogState → LogState) → Log H D T hashes g k
+      → Log H D T hashes g k → Result X LogError → Type 0
+  LogTells next old new (Ok answer) = LogIsTold (option_map next (told_state old))
+      (option_map (λ s. map (leaf_hash hashes.hash) (next s).entries) (told_by_both old)) new
+  LogTells next old new (Err why) = LogIsTold (told_state old) (log_leaves old) new
+
+  -- What a call does that appends this record, which makes this of what the old log showed, and
+  -- this of what it told: as the owner of its journal it appends the record, and it tells that.
+  pub record LogAppends {X : Type 0} (body : Text) (seen : LogView → LogView)
+      (next : LogState → LogState) (old new : Log H D T hashes g k)
+      (result : Result X LogError) : Type 0 where
+    pub journal : OwnerAppends g of_log_journal body (seen (view_of old)) (log_owner old)
+        (log_owner new) result
+    pub tells : LogTells next old new result
+
+  -- At any moment a crash leaves the tiles of this size on their disk, where it would have left
+  -- them before.
+  abbrev pub KeepsTiles : ℕ → Log H D T hashes g k → Log H D T hashes g k → Type 0
+  KeepsTiles size old new = IfSome (log_leaves old) (λ leaves.
+      ((c : Text) → k.may_leave (log_tiles_disk old) c → HoldsTiles hashes.hash leaves size c)
+      → LeavesOnly k (log_tiles_disk old) (log_tiles_disk new)
+      (HoldsTiles hashes.hash leaves size))
+
+  -- Unless an append had failed before: where a crash at some moment of the call may leave a
+  -- journal with this record, behind the call it leaves the tiles of this size on their disk.
+  abbrev pub TilesStandBehind : Text → ℕ → Log H D T hashes g k → Log H D T hashes g k → Type 0
+  TilesStandBehind body size old new = log_broken old ≡ false → IfSome (log_leaves old) (λ leaves.
+      IfSome (log_records old) (λ list. (c : Text)
+      → g.left_since (log_disk new) (g.moment (log_disk old)) c → StandsFor c (list ++ body ∷ [])
+      → (d : Text) → k.may_leave (log_tiles_disk new) d → HoldsTiles hashes.hash leaves size d))

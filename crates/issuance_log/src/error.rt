@@ -2,27 +2,32 @@
 
 ghost use Rattle.std.specs.Prelude.{◌≡◌};
 ghost use Rattle.issuance_log.specs.declared.error.LogError.TheVariants.{Append as NotAppended};
+ghost use Rattle.issuance_log.specs.declared.error.LogError.TheVariants.{Failed as LogFailed};
 ghost use Rattle.issuance_log.specs.declared.error.LogError.TheVariants.{Memory as LogMemory};
+ghost use Rattle.issuance_log.specs.declared.error.LogOpenError.TheVariants.{Tile as NotAdopted};
 ghost use Rattle.issuance_log.specs.declared.error.RecordError.TheVariants.{Unfit};
 ghost use Rattle.issuance_log.specs.declared.error.RecordError.TheVariants.{Memory as RecordMemory};
 ghost use Rattle.issuance_log.specs.Faults.{log_id_fault};
 
 use journal_core::{AppendError, OpenError};
-use mtc_io::Memory;
+use mtc_io::{Failed, Memory};
+use tile_store::TileError;
 use tls_wire::{AnchorBytesError, Short};
 
-/// A refused opening hands the disk back.
+/// A refused opening hands both disks back.
 #[derive(Debug, Drop)]
-pub struct LogRefused<D> {
+pub struct LogRefused<D, T> {
     pub disk: D,
+    pub tiles: T,
     pub why: LogOpenError,
 }
 
-pub(crate) fn hand_back<D>(disk: D, why: LogOpenError) -> LogRefused<D>
+pub(crate) fn hand_back<D, T>(disk: D, tiles: T, why: LogOpenError) -> LogRefused<D, T>
     ensures disk { result.disk ≡ disk }
+    ensures tiles { result.tiles ≡ tiles }
     ensures why { result.why ≡ why }
 {
-    LogRefused { disk, why }
+    LogRefused { disk, tiles, why }
 }
 
 /// Why a file is not opened as a log. The records are read and tested one by one, and the first
@@ -32,6 +37,8 @@ pub enum LogOpenError {
     /// The record of this number, counted from 0, breaks the rules of a log's records, or there is
     /// no record.
     BadRecord(u64),
+    /// The tiles of the last size are not adopted.
+    Tile(TileError),
     /// The file is not read as a journal. The disk may have failed, or memory was refused.
     Open(OpenError),
 }
@@ -45,8 +52,10 @@ pub enum LogError {
     TooLarge,
     /// The log has no entry at this index.
     NoSuchEntry,
-    /// The last landmark has the size of the log.
+    /// The last landmark has the size of the log, or its full tiles are stored.
     NothingNew,
+    /// A disk failed: that of the journal for an entry, and that of the tiles for tiles.
+    Failed,
     /// The record was not appended.
     Append(AppendError),
     /// Memory was refused.
@@ -67,6 +76,22 @@ impl From<Memory> for LogError {
 
     fn from(_: Memory) -> Self {
         LogError::Memory
+    }
+}
+
+impl From<Failed> for LogError {
+    ghost from_gives = { λ _ e. e ≡ LogFailed };
+
+    fn from(_: Failed) -> Self {
+        LogError::Failed
+    }
+}
+
+impl From<TileError> for LogOpenError {
+    ghost from_gives = { λ why e. e ≡ NotAdopted why };
+
+    fn from(why: TileError) -> Self {
+        LogOpenError::Tile(why)
     }
 }
 

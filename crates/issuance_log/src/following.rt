@@ -1,21 +1,21 @@
 //! Which records may stand behind the first one of a log's journal.
 
 ghost use Rattle.std.specs.Prelude.{◌≡◌, [], ◌∷◌, ◌++◌, IfOk};
-ghost use Rattle.issuance_log.specs.Folds.{may_follow_log, next_log};
+ghost use Rattle.issuance_log.specs.Folds.{may_follow_log, next_view};
 ghost use Rattle.issuance_log.specs.Results.{HasTried};
 
-use crate::contents::Contents;
 use crate::error::RecordError;
+use crate::numbers::Numbers;
 use crate::settings::LogSettings;
 use mtc_io::{Bytes, Memory};
 use std::alloc::Global;
 use tree_core::TreeHash;
 
 // Takes one record more: whether it keeps to the rules.
-fn try_take<H: TreeHash>(contents: &mut Contents<H>, body: &[u8]) -> Result<bool, Memory>
-    ensures { HasTried (next_log H.hash contents.old.state body.now) contents.new.state result }
+fn try_take<H: TreeHash>(numbers: &mut Numbers, body: &[u8]) -> Result<bool, Memory>
+    ensures { HasTried (next_view H.hash numbers.old.view body.now) numbers.new.view result }
 {
-    match contents.take(body) {
+    match numbers.take::<H>(body) {
         Ok(()) => Ok(true),
         Err(RecordError::Unfit) => Ok(false),
         Err(RecordError::Memory) => Err(Memory),
@@ -33,11 +33,11 @@ pub fn may_follow<H: TreeHash>(
     ensures { IfOk result (λ may. may
         ≡ may_follow_log H.hash settings.now (bodies.now ++ body.now ∷ [])) }
 {
-    let mut contents = Contents::<H>::new(alloc, settings.copy(alloc)?)?;
+    let mut numbers = Numbers::new(alloc, settings.copy(alloc)?);
     for earlier in bodies {
-        if !try_take(&mut contents, earlier.as_slice())? {
+        if !try_take::<H>(&mut numbers, earlier.as_slice())? {
             return Ok(false);
         }
     }
-    try_take(&mut contents, body)
+    try_take::<H>(&mut numbers, body)
 }

@@ -1,83 +1,189 @@
-//! The items of a log: each entry with its key, at its index.
+//! The items of a log as they are kept: the place of each, and the nodes of the tree.
 
-ghost use Rattle.std.specs.Prelude.{◌≡◌, ◌<◌, [], ◌∷◌, ◌++◌, length, vec_len, vec_capacity, IfOk};
-ghost use Rattle.std.specs.Prelude.{OnOk};
-ghost use Rattle.issuance_log.specs.Folds.{null_entry};
+ghost use Rattle.std.specs.Prelude.{◌≡◌, ℕ, ◌<◌, ◌≤◌, ◌+◌, ◌*◌, ◌%◌, ◌^◌, max, [], ◌∷◌, ◌++◌};
+ghost use Rattle.std.specs.Prelude.{length, slice_index_or, vec_len, option_map, IfSome, IfOk};
+ghost use Rattle.std.specs.Prelude.{IfErr, OnOk, OnErr};
+ghost use Rattle.byte_forms.specs.Types.{Text};
+ghost use Rattle.disk_core.specs.Moments.{LeavesOnly, Looks};
+ghost use Rattle.frame_pool.specs.Frames.{HoldsKey};
+ghost use Rattle.frame_pool.specs.declared.key.TileKey.{TileKey as Key};
+ghost use Rattle.mtc_io.specs.Counts.{HasCause};
+ghost use Rattle.tile_store.specs.Causes.{HasCauseOf, IsNewTile, StandsIn};
+ghost use Rattle.tile_store.specs.Contents.{HoldsTiles};
+ghost use Rattle.tile_store.specs.Layout.{tiles_end};
+ghost use Rattle.tile_store.specs.Store.{tiles_adopted, tiles_count, tiles_disk, tiles_leaves};
+ghost use Rattle.tile_store.specs.Store.{tiles_stored};
+ghost use Rattle.tile_store.specs.Writing.{IsImageBehind};
+ghost use Rattle.tree_core.specs.Tree.{leaf_hash};
+ghost use Rattle.tree_proofs.specs.Told.{IsRootOf};
 
-use mtc_io::{Bytes, Memory};
+use disk_core::Disk;
+use frame_pool::Pool;
+use mtc_io::{Failed, Memory};
 use std::alloc::Global;
+use tile_store::{TileError, Tiles};
+use tree_core::{TreeHash, leaf};
 
 /// The null entry: the type 0, and no body.
 pub(crate) const NULL_ENTRY: [u8; 2] = [0, 0];
 
-/// Entries and keys, as many of these as of those.
-#[derive(Debug, Drop)]
-pub(crate) struct Items {
-    entries: Vec<Bytes>,
-    keys: Vec<Bytes>,
-    ghost even: { vec_len keys ≡ vec_len entries },
+/// The place of each item in the journal, and the nodes of the tree over the entries.
+#[derive(Drop)]
+pub(crate) struct Items<H: TreeHash, T: Disk> {
+    places: Vec<u64>,
+    tiles: Tiles<H, T>,
+    ghost even: { tiles_count tiles ≡ vec_len places },
 }
 
-impl Items {
-    /// The null entry alone. Its key has no bytes.
-    pub(crate) fn begin(alloc: Global) -> Result<Items, Memory>
-        ensures entries { IfOk result (λ i. i.entries.items ≡ null_entry ∷ []) }
-        ensures keys { IfOk result (λ i. i.keys.items ≡ [] ∷ []) }
-    {
-        let null_entry = Bytes::copy_of(alloc, &NULL_ENTRY)?;
-        let mut entries = Vec::new(alloc);
-        entries.push(null_entry)?;
-        let mut keys = Vec::new(alloc);
-        keys.push(Bytes::new(alloc))?;
-        Ok(Items { entries, keys })
-    }
+impl<H: TreeHash, T: Disk> Items<H, T> {
+    ghost use Rattle.issuance_log.specs.Items.{HasItemRoom, items_places, items_tiles};
 
-    pub(crate) fn len(&self) -> usize
-        ensures { result ≡ length self.now.entries.items }
+    /// No items, over a disk and a pool whose frames hold no tile. It takes no memory.
+    pub(crate) fn new(alloc: Global, disk: T, pool: Pool) -> Items<H, T>
+        requires { (slot : ℕ) (key : Key) → HoldsKey pool slot key → ⊥ }
+        ensures places { items_places result ≡ [] }
+        ensures disk { tiles_disk (items_tiles result) ≡ disk }
+        ensures adopted { tiles_adopted (items_tiles result) ≡ 0 }
+        ensures leaves { IfSome (tiles_leaves (items_tiles result)) (λ leaves. leaves ≡ []) }
     {
-        self.entries.len()
-    }
-
-    pub(crate) fn entries(&self) -> &[Bytes]
-        ensures { result.now ≡ self.now.entries.items }
-    {
-        self.entries.as_slice()
-    }
-
-    pub(crate) fn keys(&self) -> &[Bytes]
-        ensures value { result.now ≡ self.now.keys.items }
-        ensures even { length result.now ≡ length self.now.entries.items }
-    {
-        self.keys.as_slice()
+        Items {
+            places: Vec::new(alloc),
+            tiles: Tiles::new(alloc, disk, pool),
+        }
     }
 
     /// Makes room for one item more. The items stay as they were.
     pub(crate) fn reserve(&mut self) -> Result<(), Memory>
-        ensures entries { self.new.entries.items ≡ self.old.entries.items }
-        ensures keys { self.new.keys.items ≡ self.old.keys.items }
-        ensures entry_room { OnOk result
-            (vec_len self.new.entries < vec_capacity self.new.entries) }
-        ensures key_room { OnOk result (vec_len self.new.keys < vec_capacity self.new.keys) }
+        ensures room { OnOk result (HasItemRoom self.new) }
+        ensures places { items_places self.new ≡ items_places self.old }
+        ensures leaves { tiles_leaves (items_tiles self.new) ≡ tiles_leaves (items_tiles self.old) }
+        ensures disk { tiles_disk (items_tiles self.new) ≡ tiles_disk (items_tiles self.old) }
+        ensures adopted { tiles_adopted (items_tiles self.new)
+            ≡ tiles_adopted (items_tiles self.old) }
+        ensures stored { tiles_stored (items_tiles self.new) ≡ tiles_stored (items_tiles self.old) }
     {
-        self.entries.reserve(1)?;
-        self.keys.reserve(1)?;
+        self.places.reserve(1)?;
+        self.tiles.reserve(1)
+    }
+
+    /// Puts the place of an item and the hash of its entry behind the others, in room that is
+    /// there.
+    pub(crate) fn push(&mut self, place: u64, leaf: &[u8; 32])
+        requires room { HasItemRoom self.old }
+        requires few { length (items_places self.old) + 1 < 2 ^ 32 }
+        ensures places { items_places self.new ≡ items_places self.old ++ place ∷ [] }
+        ensures leaves { tiles_leaves (items_tiles self.new)
+            ≡ option_map (λ list. list ++ leaf.now ∷ []) (tiles_leaves (items_tiles self.old)) }
+        ensures disk { tiles_disk (items_tiles self.new) ≡ tiles_disk (items_tiles self.old) }
+        ensures adopted { tiles_adopted (items_tiles self.new)
+            ≡ tiles_adopted (items_tiles self.old) }
+        ensures stored { tiles_stored (items_tiles self.new) ≡ tiles_stored (items_tiles self.old) }
+    {
+        match self.places.push(place) {
+            Ok(()) => {}
+            Err(_full) => unreachable!(),
+        }
+        match self.tiles.push(leaf) {
+            Ok(()) => {}
+            Err(Memory) => unreachable!(),
+        }
+    }
+
+    /// Puts the place of an item and the hash of its entry behind the others. Where memory is
+    /// refused they stay.
+    pub(crate) fn add(&mut self, place: u64, entry: &[u8]) -> Result<(), Memory>
+        requires { length (items_places self.old) + 1 < 2 ^ 32 }
+        ensures places { OnOk result
+            (items_places self.new ≡ items_places self.old ++ place ∷ []) }
+        ensures leaves { OnOk result (tiles_leaves (items_tiles self.new) ≡ option_map
+            (λ list. list ++ leaf_hash H.hash entry.now ∷ [])
+            (tiles_leaves (items_tiles self.old))) }
+        ensures places_err { OnErr result (items_places self.new ≡ items_places self.old) }
+        ensures leaves_err { OnErr result (tiles_leaves (items_tiles self.new)
+            ≡ tiles_leaves (items_tiles self.old)) }
+        ensures disk { tiles_disk (items_tiles self.new) ≡ tiles_disk (items_tiles self.old) }
+        ensures adopted { tiles_adopted (items_tiles self.new)
+            ≡ tiles_adopted (items_tiles self.old) }
+    {
+        self.reserve()?;
+        self.push(place, &leaf::<H>(entry));
         Ok(())
     }
 
-    /// Puts an entry and its key behind the others.
-    pub(crate) fn push(&mut self, entry: Bytes, key: Bytes)
-        requires entry_room { vec_len self.old.entries < vec_capacity self.old.entries }
-        requires key_room { vec_len self.old.keys < vec_capacity self.old.keys }
-        ensures entries { self.new.entries.items ≡ self.old.entries.items ++ entry ∷ [] }
-        ensures keys { self.new.keys.items ≡ self.old.keys.items ++ key ∷ [] }
+    /// The place of an item.
+    pub(crate) fn place(&self, index: u64) -> u64
+        requires { index < length (items_places self.now) }
+        ensures { result ≡ slice_index_or (items_places self.now) index 0 }
     {
-        match self.entries.push(entry) {
-            Ok(()) => {}
-            Err(_full) => unreachable!(),
-        }
-        match self.keys.push(key) {
-            Ok(()) => {}
-            Err(_full) => unreachable!(),
-        }
+        self.places[index as usize]
+    }
+
+    /// A node of the tree, as [`Tiles::tile_node`].
+    pub(crate) fn node(&mut self, level: u32, place: u64) -> Result<[u8; 32], Failed>
+        requires { (place + 1) * 2 ^ level ≤ length (items_places self.old) }
+        ensures value { IfOk result (IsRootOf H.hash (tiles_leaves (items_tiles self.old))
+            (place * 2 ^ level) ((place + 1) * 2 ^ level)) }
+        ensures places { items_places self.new ≡ items_places self.old }
+        ensures leaves { tiles_leaves (items_tiles self.new) ≡ tiles_leaves (items_tiles self.old) }
+        ensures stored { tiles_stored (items_tiles self.new) ≡ tiles_stored (items_tiles self.old) }
+        ensures looks { Looks T.Disk (tiles_disk (items_tiles self.old))
+            (tiles_disk (items_tiles self.new)) }
+        ensures cause { HasCause (T.faults (tiles_disk (items_tiles self.old)))
+            (T.faults (tiles_disk (items_tiles self.new))) result }
+    {
+        self.tiles.tile_node(level, place)
+    }
+
+    /// Stores the tiles that the first `size` entries fill, as [`Tiles::store`].
+    pub(crate) fn store(&mut self, size: u64) -> Result<(), Failed>
+        requires { size ≤ length (items_places self.old) }
+        ensures places { items_places self.new ≡ items_places self.old }
+        ensures leaves { tiles_leaves (items_tiles self.new) ≡ tiles_leaves (items_tiles self.old) }
+        ensures adopted { tiles_adopted (items_tiles self.new)
+            ≡ tiles_adopted (items_tiles self.old) }
+        ensures stored { OnOk result (tiles_stored (items_tiles self.new)
+            ≡ max size (tiles_stored (items_tiles self.old))) }
+        ensures stored_err { OnErr result (tiles_stored (items_tiles self.new)
+            ≡ tiles_stored (items_tiles self.old)) }
+        ensures holds { OnOk result (IfSome (tiles_leaves (items_tiles self.old)) (λ leaves.
+            (c : Text) → T.may_leave (tiles_disk (items_tiles self.new)) c
+            → HoldsTiles H.hash leaves size c)) }
+        ensures any_moment { LeavesOnly T.Disk (tiles_disk (items_tiles self.old))
+            (tiles_disk (items_tiles self.new)) (IsImageBehind T.Disk
+            (tiles_disk (items_tiles self.old))
+            (tiles_end (tiles_stored (items_tiles self.old)))) }
+        ensures cause { HasCause (T.faults (tiles_disk (items_tiles self.old)))
+            (T.faults (tiles_disk (items_tiles self.new))) result }
+    {
+        self.tiles.store(size)
+    }
+
+    /// Adopts the tiles that the first `size` entries fill, as [`Tiles::adopt`].
+    pub(crate) fn adopt(&mut self, size: u64) -> Result<(), TileError>
+        requires multiple { size % 256 ≡ 0 }
+        requires within { size ≤ length (items_places self.old) }
+        ensures places { items_places self.new ≡ items_places self.old }
+        ensures leaves { tiles_leaves (items_tiles self.new) ≡ tiles_leaves (items_tiles self.old) }
+        ensures looks { Looks T.Disk (tiles_disk (items_tiles self.old))
+            (tiles_disk (items_tiles self.new)) }
+        ensures stored { OnOk result (tiles_stored (items_tiles self.new)
+            ≡ max size (tiles_stored (items_tiles self.old))) }
+        ensures stands { OnOk result (IfSome (T.told (tiles_disk (items_tiles self.old))) (λ bytes.
+            IfSome (tiles_leaves (items_tiles self.old)) (λ leaves. (level place : ℕ)
+            → IsNewTile (tiles_adopted (items_tiles self.old)) size level place
+            → StandsIn H.hash leaves bytes level place))) }
+        ensures fine { OnOk result (T.faults (tiles_disk (items_tiles self.new))
+            ≡ T.faults (tiles_disk (items_tiles self.old))) }
+        ensures cause { IfErr result (HasCauseOf (items_tiles self.old)
+            (tiles_disk (items_tiles self.new)) size) }
+    {
+        self.tiles.adopt(size)
+    }
+
+    /// The disk of the tiles.
+    pub(crate) fn into_disk(self) -> T
+        ensures { result ≡ tiles_disk (items_tiles self) }
+    {
+        self.tiles.into_disk()
     }
 }

@@ -1,15 +1,15 @@
 //! Laws of a log's records: the clauses are the laws, and the functions do nothing.
 
 ghost use Rattle.std.specs.Prelude.{◌≡◌, ◌+◌, ◌<◌, ◌≤◌, ◌^◌, ℕ, List, [], ◌∷◌, ◌++◌, length};
-ghost use Rattle.std.specs.Prelude.{Some, Ok};
+ghost use Rattle.std.specs.Prelude.{Some, Ok, option_map};
 ghost use Rattle.byte_forms.specs.Types.{Text, HashFunction};
 ghost use Rattle.byte_forms.specs.Places.{IsBytes};
 ghost use Rattle.journal_core.specs.Format.{StandsFor};
-ghost use Rattle.issuance_log.specs.Folds.{LogState, LogView, begun_log, next_log, log_behind};
-ghost use Rattle.issuance_log.specs.Folds.{log_of, view_in, with_item};
+ghost use Rattle.issuance_log.specs.Folds.{LogState, LogView, begun_log, next_log, next_view};
+ghost use Rattle.issuance_log.specs.Folds.{log_behind, log_of, view_in, with_item};
 ghost use Rattle.issuance_log.specs.Openings.{FoundLog, log_read};
 ghost use Rattle.issuance_log.specs.Records.{IsShort, entry_record, item_in, landmark_record};
-ghost use Rattle.issuance_log.specs.Records.{mark_in, settings_in};
+ghost use Rattle.issuance_log.specs.Records.{mark_in, settings_in, tiled_in, tiles_record};
 ghost use Rattle.issuance_log.specs.Rules.{IsFirst, IsNext};
 ghost use Rattle.issuance_log.specs.Settings.{Settings};
 ghost use Rattle.issuance_log.specs.Shown.{recorded_items, shown_with};
@@ -28,6 +28,19 @@ pub fn landmarks_are_read_as_spelled()
     ensures again { (size : ℕ) → size < 2 ^ 64 → mark_in (landmark_record size) ≡ Some size }
     ensures only { (body : Text) (size : ℕ) → IsBytes body → mark_in body ≡ Some size
         → (body ≡ landmark_record size) × (size < 2 ^ 64) }
+{}
+
+/// The body of a Tiles is read as the size that it spells, and only what is spelled so is read.
+pub fn tiles_are_read_as_spelled()
+    ensures again { (size : ℕ) → size < 2 ^ 64 → tiled_in (tiles_record size) ≡ Some size }
+    ensures only { (body : Text) (size : ℕ) → IsBytes body → tiled_in body ≡ Some size
+        → (body ≡ tiles_record size) × (size < 2 ^ 64) }
+{}
+
+/// A record makes of what a log shows over every disk what the log that it makes shows.
+pub fn views_follow_the_records()
+    ensures { (h : HashFunction) (s : LogState) (body : Text)
+        → next_view h (view_in s) body ≡ option_map view_in (next_log h s body) }
 {}
 
 /// A record begins a log, or makes a log of another one, exactly where it keeps to the rules.
@@ -55,7 +68,7 @@ pub fn logs_are_read_from_their_journals()
 
 /// A log that records make is what it shows over every disk, with the first items in the records.
 /// It stays so where a record more stands behind them. Where all of the items are shown, the record
-/// of an item adds this one, and that of a landmark adds none.
+/// of an item adds this one, and that of a landmark or of tiles adds none.
 pub fn records_tell_the_items()
     ensures whole { (h : HashFunction) (list : List Text) (s : LogState) → log_of h list ≡ Ok s
         → shown_with (view_in s) list ≡ s }
@@ -68,6 +81,8 @@ pub fn records_tell_the_items()
         ≡ with_item entry key (shown_with v list) }
     ensures marked { (list : List Text) (size : ℕ) → 1 ≤ length (recorded_items list)
         → recorded_items (list ++ landmark_record size ∷ []) ≡ recorded_items list }
+    ensures tiled { (list : List Text) (size : ℕ) → 1 ≤ length (recorded_items list)
+        → recorded_items (list ++ tiles_record size ∷ []) ≡ recorded_items list }
 {}
 
 /// Records make a log exactly where the first one has settings, and the others may stand behind

@@ -9,23 +9,24 @@
 //! What the records of a journal make of a log is one function of them. A log keeps to it: unless
 //! an append has failed, its settings, items and landmarks are what the records on its disk make.
 //!
-//! A log is the [`Nodes`](tree_proofs::Nodes) of the tree over its entries: from the first node on
-//! that is asked for, it keeps the hash of each entry and of each full subtree in a
-//! [`Cache`](tree_cache::Cache).
+//! A log keeps the place of each entry in the journal, from which [`Log::entry`] reads it back. It
+//! is the [`Nodes`](tree_proofs::Nodes) of the tree over its entries, in
+//! [`Tiles`](tile_store::Tiles) on a second disk: [`Log::tile`] stores those that are full and then
+//! appends their size, and the next opening adopts them.
 #![tactic(auto)]
 
-mod contents;
 mod creation;
+mod entries;
 mod error;
 mod following;
 mod items;
 mod laws;
 mod log;
 mod nodes;
+mod numbers;
 mod reading;
 mod record;
 mod settings;
-mod tree;
 
 pub use creation::{create, pack};
 pub use error::{LogError, LogOpenError, LogRefused};
@@ -33,6 +34,7 @@ pub use following::may_follow;
 pub use laws::{
     items_are_read_as_spelled, landmarks_are_read_as_spelled, logs_are_read_from_their_journals,
     logs_begin_with_their_settings, records_keep_to_the_rules, records_tell_the_items,
+    tiles_are_read_as_spelled, views_follow_the_records,
 };
 pub use log::Log;
 pub use settings::{LogSettings, MOST_ACTIVE, MOST_ENTRIES};

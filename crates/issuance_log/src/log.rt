@@ -1,79 +1,113 @@
 //! A log that is open for more entries.
 
-ghost use Rattle.std.specs.Prelude.{◌≡◌, ◌≤◌, ◌<◌, ◌+◌, ◌*◌, ◌^◌, ◌++◌, [], ◌∷◌, length, map};
-ghost use Rattle.std.specs.Prelude.{true, false, None, Ok, IfSome, IfOk, IfErr, OnOk, OnErr};
+ghost use Rattle.std.specs.Prelude.{◌≡◌, ◌↔◌, ℕ, ◌≤◌, ◌+◌, ◌*◌, ◌^◌, ◌++◌, [], ◌∷◌, length, true};
+ghost use Rattle.std.specs.Prelude.{false, None, Ok, IfSome, IfOk, IfErr, IsErrOf, OnOk, OnErr};
 ghost use Rattle.std.proofs.Props.{props};
 ghost use Rattle.disk_core.specs.Moments.{Looks};
+ghost use Rattle.frame_pool.specs.Frames.{HoldsKey};
+ghost use Rattle.frame_pool.specs.declared.key.TileKey.{TileKey as Key};
 ghost use Rattle.journal_core.specs.Format.{StandsFor, end_behind};
-ghost use Rattle.journal_core.specs.Words.{is_broken, records, AllStandFor};
-ghost use Rattle.issuance_log.specs.Folds.{log_of, view_in, with_item, with_mark};
+ghost use Rattle.journal_core.specs.Words.{end_of, is_broken, records, AllStandFor};
 ghost use Rattle.log_entry.specs.Matching.{matches};
-ghost use Rattle.tree_core.specs.Path.{part_of};
-ghost use Rattle.tree_core.specs.Tree.{leaf_hash, root_of};
-ghost use Rattle.issuance_log.specs.Openings.{LogCountsNoOther, HasLogCause, log_read};
+ghost use Rattle.mtc_io.specs.Counts.{HasCause};
+ghost use Rattle.tile_store.specs.Store.{tiles_leaves, tiles_stored};
+ghost use Rattle.tree_proofs.specs.Told.{IsRootOf};
+ghost use Rattle.issuance_log.specs.Entries.{LogCounts};
+ghost use Rattle.issuance_log.specs.Folds.{log_of, with_item, with_mark, with_tiles};
+ghost use Rattle.issuance_log.specs.Folds.{one_item_more, one_mark_more, tiled_to, view_in};
+ghost use Rattle.issuance_log.specs.Items.{AreBelow, AreHashed, StandAt, StandAt-prop};
+ghost use Rattle.issuance_log.specs.Items.{items_places, items_tiles};
 ghost use Rattle.issuance_log.specs.Marks.{AreRising};
-ghost use Rattle.issuance_log.specs.Records.{entry_record, landmark_record};
-ghost use Rattle.issuance_log.specs.Settings.{AreAllowed};
+ghost use Rattle.issuance_log.specs.Openings.{HasItsTiles, HasOpenCause, LogCountsNoOther};
+ghost use Rattle.issuance_log.specs.Openings.{TilesCountNoOther, log_read};
+ghost use Rattle.issuance_log.specs.Records.{entry_record, landmark_record, tiles_record, IsShort};
 ghost use Rattle.issuance_log.specs.Refusals.{add_refusal, ItemKeepsTo, mark_refusal, MarkKeepsTo};
+ghost use Rattle.issuance_log.specs.Refusals.{full_size, tile_refusal, TilesKeepTo};
 ghost use Rattle.issuance_log.specs.Refusals.{item_at, GivesItem};
+ghost use Rattle.issuance_log.specs.Settings.{AreAllowed};
 ghost use Rattle.issuance_log.specs.Shown.{shown_with};
-ghost use Rattle.issuance_log.specs.Sound.{IsSound};
+ghost use Rattle.issuance_log.specs.Sound.{HasSoundNumbers, IsSound};
 
-use crate::contents::Contents;
+use crate::entries::read_entry;
 use crate::error::{LogError, LogOpenError, LogRefused, hand_back};
-use crate::reading::read_log;
-use crate::record::{entry_record, landmark_record};
+use crate::items::{Items, NULL_ENTRY};
+use crate::numbers::{Numbers, TILE};
+use crate::reading::read_tiled;
+use crate::record::{entry_record, landmark_record, tiles_record};
 use crate::settings::LogSettings;
 use disk_core::Disk;
+use frame_pool::Pool;
 use journal_core::{Journal, Opening, Refused};
-use mtc_io::{Bytes, Memory};
+use mtc_io::{Bytes, Failed};
 use std::alloc::Global;
-use tree_core::TreeHash;
+use tree_core::{TreeHash, leaf};
 
 // An entry and its key have at most so many bytes together.
 const MAX_ITEM: usize = 65_535;
 
-/// The entries of a log, each with the key to it, the nodes of the tree over them, and the sizes at
-/// its landmarks, over the journal of their records. Unless an append has failed, they are what the
-/// records on the disk make. `H` is the hash function of the tree, and that by which a key belongs
-/// to an entry: it does so for each entry but the first, the null entry, whatever the disk tells.
+/// The entries of a log, each with the key to it, and the sizes at its landmarks, over the journal
+/// of their records; and the nodes of the tree over the entries, of which those in full tiles that
+/// were stored stand on a second disk. `H` is the hash function of the tree, and that by which a
+/// key belongs to an entry.
+///
+/// In memory are the settings, the place of each entry in the journal, the landmarks and the nodes
+/// that are in no adopted tile. So a log shows its numbers over every disk, and its entries where
+/// the disk of the journal tells its bytes. Unless an append has failed, they are what the records
+/// on the disk make.
 #[derive(Drop)]
-pub struct Log<H: TreeHash, D: Disk> {
+pub struct Log<H: TreeHash, D: Disk, T: Disk> {
+    alloc: Global,
     journal: Journal<D>,
-    contents: Contents<H>,
+    numbers: Numbers,
+    items: Items<H, T>,
+    ghost counted: { length (items_places items) ≡ numbers.view.size },
+    ghost stored: { numbers.view.tiled ≤ tiles_stored (items_tiles items) },
+    ghost below: { AreBelow (items_places items) (end_of journal) } by { Prim.hlevel props },
     ghost agrees: { is_broken journal ≡ false → IfSome (records journal)
-        (λ list. log_of H.TreeHash.hash list ≡ Ok contents.state) } by { Prim.hlevel props },
-    ghost shown: { IfSome (records journal) (λ list.
-        shown_with (view_in contents.state) list ≡ contents.state) } by { Prim.hlevel props },
+        (λ list. log_of H.TreeHash.hash list
+        ≡ Ok (shown_with numbers.view list)) } by { Prim.hlevel props },
+    ghost stand: { IfSome (records journal)
+        (StandAt H.TreeHash.hash numbers.view (items_places items)) } by { Prim.hlevel (
+          props,
+          StandAt-prop,
+        ) },
+    ghost hashed: { IfSome (records journal) (AreHashed H.TreeHash.hash numbers.view
+        (tiles_leaves (items_tiles items))) } by { Prim.hlevel props },
 }
 
-// The same bytes into an empty byte string, which stays empty where memory is refused.
-fn copy(bytes: &Bytes, out: &mut Bytes) -> Result<(), Memory>
-    requires { out.old ≡ [] }
-    ensures ok { OnOk result (out.new ≡ bytes.now) }
-    ensures err { OnErr result (out.new ≡ []) }
-{
-    out.append(bytes.as_slice())
-}
+impl<H: TreeHash, D: Disk, T: Disk> Log<H, D, T> {
+    ghost use Rattle.issuance_log.specs.Words.{log_disk, log_tiles_disk, log_records, log_end};
+    ghost use Rattle.issuance_log.specs.Words.{log_broken, log_leaves, told_state};
+    ghost use Rattle.issuance_log.specs.Words.{view_of, LogAppends, LogAsksTiles, LogStays};
+    ghost use Rattle.issuance_log.specs.Words.{KeepsTiles, TilesStandBehind};
 
-impl<H: TreeHash, D: Disk> Log<H, D> {
-    ghost use Rattle.issuance_log.specs.Words.{log_disk, log_records, log_end, log_broken};
-    ghost use Rattle.issuance_log.specs.Words.{log_state, told_state, view_of, LogAppends};
-    ghost use Rattle.issuance_log.specs.Words.{LogStays};
-
-    /// Opens the log in a journal. Its records are read and tested one by one.
+    /// Opens the log in a journal, with its tiles on a second disk and a pool whose frames hold no
+    /// tile. The records are read and tested one by one, and then the tiles of the last size are
+    /// read back and compared.
     ///
     /// Errors, of which the first that is met is answered: what [`Opening::begin`] and
     /// [`Opening::next`] refuse, and `BadRecord` at the first record that breaks the rules, or
-    /// where there is none. The disk is handed back, and was only looked at.
-    pub fn open(alloc: Global, disk: D) -> Result<Log<H, D>, LogRefused<D>>
+    /// where there is none; and then what [`tile_store::Tiles::adopt`] refuses. The disks are
+    /// handed back, and were only looked at.
+    pub fn open(
+        alloc: Global,
+        disk: D,
+        tiles: T,
+        pool: Pool,
+    ) -> Result<Log<H, D, T>, LogRefused<D, T>>
+        requires { (slot : ℕ) (key : Key) → HoldsKey pool slot key → ⊥ }
         ensures sound { IfOk result (λ it. log_broken it ≡ false) }
         ensures looks { IfOk result (λ it. Looks D.Disk disk (log_disk it)) }
+        ensures looks_tiles { IfOk result (λ it. Looks T.Disk tiles (log_tiles_disk it)) }
         ensures fine { IfOk result (λ it. D.faults (log_disk it) ≡ D.faults disk) }
+        ensures fine_tiles { IfOk result (λ it. T.faults (log_tiles_disk it) ≡ T.faults tiles) }
         ensures found { IfOk result (λ it. IfSome (D.told disk) (λ b. IfSome (log_records it)
-            (λ list. log_read H.hash b ≡ Ok (record { records = list; state = log_state it })))) }
+            (λ list. log_read H.hash b
+            ≡ Ok (record { records = list; state = shown_with (view_of it) list })))) }
         ensures valid { IfOk result (λ it. IfSome (log_records it)
-            (λ list. log_of H.hash list ≡ Ok (log_state it))) }
+            (λ list. log_of H.hash list ≡ Ok (shown_with (view_of it) list))) }
+        ensures tiles { IfOk result (λ it. IfSome (told_state it) (λ s. IfSome (T.told tiles)
+            (HasItsTiles H.hash s))) }
         ensures stands { IfOk result (λ it. IfSome (D.told (log_disk it))
             (λ b. IfSome (log_records it) (StandsFor b))) }
         ensures all { IfOk result
@@ -81,25 +115,34 @@ impl<H: TreeHash, D: Disk> Log<H, D> {
         ensures end { IfOk result (λ it. IfSome (log_records it)
             (λ list. log_end it ≡ end_behind list)) }
         ensures err { IfErr result (λ e. Looks D.Disk disk e.disk) }
-        ensures cause { IfErr result (λ e. HasLogCause D.Disk H.hash disk e.disk e.why) }
+        ensures err_tiles { IfErr result (λ e. Looks T.Disk tiles e.tiles) }
+        ensures cause { IfErr result
+            (λ e. HasOpenCause D.Disk T.Disk H.hash disk e.disk tiles e.tiles e.why) }
         ensures fine_err { IfErr result (λ e. LogCountsNoOther D.Disk disk e.disk e.why) }
+        ensures fine_tiles_err { IfErr result
+            (λ e. TilesCountNoOther T.Disk tiles e.tiles e.why) }
     {
         let mut opening = match Opening::begin(alloc, disk) {
             Ok(opening) => opening,
-            Err(Refused { disk, why }) => return Err(hand_back(disk, LogOpenError::Open(why))),
+            Err(Refused { disk, why }) => {
+                return Err(hand_back(disk, tiles, LogOpenError::Open(why)));
+            }
         };
-        match read_log::<H, D>(alloc, &mut opening) {
-            Ok(contents) => Ok(Log {
+        let mut items = Items::new(alloc, tiles, pool);
+        match read_tiled::<H, D, T>(alloc, &mut opening, &mut items) {
+            Ok(numbers) => Ok(Log {
+                alloc,
                 journal: opening.ready(),
-                contents,
+                numbers,
+                items,
             }),
-            Err(why) => Err(hand_back(opening.into_disk(), why)),
+            Err(why) => Err(hand_back(opening.into_disk(), items.into_disk(), why)),
         }
     }
 
     /// Adds an entry with the key that belongs to it, and answers its index. At Ok a crash leaves
     /// the records with that of the entry; at any moment of the call it leaves the old records, or
-    /// these and that one.
+    /// these and that one. The disk of the tiles isn't called.
     ///
     /// Errors, in the order of the tests: `Full` where the log has as many entries as its limit
     /// allows; `TooLarge` where the entry and its key have more than 65,535 bytes together;
@@ -109,8 +152,9 @@ impl<H: TreeHash, D: Disk> Log<H, D> {
     #[tactic(auto, unfolding(crate::specs::Refusals::add_refusal))]
     pub fn add(&mut self, entry: &[u8], spki: &[u8]) -> Result<u64, LogError>
         requires { matches H.hash entry.now spki.now ≡ true }
-        ensures appends { LogAppends (entry_record entry.now spki.now)
-            (with_item entry.now spki.now (log_state self.old)) self.old self.new result }
+        ensures appends { LogAppends (entry_record entry.now spki.now) one_item_more
+            (with_item entry.now spki.now) self.old self.new result }
+        ensures tiles { log_tiles_disk self.new ≡ log_tiles_disk self.old }
         ensures index { IfOk result (λ index. index ≡ (view_of self.old).size) }
         ensures answer { ItemKeepsTo (add_refusal (view_of self.old) (log_broken self.old)
             (log_end self.old) entry.now spki.now) result }
@@ -118,25 +162,27 @@ impl<H: TreeHash, D: Disk> Log<H, D> {
             (log_end self.old) entry.now spki.now ≡ None
             → IfSome (log_records self.old)
             (λ list. log_of H.hash (list ++ entry_record entry.now spki.now ∷ [])
-            ≡ Ok (with_item entry.now spki.now (log_state self.old))) }
+            ≡ Ok (with_item entry.now spki.now (shown_with (view_of self.old) list))) }
     {
-        let index = self.contents.len();
-        if self.contents.is_full() {
+        let index = self.numbers.size();
+        if self.numbers.is_full() {
             return Err(LogError::Full);
         }
         if entry.len() + spki.len() > MAX_ITEM {
             return Err(LogError::TooLarge);
         }
-        let record = entry_record(self.contents.allocator(), entry, spki)?;
-        let item = self.contents.prepare(entry, spki)?;
+        let record = entry_record(self.alloc, entry, spki)?;
+        self.items.reserve()?;
+        let place = self.journal.end() - 1;
         self.journal.append(record.as_slice())?;
-        self.contents.push(item);
-        Ok(index as u64)
+        self.items.push(place, &leaf::<H>(entry));
+        self.numbers.add_item();
+        Ok(index)
     }
 
     /// Sets a landmark at the size of the log, and answers its number, counted from 1, and that
     /// size. At Ok a crash leaves the records with that of the landmark; at any moment of the call
-    /// it leaves the old records, or these and that one.
+    /// it leaves the old records, or these and that one. The disk of the tiles isn't called.
     ///
     /// Errors, in the order of the tests: `NothingNew` where the last landmark has this size;
     /// `Memory`; and what [`Journal::append`] refuses. A refusal leaves the log as it was. After
@@ -144,8 +190,9 @@ impl<H: TreeHash, D: Disk> Log<H, D> {
     /// before answers `Append(Broken)`.
     #[tactic(auto, unfolding(crate::specs::Refusals::mark_refusal))]
     pub fn mark(&mut self) -> Result<(u64, u64), LogError>
-        ensures appends { LogAppends (landmark_record (view_of self.old).size)
-            (with_mark (log_state self.old)) self.old self.new result }
+        ensures appends { LogAppends (landmark_record (view_of self.old).size) one_mark_more
+            with_mark self.old self.new result }
+        ensures tiles { log_tiles_disk self.new ≡ log_tiles_disk self.old }
         ensures number { IfOk result
             (λ landmark. landmark.0 ≡ length (view_of self.old).marks + 1) }
         ensures size { IfOk result (λ landmark. landmark.1 ≡ (view_of self.old).size) }
@@ -155,17 +202,57 @@ impl<H: TreeHash, D: Disk> Log<H, D> {
             ≡ None → IfSome (log_records self.old)
             (λ list. log_of H.hash
             (list ++ landmark_record (view_of self.old).size ∷ [])
-            ≡ Ok (with_mark (log_state self.old))) }
+            ≡ Ok (with_mark (shown_with (view_of self.old) list))) }
     {
-        let size = self.contents.len() as u64;
-        if self.contents.last_mark() == size {
+        let size = self.numbers.size();
+        if self.numbers.last_mark() == size {
             return Err(LogError::NothingNew);
         }
-        let body = landmark_record(self.contents.allocator(), size)?;
-        self.contents.prepare_mark()?;
+        let body = landmark_record(self.alloc, size)?;
+        self.numbers.prepare_mark()?;
         self.journal.append(body.as_slice())?;
-        self.contents.push_mark();
-        Ok((self.contents.marks().len() as u64, size))
+        self.numbers.push_mark();
+        Ok((self.numbers.marks().len() as u64, size))
+    }
+
+    /// Stores the tiles that the entries fill, makes them certain, and then appends the greatest
+    /// multiple of 256 that isn't above the size, which it answers. The next opening adopts them.
+    /// At any moment a crash leaves the tiles that it would have left before. Where it leaves the
+    /// new record it leaves all tiles of the new size, unless an append had failed before.
+    ///
+    /// Errors, in the order of the tests: `NothingNew` where this number isn't above the last size
+    /// of tiles; `Memory`; `Failed` of the disk of the tiles; and what [`Journal::append`] refuses.
+    /// A refusal leaves the log as it was, but for tiles on their disk behind those of the last
+    /// size. After `Append(Failed)` it shows what it showed before, and each further call that
+    /// passes the tests before answers `Append(Broken)`.
+    #[tactic(auto, unfolding(crate::specs::Refusals::tile_refusal))]
+    pub fn tile(&mut self) -> Result<u64, LogError>
+        ensures appends { LogAppends (tiles_record (full_size (view_of self.old)))
+            (tiled_to (full_size (view_of self.old))) (with_tiles (full_size (view_of self.old)))
+            self.old self.new result }
+        ensures size { IfOk result (λ size. size ≡ full_size (view_of self.old)) }
+        ensures answer { TilesKeepTo
+            (tile_refusal (view_of self.old) (log_broken self.old) (log_end self.old)) result }
+        ensures valid { tile_refusal (view_of self.old) (log_broken self.old) (log_end self.old)
+            ≡ None → IfSome (log_records self.old)
+            (λ list. log_of H.hash (list ++ tiles_record (full_size (view_of self.old)) ∷ [])
+            ≡ Ok (with_tiles (full_size (view_of self.old))
+            (shown_with (view_of self.old) list))) }
+        ensures keeps { KeepsTiles (view_of self.old).tiled self.old self.new }
+        ensures behind { TilesStandBehind (tiles_record (full_size (view_of self.old)))
+            (full_size (view_of self.old)) self.old self.new }
+        ensures cause { LogCounts (T.faults (log_tiles_disk self.old))
+            (T.faults (log_tiles_disk self.new)) result }
+    {
+        let size = self.numbers.size() / TILE * TILE;
+        if size <= self.numbers.tiled() {
+            return Err(LogError::NothingNew);
+        }
+        let body = tiles_record(self.alloc, size)?;
+        self.items.store(size)?;
+        self.journal.append(body.as_slice())?;
+        self.numbers.set_tiled(size);
+        Ok(size)
     }
 
     /// How many entries the log has, the null entry among them.
@@ -174,32 +261,34 @@ impl<H: TreeHash, D: Disk> Log<H, D> {
         ensures some { 1 ≤ result }
         ensures few { result ≤ (view_of self.now).settings.limit }
     {
-        self.contents.len() as u64
+        self.numbers.size()
     }
 
-    /// What holds of every log, over any disk: the clause says it, and the call does nothing. Each
-    /// entry but the first reads as one of type 1 to which its key belongs, the lengths of both are
-    /// told in two bytes, and the landmarks rise up to the size at most.
+    /// The last size of the tiles, 0 where there is none.
+    pub fn tiled(&self) -> u64
+        ensures { result ≡ (view_of self.now).tiled }
+    {
+        self.numbers.tiled()
+    }
+
+    /// What holds of every log: the clauses say it, and the call does nothing. Over any disk the
+    /// landmarks rise up to the size at most, and the tiles are within it. Where the journal's disk
+    /// tells its bytes, what it tells shows the same numbers, each entry but the first reads as one
+    /// of type 1 to which its key belongs, and the lengths of both are told in two bytes; also
+    /// behind an append that failed.
     pub fn sound(&self)
-        ensures { IsSound H.hash (log_state self.now) }
+        ensures numbers { HasSoundNumbers (view_of self.now) }
+        ensures view { IfSome (told_state self.now) (λ s. view_in s ≡ view_of self.now) }
+        ensures items { IfSome (told_state self.now) (IsSound H.hash) }
     {
-        let _ = self.contents.len();
-    }
-
-    /// What holds of every log whose disk tells its records: the clause says it, and the call does
-    /// nothing. Its items are the first ones in the records, as many as it has entries. So it is
-    /// also behind an append that failed, where the disk may tell one record more.
-    pub fn told(&self)
-        ensures { IfSome (told_state self.now) (λ s. s ≡ log_state self.now) }
-    {
-        let _ = self.contents.len();
+        let _ = self.numbers.size();
     }
 
     pub fn settings(&self) -> &LogSettings
         ensures value { result.now ≡ (view_of self.now).settings }
         ensures allowed { AreAllowed result.now.max_active result.now.limit }
     {
-        self.contents.settings()
+        self.numbers.settings()
     }
 
     /// The sizes at the landmarks, from the first to the last. They rise strictly, and none is
@@ -208,48 +297,60 @@ impl<H: TreeHash, D: Disk> Log<H, D> {
         ensures value { result.now ≡ (view_of self.now).marks }
         ensures rising { AreRising 0 (view_of self.now).size result.now }
     {
-        self.contents.marks()
+        self.numbers.marks()
     }
 
-    // The hash of the `2^level` entries from `place * 2^level` on. The disk is not called, and the
-    // log shows what it showed before.
-    pub(crate) fn node_at(&mut self, level: u32, place: u64) -> [u8; 32]
+    // The hash of the `2^level` entries from `place * 2^level` on. The journal's disk isn't called.
+    pub(crate) fn node_at(&mut self, level: u32, place: u64) -> Result<[u8; 32], Failed>
         requires { (place + 1) * 2 ^ level ≤ (view_of self.old).size }
-        ensures node { result ≡ root_of H.hash
-            (part_of (map (leaf_hash H.hash) (log_state self.old).entries)
-            (place * 2 ^ level) ((place + 1) * 2 ^ level)) }
-        ensures stays { LogStays self.old self.new }
+        ensures node { IfOk result (IsRootOf H.hash (log_leaves self.old) (place * 2 ^ level)
+            ((place + 1) * 2 ^ level)) }
+        ensures leaves { log_leaves self.new ≡ log_leaves self.old }
+        ensures asks { LogAsksTiles self.old self.new }
+        ensures cause { HasCause (T.faults (log_tiles_disk self.old))
+            (T.faults (log_tiles_disk self.new)) result }
     {
-        self.contents.node_at(level, place)
+        self.items.node(level, place)
     }
 
-    /// The entry at an index and its key, in the place of what the two byte strings held.
+    /// The entry at an index and its key, in the place of what the two byte strings held. It is
+    /// read back from the journal.
     ///
     /// Errors, in the order of the tests: `NoSuchEntry` where the index isn't below the size;
-    /// `Memory`. After a refusal both byte strings are empty. The disk is only looked at, and the
-    /// log shows what it showed before.
+    /// `Memory` and `Failed`, whichever comes first. After a refusal both byte strings are empty.
+    /// The journal's disk is only looked at, that of the tiles isn't called, and the log shows what
+    /// it showed before. Over a disk that tells nothing an Entry that can't be read there is
+    /// `Memory`.
     #[tactic(auto, unfolding(crate::specs::Refusals::item_at))]
     pub fn entry(&mut self, index: u64, entry: &mut Bytes, spki: &mut Bytes) -> Result<(), LogError>
-        ensures item { GivesItem (item_at (log_state self.old) index) result entry.new spki.new }
+        ensures item { IfSome (told_state self.old)
+            (λ s. GivesItem (item_at s index) result entry.new spki.new) }
+        ensures none { IsErrOf result LogError.NoSuchEntry ↔ ((view_of self.old).size ≤ index) }
+        ensures short { OnOk result (IsShort entry.new × IsShort spki.new) }
+        ensures empty { OnErr result ((entry.new ≡ []) × (spki.new ≡ [])) }
         ensures stays { LogStays self.old self.new }
+        ensures tiles { log_tiles_disk self.new ≡ log_tiles_disk self.old }
+        ensures cause { LogCounts (D.faults (log_disk self.old)) (D.faults (log_disk self.new))
+            result }
     {
         entry.truncate(0);
         spki.truncate(0);
         if index >= self.size() {
             return Err(LogError::NoSuchEntry);
         }
-        let place = index as usize;
-        copy(&self.contents.entries()[place], entry)?;
-        if copy(&self.contents.keys()[place], spki).is_err() {
-            entry.truncate(0);
-            return Err(LogError::Memory);
+        if index == 0 {
+            entry.append(&NULL_ENTRY)?;
+            return Ok(());
         }
-        Ok(())
+        let place = self.items.place(index);
+        read_entry(self.alloc, &mut self.journal, place, entry, spki)
     }
 
-    pub fn into_disk(self) -> D
-        ensures { result ≡ log_disk self }
+    /// The disk of the journal, and that of the tiles.
+    pub fn into_disks(self) -> (D, T)
+        ensures journal { result.0 ≡ log_disk self }
+        ensures tiles { result.1 ≡ log_tiles_disk self }
     {
-        self.journal.into_disk()
+        (self.journal.into_disk(), self.items.into_disk())
     }
 }

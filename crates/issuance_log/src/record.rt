@@ -3,8 +3,8 @@
 ghost use Rattle.std.specs.Prelude.{◌≡◌, ◌+◌, ◌<◌, ◌≤◌, length, true, IfOk};
 ghost use Rattle.byte_forms.specs.Readings.{Moves};
 ghost use Rattle.issuance_log.specs.Records.{settings_at, entry_at, log_settings_with, settings_in};
-ghost use Rattle.issuance_log.specs.Records.{item_in, mark_in, settings_record, IsShort};
-ghost use Rattle.issuance_log.specs.Records.{entry_record, landmark_record};
+ghost use Rattle.issuance_log.specs.Records.{item_in, mark_in, tiled_in, settings_record, IsShort};
+ghost use Rattle.issuance_log.specs.Records.{entry_record, landmark_record, tiles_record};
 ghost use Rattle.issuance_log.specs.Results.{LogFinds};
 ghost use Rattle.issuance_log.specs.Settings.{most_item, are_allowed, AreAllowed};
 ghost use Rattle.tls_wire.specs.Arcs.{IsAnchorId};
@@ -21,6 +21,8 @@ const LOG: u8 = 1;
 const ENTRY: u8 = 2;
 
 const LANDMARK: u8 = 3;
+
+const TILES: u8 = 4;
 
 // The settings behind the tag, in their order.
 #[tactic(auto, unfolding(crate::specs::Records::settings_at))]
@@ -130,6 +132,22 @@ pub(crate) fn read_mark(body: &[u8]) -> Result<u64, RecordError>
     Ok(size)
 }
 
+/// The size in the body of a Tiles.
+#[tactic(auto, unfolding(crate::specs::Records::tiled_in))]
+pub(crate) fn read_tiles(body: &[u8]) -> Result<u64, RecordError>
+    ensures { LogFinds (λ size. size) (tiled_in body.now) result }
+{
+    let mut cursor = Cursor::new(body);
+    if cursor.u8()? != TILES {
+        return Err(RecordError::Unfit);
+    }
+    let size = cursor.u64()?;
+    if cursor.left() != 0 {
+        return Err(RecordError::Unfit);
+    }
+    Ok(size)
+}
+
 /// The body of a Log.
 #[tactic(auto, unfolding(crate::specs::Records::settings_record))]
 pub(crate) fn settings_record(alloc: Global, settings: &LogSettings) -> Result<Bytes, Memory>
@@ -166,6 +184,17 @@ pub(crate) fn landmark_record(alloc: Global, size: u64) -> Result<Bytes, Memory>
 {
     let mut body = Bytes::new(alloc);
     put_u8(&mut body, LANDMARK)?;
+    put_u64(&mut body, size)?;
+    Ok(body)
+}
+
+/// The body of a Tiles of a size.
+#[tactic(auto, unfolding(crate::specs::Records::tiles_record))]
+pub(crate) fn tiles_record(alloc: Global, size: u64) -> Result<Bytes, Memory>
+    ensures { IfOk result (λ body. body ≡ tiles_record size) }
+{
+    let mut body = Bytes::new(alloc);
+    put_u8(&mut body, TILES)?;
     put_u64(&mut body, size)?;
     Ok(body)
 }

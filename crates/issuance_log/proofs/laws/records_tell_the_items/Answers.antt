@@ -1,4 +1,5 @@
-use Rattle.issuance_log.proofs.Shown.{recorded_mark, shown_added, shown_longer, shown_so}
+use Rattle.issuance_log.proofs.Shown.{recorded_mark, recorded_tiles, shown_added, shown_longer}
+use Rattle.issuance_log.proofs.Shown.{shown_so}
 use Rattle.issuance_log.proofs.laws.records_tell_the_items.Goals as goal
 
 pub returns-clause-whole : goal.returns-clause-whole
@@ -12,3 +13,6 @@ returns-clause-added c = shown_added
 
 pub returns-clause-marked : goal.returns-clause-marked
 returns-clause-marked c = recorded_mark
+
+pub returns-clause-tiled : goal.returns-clause-tiled
+returns-clause-tiled c = recorded_tiles

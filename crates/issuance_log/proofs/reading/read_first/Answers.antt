@@ -1,20 +1,21 @@
 use Rattle.std.proofs.Common.{ap, subst, sym, ◌∙◌, Ok}
 use Rattle.journal_core.specs.Openings.{opening_disk, Nexts}
 use Rattle.issuance_log.specs.Openings.{HasLogCause}
-use Rattle.journal_core.proofs.FoldSteps.{folded_first, missing_first, cause_first}
-use Rattle.issuance_log.specs.Folds.{log_fold}
+use Rattle.journal_core.proofs.FoldSteps.{missing_first, cause_first}
+use Rattle.issuance_log.specs.Folds.{LogNumbers, log_fold}
 use Rattle.issuance_log.specs.declared.error.LogOpenError.TheVariants.{Open}
-use Rattle.issuance_log.proofs.Readings.{cause_begun}
+use Rattle.issuance_log.proofs.Readings.{cause_begun, gathered_first}
 use Rattle.issuance_log.proofs.reading.read_first.Goals as goal
 
-pub returns-in-Ok-clause-folded : goal.returns-in-Ok-clause-folded
-returns-in-Ok-clause-folded g c =
+pub returns-in-Ok-clause-gathered : goal.returns-in-Ok-clause-gathered
+returns-in-Ok-clause-gathered g c =
     let old = c.args.opening.now in
     let new = c.next.follows.lender-at-none in
     let read = subst (Nexts old new) (c.in-Ok-Some.is
     ∙ ap Ok c.in-Ok-Some.field-0-is) c.next.follows.holds-at-none in
-    folded_first (log_fold g.H.TreeHash.hash) old new c.in-Ok-Some.body.now read.0 read.1
-    c.in-Ok.contents.state c.requires.list c.in-Ok.ensures
+    gathered_first old new c.in-Ok-Some.body.now read.0 read.1 c.in-Ok.numbers.view
+    c.args.items.now c.begin.new.items c.requires.list c.requires.place c.in-Ok.ensures.found
+    c.in-Ok.ensures.sound c.requires.none c.requires.no_leaves c.in-Ok.ensures.taken
 
 pub returns-in-Err-begin-clause-err : goal.returns-in-Err-begin-clause-err
 returns-in-Err-begin-clause-err g c =
@@ -24,8 +25,8 @@ returns-in-Err-begin-clause-err g c =
     ∙ ap Ok c.in-Ok-Some.field-0-is) c.next.follows.holds-at-none in
     subst (HasLogCause g.D.Disk g.H.TreeHash.hash (opening_disk old) (opening_disk new))
     (sym c.refusal_at.ensures)
-    (cause_begun g.H.TreeHash.hash old new c.in-Ok-Some.body.now read.0 read.1 read.2.looks
-    c.in-Err-begin.why c.requires.list (c.in-Err-begin.ensures))
+    (cause_begun old new c.in-Ok-Some.body.now read.0 read.1 g.H.TreeHash.hash read.2.looks
+    LogNumbers (λ n. n.view) c.in-Err-begin.why c.requires.list c.in-Err-begin.ensures.found)
 
 pub returns-in-Ok-None-clause-err : goal.returns-in-Ok-None-clause-err
 returns-in-Ok-None-clause-err g c =

@@ -1,10 +1,8 @@
 use Rattle.std.proofs.Common.{ap, subst, sym, ◌∙◌, Ok}
 use Rattle.journal_core.specs.Openings.{opening_disk, Nexts}
 use Rattle.issuance_log.specs.Openings.{HasLogCause}
-use Rattle.journal_core.proofs.FoldSteps.{folded_next, found_last, cause_next}
-use Rattle.issuance_log.specs.Folds.{log_fold}
 use Rattle.issuance_log.specs.declared.error.LogOpenError.TheVariants.{Open}
-use Rattle.issuance_log.proofs.Readings.{cause_taken}
+use Rattle.issuance_log.proofs.Readings.{cause_of_next, cause_taken, gathered_last, gathered_next}
 use Rattle.issuance_log.proofs.reading.read_next.Goals as goal
 
 pub returns-in-Ok-clause-more : goal.returns-in-Ok-clause-more
@@ -13,8 +11,10 @@ returns-in-Ok-clause-more g c =
     let new = c.next.follows.lender-at-none in
     let read = subst (Nexts old new) (c.in-Ok-Some.is
     ∙ ap Ok c.in-Ok-Some.field-0-is) c.next.follows.holds-at-none in
-    folded_next (log_fold g.H.TreeHash.hash) old new c.in-Ok-Some.body.now read.0 read.1
-    c.args.contents.now.state c.take.new.self.state c.requires c.in-Ok.ensures
+    gathered_next old new c.in-Ok-Some.body.now read.0 read.1 c.args.numbers.now.view
+    c.take.new.numbers.view c.args.items.now c.take.new.items c.place-place.result c.requires
+    c.place-place.ensures.value c.place-place.ensures.list c.in-Ok.ensures.view
+    c.take.ensures.short c.in-Ok.ensures.taken
 
 pub returns-in-Err-take-clause-err : goal.returns-in-Err-take-clause-err
 returns-in-Err-take-clause-err g c =
@@ -24,9 +24,9 @@ returns-in-Err-take-clause-err g c =
     ∙ ap Ok c.in-Ok-Some.field-0-is) c.next.follows.holds-at-none in
     subst (HasLogCause g.D.Disk g.H.TreeHash.hash (opening_disk old) (opening_disk new))
     (sym c.refusal_at.ensures)
-    (cause_taken g.H.TreeHash.hash old new c.in-Ok-Some.body.now read.0 read.1 read.2.looks
-    c.args.contents.now.state c.take.new.self.state c.read_count-number.result c.in-Err-take.why
-    c.read_count-number.ensures c.requires (c.in-Err-take.ensures))
+    (cause_taken old new c.in-Ok-Some.body.now read.0 read.1 read.2.looks
+    c.args.numbers.now.view c.take.new.numbers.view c.args.items.now c.read_count-number.result
+    c.in-Err-take.why c.read_count-number.ensures c.requires c.in-Err-take.ensures.view)
 
 pub returns-in-Ok-None-clause-more : goal.returns-in-Ok-None-clause-more
 returns-in-Ok-None-clause-more g c =
@@ -34,7 +34,7 @@ returns-in-Ok-None-clause-more g c =
     let new = c.next.follows.lender-at-none in
     let ended = subst (Nexts old new) (c.in-Ok-None.is
     ∙ ap Ok c.in-Ok-None.field-0-is) c.next.follows.holds-at-none in
-    found_last (log_fold g.H.TreeHash.hash) old new ended.0 ended.1.looks c.args.contents.now.state
+    gathered_last old new c.args.numbers.now.view c.args.items.now ended.0 ended.1.looks
     c.requires
 
 pub returns-in-Err-clause-err : goal.returns-in-Err-clause-err
@@ -42,8 +42,8 @@ returns-in-Err-clause-err g c =
     let old = c.args.opening.now in
     let new = c.next.follows.lender-at-none in
     let refused = subst (Nexts old new) c.in-Err.is c.next.follows.holds-at-none in
-    cause_next (log_fold g.H.TreeHash.hash) old new c.args.contents.now.state c.in-Err.why
-    c.requires refused.1
+    cause_of_next old new c.args.numbers.now.view c.args.items.now c.in-Err.why c.requires
+    refused.1
 
 pub returns-in-Ok-clause-fine : goal.returns-in-Ok-clause-fine
 returns-in-Ok-clause-fine g c =

@@ -1,20 +1,48 @@
-use Rattle.std.proofs.Common.{rules, IfSome, Ok, ◌≡◌, refl, subst, sym, ◌∙◌, arith}
-use Rattle.journal_core.specs.Words.{disk_of, records}
-use Rattle.journal_core.proofs.Appends.{all_kept, untouched_moment, untouched_after}
-use Rattle.issuance_log.specs.Folds.{log_of, with_item}
-use Rattle.issuance_log.specs.Records.{entry_record}
-use Rattle.issuance_log.specs.Words.{log_records, log_broken, log_end, log_state}
-use Rattle.issuance_log.specs.declared.error.LogError.TheVariants.{TooLarge}
-use Rattle.issuance_log.proofs.Adds.{room_of, record_some, record_few, added_to, added_unrefused}
-use Rattle.issuance_log.proofs.Adds.{agrees_behind, same_item, moment_is, after_is, left_alone}
-use Rattle.issuance_log.proofs.Shown.{IsShown, agrees_shown, refused_agrees, refused_shown}
+use Rattle.std.proofs.Common.{refl, ap, sym, subst, ◌≡◌, ◌-◌, ◌<◌, ◌∙◌, ◌++◌, ◌∷◌, []}
+use Rattle.std.proofs.Common.{ℕ, List, length, option_map, arith, rules, Some, false}
+use Rattle.std.specs.Prelude.{is_ok, is_some}
+use Rattle.std.proofs.lemmas.List.{length-append}
+use Rattle.journal_core.specs.Words.{end_of, is_broken, records}
+use Rattle.tile_store.specs.Store.{tiles_leaves}
+use Rattle.issuance_log.specs.Folds.{LogView, one_item_more, with_item}
+use Rattle.issuance_log.specs.Items.{AreBelow, items_places, items_tiles}
+use Rattle.issuance_log.specs.Records.{IsShort, entry_record}
+use Rattle.issuance_log.specs.Words.{log_broken, log_end, log_records, view_of}
+use Rattle.issuance_log.specs.declared.error.LogError.TheVariants.{Full, Memory, TooLarge}
+use Rattle.issuance_log.proofs.Adds.{added_unrefused, record_few, record_some, room_of}
+use Rattle.issuance_log.proofs.Appending.{adds, below_same, end_stays, grown_kept, item_leaves}
+use Rattle.issuance_log.proofs.Appending.{item_places, log_keeps, log_shows, told_behind, told_of}
+use Rattle.issuance_log.proofs.Appending.{told_same}
+use Rattle.issuance_log.proofs.Keeping.{short_item}
+use Rattle.issuance_log.proofs.Leaving.{appends_err, appends_not, appends_ok, untouched}
+use Rattle.issuance_log.proofs.Spelled.{item_again}
+use Rattle.issuance_log.proofs.Standing.{below_item, below_more}
+use Rattle.issuance_log.proofs.Views.{view_added}
 use Rattle.issuance_log.proofs.log.Log.add.Goals as goal
 
 pub returns-in_err-record-clause-valid : goal.returns-in_err-record-clause-valid
 returns-in_err-record-clause-valid g c =
     let log = c.args.self.now in
-    added_unrefused g.H.TreeHash.hash (log_state log) c.args.entry.now c.args.spki.now c.requires
-    (log_records log) (log_broken log) (log_end log) log.agrees c.is_full.ensures.sound
+    added_unrefused g.H.TreeHash.hash (view_of log) c.is_full.ensures.sound c.args.entry.now
+    c.args.spki.now c.requires (log_records log) (log_broken log) (log_end log) (log_shows log)
+
+pub returns-in_err-reserve-clause-valid : goal.returns-in_err-reserve-clause-valid
+returns-in_err-reserve-clause-valid g c =
+    let log = c.args.self.now in
+    added_unrefused g.H.TreeHash.hash (view_of log) c.is_full.ensures.sound c.args.entry.now
+    c.args.spki.now c.requires (log_records log) (log_broken log) (log_end log) (log_shows log)
+
+pub returns-in_err-append-clause-valid : goal.returns-in_err-append-clause-valid
+returns-in_err-append-clause-valid g c =
+    let log = c.args.self.now in
+    added_unrefused g.H.TreeHash.hash (view_of log) c.is_full.ensures.sound c.args.entry.now
+    c.args.spki.now c.requires (log_records log) (log_broken log) (log_end log) (log_shows log)
+
+pub returns-clause-valid : goal.returns-clause-valid
+returns-clause-valid g c =
+    let log = c.args.self.now in
+    added_unrefused g.H.TreeHash.hash (view_of log) c.is_full.ensures.sound c.args.entry.now
+    c.args.spki.now c.requires (log_records log) (log_broken log) (log_end log) (log_shows log)
 
 pub append-requires-clause-some : goal.append-requires-clause-some
 append-requires-clause-some g c = record_some c.as_slice.result.now c.args.entry.now c.args.spki.now
@@ -25,105 +53,159 @@ append-requires-clause-few g c =
     record_few c.as_slice.result.now c.args.entry.now c.args.spki.now (c.as_slice.ensures
     ∙ c.in_ok-record.ensures) c.if-entry-spki-gt-MAX_ITEM.false
 
-pub returns-in_err-item-clause-valid : goal.returns-in_err-item-clause-valid
-returns-in_err-item-clause-valid g c =
+pub returns-then-is_full-clause-appends : goal.returns-then-is_full-clause-appends
+returns-then-is_full-clause-appends g c =
     let log = c.args.self.now in
-    added_unrefused g.H.TreeHash.hash (log_state log) c.args.entry.now c.args.spki.now c.requires
-    (log_records log) (log_broken log) (log_end log) log.agrees c.is_full.ensures.sound
-
-pub returns-in_err-append-clause-valid : goal.returns-in_err-append-clause-valid
-returns-in_err-append-clause-valid g c =
-    let log = c.args.self.now in
-    added_unrefused g.H.TreeHash.hash (log_state log) c.args.entry.now c.args.spki.now c.requires
-    (log_records log) (log_broken log) (log_end log) log.agrees c.is_full.ensures.sound
-
-pub returns-clause-valid : goal.returns-clause-valid
-returns-clause-valid g c =
-    let log = c.args.self.now in
-    added_unrefused g.H.TreeHash.hash (log_state log) c.args.entry.now c.args.spki.now c.requires
-    (log_records log) (log_broken log) (log_end log) log.agrees c.is_full.ensures.sound
+    appends_not log log refl (entry_record c.args.entry.now c.args.spki.now) one_item_more
+    (with_item c.args.entry.now c.args.spki.now) _ Full refl refl (g.met.D.Disk.only_now _)
+    (untouched log log refl refl refl refl refl)
 
 pub returns-then-entry-spki-gt-MAX_ITEM-clause-appends
     : goal.returns-then-entry-spki-gt-MAX_ITEM-clause-appends
 returns-then-entry-spki-gt-MAX_ITEM-clause-appends g c =
     let log = c.args.self.now in
-    left_alone (entry_record c.args.entry.now c.args.spki.now)
-    (with_item c.args.entry.now c.args.spki.now (log_state log)) log (g.met.D.Disk.only_now _)
-    TooLarge (record { disk = refl; state = refl; end = refl; broken = refl })
+    appends_not log log refl (entry_record c.args.entry.now c.args.spki.now) one_item_more
+    (with_item c.args.entry.now c.args.spki.now) _ TooLarge refl refl (g.met.D.Disk.only_now _)
+    (untouched log log refl refl refl refl refl)
 
-pub returns-in_err-item-clause-appends : goal.returns-in_err-item-clause-appends
-returns-in_err-item-clause-appends g c =
-    let journal = c.args.self.now.journal in
-    record {
-      leaves = search rules;
-      kept = search rules;
-      count = omega arith;
-      any_moment = λ sound. untouched_moment g.D.Disk (disk_of journal) _ _
-          (journal.settled sound) (g.met.D.Disk.only_now _);
-      afterwards = λ sound. untouched_after g.D.Disk (disk_of journal) _ _
-          (journal.settled sound);
-    }
-
-pub returns-in_err-append-clause-appends : goal.returns-in_err-append-clause-appends
-returns-in_err-append-clause-appends g c =
-    let body_is = c.as_slice.ensures ∙ c.in_ok-record.ensures in
-    record {
-      leaves = search rules;
-      kept = search rules;
-      count = c.append.ensures.count;
-      any_moment = λ sound. moment_is g.D.Disk _ _ _ _ _ body_is
-          (c.append.ensures.any_moment sound);
-      afterwards = λ sound. after_is g.D.Disk _ (disk_of c.args.self.now.journal) _ _ _ body_is
-          (c.append.ensures.afterwards sound);
-    }
+pub returns-in_err-record-clause-appends : goal.returns-in_err-record-clause-appends
+returns-in_err-record-clause-appends g c =
+    let log = c.args.self.now in
+    appends_not log log refl (entry_record c.args.entry.now c.args.spki.now) one_item_more
+    (with_item c.args.entry.now c.args.spki.now) c.from_residual.result Memory
+    c.from_residual.ensures.1 refl (g.met.D.Disk.only_now _)
+    (untouched log log refl refl refl refl refl)
 
 pub returns-clause-appends : goal.returns-clause-appends
 returns-clause-appends g c =
-    let body_is = c.as_slice.ensures ∙ c.in_ok-record.ensures in
-    let disk = disk_of c.append.new.self in
-    record {
-      leaves = search rules;
-      kept = all_kept g.D.Disk disk (g.D.Disk.told disk) (log_records c.args.self.now)
-          c.as_slice.result.now (entry_record c.args.entry.now c.args.spki.now)
-          c.in_ok-append.ensures.leaves.records body_is c.in_ok-append.ensures.leaves.all;
-      count = c.append.ensures.count;
-      any_moment = λ sound. moment_is g.D.Disk _ _ _ _ _ body_is
-          (c.append.ensures.any_moment sound);
-      afterwards = λ sound. after_is g.D.Disk _ (disk_of c.args.self.now.journal) _ _ _ body_is
-          (c.append.ensures.afterwards sound);
-    }
+    let log = c.args.self.now in
+    let h = g.H.TreeHash.hash in
+    let v = view_of log in
+    let entry = c.args.entry.now in
+    let key = c.args.spki.now in
+    let room : v.size < v.settings.limit = room_of _ _ (sym c.if-is_full.ensures.full) in
+    let few = c.if-entry-spki-gt-MAX_ITEM.false in
+    let short_entry : IsShort entry = omega arith in
+    let short_key : IsShort key = omega arith in
+    let grown = c.in_ok-append.ensures.leaves in
+    appends_ok log _ (ap (λ disk. is_some (g.T.Disk.told disk)) (c.push.ensures.disk
+    ∙ c.reserve.ensures.disk))
+    (entry_record entry key) one_item_more (with_item entry key) c.as_slice.result.now
+    (c.as_slice.ensures ∙ c.in_ok-record.ensures) c.append.ensures.count
+    c.append.ensures.any_moment c.append.ensures.afterwards c.size-index.result grown
+    c.add_item.ensures.view (view_added h v entry key room short_entry short_key c.requires)
+    (adds h v (items_places log.items) (tiles_leaves (items_tiles log.items)) entry key room
+    short_entry short_key c.requires (log_records log) (log_keeps log grown.was_sound))
+
+pub returns-in_err-append-clause-appends : goal.returns-in_err-append-clause-appends
+returns-in_err-append-clause-appends g c =
+    let log = c.args.self.now in
+    let entry = c.args.entry.now in
+    let key = c.args.spki.now in
+    appends_err log _ (ap (λ disk. is_some (g.T.Disk.told disk)) c.reserve.ensures.disk)
+    (entry_record entry key) one_item_more (with_item entry key) c.as_slice.result.now
+    (c.as_slice.ensures ∙ c.in_ok-record.ensures) c.append.ensures.count
+    c.append.ensures.any_moment c.append.ensures.afterwards c.from_residual-in_err-append.result
+    c.in_err-append.field-0.0 c.from_residual-in_err-append.ensures.1 refl
+    c.in_err-append.ensures.leaves c.in_err-append.ensures.broken c.append.ensures.told
+    c.append.ensures.as_read
+
+pub returns-in_err-reserve-clause-appends : goal.returns-in_err-reserve-clause-appends
+returns-in_err-reserve-clause-appends g c =
+    let log = c.args.self.now in
+    let same = ap (λ disk. is_some (g.T.Disk.told disk)) c.reserve.ensures.disk in
+    appends_not log _ same (entry_record c.args.entry.now c.args.spki.now) one_item_more
+    (with_item c.args.entry.now c.args.spki.now) c.from_residual-in_err-reserve.result Memory
+    c.from_residual-in_err-reserve.ensures.1 refl (g.met.D.Disk.only_now _)
+    (untouched log _ same refl refl refl refl)
 
 pub invariant_of-self-2 : goal.invariant_of-self-2
 invariant_of-self-2 g c =
     let log = c.args.self.now in
-    let item = c.in_ok-item.ensures in
-    let now = agrees_behind g.H.TreeHash.hash (log_records log) _ c.as_slice.result.now
-    (entry_record c.args.entry.now c.args.spki.now)
-    (with_item c.args.entry.now c.args.spki.now (log_state log)) c.push.new.self.state
-    c.in_ok-append.ensures.leaves.records (c.as_slice.ensures
-    ∙ c.in_ok-record.ensures) (c.push.ensures
-    ∙ same_item _ _ _ _ _ _ item.entry item.key item.same)
-    (added_to g.H.TreeHash.hash (log_state log) c.args.entry.now c.args.spki.now c.requires
-    (log_records log) (log.agrees c.in_ok-append.ensures.leaves.was_sound)
-    (room_of _ _ (sym c.if-is_full.ensures.full)) c.if-entry-spki-gt-MAX_ITEM.false) in
+    let h = g.H.TreeHash.hash in
+    let v = view_of log in
+    let entry = c.args.entry.now in
+    let key = c.args.spki.now in
+    let room : v.size < v.settings.limit = room_of _ _ (sym c.if-is_full.ensures.full) in
+    let few = c.if-entry-spki-gt-MAX_ITEM.false in
+    let short_entry : IsShort entry = omega arith in
+    let short_key : IsShort key = omega arith in
+    let grown = c.in_ok-append.ensures.leaves in
+    let items = c.push.new.self in
+    let journal = c.append.new.self in
+    let text = c.as_slice.result.now in
+    let body_is = c.as_slice.ensures ∙ c.in_ok-record.ensures in
+    let place : ℕ = c.end-place.result - 1 in
+    let old_places = items_places log.items in
+    let old_leaves = tiles_leaves (items_tiles log.items) in
+    let shows = view_added h v entry key room short_entry short_key c.requires
+    ∙ ap Some (sym c.add_item.ensures.view) in
+    let places_are = c.push.ensures.places
+    ∙ ap (λ (l : List ℕ). l ++ place ∷ []) c.reserve.ensures.places in
+    let leaves_are = c.push.ensures.leaves
+    ∙ ap (λ o. option_map (λ (l : List (List ℕ)). l ++ c.leaf.result ∷ []) o)
+    c.reserve.ensures.leaves
+    ∙ ap (λ (x : List ℕ). option_map (λ (l : List (List ℕ)). l ++ x ∷ []) old_leaves)
+    c.leaf.ensures in
+    let told = told_of h c.add_item.new.self.view (items_places items)
+    (tiles_leaves (items_tiles items)) (is_broken journal) (records journal)
+    (grown_kept h v c.add_item.new.self.view old_places old_leaves log.journal journal text
+    (entry_record entry key) body_is grown shows (items_places items)
+    (tiles_leaves (items_tiles items)) place (log_keeps log grown.was_sound)
+    (short_item _ entry key (item_again entry key short_entry short_key) short_entry short_key)
+    (ap (λ (n : ℕ). n - 1) c.end-place.ensures)
+    (places_are ∙ item_places entry key short_entry short_key old_places place)
+    (leaves_are ∙ item_leaves h entry key short_entry short_key old_leaves)) in
+    let end = c.end-place.ensures in
+    let ends = grown.end in
+    let view = c.add_item.ensures.view in
+    let size = ap (λ (u : LogView). u.size) view in
+    let tiled = ap (λ (u : LogView). u.tiled) view in
+    let count = ap (λ (l : List ℕ). length l) places_are in
+    let sum = length-append old_places (place ∷ []) in
+    let counted = log.counted in
+    let was = log.stored in
+    let stored = c.push.ensures.stored ∙ c.reserve.ensures.stored in
     record {
-      agrees = λ sound. now;
-      shown = agrees_shown g.H.TreeHash.hash c.push.new.self.state _ now;
+      counted = omega arith;
+      stored = omega arith;
+      below = subst (λ (l : List ℕ). AreBelow l (end_of journal)) (sym places_are)
+          (below_more old_places (place ∷ []) (end_of log.journal) (end_of journal) log.below
+          (omega arith) (below_item (Some (entry, key)) place (end_of journal) (omega arith)));
+      agrees = told.agrees;
+      stand = told.stand;
+      hashed = told.hashed;
     }
 
 pub invariant_of-self-in-Break-branch-3 : goal.invariant_of-self-in-Break-branch-3
 invariant_of-self-in-Break-branch-3 g c =
     let log = c.args.self.now in
     let h = g.H.TreeHash.hash in
-    let body = c.as_slice.result.now in
-    let new = c.append.new.self in
+    let v = view_of log in
     let append = c.append.ensures in
-    let same = sym c.in_ok-item.ensures.same in
+    let items = c.reserve.new.self in
+    let text = c.as_slice.result.now in
+    let refused : is_ok c.append.result ≡ false = search rules in
+    let told = told_same h v v (items_places log.items) (items_places items)
+    (tiles_leaves (items_tiles log.items)) (tiles_leaves (items_tiles items))
+    (is_broken c.append.new.self) (records c.append.new.self) refl c.reserve.ensures.places
+    c.reserve.ensures.leaves
+    (told_behind h v (items_places log.items) (tiles_leaves (items_tiles log.items)) text
+    log.journal c.append.new.self c.append.result c.is_full.ensures.sound.some refused
+    append.leaves append.broken append.told append.as_read
+    (record { agrees = log.agrees; stand = log.stand; hashed = log.hashed })) in
+    let count = ap (λ (l : List ℕ). length l) c.reserve.ensures.places in
+    let counted = log.counted in
+    let was = log.stored in
+    let stored = c.reserve.ensures.stored in
     record {
-      agrees = λ sound. subst (λ s. IfSome (records new) (λ list. log_of h list ≡ Ok s)) same
-          (refused_agrees h (log_state log) body log.journal new c.append.result (search rules)
-          append.leaves log.agrees sound);
-      shown = subst (λ s. IsShown s (records new)) same
-          (refused_shown (log_state log) body log.journal new c.append.result (search rules)
-          append.leaves append.broken append.told append.as_read log.shown);
+      counted = omega arith;
+      stored = omega arith;
+      below = below_same (items_places log.items) (items_places items) (end_of log.journal)
+          (end_of c.append.new.self) c.reserve.ensures.places
+          (end_stays text log.journal c.append.new.self c.append.result refused append.leaves)
+          log.below;
+      agrees = told.agrees;
+      stand = told.stand;
+      hashed = told.hashed;
     }

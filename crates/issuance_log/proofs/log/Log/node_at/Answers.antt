@@ -1,16 +1,16 @@
-use Rattle.std.proofs.Common.{refl}
-use Rattle.disk_core.proofs.Moments.{no_look}
-use Rattle.issuance_log.specs.Words.{log_disk}
+use Rattle.std.proofs.Common.{◌≡◌, ◌+◌, ◌*◌, ◌^◌}
+use Rattle.std.proofs.lemmas.Result.{IfOk-weaker}
+use Rattle.tree_core.specs.Path.{part_of}
+use Rattle.tree_core.specs.Tree.{root_of}
+use Rattle.issuance_log.specs.Words.{log_records, log_tiles_disk, view_of}
+use Rattle.issuance_log.proofs.Tiling.{leaves_are}
 use Rattle.issuance_log.proofs.log.Log.node_at.Goals as goal
 
-pub returns-clause-stays : goal.returns-clause-stays
-returns-clause-stays g c =
-    let disk = log_disk c.args.self.now in
-    record {
-      looks = no_look g.D.Disk disk (g.met.D.Disk.only_now disk);
-      fine = refl;
-      state = c.node_at.ensures.same;
-      records = refl;
-      end = refl;
-      broken = refl;
-    }
+pub returns-clause-node : goal.returns-clause-node
+returns-clause-node g c =
+    let log = c.args.self.now in
+    let h = g.H.TreeHash.hash in
+    IfOk-weaker c.node.result _ _ (λ node is. leaves_are h (view_of log)
+    (g.T.Disk.told (log_tiles_disk log)) _ (log_records log) (λ leaves. node
+    ≡ root_of h (part_of leaves (c.args.place * 2 ^ c.args.level)
+    ((c.args.place + 1) * 2 ^ c.args.level))) log.hashed is) c.node.ensures.value

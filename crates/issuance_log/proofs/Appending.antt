@@ -1,0 +1,384 @@
+-- A record more in the journal of a log: what the log keeps of it, and what it shows.
+use Rattle.std.proofs.Common.{◌≡◌, ℕ, ◌-◌, ◌^◌, ◌<◌, ◌≤◌, ◌%◌, inl, inr, true, false, List, []}
+use Rattle.std.proofs.Common.{◌∷◌, ◌++◌, Option, Some, None, IfSome, option_map, Ok, Err, refl, ap}
+use Rattle.std.proofs.Common.{subst, sym, ◌∙◌, arith}
+use Rattle.std.specs.Prelude.{◌↔◌, Bool, map, option_and_then, option_to_list, is_some, is_ok}
+use Rattle.std.specs.Prelude.{Result, IsErrOf, IsTrue}
+use Rattle.std.proofs.lemmas.List.{append-nil}
+use Rattle.byte_forms.specs.Types.{Text, HashFunction}
+use Rattle.disk_core.specs.declared.disk.Disk.{Ghosts}
+use Rattle.journal_core.specs.Format.{StandsForEither, end_behind, records_of}
+use Rattle.journal_core.specs.Words.{AppendLeaves, HasAppended, disk_of, end_of, is_broken, records}
+use Rattle.journal_core.specs.declared.error.AppendError.{AppendError}
+use Rattle.journal_core.specs.declared.error.AppendError.TheVariants.{Broken, Failed, Full}
+use Rattle.journal_core.specs.declared.journal.Journal.{Journal}
+use Rattle.journal_core.proofs.Records.{records_of-stands}
+use Rattle.journal_core.proofs.Told.{if_some}
+use Rattle.log_entry.specs.Matching.{matches}
+use Rattle.tile_store.specs.Store.{tiles_leaves}
+use Rattle.tree_core.specs.Tree.{leaf_hash}
+use Rattle.tree_core.specs.declared.hashing.TreeHash.{Ghosts as Hashes}
+use Rattle.issuance_log.specs.Folds.{LogState, LogView, log_of, next_log, next_view, view_in}
+use Rattle.issuance_log.specs.Folds.{with_item, with_mark, with_tiles}
+use Rattle.issuance_log.specs.Items.{AreBelow, AreHashed, AreKept, HasShortItem, StandAt}
+use Rattle.issuance_log.specs.Items.{items_places, items_tiles}
+use Rattle.issuance_log.specs.Marks.{last_mark}
+use Rattle.issuance_log.specs.Records.{IsShort, entry_record, item_in, landmark_record}
+use Rattle.issuance_log.specs.Records.{tiles_record}
+use Rattle.issuance_log.specs.Shown.{shown_with}
+use Rattle.issuance_log.specs.Sound.{IsSound}
+use Rattle.issuance_log.specs.Words.{log_broken, log_records, view_of}
+use Rattle.issuance_log.specs.declared.log.Log.{Log}
+use Rattle.issuance_log.proofs.Adds.{MakesShown}
+use Rattle.issuance_log.proofs.Keeping.{if_more, kept_more, shown_next}
+use Rattle.issuance_log.proofs.Shown.{all_are_shown, shown_longer, shown_size, shown_view}
+use Rattle.issuance_log.proofs.Spelled.{item_again, next_added, next_marked, next_tiled}
+use Rattle.issuance_log.proofs.Standing.{hashed_longer, refused_keeps, refused_same, some_record}
+use Rattle.issuance_log.proofs.Standing.{stand_longer}
+
+-- ---- what is kept of the records
+
+module _ (h : HashFunction) (v : LogView) (places : List ℕ) (leaves : Option (List (List ℕ))) where
+  pub kept_all : (o : Option (List Text))
+      → IfSome o (λ list. log_of h list ≡ Ok (shown_with v list))
+      → IfSome o (StandAt h v places) → IfSome o (AreHashed h v leaves)
+      → IfSome o (AreKept h v places leaves)
+  kept_all None made stand hashed = tt
+  kept_all (Some list) made stand hashed = record {
+    made = made;
+    all = all_are_shown h v list made stand.within;
+    stand = stand;
+    hashed = hashed;
+  }
+
+  pub made_of : (o : Option (List Text)) → IfSome o (AreKept h v places leaves)
+      → IfSome o (λ list. log_of h list ≡ Ok (shown_with v list))
+  made_of None kept = tt
+  made_of (Some list) kept = kept.made
+
+  pub stand_of : (o : Option (List Text)) → IfSome o (AreKept h v places leaves)
+      → IfSome o (StandAt h v places)
+  stand_of None kept = tt
+  stand_of (Some list) kept = kept.stand
+
+  pub hashed_of : (o : Option (List Text)) → IfSome o (AreKept h v places leaves)
+      → IfSome o (AreHashed h v leaves)
+  hashed_of None kept = tt
+  hashed_of (Some list) kept = kept.hashed
+
+  -- ---- the three records make of the log what the calls say
+
+  pub adds : (entry key : Text) → v.size < v.settings.limit → IsShort entry → IsShort key
+      → matches h entry key ≡ true → (o : Option (List Text))
+      → IfSome o (AreKept h v places leaves)
+      → IfSome o (λ list. next_log h (shown_with v list) (entry_record entry key)
+      ≡ Some (with_item entry key (shown_with v list)))
+  adds entry key room few_entry few_key belongs None kept = tt
+  adds entry key room few_entry few_key belongs (Some list) kept =
+      next_added h (shown_with v list) entry key
+      (subst (λ (n : ℕ). n < v.settings.limit) (sym (shown_size v list kept.stand.within)) room)
+      few_entry few_key belongs
+
+  pub marks_it : v.size < 2 ^ 64 → last_mark v.marks < v.size → (o : Option (List Text))
+      → IfSome o (AreKept h v places leaves)
+      → IfSome o (λ list. next_log h (shown_with v list) (landmark_record v.size)
+      ≡ Some (with_mark (shown_with v list)))
+  marks_it fits above None kept = tt
+  marks_it fits above (Some list) kept =
+      let size = shown_size v list kept.stand.within in
+      ap (λ (n : ℕ). next_log h (shown_with v list) (landmark_record n)) (sym size)
+      ∙ next_marked h (shown_with v list) (subst (λ (n : ℕ). n < 2 ^ 64) (sym size) fits)
+      (subst (λ (n : ℕ). last_mark v.marks < n) (sym size) above)
+
+  pub tiles_it : (size : ℕ) → size < 2 ^ 64 → size % 256 ≡ 0 → v.tiled < size → size ≤ v.size
+      → (o : Option (List Text)) → IfSome o (AreKept h v places leaves)
+      → IfSome o (λ list. next_log h (shown_with v list) (tiles_record size)
+      ≡ Some (with_tiles size (shown_with v list)))
+  tiles_it size fits multiple above within None kept = tt
+  tiles_it size fits multiple above within (Some list) kept =
+      next_tiled h (shown_with v list) size fits multiple above
+      (subst (λ (n : ℕ). size ≤ n) (sym (shown_size v list kept.stand.within)) within)
+
+-- ---- the items of a record
+
+pub item_places : (entry key : Text) → IsShort entry → IsShort key → (places : List ℕ) (place : ℕ)
+    → places ++ place ∷ []
+    ≡ places ++ map (λ x. place) (option_to_list (item_in (entry_record entry key)))
+item_places entry key few_entry few_key places place =
+    ap (λ o. places ++ map (λ (x : Text × Text). place) (option_to_list o))
+    (sym (item_again entry key few_entry few_key))
+
+pub item_leaves : (h : HashFunction) (entry key : Text) → IsShort entry → IsShort key
+    → (leaves : Option (List (List ℕ))) → option_map (λ l. l ++ leaf_hash h entry ∷ []) leaves
+    ≡ option_map (λ l. l
+    ++ map (λ x. leaf_hash h x.0) (option_to_list (item_in (entry_record entry key)))) leaves
+item_leaves h entry key few_entry few_key leaves =
+    ap (λ o. option_map (λ (l : List (List ℕ)). l
+    ++ map (λ (x : Text × Text). leaf_hash h x.0) (option_to_list o)) leaves)
+    (sym (item_again entry key few_entry few_key))
+
+pub no_places : (body : Text) → item_in body ≡ None → (places : List ℕ) (place : ℕ)
+    → places ≡ places ++ map (λ x. place) (option_to_list (item_in body))
+no_places body none places place =
+    sym (append-nil places)
+    ∙ ap (λ o. places ++ map (λ (x : Text × Text). place) (option_to_list o)) (sym none)
+
+pub no_leaves : (h : HashFunction) (body : Text) → item_in body ≡ None
+    → (leaves : Option (List (List ℕ))) → leaves
+    ≡ option_map (λ l. l ++ map (λ x. leaf_hash h x.0) (option_to_list (item_in body))) leaves
+no_leaves h body none leaves =
+    same leaves
+    ∙ ap (λ o. option_map (λ (l : List (List ℕ)). l
+    ++ map (λ (x : Text × Text). leaf_hash h x.0) (option_to_list o)) leaves) (sym none)
+  where
+    same : (o : Option (List (List ℕ))) → o ≡ option_map (λ l. l ++ []) o
+    same None = refl
+    same (Some l) = ap Some (sym (append-nil l))
+
+-- ---- what is told of a log
+
+-- the hashes of the entries, where the disk of the tiles tells its bytes
+abbrev pub leaves_by : HashFunction → LogView → Option Text → Option (List Text)
+    → Option (List (List ℕ))
+leaves_by h v tiles list = option_map (λ (s : LogState). map (leaf_hash h) s.entries)
+    (option_map (shown_with v) (option_and_then (λ (t : Text). list) tiles))
+
+told_with : (v w : LogView) (body : Text) (next : LogState → LogState) (o new : Option (List Text))
+    → new ≡ option_map (λ list. list ++ body ∷ []) o
+    → IfSome o (λ list. shown_with w (list ++ body ∷ []) ≡ next (shown_with v list))
+    → option_map (shown_with w) new ≡ option_map next (option_map (shown_with v) o)
+told_with v w body next None new is shown = ap (option_map (shown_with w)) is
+told_with v w body next (Some list) new is shown =
+    ap (option_map (shown_with w)) is ∙ ap Some shown
+
+leaves_with : (h : HashFunction) (v w : LogView) (next : LogState → LogState)
+    (tiles later : Option Text) (o new : Option (List Text)) → is_some later ≡ is_some tiles
+    → option_map (shown_with w) new ≡ option_map next (option_map (shown_with v) o)
+    → leaves_by h w later new
+    ≡ option_map (λ (s : LogState). map (leaf_hash h) (next s).entries)
+    (option_map (shown_with v) (option_and_then (λ (t : Text). o) tiles))
+leaves_with h v w next None None o new both told = refl
+leaves_with h v w next None (Some t) o new both told = let wrong : true ≡ false = both in absurd cc
+leaves_with h v w next (Some t) None o new both told = let wrong : false ≡ true = both in absurd cc
+leaves_with h v w next (Some t) (Some u) o new both told =
+    ap (option_map (λ (s : LogState). map (leaf_hash h) s.entries)) told ∙ twice o
+  where
+    twice : (p : Option (List Text))
+        → option_map (λ (s : LogState). map (leaf_hash h) s.entries)
+        (option_map next (option_map (shown_with v) p))
+        ≡ option_map (λ (s : LogState). map (leaf_hash h) (next s).entries)
+        (option_map (shown_with v) p)
+    twice None = refl
+    twice (Some list) = refl
+
+pub leaves_same : (h : HashFunction) (v w : LogView) (tiles later : Option Text)
+    (o new : Option (List Text)) → is_some later ≡ is_some tiles
+    → option_map (shown_with w) new ≡ option_map (shown_with v) o
+    → leaves_by h w later new ≡ leaves_by h v tiles o
+leaves_same h v w None None o new both told = refl
+leaves_same h v w None (Some t) o new both told = let wrong : true ≡ false = both in absurd cc
+leaves_same h v w (Some t) None o new both told = let wrong : false ≡ true = both in absurd cc
+leaves_same h v w (Some t) (Some u) o new both told =
+    ap (option_map (λ (s : LogState). map (leaf_hash h) s.entries)) told
+
+-- the log that is told shows the numbers, and is sound
+pub view_told : (h : HashFunction) (v : LogView) (places : List ℕ) (o : Option (List Text))
+    → IfSome o (StandAt h v places)
+    → IfSome (option_map (shown_with v) o) (λ s. view_in s ≡ v)
+view_told h v places None stand = tt
+view_told h v places (Some list) stand = shown_view v list stand.within
+
+pub sound_told : (h : HashFunction) (v : LogView) (places : List ℕ) (o : Option (List Text))
+    → IfSome o (StandAt h v places) → IfSome (option_map (shown_with v) o) (IsSound h)
+sound_told h v places None stand = tt
+sound_told h v places (Some list) stand = stand.sound
+
+-- leaves are told where bytes are
+pub some_told : (f f' : Text → List (List ℕ)) (told later : Option Text)
+    → option_map f' later ≡ option_map f told → is_some later ≡ is_some told
+some_told f f' None None same = refl
+some_told f f' None (Some b) same = let wrong : Some (f' b) ≡ None = same in absurd cc
+some_told f f' (Some b) None same = let wrong : None ≡ Some (f b) = same in absurd cc
+some_told f f' (Some b) (Some c) same = refl
+
+-- ---- one record more
+
+module _ {D : Type 0} {g : Ghosts D} (h : HashFunction) (v w : LogView) (places : List ℕ)
+    (leaves : Option (List (List ℕ))) (old new : Journal D g) (text body : Text)
+    (spelled : text ≡ body) (grown : HasAppended text old new)
+    (next : next_view h v body ≡ Some w) where
+  pub records_are : records new ≡ option_map (λ list. list ++ body ∷ []) (records old)
+  records_are = subst (λ (b : Text). records new
+      ≡ option_map (λ list. list ++ b ∷ []) (records old)) spelled grown.records
+
+  pub grown_kept : (places' : List ℕ) (leaves' : Option (List (List ℕ))) (place : ℕ)
+      → IfSome (records old) (AreKept h v places leaves) → HasShortItem (item_in body)
+      → place ≡ end_of old - 1
+      → places' ≡ places ++ map (λ x. place) (option_to_list (item_in body))
+      → leaves'
+      ≡ option_map (λ l. l ++ map (λ x. leaf_hash h x.0) (option_to_list (item_in body))) leaves
+      → IfSome (records new) (AreKept h w places' leaves')
+  grown_kept places' leaves' place kept short place_is places_are leaves_are =
+      if_more (AreKept h v places leaves) (AreKept h w places' leaves') (records old) (records new)
+      body records_are
+      (λ list is was.
+      let there : end_of old ≡ end_behind list = end_is list is in
+      kept_more h v w places places' leaves leaves' list body was next short
+      (places_are ∙ ap (λ (n : ℕ). places ++ map (λ x. n) (option_to_list (item_in body)))
+      (omega arith))
+      leaves_are) kept
+    where
+      some_list : (x y : List Text) → Some x ≡ Some y → x ≡ y
+      some_list x y is = cc
+
+      at : (told : Option Text) (list : List Text) → option_map records_of told ≡ Some list
+          → ((b : Text) → told ≡ Some b → end_of old ≡ end_behind (records_of b))
+          → end_of old ≡ end_behind list
+      at None list is end = let wrong : None ≡ Some list = is in absurd cc
+      at (Some b) list is end = end b refl ∙ ap end_behind (some_list (records_of b) list is)
+
+      end_is : (list : List Text) → records old ≡ Some list → end_of old ≡ end_behind list
+      end_is list is = at (g.told (disk_of old)) list is
+          (λ b told. (old.settled grown.was_sound b told).end_is)
+
+  pub grown_told : (make : LogState → LogState) → IfSome (records old) (AreKept h v places leaves)
+      → IfSome (records old) (λ list. next_log h (shown_with v list) body
+      ≡ Some (make (shown_with v list)))
+      → option_map (shown_with w) (records new)
+      ≡ option_map make (option_map (shown_with v) (records old))
+  grown_told make kept makes =
+      told_with v w body make (records old) (records new) records_are
+      (each (records old) kept makes)
+    where
+      each : (o : Option (List Text)) → IfSome o (AreKept h v places leaves)
+          → IfSome o (λ list. next_log h (shown_with v list) body
+          ≡ Some (make (shown_with v list)))
+          → IfSome o (λ list. shown_with w (list ++ body ∷ []) ≡ make (shown_with v list))
+      each None kept makes = tt
+      each (Some list) kept makes =
+          shown_next h v w list body (make (shown_with v list)) kept.made kept.stand.within next
+          makes
+
+  pub grown_leaves : (make : LogState → LogState) (tiles later : Option Text)
+      → is_some later ≡ is_some tiles → IfSome (records old) (AreKept h v places leaves)
+      → IfSome (records old) (λ list. next_log h (shown_with v list) body
+      ≡ Some (make (shown_with v list)))
+      → leaves_by h w later (records new)
+      ≡ option_map (λ (s : LogState). map (leaf_hash h) (make s).entries)
+      (option_map (shown_with v) (option_and_then (λ (t : Text). records old) tiles))
+  grown_leaves make tiles later both kept makes =
+      leaves_with h v w make tiles later (records old) (records new) both
+      (grown_told make kept makes)
+
+-- ---- an append that was refused, or failed
+
+-- the file ends where it ended
+pub end_stays : {D : Type 0} {g : Ghosts D} (text : Text) (old new : Journal D g)
+    (result : Result (Unit {0}) AppendError) → is_ok result ≡ false
+    → AppendLeaves text old new result → end_of new ≡ end_of old
+end_stays text old new (Ok done) refused leaves = absurd cc
+end_stays text old new (Err Failed) refused leaves = leaves.end
+end_stays text old new (Err Broken) refused leaves = leaves.end
+end_stays text old new (Err Full) refused leaves = leaves.end
+
+-- what is told of the log stays, also where its disk tells a record more
+pub shown_either : (h : HashFunction) (v : LogView) (places : List ℕ) (text : Text)
+    (o : Option (List Text)) (told : Option Text) → is_some (option_map records_of told) ≡ is_some o
+    → IfSome o (λ list. IfSome told (StandsForEither list text)) → IfSome o (StandAt h v places)
+    → option_map (shown_with v) (option_map records_of told) ≡ option_map (shown_with v) o
+shown_either h v places text None None same either stand = refl
+shown_either h v places text None (Some b) same either stand =
+    let wrong : true ≡ false = same in absurd cc
+shown_either h v places text (Some list) None same either stand =
+    let wrong : false ≡ true = same in absurd cc
+shown_either h v places text (Some list) (Some b) same either stand = elim either [
+  | inl stands ↦ ap (λ (l : List Text). Some (shown_with v l)) (records_of-stands b list stands)
+  | inr stands ↦ ap (λ (l : List Text). Some (shown_with v l))
+      (records_of-stands b (list ++ text ∷ []) stands)
+      ∙ ap Some (shown_longer v list text stand.within)
+]
+
+-- ---- a log whose records make what it shows
+
+module _ {H D T : Type 0} {hashes : Hashes H} {g : Ghosts D} {k : Ghosts T}
+    (log : Log H D T hashes g k) (sound : log_broken log ≡ false) where
+  pub log_keeps : IfSome (log_records log) (AreKept hashes.hash (view_of log)
+      (items_places log.items) (tiles_leaves (items_tiles log.items)))
+  log_keeps = kept_all hashes.hash (view_of log) (items_places log.items)
+      (tiles_leaves (items_tiles log.items)) (log_records log) (log.agrees sound) log.stand
+      log.hashed
+
+  pub log_shows : IfSome (log_records log) (MakesShown hashes.hash (view_of log))
+  log_shows = each (log_records log) log_keeps
+    where
+      each : (o : Option (List Text)) → IfSome o (AreKept hashes.hash (view_of log)
+          (items_places log.items) (tiles_leaves (items_tiles log.items)))
+          → IfSome o (MakesShown hashes.hash (view_of log))
+      each None kept = tt
+      each (Some list) kept = record { made = kept.made; within = kept.stand.within }
+
+-- What the journal's records say of a log that shows this.
+pub record AreTold (h : HashFunction) (v : LogView) (places : List ℕ)
+    (leaves : Option (List (List ℕ))) (broken : Bool) (told : Option (List Text)) : Type 0 where
+  pub agrees : broken ≡ false → IfSome told (λ list. log_of h list ≡ Ok (shown_with v list))
+  pub stand : IfSome told (StandAt h v places)
+  pub hashed : IfSome told (AreHashed h v leaves)
+
+pub told_of : (h : HashFunction) (v : LogView) (places : List ℕ) (leaves : Option (List (List ℕ)))
+    (broken : Bool) (told : Option (List Text)) → IfSome told (AreKept h v places leaves)
+    → AreTold h v places leaves broken told
+told_of h v places leaves broken told kept = record {
+  agrees = λ sound. made_of h v places leaves told kept;
+  stand = stand_of h v places leaves told kept;
+  hashed = hashed_of h v places leaves told kept;
+}
+
+-- they say it of the same
+pub told_same : (h : HashFunction) (v w : LogView) (places places' : List ℕ)
+    (leaves leaves' : Option (List (List ℕ))) (broken : Bool) (told : Option (List Text)) → w ≡ v
+    → places' ≡ places → leaves' ≡ leaves → AreTold h v places leaves broken told
+    → AreTold h w places' leaves' broken told
+told_same h v w places places' leaves leaves' broken told view one two is =
+    subst (λ (u : LogView). AreTold h u places' leaves' broken told) (sym view)
+    (subst (λ (l : List ℕ). AreTold h v l leaves' broken told) (sym one)
+    (subst (λ o. AreTold h v places o broken told) (sym two) is))
+
+pub below_same : (places places' : List ℕ) (end end' : ℕ) → places' ≡ places → end' ≡ end
+    → AreBelow places end → AreBelow places' end'
+below_same places places' end end' one two is =
+    subst (λ (l : List ℕ). AreBelow l end') (sym one)
+    (subst (λ (n : ℕ). AreBelow places n) (sym two) is)
+
+-- So they do behind an append that was refused, or failed.
+pub told_behind : {D : Type 0} {g : Ghosts D} (h : HashFunction) (v : LogView) (places : List ℕ)
+    (leaves : Option (List (List ℕ))) (text : Text) (old new : Journal D g)
+    (result : Result (Unit {0}) AppendError) → 1 ≤ v.size
+    → is_ok result ≡ false → AppendLeaves text old new result
+    → (IsErrOf result Broken ↔ IsTrue (is_broken old))
+    → is_some (records new) ≡ is_some (records old)
+    → (is_broken old ≡ false → IfSome (records old) (λ list.
+    IfSome (g.told (disk_of new)) (StandsForEither list text)))
+    → AreTold h v places leaves (is_broken old) (records old)
+    → AreTold h v places leaves (is_broken new) (records new)
+told_behind h v places leaves text old new result some refused leaves_ broken told either is =
+    let both = refused_keeps (λ list. StandAt h v places list × AreHashed h v leaves list) text
+    old new result
+    (λ list was. (
+      stand_longer h v places list text (some_record v list some was.0.within) was.0,
+      hashed_longer h v leaves list text was.0.within was.1,
+    ))
+    refused leaves_ broken told either (pair (records old) is.stand is.hashed) in
+    record {
+      agrees = refused_same (λ list. log_of h list ≡ Ok (shown_with v list)) text old new result
+          refused leaves_ is.agrees;
+      stand = if_some (λ list. StandAt h v places list × AreHashed h v leaves list)
+          (StandAt h v places) (records new) (λ list was. was.0) both;
+      hashed = if_some (λ list. StandAt h v places list × AreHashed h v leaves list)
+          (AreHashed h v leaves) (records new) (λ list was. was.1) both;
+    }
+  where
+    pair : (o : Option (List Text)) → IfSome o (StandAt h v places)
+        → IfSome o (AreHashed h v leaves)
+        → IfSome o (λ list. StandAt h v places list × AreHashed h v leaves list)
+    pair None one two = tt
+    pair (Some list) one two = (one, two)

@@ -1,0 +1,167 @@
+-- An entry that is read back from the journal.
+use Rattle.std.proofs.Common.{◌≡◌, ℕ, ◌+◌, ◌<◌, ◌≤◌, true, false, List, [], ◌∷◌, ◌++◌}
+use Rattle.std.proofs.Common.{length, take, drop}
+use Rattle.std.proofs.Common.{slice_index_or, Option, Some, None, IfSome, option_map, Ok, Err, refl}
+use Rattle.std.proofs.Common.{ap, subst, sym, ◌∙◌, arith, nat_lt}
+use Rattle.std.specs.Prelude.{if◌then◌else◌, Bool, IfErr, OnOk, Result}
+use Rattle.std.proofs.lemmas.Bool.{le-ltb, lt-ltb}
+use Rattle.std.proofs.lemmas.Result.{err_from_is_err_and}
+use Rattle.std.specs.Result.{IsErrAnd}
+use Rattle.std.proofs.lemmas.List.{get_or-map, get_or-take, take-append-le, take_all}
+use Rattle.byte_forms.specs.Types.{Text, HashFunction}
+use Rattle.journal_core.specs.Words.{HasSize, HoldsBody}
+use Rattle.issuance_log.specs.Entries.{IsBodyAt, IsNoAnswer}
+use Rattle.issuance_log.specs.Folds.{LogState, LogView, null_entry}
+use Rattle.issuance_log.specs.Items.{StandAt}
+use Rattle.issuance_log.specs.Places.{IsPlaced, places_of}
+use Rattle.issuance_log.specs.Refusals.{GivesItem, item_at}
+use Rattle.issuance_log.specs.Shown.{recorded_items, shown_with}
+use Rattle.issuance_log.specs.declared.error.LogError.{LogError}
+use Rattle.issuance_log.specs.declared.error.LogError.TheVariants.{Full, TooLarge, NoSuchEntry}
+use Rattle.issuance_log.specs.declared.error.LogError.TheVariants.{NothingNew, Failed, Append}
+use Rattle.issuance_log.specs.declared.error.LogError.TheVariants.{Memory}
+use Rattle.issuance_log.proofs.Shown.{entries_of, keys_of, shown_size}
+use Rattle.issuance_log.proofs.Standing.{placed_of, some_record}
+
+item_is : (s : LogState) (index : ℕ) (b : Bool) → nat_lt index (length s.entries) ≡ b
+    → item_at s index
+    ≡ (if b then Ok (slice_index_or s.entries index [], slice_index_or s.keys index [])
+    else Err NoSuchEntry)
+unfolding item_at
+item_is s index b is = ap (λ (t : Bool). if t
+    then Ok (slice_index_or s.entries index [], slice_index_or s.keys index [])
+    else Err NoSuchEntry) is
+
+there_is : (s : LogState) (index : ℕ) → index < length s.entries
+    → item_at s index ≡ Ok (slice_index_or s.entries index [], slice_index_or s.keys index [])
+there_is s index there = item_is s index true (lt-ltb index (length s.entries) there)
+
+none_is : (s : LogState) (index : ℕ) → length s.entries ≤ index
+    → item_at s index ≡ Err NoSuchEntry
+none_is s index past = item_is s index false (le-ltb index (length s.entries) past)
+
+-- the answers that say nothing of an item, at an index that has one
+no_answer : (s : LogState) (index : ℕ) (why : LogError) (entry key : Text)
+    → index < length s.entries → IsNoAnswer why → GivesItem (item_at s index) (Err why) entry key
+no_answer s index Full entry key there is = absurd is
+no_answer s index TooLarge entry key there is = absurd is
+no_answer s index NoSuchEntry entry key there is = absurd is
+no_answer s index NothingNew entry key there is = absurd is
+no_answer s index Failed entry key there is = (
+  λ not_memory not_failed. absurd (not_failed refl),
+  λ none. let wrong = sym (there_is s index there) ∙ none in absurd cc,
+)
+no_answer s index (Append why) entry key there is = absurd is
+no_answer s index Memory entry key there is = (
+  λ not_memory not_failed. absurd (not_memory refl),
+  λ none. let wrong = sym (there_is s index there) ∙ none in absurd cc,
+)
+
+module _ (h : HashFunction) (v : LogView) (places : List ℕ) where
+  -- an index past the size
+  pub gives_none : (index : ℕ) (entry key : Text) → v.size ≤ index → (o : Option (List Text))
+      → IfSome o (StandAt h v places) → IfSome (option_map (shown_with v) o)
+      (λ s. GivesItem (item_at s index) (Err NoSuchEntry) entry key)
+  gives_none index entry key past None stand = tt
+  gives_none index entry key past (Some list) stand =
+      let none = none_is (shown_with v list) index
+      (subst (λ (n : ℕ). n ≤ index) (sym (shown_size v list stand.within)) past) in
+      (λ not_memory not_failed. none, λ is. refl)
+
+  -- the null entry
+  pub gives_first : (index : ℕ) (entry key : Text) → index ≡ 0 → entry ≡ null_entry → key ≡ []
+      → (o : Option (List Text)) → IfSome o (StandAt h v places)
+      → IfSome (option_map (shown_with v) o)
+      (λ s. GivesItem (item_at s index) (Ok tt) entry key)
+  gives_first index entry key first one two None stand = tt
+  gives_first index entry key first one two (Some list) stand =
+      let s = shown_with v list in
+      ap (item_at s) first ∙ there_is s 0 (omega (arith, stand.sound.numbers.some))
+      ∙ ap (λ (e : Text). Ok (e, slice_index_or s.keys 0 [])) (stand.sound.first_entry ∙ sym one)
+      ∙ ap (λ (k : Text). Ok (entry, k)) (stand.sound.first_key ∙ sym two)
+
+  -- memory was refused, or the disk failed
+  gives_nothing : (index : ℕ) (why : LogError) (entry key : Text) → index < v.size
+      → IsNoAnswer why → (o : Option (List Text)) → IfSome o (StandAt h v places)
+      → IfSome (option_map (shown_with v) o)
+      (λ s. GivesItem (item_at s index) (Err why) entry key)
+  gives_nothing index why entry key there is None stand = tt
+  gives_nothing index why entry key there is (Some list) stand =
+      no_answer (shown_with v list) index why entry key
+      (subst (λ (n : ℕ). index < n) (sym (shown_size v list stand.within)) there) is
+
+  pub gives_error : (index : ℕ) (result : Result (Unit {0}) LogError) (why : LogError)
+      (entry key : Text) → IsErrAnd result (λ e. e ≡ why) → index < v.size → IsNoAnswer why
+      → (o : Option (List Text)) → IfSome o (StandAt h v places)
+      → IfSome (option_map (shown_with v) o)
+      (λ s. GivesItem (item_at s index) result entry key)
+  gives_error index result why entry key is there none o stand =
+      let p = err_from_is_err_and result is in
+      subst (λ (r : Result (Unit {0}) LogError). IfSome (option_map (shown_with v) o)
+      (λ s. GivesItem (item_at s index) r entry key)) (sym (p.1 ∙ ap Err p.2))
+      (gives_nothing index why entry key there none o stand)
+
+  -- the item of the record at the place
+  item_read : (index place : ℕ) (list : List Text) (entry key : Text) → 1 ≤ index
+      → index < v.size → place ≡ slice_index_or places index 0 → StandAt h v places list
+      → ((item : Text × Text) → IsPlaced list place item → item ≡ (entry, key))
+      → item_at (shown_with v list) index ≡ Ok (entry, key)
+  item_read index place [] entry key some there is stand gives =
+      absurd (omega (arith, some_record v [] (omega arith) stand.within))
+  item_read index place (first ∷ bodies) entry key some there is stand gives =
+      let list : List Text = first ∷ bodies in
+      let items = recorded_items list in
+      let within = stand.within in
+      let item = slice_index_or items index ([], []) in
+      let place_is : place ≡ slice_index_or (places_of list) index 0 =
+      is ∙ ap (λ (l : List ℕ). slice_index_or l index 0) stand.places_are
+      ∙ get_or-take v.size (places_of list) index 0 there in
+      let same : item ≡ (entry, key) = gives item
+      (subst (λ (n : ℕ). IsPlaced list n item) (sym place_is)
+      (placed_of first bodies index some (omega arith))) in
+      let entry_is : slice_index_or (take v.size (entries_of items)) index [] ≡ entry =
+      get_or-take v.size (entries_of items) index [] there
+      ∙ get_or-map (λ (x : Text × Text). x.0) items index ([], []) [] (omega arith)
+      ∙ ap (λ (x : Text × Text). x.0) same in
+      let key_is : slice_index_or (take v.size (keys_of items)) index [] ≡ key =
+      get_or-take v.size (keys_of items) index [] there
+      ∙ get_or-map (λ (x : Text × Text). x.1) items index ([], []) [] (omega arith)
+      ∙ ap (λ (x : Text × Text). x.1) same in
+      there_is (shown_with v list) index
+      (subst (λ (n : ℕ). index < n) (sym (shown_size v list within)) there)
+      ∙ ap (λ (e : Text). Ok (e, slice_index_or (take v.size (keys_of items)) index [])) entry_is
+      ∙ ap (λ (x : Text). Ok (entry, x)) key_is
+
+  pub gives_item : (index place : ℕ) (entry key : Text) → 1 ≤ index → index < v.size
+      → place ≡ slice_index_or places index 0 → (o : Option (List Text))
+      → IfSome o (StandAt h v places) → (result : Result (Unit {0}) LogError)
+      → IfErr result IsNoAnswer
+      → OnOk result (IfSome o (λ list. (item : Text × Text)
+      → IsPlaced list place item → item ≡ (entry, key)))
+      → IfSome (option_map (shown_with v) o)
+      (λ s. GivesItem (item_at s index) result entry key)
+  gives_item index place entry key some there is None stand result none gives = tt
+  gives_item index place entry key some there is (Some list) stand (Ok done) none gives =
+      item_read index place list entry key some there is stand gives
+  gives_item index place entry key some there is (Some list) stand (Err why) none gives =
+      gives_nothing index why entry key there none (Some list) stand
+
+-- the body of the record at a place, by its length and the bytes that were read
+pub body_read : (place size : ℕ) (o later : Option (List Text)) (out items : List ℕ) (len : ℕ)
+    → later ≡ o → IfSome o (HasSize (place + 1) size)
+    → IfSome later (HoldsBody (place + 1 + 4) out) → length out ≡ size → length items ≡ size
+    → len ≡ size → IfSome o (IsBodyAt place (take len (out ++ drop (length out) items)))
+body_read place size o later out items len same sized holds of_out of_items of_len =
+    each o sized (subst (λ p. IfSome p (HoldsBody (place + 1 + 4) out)) same holds)
+  where
+    each : (p : Option (List Text)) → IfSome p (HasSize (place + 1) size)
+        → IfSome p (HoldsBody (place + 1 + 4) out)
+        → IfSome p (IsBodyAt place (take len (out ++ drop (length out) items)))
+    each None has body_is = tt
+    each (Some list) has body_is = λ front body back list_is place_is.
+        let size_is : size ≡ length body =
+        (has front body back list_is (ap (λ (n : ℕ). n + 1) place_is)).0 in
+        let read : out ≡ take (length out) body =
+        body_is front body back 0 list_is (omega arith) (omega arith) in
+        sym (take-append-le len out (drop (length out) items) (omega arith)
+        ∙ take_all len out (omega arith) ∙ read ∙ take_all (length out) body (omega arith))

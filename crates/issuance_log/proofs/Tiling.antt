@@ -1,0 +1,139 @@
+-- What storing tiles and appending their size leaves.
+use Rattle.std.proofs.Common.{◌≡◌, ℕ, ◌^◌, ◌<◌, ◌≤◌, List, [], ◌∷◌, ◌++◌}
+use Rattle.std.proofs.Common.{length, Option, Some, None, IfSome, option_map, refl, ap, subst, sym}
+use Rattle.std.proofs.Common.{◌∙◌, arith, false}
+use Rattle.std.proofs.lemmas.List.{length-append}
+use Rattle.byte_forms.specs.Types.{Text, HashFunction}
+use Rattle.disk_core.specs.Moments.{LeavesOnly}
+use Rattle.disk_core.specs.declared.disk.Disk.{Ghosts}
+use Rattle.disk_core.proofs.Moments.{started, weaker}
+use Rattle.journal_core.specs.Format.{StandsFor, records_of}
+use Rattle.journal_core.specs.Settled.{IsSettled}
+use Rattle.journal_core.proofs.Records.{records_of-stands}
+use Rattle.journal_core.proofs.Told.{if_some}
+use Rattle.tile_store.specs.Contents.{HoldsTiles}
+use Rattle.tile_store.specs.Layout.{tiles_end}
+use Rattle.tile_store.specs.Store.{tiles_leaves, tiles_stored}
+use Rattle.tile_store.specs.Writing.{IsImageBehind}
+use Rattle.tile_store.proofs.Fronts.{front-less}
+use Rattle.tile_store.proofs.Kept.{tiles-kept}
+use Rattle.tree_core.specs.declared.hashing.TreeHash.{Ghosts as Hashes}
+use Rattle.issuance_log.specs.Folds.{LogView}
+use Rattle.issuance_log.specs.Items.{AreHashed}
+use Rattle.issuance_log.specs.Words.{log_broken, log_disk, log_end, log_leaves, log_records}
+use Rattle.issuance_log.specs.Words.{log_tiles, log_tiles_disk, view_of}
+use Rattle.issuance_log.specs.declared.log.Log.{Log}
+use Rattle.issuance_log.proofs.Appending.{leaves_by}
+
+-- tiles of fewer leaves end no later
+ends_before : (size stored : ℕ) → size ≤ stored → tiles_end size ≤ tiles_end stored
+ends_before size stored within = omega arith
+
+-- At any moment of a store the tiles of an earlier size stay.
+module _ {T : Type 0} (k : Ghosts T) (old new : T) (h : HashFunction) (leaves : List (List ℕ))
+    (size : ℕ) (held : (c : Text) → k.may_leave old c → HoldsTiles h leaves size c) where
+  pub still_held : ((c : Text) → k.left_since old (k.moment old) c → k.may_leave old c)
+      → LeavesOnly k old old (HoldsTiles h leaves size)
+  still_held only_now = started k old (HoldsTiles h leaves size) only_now held
+
+  pub stored_held : (stored : ℕ) → size < 2 ^ 32 → size ≤ stored
+      → LeavesOnly k old new (IsImageBehind k old (tiles_end stored))
+      → LeavesOnly k old new (HoldsTiles h leaves size)
+  stored_held stored few within any_moment =
+      weaker k old new (IsImageBehind k old (tiles_end stored)) (HoldsTiles h leaves size)
+      (λ c is. tiles-kept h leaves size is.before c few
+      (front-less (tiles_end size) (tiles_end stored) is.before c (ends_before size stored within)
+      is.keeps) (held is.before is.left)) any_moment
+
+-- the hashes of the entries are the nodes that are kept
+pub leaves_are : (h : HashFunction) (v : LogView) (told : Option Text)
+    (kept : Text → List (List ℕ)) (records : Option (List Text)) (P : List (List ℕ) → Type 0)
+    → IfSome records (AreHashed h v (option_map kept told)) → IfSome (option_map kept told) P
+    → IfSome (leaves_by h v told records) P
+leaves_are h v None kept records P hashed is = tt
+leaves_are h v (Some t) kept None P hashed is = tt
+leaves_are h v (Some t) kept (Some list) P hashed is = subst P hashed is
+
+-- a journal that is all on the disk has no record more
+longer_other : (list : List Text) (body : Text) → list ≡ list ++ body ∷ [] → {X : Type 0} → X
+longer_other list body is =
+    let size = length-append list (body ∷ []) in
+    let same = ap (λ (l : List Text). length l) is in
+    absurd (omega arith)
+
+pub no_record : {D : Type 0} (g : Ghosts D) (disk : D) (end : ℕ) (body : Text)
+    (settled : (b : Text) → g.told disk ≡ Some b → IsSettled b (g.may_leave disk) end)
+    (only_now : (c : Text) → g.left_since disk (g.moment disk) c → g.may_leave disk c)
+    (P : Text → Type 0)
+    → IfSome (option_map records_of (g.told disk)) (λ list. (c : Text)
+    → g.left_since disk (g.moment disk) c → StandsFor c (list ++ body ∷ [])
+    → P c)
+no_record g disk end body settled only_now P = at (g.told disk) settled
+  where
+    at : (told : Option Text)
+        → ((b : Text) → told ≡ Some b → IsSettled b (g.may_leave disk) end)
+        → IfSome (option_map records_of told) (λ list. (c : Text)
+        → g.left_since disk (g.moment disk) c → StandsFor c (list ++ body ∷ []) → P c)
+    at None is = tt
+    at (Some b) is = λ c left stands.
+        let here = is b refl in
+        let same : c ≡ b = here.only c (only_now c left) in
+        longer_other (records_of b) body
+        (ap records_of (sym same) ∙ records_of-stands c (records_of b ++ body ∷ []) stands)
+
+-- ---- of a log
+
+pub for_each : {X : Type 0} (P : X → Type 0) (o : Option X) → ((x : X) → P x) → IfSome o P
+for_each P None all = tt
+for_each P (Some x) all = all x
+
+module _ {H D T : Type 0} {hashes : Hashes H} {g : Ghosts D} {k : Ghosts T}
+    (log : Log H D T hashes g k) where
+  -- no tiles were written
+  pub keeps_still : ((c : Text) → k.left_since (log_tiles_disk log)
+      (k.moment (log_tiles_disk log)) c → k.may_leave (log_tiles_disk log) c)
+      → (size : ℕ) → IfSome (log_leaves log) (λ leaves.
+      ((c : Text) → k.may_leave (log_tiles_disk log) c → HoldsTiles hashes.hash leaves size c)
+      → LeavesOnly k (log_tiles_disk log) (log_tiles_disk log)
+      (HoldsTiles hashes.hash leaves size))
+  keeps_still only_now size = for_each _ (log_leaves log) (λ leaves held.
+      still_held k (log_tiles_disk log) (log_tiles_disk log) hashes.hash leaves size held only_now)
+
+  pub behind_none : (only_now : (c : Text) → g.left_since (log_disk log)
+      (g.moment (log_disk log)) c → g.may_leave (log_disk log) c) → (body : Text) (size : ℕ)
+      (disk : T) → log_broken log ≡ false → IfSome (log_leaves log) (λ leaves.
+      IfSome (log_records log) (λ list. (c : Text)
+      → g.left_since (log_disk log) (g.moment (log_disk log)) c
+      → StandsFor c (list ++ body ∷ []) → (d : Text) → k.may_leave disk d
+      → HoldsTiles hashes.hash leaves size d))
+  behind_none only_now body size disk sound = for_each _ (log_leaves log) (λ leaves.
+      no_record g (log_disk log) (log_end log) body (log.journal.settled sound) only_now
+      (λ c. (d : Text) → k.may_leave disk d → HoldsTiles hashes.hash leaves size d))
+
+  -- they were written behind those of the last size
+  pub keeps_stored : (disk : T) (size : ℕ) → size < 2 ^ 32
+      → size ≤ tiles_stored (log_tiles log)
+      → LeavesOnly k (log_tiles_disk log) disk (IsImageBehind k (log_tiles_disk log)
+      (tiles_end (tiles_stored (log_tiles log))))
+      → IfSome (log_leaves log) (λ leaves.
+      ((c : Text) → k.may_leave (log_tiles_disk log) c → HoldsTiles hashes.hash leaves size c)
+      → LeavesOnly k (log_tiles_disk log) disk (HoldsTiles hashes.hash leaves size))
+  keeps_stored disk size few within any_moment = for_each _ (log_leaves log) (λ leaves held.
+      stored_held k (log_tiles_disk log) disk hashes.hash leaves size held
+      (tiles_stored (log_tiles log)) few within any_moment)
+
+  -- and all of them are certain
+  pub behind_stored : (Left : Text → Type 0) (Stands : List Text → Text → Type 0) (size : ℕ)
+      (disk : T) → IfSome (tiles_leaves (log_tiles log)) (λ leaves. (d : Text)
+      → k.may_leave disk d → HoldsTiles hashes.hash leaves size d)
+      → IfSome (log_leaves log) (λ leaves. IfSome (log_records log) (λ list. (c : Text) → Left c
+      → Stands list c → (d : Text) → k.may_leave disk d
+      → HoldsTiles hashes.hash leaves size d))
+  behind_stored Left Stands size disk holds =
+      leaves_are hashes.hash (view_of log) (k.told (log_tiles_disk log)) _ (log_records log)
+      (λ leaves. IfSome (log_records log) (λ list. (c : Text) → Left c
+      → Stands list c → (d : Text) → k.may_leave disk d → HoldsTiles hashes.hash leaves size d))
+      log.hashed
+      (if_some (λ leaves. (d : Text) → k.may_leave disk d → HoldsTiles hashes.hash leaves size d)
+      _ (tiles_leaves (log_tiles log)) (λ leaves each. for_each _ (log_records log)
+      (λ list c left stands. each)) holds)

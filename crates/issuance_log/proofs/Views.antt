@@ -1,0 +1,171 @@
+-- What a log shows over every disk, record by record.
+use Rattle.std.proofs.Common.{◌≡◌, ℕ, ◌+◌, ◌%◌, ◌^◌, ◌<◌, ◌≤◌, Bool, true, false, List}
+use Rattle.std.proofs.Common.{[], ◌∷◌, ◌++◌, length, drop, Option, Some, None, option_map, Result}
+use Rattle.std.proofs.Common.{Ok, Err, IfOk, is_ok, refl, ap, sym, ◌∙◌}
+use Rattle.std.specs.Prelude.{if◌then◌else◌, nat_lt}
+use Rattle.std.proofs.lemmas.Bool.{and_parts, eq-eqb, le-leb, lt-ltb, ltb-true}
+use Rattle.std.proofs.lemmas.List.{length_push}
+use Rattle.byte_forms.specs.Types.{Text, HashFunction}
+use Rattle.byte_forms.specs.Readings.{◌>>=◌, some_or}
+use Rattle.journal_core.specs.Folds.{Fold, taken_from}
+use Rattle.log_entry.specs.Matching.{matches}
+use Rattle.issuance_log.specs.Folds.{LogState, LogView, begun_log, changed, log_fold, next_log}
+use Rattle.issuance_log.specs.Folds.{next_view, one_item_more, one_mark_more, takes_entry}
+use Rattle.issuance_log.specs.Folds.{takes_landmark, takes_tiles, tiled_to, view_in, with_item}
+use Rattle.issuance_log.specs.Folds.{with_mark, with_tiles}
+use Rattle.issuance_log.specs.Marks.{last_mark}
+use Rattle.issuance_log.specs.Records.{IsShort, entry_record, item_in, landmark_record, mark_in}
+use Rattle.issuance_log.specs.Records.{tiled_in, tiles_record}
+use Rattle.issuance_log.specs.Results.{HasTried}
+use Rattle.issuance_log.specs.declared.error.LogOpenError.{LogOpenError}
+use Rattle.issuance_log.specs.declared.error.LogOpenError.TheVariants.{BadRecord, Open}
+use Rattle.issuance_log.proofs.Behind.{last_follows, last_not}
+use Rattle.issuance_log.proofs.Spelled.{item_again, mark_again, mark_alone, tiled_again}
+use Rattle.issuance_log.proofs.Spelled.{tiles_no_item, tiles_no_mark}
+
+-- what is shown as a kind of journal
+abbrev pub view_fold : HashFunction → Fold LogView LogOpenError
+view_fold h = record {
+  begins = λ body. option_map view_in (begun_log body);
+  takes = next_view h;
+  bad_record = BadRecord;
+  not_read = Open;
+}
+
+view_item : (s : LogState) (entry key : Text)
+    → view_in (with_item entry key s) ≡ one_item_more (view_in s)
+view_item s entry key =
+    ap (λ (n : ℕ). record { settings = s.settings; size = n; marks = s.marks; tiled = s.tiled })
+    (length_push s.entries entry)
+
+map_if : (b : Bool) (s : LogState) (v : LogView) → v ≡ view_in s
+    → (if b then Some v else None) ≡ option_map view_in (if b then Some s else None)
+map_if true s v is = ap Some is
+map_if false s v is = refl
+
+by_parts : (h : HashFunction) (s : LogState) (item : Option (Text × Text)) (mark tiled : Option ℕ)
+    → changed h (view_in s) (λ x. one_item_more (view_in s)) (one_mark_more (view_in s))
+    (λ size. tiled_to size (view_in s)) item mark tiled
+    ≡ option_map view_in (changed h (view_in s) (λ x. with_item x.0 x.1 s) (with_mark s)
+    (λ size. with_tiles size s) item mark tiled)
+by_parts h s (Some x) mark tiled =
+    map_if (takes_entry h (view_in s) x) (with_item x.0 x.1 s) (one_item_more (view_in s))
+    (sym (view_item s x.0 x.1))
+by_parts h s None (Some size) tiled =
+    map_if (takes_landmark (view_in s) size) (with_mark s) (one_mark_more (view_in s)) refl
+by_parts h s None None (Some size) =
+    map_if (takes_tiles (view_in s) size) (with_tiles size s) (tiled_to size (view_in s)) refl
+by_parts h s None None None = refl
+
+pub views_follow : (h : HashFunction) (s : LogState) (body : Text)
+    → next_view h (view_in s) body ≡ option_map view_in (next_log h s body)
+unfolding next_log next_view
+views_follow h s body = by_parts h s (item_in body) (mark_in body) (tiled_in body)
+
+-- records are taken by what is shown exactly where they are taken
+on_each : (h : HashFunction) (k : ℕ) (bodies : List Text) (o : Option LogState)
+    → ((u : LogState) → is_ok (taken_from (view_fold h) (k + 1) (view_in u) bodies)
+    ≡ is_ok (taken_from (log_fold h) (k + 1) u bodies))
+    → is_ok (some_or k (option_map view_in o)
+    >>= λ (v : LogView). taken_from (view_fold h) (k + 1) v bodies)
+    ≡ is_ok (some_or k o >>= λ (u : LogState). taken_from (log_fold h) (k + 1) u bodies)
+on_each h k bodies None rest = refl
+on_each h k bodies (Some u) rest = rest u
+
+pub views_taken : (h : HashFunction) (k : ℕ) (s : LogState) (bodies : List Text)
+    → is_ok (taken_from (view_fold h) k (view_in s) bodies)
+    ≡ is_ok (taken_from (log_fold h) k s bodies)
+unfolding taken_from
+views_taken h k s [] = refl
+views_taken h k s (body ∷ bodies) =
+    ap (λ (o : Option LogView). is_ok (some_or k o
+    >>= λ (v : LogView). taken_from (view_fold h) (k + 1) v bodies)) (views_follow h s body)
+    ∙ on_each h k bodies (next_log h s body) (λ u. views_taken h (k + 1) u bodies)
+
+pub last_tried : {E : Type 0} (h : HashFunction) (wanted : Result LogView ℕ) (k : ℕ)
+    (v w : LogView) (bodies : List Text) (i : ℕ) (body : Text) (result : Result Bool E)
+    → length bodies ≤ i
+    → taken_from (view_fold h) k v (drop i bodies ++ body ∷ []) ≡ wanted
+    → HasTried (next_view h v body) w result → IfOk result (λ may. may ≡ is_ok wanted)
+last_tried h wanted k v w bodies i body (Ok true) past so_far tried =
+    last_follows (view_fold h) wanted k v w bodies i body past so_far tried
+last_tried h wanted k v w bodies i body (Ok false) past so_far tried =
+    last_not (view_fold h) wanted k v bodies i body past so_far tried
+last_tried h wanted k v w bodies i body (Err refused) past so_far tried = tt
+
+-- what a record that was tried says
+pub was_taken : (wanted : Option LogView) (w : LogView) (E : Type 0) (b : Bool)
+    → HasTried {E = E} wanted w (Ok b) → b ≡ true → wanted ≡ Some w
+was_taken wanted w E true tried is = tried
+was_taken wanted w E false tried is = let wrong : false ≡ true = is in absurd cc
+
+pub was_not : (wanted : Option LogView) (w : LogView) (E : Type 0) (b : Bool)
+    → HasTried {E = E} wanted w (Ok b) → b ≡ false → wanted ≡ None
+was_not wanted w E false tried is = tried
+was_not wanted w E true tried is = let wrong : true ≡ false = is in absurd cc
+
+-- ---- the three records, by what is shown
+
+view_says : (h : HashFunction) (v : LogView) (body : Text) (item : Option (Text × Text))
+    (mark tiled : Option ℕ) → item_in body ≡ item → mark_in body ≡ mark → tiled_in body ≡ tiled
+    → next_view h v body ≡ changed h v (λ x. one_item_more v) (one_mark_more v)
+    (λ size. tiled_to size v) item mark tiled
+unfolding next_view
+view_says h v body item mark tiled one two three =
+    let by = changed h v (λ x. one_item_more v) (one_mark_more v) (λ size. tiled_to size v) in
+    ap (λ o. by o (mark_in body) (tiled_in body)) one ∙ ap (λ o. by item o (tiled_in body)) two
+    ∙ ap (λ o. by item mark o) three
+
+-- an item that is taken, or isn't
+view_item_is : (h : HashFunction) (v : LogView) (body : Text) (x : Text × Text) (b : Bool)
+    → item_in body ≡ Some x → takes_entry h v x ≡ b
+    → next_view h v body ≡ (if b then Some (one_item_more v) else None)
+view_item_is h v body x b is takes =
+    view_says h v body (Some x) _ _ is refl refl
+    ∙ ap (λ (t : Bool). if t then Some (one_item_more v) else None) takes
+
+pub item_taken : (h : HashFunction) (v : LogView) (body : Text) (x : Text × Text)
+    → item_in body ≡ Some x → takes_entry h v x ≡ true → next_view h v body ≡ Some (one_item_more v)
+item_taken h v body x is takes = view_item_is h v body x true is takes
+
+pub item_refused : (h : HashFunction) (v : LogView) (body : Text) (x : Text × Text)
+    → item_in body ≡ Some x → takes_entry h v x ≡ false → next_view h v body ≡ None
+item_refused h v body x is takes = view_item_is h v body x false is takes
+
+pub taken_room : (h : HashFunction) (v : LogView) (x : Text × Text) → takes_entry h v x ≡ true
+    → v.size < v.settings.limit
+taken_room h v x takes = ltb-true v.size v.settings.limit
+    (and_parts (nat_lt v.size v.settings.limit) (matches h x.0 x.1) takes).0
+
+pub view_added : (h : HashFunction) (v : LogView) (entry key : Text)
+    → v.size < v.settings.limit → IsShort entry → IsShort key → matches h entry key ≡ true
+    → next_view h v (entry_record entry key) ≡ Some (one_item_more v)
+view_added h v entry key room few_entry few_key belongs =
+    let test : takes_entry h v (entry, key) ≡ true =
+    rw (lt-ltb v.size v.settings.limit room, belongs) refl in
+    view_says h v (entry_record entry key) (Some (entry, key)) _ _
+    (item_again entry key few_entry few_key) refl refl
+    ∙ ap (λ (b : Bool). if b then Some (one_item_more v) else None) test
+
+pub view_marked : (h : HashFunction) (v : LogView) → v.size < 2 ^ 64 → last_mark v.marks < v.size
+    → next_view h v (landmark_record v.size) ≡ Some (one_mark_more v)
+view_marked h v fits above =
+    let test : takes_landmark v v.size ≡ true =
+    rw (eq-eqb v.size v.size refl, lt-ltb (last_mark v.marks) v.size above) refl in
+    view_says h v (landmark_record v.size) None (Some v.size) _ (mark_alone v.size)
+    (mark_again v.size fits) refl
+    ∙ ap (λ (b : Bool). if b then Some (one_mark_more v) else None) test
+
+pub view_tiled : (h : HashFunction) (v : LogView) (size : ℕ) → size < 2 ^ 64 → size % 256 ≡ 0
+    → v.tiled < size → size ≤ v.size
+    → next_view h v (tiles_record size) ≡ Some (tiled_to size v)
+view_tiled h v size fits multiple above within =
+    let test : takes_tiles v size ≡ true =
+    rw (
+      eq-eqb (size % 256) 0 multiple,
+      lt-ltb v.tiled size above,
+      le-leb size v.size within,
+    ) refl in
+    view_says h v (tiles_record size) None None (Some size) (tiles_no_item size)
+    (tiles_no_mark size) (tiled_again size fits)
+    ∙ ap (λ (b : Bool). if b then Some (tiled_to size v) else None) test

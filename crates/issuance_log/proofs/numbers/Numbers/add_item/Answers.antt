@@ -1,0 +1,17 @@
+use Rattle.std.proofs.Common.{◌<◌, subst, sym}
+use Rattle.issuance_log.specs.Folds.{LogNumbers, LogView}
+use Rattle.issuance_log.proofs.Growth.{numbers_with}
+use Rattle.issuance_log.proofs.numbers.Numbers.add_item.Goals as goal
+
+pub invariant_of-self : goal.invariant_of-self
+invariant_of-self c =
+    let n = c.self.inside in
+    let v : LogView = record {
+      settings = n.settings;
+      size = n.size;
+      marks = n.marks.items;
+      tiled = n.tiled;
+    } in
+    numbers_with v c.self.invariant
+    (subst (λ (m : LogNumbers). m.view.size < m.view.settings.limit) (sym c.self.view_is)
+    c.requires)

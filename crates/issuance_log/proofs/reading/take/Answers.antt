@@ -1,0 +1,30 @@
+use Rattle.std.proofs.Common.{Some, refl, ap, sym, ◌∙◌, arith}
+use Rattle.issuance_log.proofs.Spelled.{item_takes}
+use Rattle.issuance_log.proofs.Views.{item_refused, item_taken, taken_room}
+use Rattle.issuance_log.proofs.reading.take.Goals as goal
+
+pub returns-then-not-takes-clause-view : goal.returns-then-not-takes-clause-view
+returns-then-not-takes-clause-view g c = (
+  item_refused g.H.TreeHash.hash c.args.numbers.now.view c.args.body.now
+      (c.in-Ok.entry.now, c.in-Ok.key.now) c.in-Ok.ensures.found
+      (sym c.takes.ensures.value ∙ c.if-not-takes.true),
+  refl,
+)
+
+pub add-requires : goal.add-requires
+add-requires g c =
+    let room = taken_room g.H.TreeHash.hash c.args.numbers.now.view
+    (c.in-Ok.entry.now, c.in-Ok.key.now) (sym c.takes.ensures.value ∙ c.if-not-takes.false) in
+    let few = c.takes.ensures.sound.allowed.few in
+    omega (arith, c.requires)
+
+pub returns-in_ok-add-in-Ok-clause-view : goal.returns-in_ok-add-in-Ok-clause-view
+returns-in_ok-add-in-Ok-clause-view g c =
+    item_taken g.H.TreeHash.hash c.args.numbers.now.view c.args.body.now
+    (c.in-Ok.entry.now, c.in-Ok.key.now) c.in-Ok.ensures.found
+    (sym c.takes.ensures.value ∙ c.if-not-takes.false) ∙ ap Some (sym c.add_item.ensures.view)
+
+pub returns-in-Err-Memory-clause-short : goal.returns-in-Err-Memory-clause-short
+returns-in-Err-Memory-clause-short g c = λ entry key is.
+    let spelled = item_takes c.args.body.now entry key (λ i. (c.type_inv.body i).fits) is in
+    (spelled.1, spelled.2)

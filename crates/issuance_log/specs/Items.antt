@@ -1,0 +1,74 @@
+-- What is kept of the items of a log: where each stands in the journal, and the nodes of the tree
+-- over the entries.
+use Rattle.std.specs.Prelude.{◌≡◌, ℕ, ◌+◌, ◌<◌, ◌≤◌, List, ◌++◌, length, map, take, slice_index_or}
+use Rattle.std.specs.Prelude.{Option, Some, option_map, option_to_list, IfSome, Ok, vec_len}
+use Rattle.std.specs.Prelude.{vec_capacity}
+use Rattle.std.proofs.Props.{props}
+use Rattle.byte_forms.specs.Types.{Hash, HashFunction, Text}
+use Rattle.disk_core.specs.declared.disk.Disk.{Ghosts}
+use Rattle.tile_store.specs.Store.{tiles_leaves, tiles_spare}
+use Rattle.tile_store.specs.declared.store.Tiles.{Tiles}
+use Rattle.tree_core.specs.Tree.{leaf_hash}
+use Rattle.tree_core.specs.declared.hashing.TreeHash.{Ghosts as Hashes}
+use Rattle.issuance_log.specs.Folds.{LogView, log_of}
+use Rattle.issuance_log.specs.Places.{places_of}
+use Rattle.issuance_log.specs.Records.{IsShort}
+use Rattle.issuance_log.specs.Shown.{recorded_items, shown_with}
+use Rattle.issuance_log.specs.Sound.{IsSound, IsSound-prop}
+use Rattle.issuance_log.specs.declared.items.Items.{Items}
+
+-- Behind each of the places there is room for a gate and a length below an end.
+abbrev pub AreBelow : List ℕ → ℕ → Type 0
+AreBelow places end = (i : ℕ) → i < length places → slice_index_or places i 0 + 5 ≤ end
+
+-- In a journal with these records stand the items of a log that shows this over every disk, each at
+-- its place. They may be fewer than the records tell: behind an append that has failed the disk may
+-- tell one more.
+pub record StandAt (h : HashFunction) (v : LogView) (places : List ℕ) (list : List Text)
+    : Type 0 where
+  pub within : v.size ≤ length (recorded_items list)
+  pub places_are : places ≡ take v.size (places_of list)
+  pub sound : IsSound h (shown_with v list)
+
+pub StandAt-prop : (h : HashFunction) (v : LogView) (places : List ℕ) (list : List Text)
+    → IsProp (StandAt h v places list)
+StandAt-prop h v places list = hlevel (props, IsSound-prop h (shown_with v list))
+
+-- The lengths of an item are told in two bytes.
+abbrev pub HasShortItem : Option (Text × Text) → Type 0
+HasShortItem item =
+    (entry key : Text) → item ≡ Some (entry, key) → IsShort entry × IsShort key
+
+-- The nodes are those over the entries.
+abbrev pub AreHashed : HashFunction → LogView → Option (List Hash) → List Text → Type 0
+AreHashed h v leaves list =
+    IfSome leaves (λ hashes. hashes ≡ map (leaf_hash h) (shown_with v list).entries)
+
+-- These records make what the log shows, and its items are kept.
+pub record AreKept (h : HashFunction) (v : LogView) (places : List ℕ) (leaves : Option (List Hash))
+    (list : List Text) : Type 0 where
+  pub made : log_of h list ≡ Ok (shown_with v list)
+  pub all : v.size ≡ length (recorded_items list)
+  pub stand : StandAt h v places list
+  pub hashed : AreHashed h v leaves list
+
+module _ {H T : Type 0} {hashes : Hashes H} {k : Ghosts T} where
+  abbrev pub items_tiles : Items H T hashes k → Tiles H T hashes k
+  items_tiles items = items.tiles
+
+  abbrev pub items_places : Items H T hashes k → List ℕ
+  items_places items = items.places.items
+
+  -- The item in a record at a place is put behind the others; where it has none, they stay.
+  pub record HaveTaken (h : HashFunction) (item : Option (Text × Text)) (place : ℕ)
+      (old new : Items H T hashes k) : Type 0 where
+    pub places : items_places new
+        ≡ items_places old ++ map (λ x. place) (option_to_list item)
+    pub leaves : tiles_leaves (items_tiles new)
+        ≡ option_map (λ list. list ++ map (λ x. leaf_hash h x.0) (option_to_list item))
+        (tiles_leaves (items_tiles old))
+
+  -- one item more needs no memory
+  pub record HasItemRoom (items : Items H T hashes k) : Type 0 where
+    pub place : vec_len items.places < vec_capacity items.places
+    pub leaf : 1 ≤ tiles_spare items.tiles

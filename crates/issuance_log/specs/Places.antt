@@ -1,0 +1,27 @@
+-- Where the items of a log stand in its journal.
+use Rattle.std.specs.Prelude.{◌≡◌, ℕ, ◌+◌, List, [], ◌∷◌, ◌++◌, length, map, option_to_list, Some}
+use Rattle.byte_forms.specs.Types.{Text}
+use Rattle.journal_core.specs.Format.{behind}
+use Rattle.issuance_log.specs.Records.{item_in}
+
+-- Of these records, of which the first one's gate stands at a place: the place of each Entry.
+unfoldable pub places_behind : ℕ → List Text → List ℕ
+places_behind place [] = []
+places_behind place (body ∷ bodies) =
+    map (λ item. place) (option_to_list (item_in body))
+    ++ places_behind (place + 5 + length body) bodies
+
+-- The places of the items in the records of a log, in their order: 0 for the null entry, which no
+-- record has, and that of each Entry.
+abbrev pub places_of : List Text → List ℕ
+places_of [] = []
+places_of (first ∷ bodies) = 0 ∷ places_behind (behind 16 (first ∷ [])) bodies
+
+-- At a place stands the Entry of this item.
+pub record IsPlaced (list : List Text) (place : ℕ) (item : Text × Text) : Type 0 where
+  pub front : List Text
+  pub body : Text
+  pub back : List Text
+  pub split : list ≡ front ++ body ∷ back
+  pub place_is : place ≡ behind 16 front
+  pub is : item_in body ≡ Some item

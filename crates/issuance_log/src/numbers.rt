@@ -1,0 +1,259 @@
+//! What a log shows over every disk.
+
+ghost use Rattle.std.specs.Prelude.{◌≡◌, ◌%◌, ◌<◌, ◌≤◌, ◌++◌, [], ◌∷◌, true, false, Some, None};
+ghost use Rattle.std.specs.Prelude.{if◌then◌else◌, nat_lt, not, option_map, option_and_then};
+ghost use Rattle.std.specs.Prelude.{vec_len, vec_capacity, IfOk, IfErr, OnOk};
+ghost use Rattle.issuance_log.specs.Folds.{begun_log, new_log, next_view, one_item_more};
+ghost use Rattle.issuance_log.specs.Folds.{one_mark_more, takes_entry, takes_landmark, takes_tiles};
+ghost use Rattle.issuance_log.specs.Folds.{tiled_to, view_in};
+ghost use Rattle.issuance_log.specs.Marks.{last_mark, AreRising};
+ghost use Rattle.issuance_log.specs.Records.{item_in, tiled_in};
+ghost use Rattle.issuance_log.specs.Results.{LogFinds, LogTakes};
+ghost use Rattle.issuance_log.specs.Settings.{AreAllowed};
+ghost use Rattle.issuance_log.specs.Sound.{HasSoundNumbers};
+
+use crate::error::RecordError;
+use crate::record::{read_item, read_mark, read_settings, read_tiles};
+use crate::settings::LogSettings;
+use log_entry::key_matches;
+use mtc_io::Memory;
+use std::alloc::Global;
+use std::marker::Model;
+use tree_core::TreeHash;
+
+/// As many entries fill a tile.
+pub(crate) const TILE: u64 = 256;
+
+/// The settings of a log, how many entries it has, the sizes at its landmarks, and the last size of
+/// its tiles, 0 where there is none. The rules of a log's records look at nothing else. Contracts
+/// see them, and how many landmarks more need no memory.
+#[derive(Drop)]
+pub(crate) struct Numbers {
+    settings: LogSettings,
+    size: u64,
+    marks: Vec<u64>,
+    tiled: u64,
+}
+
+impl Model for Numbers {
+    ghost use Rattle.std.specs.Prelude.{◌-◌, vec_len, vec_capacity};
+    ghost use Rattle.issuance_log.specs.Folds.{LogNumbers};
+    ghost use Rattle.issuance_log.specs.Sound.{HasSoundNumbers};
+
+    ghost Value = { LogNumbers };
+
+    ghost view = { λ n. record {
+      view = record {
+        settings = n.settings;
+        size = n.size;
+        marks = n.marks.items;
+        tiled = n.tiled;
+      };
+      mark_spare = vec_capacity n.marks - vec_len n.marks;
+    } };
+
+    ghost invariant = { λ n. HasSoundNumbers (record {
+      settings = n.settings;
+      size = n.size;
+      marks = n.marks.items;
+      tiled = n.tiled;
+    }) };
+}
+
+// Puts a number behind the others, where there is room.
+fn put(list: &mut Vec<u64>, number: u64)
+    requires { vec_len list.old < vec_capacity list.old }
+    ensures { list.new.items ≡ list.old.items ++ number ∷ [] }
+{
+    match list.push(number) {
+        Ok(()) => {}
+        Err(_full) => unreachable!(),
+    }
+}
+
+impl Numbers {
+    /// Those of the log that the first record begins.
+    #[tactic(auto, unfolding(crate::specs::Folds::begun_log))]
+    pub(crate) fn begin(alloc: Global, body: &[u8]) -> Result<Numbers, RecordError>
+        ensures found { LogFinds (λ n. n.view) (option_map view_in (begun_log body.now)) result }
+        ensures sound { IfOk result (λ n. HasSoundNumbers n.view) }
+    {
+        let settings = read_settings(alloc, body)?;
+        Ok(Numbers::new(alloc, settings))
+    }
+
+    /// Those of a new log with these settings. It takes no memory.
+    pub(crate) fn new(alloc: Global, settings: LogSettings) -> Numbers
+        ensures view { result.view ≡ view_in (new_log settings) }
+        ensures sound { HasSoundNumbers result.view }
+    {
+        Numbers {
+            settings,
+            size: 1,
+            marks: Vec::new(alloc),
+            tiled: 0,
+        }
+    }
+
+    /// Takes one record more. `Unfit` comes exactly where it breaks the rules, and a refusal leaves
+    /// all as it was.
+    #[tactic(auto, unfolding(crate::specs::Folds::next_view))]
+    pub(crate) fn take<H: TreeHash>(&mut self, body: &[u8]) -> Result<(), RecordError>
+        ensures { LogTakes (next_view H.hash self.old.view body.now)
+            self.old.view result self.new.view }
+    {
+        match read_item(body) {
+            Ok((entry, key)) => self.take_item::<H>(entry, key),
+            Err(RecordError::Unfit) => self.take_other::<H>(body),
+            Err(RecordError::Memory) => Err(RecordError::Memory),
+        }
+    }
+
+    fn take_item<H: TreeHash>(&mut self, entry: &[u8], key: &[u8]) -> Result<(), RecordError>
+        ensures ok { OnOk result ((takes_entry H.hash self.old.view (entry.now, key.now) ≡ true)
+            × (self.new.view ≡ one_item_more self.old.view)) }
+        ensures err { IfErr result (λ why. (why ≡ RecordError.Unfit)
+            × (takes_entry H.hash self.old.view (entry.now, key.now) ≡ false)
+            × (self.new.view ≡ self.old.view)) }
+    {
+        if !self.takes::<H>(entry, key) {
+            return Err(RecordError::Unfit);
+        }
+        self.add_item();
+        Ok(())
+    }
+
+    /// Takes a record that is no Entry.
+    #[tactic(auto, unfolding(crate::specs::Folds::next_view))]
+    pub(crate) fn take_other<H: TreeHash>(&mut self, body: &[u8]) -> Result<(), RecordError>
+        requires { item_in body.now ≡ None }
+        ensures { LogTakes (next_view H.hash self.old.view body.now)
+            self.old.view result self.new.view }
+    {
+        match read_mark(body) {
+            Ok(size) => self.take_mark(size),
+            Err(RecordError::Unfit) => self.take_tiles(body),
+            Err(RecordError::Memory) => Err(RecordError::Memory),
+        }
+    }
+
+    fn take_mark(&mut self, size: u64) -> Result<(), RecordError>
+        ensures { LogTakes (if takes_landmark self.old.view size
+            then Some (one_mark_more self.old.view) else None) self.old.view result self.new.view }
+    {
+        if size != self.size || size <= self.last_mark() {
+            return Err(RecordError::Unfit);
+        }
+        self.prepare_mark()?;
+        self.push_mark();
+        Ok(())
+    }
+
+    // Takes a record that is neither an Entry nor a Landmark.
+    fn take_tiles(&mut self, body: &[u8]) -> Result<(), RecordError>
+        ensures { LogTakes (option_and_then (λ size. if takes_tiles self.old.view size
+            then Some (tiled_to size self.old.view) else None) (tiled_in body.now))
+            self.old.view result self.new.view }
+    {
+        let size = read_tiles(body)?;
+        if size % TILE != 0 || size <= self.tiled || size > self.size {
+            return Err(RecordError::Unfit);
+        }
+        self.set_tiled(size);
+        Ok(())
+    }
+
+    /// Whether the log takes an Entry: its key matches, and the log isn't full.
+    pub(crate) fn takes<H: TreeHash>(&self, entry: &[u8], key: &[u8]) -> bool
+        ensures value { result ≡ takes_entry H.hash self.now.view (entry.now, key.now) }
+        ensures sound { HasSoundNumbers self.now.view }
+    {
+        !self.is_full() && key_matches::<H>(entry, key)
+    }
+
+    /// The log has as many entries as its limit allows.
+    pub(crate) fn is_full(&self) -> bool
+        ensures full { result ≡ not (nat_lt self.now.view.size self.now.view.settings.limit) }
+        ensures sound { HasSoundNumbers self.now.view }
+    {
+        self.size >= self.settings.limit as u64
+    }
+
+    pub(crate) fn size(&self) -> u64
+        ensures value { result ≡ self.now.view.size }
+        ensures sound { HasSoundNumbers self.now.view }
+    {
+        self.size
+    }
+
+    pub(crate) fn settings(&self) -> &LogSettings
+        ensures value { result.now ≡ self.now.view.settings }
+        ensures allowed { AreAllowed result.now.max_active result.now.limit }
+    {
+        &self.settings
+    }
+
+    /// The sizes at the landmarks.
+    pub(crate) fn marks(&self) -> &[u64]
+        ensures value { result.now ≡ self.now.view.marks }
+        ensures rising { AreRising 0 self.now.view.size result.now }
+    {
+        self.marks.as_slice()
+    }
+
+    /// The size of the last landmark, 0 where there is none.
+    pub(crate) fn last_mark(&self) -> u64
+        ensures value { result ≡ last_mark self.now.view.marks }
+        ensures sound { HasSoundNumbers self.now.view }
+    {
+        if self.marks.is_empty() {
+            0
+        } else {
+            self.marks[self.marks.len() - 1]
+        }
+    }
+
+    /// The last size of the tiles, 0 where there is none.
+    pub(crate) fn tiled(&self) -> u64
+        ensures value { result ≡ self.now.view.tiled }
+        ensures sound { HasSoundNumbers self.now.view }
+    {
+        self.tiled
+    }
+
+    /// One entry more.
+    pub(crate) fn add_item(&mut self)
+        requires { self.old.view.size < self.old.view.settings.limit }
+        ensures view { self.new.view ≡ one_item_more self.old.view }
+        ensures spare { self.new.mark_spare ≡ self.old.mark_spare }
+    {
+        self.size += 1;
+    }
+
+    /// Makes room for a landmark. All else stays as it was.
+    pub(crate) fn prepare_mark(&mut self) -> Result<(), Memory>
+        ensures spare { OnOk result (1 ≤ self.new.mark_spare) }
+        ensures same { self.new.view ≡ self.old.view }
+    {
+        self.marks.reserve(1)?;
+        Ok(())
+    }
+
+    /// Puts a landmark at the size behind the others, where there is room.
+    pub(crate) fn push_mark(&mut self)
+        requires spare { 1 ≤ self.old.mark_spare }
+        requires above { last_mark self.old.view.marks < self.old.view.size }
+        ensures { self.new.view ≡ one_mark_more self.old.view }
+    {
+        put(&mut self.marks, self.size);
+    }
+
+    /// The tiles of this size are the last ones.
+    pub(crate) fn set_tiled(&mut self, size: u64)
+        requires multiple { size % 256 ≡ 0 }
+        requires within { size ≤ self.old.view.size }
+        ensures view { self.new.view ≡ tiled_to size self.old.view }
+    {
+        self.tiled = size;
+    }
+}
