@@ -1,5 +1,5 @@
 -- A certificate that is written is accepted by each store that is set up for it.
-use Rattle.std.proofs.Common.{◌≡◌, ℕ, ◌-◌, ◌<◌, ◌≤◌, true, [], List, Some, Ok, Err, Result, IfOk}
+use Rattle.std.proofs.Common.{◌≡◌, ℕ, ◌-◌, ◌<◌, ◌≤◌, true, [], List, Some, Ok}
 use Rattle.std.proofs.Common.{refl, sym}
 use Rattle.std.proofs.Common.{ap, subst, ◌∙◌, take, drop, length, slice_index_or}
 use Rattle.std.specs.Prelude.{◌≤ℤ◌, map}
@@ -74,13 +74,3 @@ accepts h s index start end signatures bytes valid from below within fits is own
       not_revoked = set.not_revoked;
     })
     fits refl evaluates set.no_other set.enough
-
-pub accepts_so : {E : Type 0} (r : Result Text E) (h : HashFunction) (s : LogState)
-    (index start end : ℕ) (signatures : Text)
-    → is_subtree start end ≡ true → start ≤ index → index < end → end ≤ length s.entries
-    → IsProof (proof_for h s index start end signatures)
-    → IfOk r (IsWritten h s index start end signatures)
-    → IfOk r (StoresAccept h s index start end signatures)
-accepts_so {E} (Ok bytes) h s index start end signatures valid from below within fits is =
-    accepts h s index start end signatures bytes valid from below within fits is
-accepts_so {E} (Err e) h s index start end signatures valid from below within fits is = tt

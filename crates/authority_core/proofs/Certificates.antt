@@ -196,15 +196,14 @@ certified_so {E} (Err e) h index entry key proof t p of_entry of_key belongs rea
 
 -- ---- the certificate of an item that was given
 
-pub written_so : {E : Type 0} (r : Result Text E) (h : HashFunction) (s : LogState)
-    (index start end : ℕ) (signatures entry key proof : Text)
+pub written_of : (h : HashFunction) (s : LogState) (index start end : ℕ)
+    (signatures entry key proof bytes : Text)
     → entry ≡ slice_index_or s.entries index [] → key ≡ slice_index_or s.keys index []
     → proof ≡ proof_text (proof_for h s index start end signatures)
-    → IfOk r (IsCertificateOf h index entry key proof)
-    → IfOk r (IsWritten h s index start end signatures)
-written_so {E} r h s index start end signatures entry key proof one two three is =
-    subst (λ (p : Text). IfOk r (IsCertificateOf h index (slice_index_or s.entries index [])
-    (slice_index_or s.keys index []) p)) three
-    (subst (λ (k : Text). IfOk r (IsCertificateOf h index (slice_index_or s.entries index [])
-    k proof)) two
-    (subst (λ (e : Text). IfOk r (IsCertificateOf h index e key proof)) one is))
+    → IsCertificateOf h index entry key proof bytes
+    → IsWritten h s index start end signatures bytes
+written_of h s index start end signatures entry key proof bytes one two three is =
+    subst (λ (p : Text). IsCertificateOf h index (slice_index_or s.entries index [])
+    (slice_index_or s.keys index []) p bytes) three
+    (subst (λ (k : Text). IsCertificateOf h index (slice_index_or s.entries index []) k proof bytes)
+    two (subst (λ (e : Text). IsCertificateOf h index e key proof bytes) one is))

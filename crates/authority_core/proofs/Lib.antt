@@ -6,3 +6,4 @@ pub mod Marks
 mod Sizes
 mod Issued
 mod Accepted
+mod Told

@@ -3,6 +3,7 @@ use Rattle.std.specs.Prelude.{◌≡◌, ◌≢◌, ℕ, ◌-◌, ◌<◌, ◌�
 use Rattle.std.specs.Prelude.{[], length, map, slice_index_or, Option, Some, None, is_none, Result}
 use Rattle.std.specs.Prelude.{Ok, Err, if◌then◌else◌}
 use Rattle.byte_forms.specs.Types.{Text, HashFunction}
+use Rattle.mtc_io.specs.Counts.{Rose}
 use Rattle.tree_core.specs.Path.{part_of, path_of}
 use Rattle.tree_core.specs.Subtree.{is_subtree}
 use Rattle.tree_core.specs.Tree.{leaf_hash}
@@ -25,6 +26,8 @@ use Rattle.authority_core.specs.declared.writing.error.WriteError.TheVariants.{B
 use Rattle.authority_core.specs.declared.writing.error.WriteError.TheVariants.{Outside, Beyond}
 use Rattle.authority_core.specs.declared.writing.error.WriteError.TheVariants.{NotCovered}
 use Rattle.authority_core.specs.declared.writing.error.WriteError.TheVariants.{TooManySignatures}
+use Rattle.authority_core.specs.declared.writing.error.WriteError.TheVariants.{JournalFailed}
+use Rattle.authority_core.specs.declared.writing.error.WriteError.TheVariants.{TilesFailed}
 use Rattle.authority_core.specs.declared.writing.error.WriteError.TheVariants.{Memory}
 
 -- the signatures of a certificate have at most so many bytes
@@ -42,7 +45,7 @@ cert_refusal v index start end signatures =
     else (if nat_lt most_signatures (length signatures) then Some TooManySignatures
     else None)))))
 
--- The answer keeps to it, where memory may be refused behind all tests.
+-- The answer keeps to it, where memory may be refused, or a fault told, behind all tests.
 abbrev pub KeepsToRefusal : Option WriteError → Result Text WriteError → Type 0
 KeepsToRefusal wanted (Ok bytes) = wanted ≡ None
 KeepsToRefusal wanted (Err NoSuchEntry) = wanted ≡ Some NoSuchEntry
@@ -52,6 +55,8 @@ KeepsToRefusal wanted (Err Outside) = wanted ≡ Some Outside
 KeepsToRefusal wanted (Err (Beyond size)) = wanted ≡ Some (Beyond size)
 KeepsToRefusal wanted (Err NotCovered) = ⊥
 KeepsToRefusal wanted (Err TooManySignatures) = wanted ≡ Some TooManySignatures
+KeepsToRefusal wanted (Err JournalFailed) = wanted ≡ None
+KeepsToRefusal wanted (Err TilesFailed) = wanted ≡ None
 KeepsToRefusal wanted (Err Memory) = wanted ≡ None
 
 -- The subtree of the least landmark above an entry that holds it: none where no landmark of the log
@@ -77,6 +82,8 @@ KeepsToLightRefusal wanted (Err Outside) = ⊥
 KeepsToLightRefusal wanted (Err (Beyond size)) = ⊥
 KeepsToLightRefusal wanted (Err NotCovered) = wanted ≡ Some NotCovered
 KeepsToLightRefusal wanted (Err TooManySignatures) = ⊥
+KeepsToLightRefusal wanted (Err JournalFailed) = wanted ≡ None
+KeepsToLightRefusal wanted (Err TilesFailed) = wanted ≡ None
 KeepsToLightRefusal wanted (Err Memory) =
     (wanted ≢ Some NoSuchEntry) × (wanted ≢ Some NullEntry)
 
@@ -133,3 +140,23 @@ pub record IsLightlyWritten (h : HashFunction) (s : LogState) (index : ℕ) (byt
   pub span : Span
   pub covering : covering_in (view_in s) index ≡ Some span
   pub written : IsWritten h s index span.start span.end [] bytes
+
+-- The count of faults of a journal's disk rose where it is named, and is as it was at any other
+-- answer.
+abbrev pub JournalCounts : {X : Type 0} → ℕ → ℕ → Result X WriteError → Type 0
+JournalCounts before after (Ok x) = after ≡ before
+JournalCounts before after (Err JournalFailed) = Rose before after
+JournalCounts before after (Err why) = after ≡ before
+
+-- So does that of the tiles' disk.
+abbrev pub TilesCounts : {X : Type 0} → ℕ → ℕ → Result X WriteError → Type 0
+TilesCounts before after (Ok x) = after ≡ before
+TilesCounts before after (Err TilesFailed) = Rose before after
+TilesCounts before after (Err why) = after ≡ before
+
+-- One of the disks failed, or memory was refused.
+abbrev pub IsOfDisks : WriteError → Type 0
+IsOfDisks JournalFailed = Unit {0}
+IsOfDisks TilesFailed = Unit {0}
+IsOfDisks Memory = Unit {0}
+IsOfDisks why = ⊥

@@ -4,6 +4,7 @@ use Rattle.byte_forms.specs.Types.{Text, HashFunction}
 use Rattle.issuance_log.specs.Folds.{LogState, with_item}
 use Rattle.issuance_log.specs.Records.{entry_record}
 use Rattle.issuance_log.specs.Refusals.{ItemKeepsTo}
+use Rattle.issuance_log.specs.Settings.{Settings}
 use Rattle.issuance_log.specs.declared.error.LogError.{LogError}
 use Rattle.issuance_log.specs.declared.error.LogError.TheVariants as log_error
 use Rattle.authority_core.specs.Issuing.{entry_for}
@@ -12,16 +13,16 @@ use Rattle.authority_core.specs.declared.issuing.error.IssueError.{IssueError}
 use Rattle.authority_core.specs.declared.issuing.error.IssueError.TheVariants.{Log}
 
 -- The entry that is issued for a request: under the id in the log's settings.
-abbrev pub issued_entry : HashFunction → LogState → RequestParts → Text
-issued_entry h s r = entry_for h s.settings.id r
+abbrev pub issued_entry : HashFunction → Settings → RequestParts → Text
+issued_entry h settings r = entry_for h settings.id r
 
 -- The record of that entry with the key of the request.
-abbrev pub issued_record : HashFunction → LogState → RequestParts → Text
-issued_record h s r = entry_record (issued_entry h s r) r.key
+abbrev pub issued_record : HashFunction → Settings → RequestParts → Text
+issued_record h settings r = entry_record (issued_entry h settings r) r.key
 
 -- The log with that entry and its key.
-abbrev pub issued_log : HashFunction → LogState → RequestParts → LogState
-issued_log h s r = with_item (issued_entry h s r) r.key s
+abbrev pub issued_log : HashFunction → Settings → RequestParts → LogState → LogState
+issued_log h settings r s = with_item (issued_entry h settings r) r.key s
 
 -- The answer as one of the log.
 abbrev pub of_log : Result ℕ IssueError → Result ℕ LogError
@@ -36,6 +37,7 @@ KeepsToOrMemory wanted (Err log_error.Full) = ItemKeepsTo wanted (Err log_error.
 KeepsToOrMemory wanted (Err log_error.TooLarge) = ItemKeepsTo wanted (Err log_error.TooLarge)
 KeepsToOrMemory wanted (Err log_error.NoSuchEntry) = ItemKeepsTo wanted (Err log_error.NoSuchEntry)
 KeepsToOrMemory wanted (Err log_error.NothingNew) = ItemKeepsTo wanted (Err log_error.NothingNew)
+KeepsToOrMemory wanted (Err log_error.Failed) = ItemKeepsTo wanted (Err log_error.Failed)
 KeepsToOrMemory wanted (Err (log_error.Append why)) = ItemKeepsTo wanted
     (Err (log_error.Append why))
 KeepsToOrMemory wanted (Err log_error.Memory) = Unit {0}

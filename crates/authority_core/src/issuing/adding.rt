@@ -2,11 +2,12 @@
 
 ghost use Rattle.std.specs.Prelude.{◌≡◌, ◌≢◌, ◌++◌, ◌∷◌, [], slice_index_or, None, Ok, Err};
 ghost use Rattle.std.specs.Prelude.{IfOk, IfSome};
-ghost use Rattle.issuance_log.specs.Folds.{log_of};
+ghost use Rattle.issuance_log.specs.Folds.{log_of, one_item_more};
 ghost use Rattle.issuance_log.specs.declared.error.LogError.TheVariants.{Memory as NoMemory};
 ghost use Rattle.issuance_log.specs.Refusals.{add_refusal};
-ghost use Rattle.issuance_log.specs.Words.{log_end, log_broken, log_records, log_state, view_of};
-ghost use Rattle.issuance_log.specs.Words.{LogAppends};
+ghost use Rattle.issuance_log.specs.Shown.{shown_with};
+ghost use Rattle.issuance_log.specs.Words.{log_end, log_broken, log_records, log_tiles_disk};
+ghost use Rattle.issuance_log.specs.Words.{told_state, view_of, LogAppends};
 ghost use Rattle.authority_core.specs.Acceptance.{IsOwnEntry};
 ghost use Rattle.authority_core.specs.Issues.{KeepsToOrMemory, issued_entry, issued_log};
 ghost use Rattle.authority_core.specs.Issues.{issued_record, of_log};
@@ -22,31 +23,36 @@ use tree_core::TreeHash;
 /// Issues a request: makes its entry under the id of the log, adds it with the key of the request,
 /// and answers its index, at which the log then has an entry with its own name as issuer and no
 /// critical extension that is unknown. At Ok a crash leaves the records with that of the entry; at
-/// any moment of the call it leaves the old records, or these and that one.
+/// any moment of the call it leaves the old records, or these and that one. The disk of the tiles
+/// isn't called.
 ///
 /// Errors: what [`Log::add`] refuses. Its own memory is taken before the log is touched, so
 /// `Log(Memory)` may come before any test, and leaves the log as it was.
-pub fn issue<H: TreeHash, D: Disk>(
+pub fn issue<H: TreeHash, D: Disk, T: Disk>(
     alloc: Global,
-    log: &mut Log<H, D>,
+    log: &mut Log<H, D, T>,
     request: &Request,
 ) -> Result<u64, IssueError>
-    ensures appends { LogAppends (issued_record H.hash (log_state log.old) request.now)
-        (issued_log H.hash (log_state log.old) request.now) log.old log.new (of_log result) }
+    ensures appends { LogAppends (issued_record H.hash (view_of log.old).settings request.now)
+        one_item_more (issued_log H.hash (view_of log.old).settings request.now) log.old log.new
+        (of_log result) }
+    ensures tiles { log_tiles_disk log.new ≡ log_tiles_disk log.old }
     ensures index { IfOk result (λ index. index ≡ (view_of log.old).size) }
-    ensures own { IfOk result (λ index. IsOwnEntry (log_state log.new).settings.id
-        (slice_index_or (log_state log.new).entries index [])) }
+    ensures own { IfOk result (λ index. IfSome (told_state log.new) (λ s.
+        IsOwnEntry s.settings.id (slice_index_or s.entries index []))) }
     ensures answer { KeepsToOrMemory
         (add_refusal (view_of log.old) (log_broken log.old) (log_end log.old)
-        (issued_entry H.hash (log_state log.old) request.now) request.now.key)
+        (issued_entry H.hash (view_of log.old).settings request.now) request.now.key)
         (of_log result) }
     ensures valid { result ≢ Err (IssueError.Log NoMemory)
         → add_refusal (view_of log.old) (log_broken log.old) (log_end log.old)
-        (issued_entry H.hash (log_state log.old) request.now) request.now.key ≡ None
+        (issued_entry H.hash (view_of log.old).settings request.now) request.now.key ≡ None
         → IfSome (log_records log.old) (λ list. log_of H.hash
-        (list ++ issued_record H.hash (log_state log.old) request.now ∷ [])
-        ≡ Ok (issued_log H.hash (log_state log.old) request.now)) }
+        (list ++ issued_record H.hash (view_of log.old).settings request.now ∷ [])
+        ≡ Ok (issued_log H.hash (view_of log.old).settings request.now
+        (shown_with (view_of log.old) list))) }
 {
+    log.sound();
     let settings = log.settings();
     let entry = entry_of_request::<H>(alloc, &settings.id, request)?;
     let index = log.add(entry.as_slice(), request.key.as_slice())?;

@@ -44,7 +44,7 @@ pub fn issued_entries_keep_to_the_rules()
     ensures { (h : HashFunction) (list : List Text) (s : LogState) (r : RequestParts)
         → ((bytes : Text) → length (h bytes) ≡ 32) → IsAnchorId s.settings.id → CanBeIssued r
         → log_of h list ≡ Ok s → length s.entries < s.settings.limit
-        → length (issued_entry h s r) + length r.key ≤ most_item
-        → log_of h (list ++ issued_record h s r ∷ [])
-        ≡ Ok (with_item (issued_entry h s r) r.key s) }
+        → length (issued_entry h s.settings r) + length r.key ≤ most_item
+        → log_of h (list ++ issued_record h s.settings r ∷ [])
+        ≡ Ok (with_item (issued_entry h s.settings r) r.key s) }
 {}

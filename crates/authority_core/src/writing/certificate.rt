@@ -1,10 +1,12 @@
 //! Certificates of the entries of a log, in any subtree of it and with signatures.
 
-ghost use Rattle.std.specs.Prelude.{IfOk};
-ghost use Rattle.issuance_log.specs.Words.{LogStays, log_state, view_of};
+ghost use Rattle.std.specs.Prelude.{IfSome, IfOk};
+ghost use Rattle.issuance_log.specs.Words.{LogStays, log_disk, log_tiles_disk, told_by_both};
+ghost use Rattle.issuance_log.specs.Words.{view_of};
 ghost use Rattle.mtc_proof.specs.Proofs.{AreSignatures};
 ghost use Rattle.authority_core.specs.Acceptance.{StoresAccept};
 ghost use Rattle.authority_core.specs.Certificates.{cert_refusal, IsWritten, KeepsToRefusal};
+ghost use Rattle.authority_core.specs.Certificates.{JournalCounts, TilesCounts};
 
 use crate::writing::error::WriteError;
 use crate::writing::item::written;
@@ -19,8 +21,8 @@ const MOST_SIGNATURES: usize = 65_535;
 
 /// Writes the certificate of an entry: its fields, its key, its index as the serial number, and as
 /// the signature its path in the subtree `[start, end)` of the log, with these signatures of
-/// cosigners, or none (the draft on Merkle Tree Certificates, where it defines MTCProof). The disk
-/// of the log is only looked at, and the log shows what it showed before.
+/// cosigners, or none (the draft on Merkle Tree Certificates, where it defines MTCProof). The disks
+/// of the log are only looked at, and it shows what it showed before.
 ///
 /// Each store that is set up for the log and this entry accepts it, at each moment of the entry's
 /// validity. It is so where the store holds no other hash for the subtree, and trusts it with the
@@ -29,9 +31,9 @@ const MOST_SIGNATURES: usize = 65_535;
 /// Errors, in the order of the tests: those of [`WriteError`] but `NotCovered`. Want of memory
 /// comes last.
 #[tactic(auto, unfolding(crate::specs::Certificates::cert_refusal))]
-pub fn cert<H: TreeHash, D: Disk>(
+pub fn cert<H: TreeHash, D: Disk, T: Disk>(
     alloc: Global,
-    log: &mut Log<H, D>,
+    log: &mut Log<H, D, T>,
     index: u64,
     start: u64,
     end: u64,
@@ -40,11 +42,15 @@ pub fn cert<H: TreeHash, D: Disk>(
     requires { AreSignatures signatures.now }
     ensures answer { KeepsToRefusal
         (cert_refusal (view_of log.old) index start end signatures.now) result }
-    ensures written { IfOk result
-        (IsWritten H.hash (log_state log.old) index start end signatures.now) }
-    ensures accepted { IfOk result
-        (StoresAccept H.hash (log_state log.old) index start end signatures.now) }
+    ensures written { IfOk result (λ bytes. IfSome (told_by_both log.old)
+        (λ s. IsWritten H.hash s index start end signatures.now bytes)) }
+    ensures accepted { IfOk result (λ bytes. IfSome (told_by_both log.old)
+        (λ s. StoresAccept H.hash s index start end signatures.now bytes)) }
     ensures stays { LogStays log.old log.new }
+    ensures journal { JournalCounts (D.faults (log_disk log.old)) (D.faults (log_disk log.new))
+        result }
+    ensures tiles { TilesCounts (T.faults (log_tiles_disk log.old))
+        (T.faults (log_tiles_disk log.new)) result }
 {
     if log.size() <= index {
         return Err(WriteError::NoSuchEntry);
@@ -64,5 +70,5 @@ pub fn cert<H: TreeHash, D: Disk>(
     if signatures.len() > MOST_SIGNATURES {
         return Err(WriteError::TooManySignatures);
     }
-    Ok(written(alloc, log, index, start, end, signatures)?)
+    written(alloc, log, index, start, end, signatures)
 }

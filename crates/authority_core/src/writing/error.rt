@@ -23,6 +23,10 @@ pub enum WriteError {
     NotCovered,
     /// The signatures have more than 65,535 bytes.
     TooManySignatures,
+    /// The disk of the journal failed, from which the entry is read.
+    JournalFailed,
+    /// The disk of the tiles failed, from which nodes are read.
+    TilesFailed,
     /// Memory was refused.
     Memory,
 }

@@ -1,21 +1,23 @@
 //! The certificate of an item of a log.
 
-ghost use Rattle.std.specs.Prelude.{◌≡◌, ◌^◌, ◌<◌, ◌≤◌, length, true, IfOk};
+ghost use Rattle.std.specs.Prelude.{◌≡◌, ◌^◌, ◌<◌, ◌≤◌, length, true, IfSome, IfOk, IfErr};
 ghost use Rattle.cert_fields.specs.Given.{given};
 ghost use Rattle.issuance_log.specs.Records.{IsShort};
-ghost use Rattle.issuance_log.specs.Words.{LogStays, log_state, view_of};
-ghost use Rattle.log_entry.specs.Matching.{matches};
+ghost use Rattle.issuance_log.specs.Words.{LogStays, log_disk, log_tiles_disk, told_by_both};
+ghost use Rattle.issuance_log.specs.Words.{view_of};
 ghost use Rattle.log_entry.specs.Views.{tbs_parts};
 ghost use Rattle.mtc_proof.specs.Proofs.{AreSignatures};
 ghost use Rattle.tree_core.specs.Subtree.{is_subtree};
 ghost use Rattle.authority_core.specs.Acceptance.{StoresAccept};
-ghost use Rattle.authority_core.specs.Certificates.{IsCertificateOf, IsWritten, parts_with};
+ghost use Rattle.authority_core.specs.Certificates.{IsCertificateOf, IsOfDisks, IsWritten};
+ghost use Rattle.authority_core.specs.Certificates.{JournalCounts, TilesCounts, parts_with};
 
+use crate::writing::error::WriteError;
 use crate::writing::proof::proof_of;
 use cert_fields::{CertParts, write};
 use disk_core::Disk;
-use issuance_log::Log;
-use log_entry::{Entry, TbsEntry, read_entry};
+use issuance_log::{Log, LogError};
+use log_entry::{Entry, TbsEntry, key_matches, read_entry};
 use mtc_io::{Bytes, Memory};
 use std::alloc::Global;
 use tree_core::TreeHash;
@@ -42,7 +44,8 @@ fn parts_with(
     })
 }
 
-// The certificate of an entry with its key, index and proof.
+// The certificate of an entry with its key, index and proof. A key that doesn't belong to the entry
+// can come only of a disk that tells nothing, and is answered as want of memory.
 fn certificate_of<H: TreeHash>(
     alloc: Global,
     index: u64,
@@ -51,12 +54,14 @@ fn certificate_of<H: TreeHash>(
     proof: Bytes,
 ) -> Result<Bytes, Memory>
     requires some { 1 ≤ index }
-    requires belongs { matches H.hash entry.now key.now ≡ true }
     requires short_entry { IsShort entry.now }
     requires short_key { IsShort key.now }
     requires short_proof { length proof ≤ 200000 }
     ensures { IfOk result (IsCertificateOf H.hash index entry.now key.now proof) }
 {
+    if !key_matches::<H>(entry, key) {
+        return Err(Memory);
+    }
     match read_entry(entry) {
         Ok(Entry::Tbs(tbs)) => {
             let parts = parts_with(alloc, index, &tbs, key, proof)?;
@@ -69,14 +74,14 @@ fn certificate_of<H: TreeHash>(
 }
 
 /// The certificate of the entry at an index, with its path in this subtree.
-pub fn written<H: TreeHash, D: Disk>(
+pub fn written<H: TreeHash, D: Disk, T: Disk>(
     alloc: Global,
-    log: &mut Log<H, D>,
+    log: &mut Log<H, D, T>,
     index: u64,
     start: u64,
     end: u64,
     signatures: &[u8],
-) -> Result<Bytes, Memory>
+) -> Result<Bytes, WriteError>
     requires some { 1 ≤ index }
     requires valid { is_subtree start end ≡ true }
     requires from { start ≤ index }
@@ -84,19 +89,34 @@ pub fn written<H: TreeHash, D: Disk>(
     requires within { end ≤ (view_of log.old).size }
     requires signed { AreSignatures signatures.now }
     requires short { length signatures.now < 2 ^ 16 }
-    ensures written { IfOk result
-        (IsWritten H.hash (log_state log.old) index start end signatures.now) }
-    ensures accepted { IfOk result
-        (StoresAccept H.hash (log_state log.old) index start end signatures.now) }
+    ensures written { IfOk result (λ bytes. IfSome (told_by_both log.old)
+        (λ s. IsWritten H.hash s index start end signatures.now bytes)) }
+    ensures accepted { IfOk result (λ bytes. IfSome (told_by_both log.old)
+        (λ s. StoresAccept H.hash s index start end signatures.now bytes)) }
+    ensures why { IfErr result IsOfDisks }
     ensures stays { LogStays log.old log.new }
+    ensures journal { JournalCounts (D.faults (log_disk log.old)) (D.faults (log_disk log.new))
+        result }
+    ensures tiles { TilesCounts (T.faults (log_tiles_disk log.old))
+        (T.faults (log_tiles_disk log.new)) result }
 {
     log.sound();
     let proof = proof_of(alloc, log, index, start, end, signatures)?;
     let mut entry = Bytes::new(alloc);
     let mut key = Bytes::new(alloc);
     match log.entry(index, &mut entry, &mut key) {
-        Ok(()) => certificate_of::<H>(alloc, index, entry.as_slice(), key.as_slice(), proof),
+        Ok(()) => {
+            let certificate = certificate_of::<H>(
+                alloc,
+                index,
+                entry.as_slice(),
+                key.as_slice(),
+                proof,
+            )?;
+            Ok(certificate)
+        }
+        Err(LogError::Failed) => Err(WriteError::JournalFailed),
         // The log has the entry, so memory was refused.
-        Err(_) => Err(Memory),
+        Err(_) => Err(WriteError::Memory),
     }
 }

@@ -1,10 +1,12 @@
 //! Certificates of the entries of a log by its landmarks, without signatures.
 
 ghost use Rattle.std.specs.Prelude.{◌≡◌, IfOk, IfSome};
-ghost use Rattle.issuance_log.specs.Words.{LogStays, log_state, view_of};
+ghost use Rattle.issuance_log.specs.Words.{LogStays, log_disk, log_tiles_disk, told_by_both};
+ghost use Rattle.issuance_log.specs.Words.{view_of};
 ghost use Rattle.authority_core.specs.Acceptance.{StoresAcceptLightly};
 ghost use Rattle.authority_core.specs.Certificates.{covering_in, HoldsEntry, IsLightlyWritten};
 ghost use Rattle.authority_core.specs.Certificates.{KeepsToLightRefusal, light_refusal};
+ghost use Rattle.authority_core.specs.Certificates.{JournalCounts, TilesCounts};
 
 use crate::writing::error::WriteError;
 use crate::writing::item::written;
@@ -16,9 +18,9 @@ use std::alloc::Global;
 use tree_core::{Span, TreeHash};
 
 // The subtree of an active landmark of the log that holds the entry.
-fn covering_subtree<H: TreeHash, D: Disk>(
+fn covering_subtree<H: TreeHash, D: Disk, T: Disk>(
     alloc: Global,
-    log: &Log<H, D>,
+    log: &Log<H, D, T>,
     index: u64,
 ) -> Result<Option<Span>, Memory>
     ensures exact { IfOk result (λ span. span ≡ covering_in (view_of log.now) index) }
@@ -33,7 +35,7 @@ fn covering_subtree<H: TreeHash, D: Disk>(
 /// Writes the certificate of an entry that needs no signature: its fields, its key, its index as
 /// the serial number, and as the signature its path in the subtree that holds it, of the least
 /// landmark of the log above it (the draft on Merkle Tree Certificates, where it defines
-/// landmarks). The disk of the log is only looked at, and the log shows what it showed before.
+/// landmarks). The disks of the log are only looked at, and it shows what it showed before.
 ///
 /// Each store for the log that trusts this subtree with the log's hash, and doesn't revoke the
 /// index, accepts it at each moment of the entry's validity.
@@ -42,15 +44,21 @@ fn covering_subtree<H: TreeHash, D: Disk>(
 /// landmark is above the entry, or the least one isn't active any more. `Memory` may come before
 /// `NotCovered`.
 #[tactic(auto, unfolding(crate::specs::Certificates::light_refusal))]
-pub fn light_cert<H: TreeHash, D: Disk>(
+pub fn light_cert<H: TreeHash, D: Disk, T: Disk>(
     alloc: Global,
-    log: &mut Log<H, D>,
+    log: &mut Log<H, D, T>,
     index: u64,
 ) -> Result<Bytes, WriteError>
     ensures answer { KeepsToLightRefusal (light_refusal (view_of log.old) index) result }
-    ensures written { IfOk result (IsLightlyWritten H.hash (log_state log.old) index) }
-    ensures accepted { IfOk result (StoresAcceptLightly H.hash (log_state log.old) index) }
+    ensures written { IfOk result (λ bytes. IfSome (told_by_both log.old)
+        (λ s. IsLightlyWritten H.hash s index bytes)) }
+    ensures accepted { IfOk result (λ bytes. IfSome (told_by_both log.old)
+        (λ s. StoresAcceptLightly H.hash s index bytes)) }
     ensures stays { LogStays log.old log.new }
+    ensures journal { JournalCounts (D.faults (log_disk log.old)) (D.faults (log_disk log.new))
+        result }
+    ensures tiles { TilesCounts (T.faults (log_tiles_disk log.old))
+        (T.faults (log_tiles_disk log.new)) result }
 {
     if log.size() <= index {
         return Err(WriteError::NoSuchEntry);
@@ -58,8 +66,9 @@ pub fn light_cert<H: TreeHash, D: Disk>(
     if index == 0 {
         return Err(WriteError::NullEntry);
     }
+    log.sound();
     match covering_subtree(alloc, log, index)? {
-        Some(span) => Ok(written(alloc, log, index, span.start, span.end, &[])?),
+        Some(span) => written(alloc, log, index, span.start, span.end, &[]),
         None => Err(WriteError::NotCovered),
     }
 }

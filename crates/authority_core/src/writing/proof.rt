@@ -1,15 +1,16 @@
 //! The proof of a certificate.
 
-ghost use Rattle.std.specs.Prelude.{◌≡◌, ◌^◌, ◌<◌, ◌≤◌, length, true, IfOk};
+ghost use Rattle.std.specs.Prelude.{◌≡◌, ◌⊎◌, ◌^◌, ◌<◌, ◌≤◌, length, true, IfSome, IfOk, IfErr};
 ghost use Rattle.tls_wire.specs.Spelling.{AreHashes};
-ghost use Rattle.issuance_log.specs.Words.{LogStays, log_state, view_of};
+ghost use Rattle.issuance_log.specs.Words.{LogAsksTiles, log_tiles_disk, told_by_both, view_of};
 ghost use Rattle.mtc_proof.specs.Proofs.{AreSignatures, IsProof, proof_text};
 ghost use Rattle.tree_core.specs.Subtree.{is_subtree};
-ghost use Rattle.authority_core.specs.Certificates.{proof_for};
+ghost use Rattle.authority_core.specs.Certificates.{proof_for, TilesCounts};
 
+use crate::writing::error::WriteError;
 use disk_core::Disk;
 use issuance_log::Log;
-use mtc_io::{Bytes, Failed, Memory};
+use mtc_io::{Bytes, Failed};
 use mtc_proof::write_proof;
 use std::alloc::Global;
 use tree_core::TreeHash;
@@ -26,33 +27,37 @@ fn are_hashes(path: &[[u8; 32]])
 
 /// The proof that the entry at an index is in the subtree `[start, end)` of the log, with these
 /// signatures.
-pub fn proof_of<H: TreeHash, D: Disk>(
+pub fn proof_of<H: TreeHash, D: Disk, T: Disk>(
     alloc: Global,
-    log: &mut Log<H, D>,
+    log: &mut Log<H, D, T>,
     index: u64,
     start: u64,
     end: u64,
     signatures: &[u8],
-) -> Result<Bytes, Memory>
+) -> Result<Bytes, WriteError>
     requires valid { is_subtree start end ≡ true }
     requires from { start ≤ index }
     requires below { index < end }
     requires within { end ≤ (view_of log.old).size }
     requires signed { AreSignatures signatures.now }
     requires short { length signatures.now < 2 ^ 16 }
-    ensures proof { IfOk result (λ bytes. bytes
-        ≡ proof_text (proof_for H.hash (log_state log.old) index start end signatures.now)) }
-    ensures fits { IfOk result (λ _. IsProof
-        (proof_for H.hash (log_state log.old) index start end signatures.now)) }
+    ensures proof { IfOk result (λ bytes. IfSome (told_by_both log.old) (λ s. bytes
+        ≡ proof_text (proof_for H.hash s index start end signatures.now))) }
+    ensures fits { IfOk result (λ _. IfSome (told_by_both log.old) (λ s.
+        IsProof (proof_for H.hash s index start end signatures.now))) }
     ensures few { IfOk result (λ bytes. length bytes ≤ 200000) }
-    ensures stays { LogStays log.old log.new }
+    ensures why { IfErr result
+        (λ why. (why ≡ WriteError.TilesFailed) ⊎ (why ≡ WriteError.Memory)) }
+    ensures asks { LogAsksTiles log.old log.new }
+    ensures cause { TilesCounts (T.faults (log_tiles_disk log.old))
+        (T.faults (log_tiles_disk log.new)) result }
 {
     let mut path = Path::new();
     match include(log, index, start, end, &mut path) {
         Ok(()) => {
             are_hashes(path.as_slice());
-            write_proof(alloc, start, end, &path, signatures)
+            Ok(write_proof(alloc, start, end, &path, signatures)?)
         }
-        Err(Failed) => unreachable!(),
+        Err(Failed) => Err(WriteError::TilesFailed),
     }
 }

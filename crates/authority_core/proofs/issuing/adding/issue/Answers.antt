@@ -1,8 +1,9 @@
 use Rattle.std.proofs.Common.{◌≡◌, ◌++◌, ◌∷◌, [], IfSome, None, Ok, ap, subst, sym, ◌∙◌}
 use Rattle.byte_forms.specs.Types.{Text}
-use Rattle.issuance_log.specs.Folds.{log_of, with_item}
+use Rattle.issuance_log.specs.Folds.{log_of, one_item_more, with_item}
 use Rattle.issuance_log.specs.Records.{entry_record}
-use Rattle.issuance_log.specs.Words.{log_broken, log_end, log_records, log_state, view_of}
+use Rattle.issuance_log.specs.Shown.{shown_with}
+use Rattle.issuance_log.specs.Words.{log_broken, log_end, log_records, told_state, view_of}
 use Rattle.issuance_log.specs.Words.{LogAppends}
 use Rattle.issuance_log.specs.Refusals.{add_refusal}
 use Rattle.issuance_log.specs.Settings.{Settings}
@@ -10,7 +11,7 @@ use Rattle.authority_core.specs.Acceptance.{IsOwnEntry}
 use Rattle.authority_core.specs.Issuing.{entry_for}
 use Rattle.authority_core.specs.Issues.{issued_entry}
 use Rattle.authority_core.specs.Requests.{RequestParts}
-use Rattle.authority_core.proofs.Issued.{own_added}
+use Rattle.authority_core.proofs.Told.{own_told}
 use Rattle.authority_core.proofs.issuing.adding.issue.Goals as goal
 
 -- The same entry and key.
@@ -24,9 +25,9 @@ returns-clause-appends g c =
     let log = c.args.log.now in
     let h = g.H.TreeHash.hash in
     let r = c.args.request.now in
-    of_same (λ (entry key : Text). LogAppends (entry_record entry key)
-    (with_item entry key (log_state log)) log c.add.new.self (Ok c.in_ok-index.index)) _ _
-    (issued_entry h (log_state log) r) r.key
+    of_same (λ (entry key : Text). LogAppends (entry_record entry key) one_item_more
+    (with_item entry key) log c.add.new.self (Ok c.in_ok-index.index)) _ _
+    (issued_entry h (view_of log).settings r) r.key
     (c.as_slice.ensures ∙ c.in_ok-entry.ensures.bytes
     ∙ ap (λ (s : Settings). entry_for h s.id r) (c.settings.view_is
     ∙ c.settings-settings.ensures.value))
@@ -36,9 +37,9 @@ returns-clause-appends g c =
 pub returns-clause-own : goal.returns-clause-own
 returns-clause-own g c =
     let log = c.args.log.now in
-    own_added (log_state log) (log_state c.add.new.self) _ c.as_slice.result.now
-    c.as_slice-2.result.now
-    c.in_ok-index.index c.in_ok-index.ensures.appends.leaves.state c.in_ok-index.ensures.index
+    own_told (told_state log) (told_state c.add.new.self) (view_of log) _ c.as_slice.result.now
+    c.as_slice-2.result.now c.in_ok-index.index c.in_ok-index.ensures.appends.tells.told
+    c.sound.ensures.view c.in_ok-index.ensures.index
     (ap (λ (s : Settings). s.id) (c.settings.view_is ∙ c.settings-settings.ensures.value))
     (subst (IsOwnEntry _) (sym (c.as_slice.ensures ∙ c.in_ok-entry.ensures.bytes))
     c.in_ok-entry.ensures.own)
@@ -50,8 +51,8 @@ returns-clause-valid g c = λ made.
     let r = c.args.request.now in
     of_same (λ (entry key : Text). add_refusal (view_of log) (log_broken log) (log_end log) entry
     key ≡ None → IfSome (log_records log) (λ list. log_of h (list ++ entry_record entry key ∷ [])
-    ≡ Ok (with_item entry key (log_state log)))) _ _
-    (issued_entry h (log_state log) r) r.key
+    ≡ Ok (with_item entry key (shown_with (view_of log) list)))) _ _
+    (issued_entry h (view_of log).settings r) r.key
     (c.as_slice.ensures ∙ c.in_ok-entry.ensures.bytes
     ∙ ap (λ (s : Settings). entry_for h s.id r) (c.settings.view_is
     ∙ c.settings-settings.ensures.value))

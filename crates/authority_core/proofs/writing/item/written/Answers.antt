@@ -1,65 +1,46 @@
-use Rattle.std.proofs.Common.{◌≡◌, Ok, sym, subst, ◌∙◌, arith}
+use Rattle.std.proofs.Common.{◌≡◌, IfSome, Ok, subst, arith}
+use Rattle.byte_forms.specs.Types.{Text}
 use Rattle.issuance_log.specs.Refusals.{item_at}
-use Rattle.issuance_log.specs.Words.{log_state}
-use Rattle.authority_core.proofs.Accepted.{accepts_so}
-use Rattle.authority_core.proofs.Certificates.{item_is, item_given, written_so}
+use Rattle.issuance_log.specs.Words.{log_records, log_tiles_disk, view_of}
+use Rattle.issuance_log.proofs.Asked.{asks_told}
+use Rattle.authority_core.specs.Certificates.{IsCertificateOf}
+use Rattle.authority_core.proofs.Told.{accepts_told, written_told}
 use Rattle.authority_core.proofs.writing.item.written.Goals as goal
-
-pub certificate_of-requires-clause-belongs : goal.certificate_of-requires-clause-belongs
-certificate_of-requires-clause-belongs g c =
-    let log = c.args.log.now in
-    let found = subst (λ s. item_at s c.args.index
-    ≡ Ok (c.entry.new.entry, c.entry.new.spki)) c.proof_of.ensures.stays.state
-    c.in-Ok.ensures.item in
-    let item = item_given g.H.TreeHash.hash (log_state log) c.args.index c.entry.new.entry
-    c.entry.new.spki c.sound.ensures c.requires.some (omega arith) found in
-    rw (c.as_slice.ensures, c.as_slice-in-Ok.ensures) item.belongs
-
-pub certificate_of-requires-clause-short_entry : goal.certificate_of-requires-clause-short_entry
-certificate_of-requires-clause-short_entry g c =
-    let log = c.args.log.now in
-    let found = subst (λ s. item_at s c.args.index
-    ≡ Ok (c.entry.new.entry, c.entry.new.spki)) c.proof_of.ensures.stays.state
-    c.in-Ok.ensures.item in
-    let item = item_given g.H.TreeHash.hash (log_state log) c.args.index c.entry.new.entry
-    c.entry.new.spki c.sound.ensures c.requires.some (omega arith) found in
-    rw c.as_slice.ensures item.short_entry
-
-pub certificate_of-requires-clause-short_key : goal.certificate_of-requires-clause-short_key
-certificate_of-requires-clause-short_key g c =
-    let log = c.args.log.now in
-    let found = subst (λ s. item_at s c.args.index
-    ≡ Ok (c.entry.new.entry, c.entry.new.spki)) c.proof_of.ensures.stays.state
-    c.in-Ok.ensures.item in
-    let item = item_given g.H.TreeHash.hash (log_state log) c.args.index c.entry.new.entry
-    c.entry.new.spki c.sound.ensures c.requires.some (omega arith) found in
-    rw c.as_slice-in-Ok.ensures item.short_key
 
 pub returns-in-Ok-clause-written : goal.returns-in-Ok-clause-written
 returns-in-Ok-clause-written g c =
     let log = c.args.log.now in
-    let found = subst (λ s. item_at s c.args.index
-    ≡ Ok (c.entry.new.entry, c.entry.new.spki)) c.proof_of.ensures.stays.state
-    c.in-Ok.ensures.item in
-    let same = item_is (log_state log) c.args.index c.entry.new.entry c.entry.new.spki (omega arith)
-    found in
-    written_so c.certificate_of.result g.H.TreeHash.hash (log_state log) c.args.index c.args.start
-    c.args.end c.args.signatures.now c.as_slice.result.now c.as_slice-in-Ok.result.now
-    c.in_ok-proof.proof (c.as_slice.ensures ∙ sym same.0) (c.as_slice-in-Ok.ensures ∙ sym same.1)
-    c.in_ok-proof.ensures.proof c.certificate_of.ensures
+    let h = g.H.TreeHash.hash in
+    let made = c.in_ok-certificate-in-Ok in
+    let item = subst (λ o. IfSome o (λ s. item_at s c.args.index
+    ≡ Ok (c.entry.new.entry, c.entry.new.spki)))
+    (asks_told log c.proof_of.new.log c.in_ok-proof.ensures.asks) c.in-Ok.ensures.item in
+    written_told h c.args.index c.args.start c.args.end c.args.signatures.now
+    c.entry.new.entry c.entry.new.spki c.in_ok-proof.proof made.certificate
+    (view_of log) (g.T.Disk.told (log_tiles_disk log)) (log_records log) (omega arith)
+    (subst (λ (e : Text). IsCertificateOf h c.args.index e c.entry.new.spki c.in_ok-proof.proof
+    made.certificate) c.as_slice.ensures
+    (subst (λ (k : Text). IsCertificateOf h c.args.index c.as_slice.result.now k
+    c.in_ok-proof.proof made.certificate) c.as_slice-in-Ok.ensures made.ensures))
+    c.in_ok-proof.ensures.proof item c.sound.ensures.view
 
 pub returns-in-Ok-clause-accepted : goal.returns-in-Ok-clause-accepted
 returns-in-Ok-clause-accepted g c =
     let log = c.args.log.now in
-    let found = subst (λ s. item_at s c.args.index
-    ≡ Ok (c.entry.new.entry, c.entry.new.spki)) c.proof_of.ensures.stays.state
-    c.in-Ok.ensures.item in
-    let same = item_is (log_state log) c.args.index c.entry.new.entry c.entry.new.spki (omega arith)
-    found in
-    accepts_so c.certificate_of.result g.H.TreeHash.hash (log_state log) c.args.index c.args.start
-    c.args.end c.args.signatures.now c.requires.valid c.requires.from c.requires.below
-    c.requires.within c.in_ok-proof.ensures.fits
-    (written_so c.certificate_of.result g.H.TreeHash.hash (log_state log) c.args.index c.args.start
-    c.args.end c.args.signatures.now c.as_slice.result.now c.as_slice-in-Ok.result.now
-    c.in_ok-proof.proof (c.as_slice.ensures ∙ sym same.0) (c.as_slice-in-Ok.ensures ∙ sym same.1)
-    c.in_ok-proof.ensures.proof c.certificate_of.ensures)
+    let h = g.H.TreeHash.hash in
+    let made = c.in_ok-certificate-in-Ok in
+    let item = subst (λ o. IfSome o (λ s. item_at s c.args.index
+    ≡ Ok (c.entry.new.entry, c.entry.new.spki)))
+    (asks_told log c.proof_of.new.log c.in_ok-proof.ensures.asks) c.in-Ok.ensures.item in
+    accepts_told h c.args.index c.args.start c.args.end c.args.signatures.now
+    made.certificate (view_of log) (g.T.Disk.told (log_tiles_disk log))
+    (log_records log) c.requires.valid c.requires.from c.requires.below c.requires.within
+    c.sound.ensures.view c.in_ok-proof.ensures.fits
+    (written_told h c.args.index c.args.start c.args.end c.args.signatures.now
+    c.entry.new.entry c.entry.new.spki c.in_ok-proof.proof made.certificate
+    (view_of log) (g.T.Disk.told (log_tiles_disk log)) (log_records log) (omega arith)
+    (subst (λ (e : Text). IsCertificateOf h c.args.index e c.entry.new.spki c.in_ok-proof.proof
+    made.certificate) c.as_slice.ensures
+    (subst (λ (k : Text). IsCertificateOf h c.args.index c.as_slice.result.now k
+    c.in_ok-proof.proof made.certificate) c.as_slice-in-Ok.ensures made.ensures))
+    c.in_ok-proof.ensures.proof item c.sound.ensures.view)
