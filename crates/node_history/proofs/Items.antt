@@ -7,10 +7,12 @@ use Rattle.byte_forms.specs.Types.{HashFunction, Text}
 use Rattle.byte_forms.proofs.Steps.{bind_ok, ok_is, some_or_ok}
 use Rattle.journal_core.specs.Folds.{taken_from}
 use Rattle.journal_core.proofs.Folds.{state_more}
-use Rattle.issuance_log.specs.Folds.{LogState, changed, log_fold, log_of, new_log, next_log}
-use Rattle.issuance_log.specs.Folds.{with_entry, with_item, with_landmark, with_mark}
-use Rattle.issuance_log.specs.Records.{item_in, mark_in}
+use Rattle.issuance_log.specs.Folds.{LogState, log_fold, log_of, new_log, next_log, takes_entry}
+use Rattle.issuance_log.specs.Folds.{takes_landmark, takes_tiles, view_in, with_item, with_mark}
+use Rattle.issuance_log.specs.Folds.{with_tiles}
+use Rattle.issuance_log.specs.Records.{item_in, mark_in, tiled_in}
 use Rattle.issuance_log.proofs.Behind.{only_begins}
+use Rattle.issuance_log.proofs.Spelled.{changed_log}
 use Rattle.node_history.specs.Laws.{Begins, HasItemAt, KeepsItems}
 use Rattle.node_history.proofs.Chains.{no_some}
 use Rattle.node_history.proofs.Steps.{begins_on, some_is, when}
@@ -28,27 +30,23 @@ kept_on s t u one two = record {
 }
 
 -- a record keeps them
-item_kept : (h : HashFunction) (s t : LogState) (x : Text × Text) → with_entry h s x ≡ Some t
-    → KeepsItems s t
-item_kept h s t x is =
-    subst (KeepsItems s) (when _ (with_item x.0 x.1 s) t is).1
-    (record { entries = (x.0 ∷ [], refl); keys = (x.1 ∷ [], refl) })
-
-mark_kept : (s t : LogState) (size : ℕ) → with_landmark s size ≡ Some t → KeepsItems s t
-mark_kept s t size is =
-    subst (KeepsItems s) (when _ (with_mark s) t is).1
-    (record { entries = ([], append-nil s.entries); keys = ([], append-nil s.keys) })
-
 changed_kept : (h : HashFunction) (s t : LogState) (item : Option (Text × Text))
-    (mark : Option ℕ) → changed h s item mark ≡ Some t → KeepsItems s t
-changed_kept h s t (Some x) mark is = item_kept h s t x is
-changed_kept h s t None (Some size) is = mark_kept s t size is
-changed_kept h s t None None is = no_some t is
+    (mark tiled : Option ℕ) → changed_log h s item mark tiled ≡ Some t → KeepsItems s t
+changed_kept h s t (Some x) mark tiled is =
+    subst (KeepsItems s) (when (takes_entry h (view_in s) x) (with_item x.0 x.1 s) t is).1
+    (record { entries = (x.0 ∷ [], refl); keys = (x.1 ∷ [], refl) })
+changed_kept h s t None (Some size) tiled is =
+    subst (KeepsItems s) (when (takes_landmark (view_in s) size) (with_mark s) t is).1
+    (record { entries = ([], append-nil s.entries); keys = ([], append-nil s.keys) })
+changed_kept h s t None None (Some size) is =
+    subst (KeepsItems s) (when (takes_tiles (view_in s) size) (with_tiles size s) t is).1
+    (record { entries = ([], append-nil s.entries); keys = ([], append-nil s.keys) })
+changed_kept h s t None None None is = no_some t is
 
 next_kept : (h : HashFunction) (s t : LogState) (body : Text) → next_log h s body ≡ Some t
     → KeepsItems s t
 unfolding next_log
-next_kept h s t body is = changed_kept h s t (item_in body) (mark_in body) is
+next_kept h s t body is = changed_kept h s t (item_in body) (mark_in body) (tiled_in body) is
 
 -- and so do records behind each other
 taken_kept : (h : HashFunction) (k : ℕ) (s t : LogState) (bodies : List Text)
@@ -69,27 +67,27 @@ items_kept h list more s t is whole =
 -- ---- an item that was added is at the end of those before it
 
 -- each item has a key
-even_item : (h : HashFunction) (s t : LogState) (x : Text × Text)
-    → length s.keys ≡ length s.entries → with_entry h s x ≡ Some t
-    → length t.keys ≡ length t.entries
-even_item h s t x even is =
-    let went = (when _ (with_item x.0 x.1 s) t is).1 in
-    subst (λ (u : LogState). length u.keys ≡ length u.entries) went
+even_changed : (h : HashFunction) (s t : LogState) (item : Option (Text × Text))
+    (mark tiled : Option ℕ) → length s.keys ≡ length s.entries
+    → changed_log h s item mark tiled ≡ Some t → length t.keys ≡ length t.entries
+even_changed h s t (Some x) mark tiled even is =
+    subst (λ (u : LogState). length u.keys ≡ length u.entries)
+    (when (takes_entry h (view_in s) x) (with_item x.0 x.1 s) t is).1
     (length-append s.keys (x.1 ∷ []) ∙ ap (λ (n : ℕ). n + 1) even
     ∙ sym (length-append s.entries (x.0 ∷ [])))
-
-even_changed : (h : HashFunction) (s t : LogState) (item : Option (Text × Text))
-    (mark : Option ℕ) → length s.keys ≡ length s.entries → changed h s item mark ≡ Some t
-    → length t.keys ≡ length t.entries
-even_changed h s t (Some x) mark even is = even_item h s t x even is
-even_changed h s t None (Some size) even is =
-    subst (λ (u : LogState). length u.keys ≡ length u.entries) (when _ (with_mark s) t is).1 even
-even_changed h s t None None even is = no_some t is
+even_changed h s t None (Some size) tiled even is =
+    subst (λ (u : LogState). length u.keys ≡ length u.entries)
+    (when (takes_landmark (view_in s) size) (with_mark s) t is).1 even
+even_changed h s t None None (Some size) even is =
+    subst (λ (u : LogState). length u.keys ≡ length u.entries)
+    (when (takes_tiles (view_in s) size) (with_tiles size s) t is).1 even
+even_changed h s t None None None even is = no_some t is
 
 even_next : (h : HashFunction) (s t : LogState) (body : Text) → length s.keys ≡ length s.entries
     → next_log h s body ≡ Some t → length t.keys ≡ length t.entries
 unfolding next_log
-even_next h s t body even is = even_changed h s t (item_in body) (mark_in body) even is
+even_next h s t body even is =
+    even_changed h s t (item_in body) (mark_in body) (tiled_in body) even is
 
 even_taken : (h : HashFunction) (k : ℕ) (s t : LogState) (bodies : List Text)
     → length s.keys ≡ length s.entries → taken_from (log_fold h) k s bodies ≡ Ok t
@@ -109,17 +107,18 @@ even_log h list s is =
     even_taken h 1 (new_log s.settings) s found.1.0 refl found.1.1.2
 
 added_changed : (h : HashFunction) (s t : LogState) (item : Option (Text × Text))
-    (mark : Option ℕ) (x : Text × Text) → item ≡ Some x → changed h s item mark ≡ Some t
-    → with_item x.0 x.1 s ≡ t
-added_changed h s t (Some y) mark x same is =
+    (mark tiled : Option ℕ) (x : Text × Text) → item ≡ Some x
+    → changed_log h s item mark tiled ≡ Some t → with_item x.0 x.1 s ≡ t
+added_changed h s t (Some y) mark tiled x same is =
     subst (λ (z : Text × Text). with_item z.0 z.1 s ≡ t) (some_is y x same)
-    (when _ (with_item y.0 y.1 s) t is).1
-added_changed h s t None mark x same is = no_some x same
+    (when (takes_entry h (view_in s) y) (with_item y.0 y.1 s) t is).1
+added_changed h s t None mark tiled x same is = no_some x same
 
 added_next : (h : HashFunction) (s t : LogState) (body : Text) (x : Text × Text)
     → item_in body ≡ Some x → next_log h s body ≡ Some t → with_item x.0 x.1 s ≡ t
 unfolding next_log
-added_next h s t body x same is = added_changed h s t (item_in body) (mark_in body) x same is
+added_next h s t body x same is =
+    added_changed h s t (item_in body) (mark_in body) (tiled_in body) x same is
 
 first_taken : (h : HashFunction) (k : ℕ) (s t : LogState) (body : Text) (bodies : List Text)
     → taken_from (log_fold h) k s (body ∷ bodies) ≡ Ok t
