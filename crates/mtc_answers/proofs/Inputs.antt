@@ -31,8 +31,8 @@ module _ {R S D : Type 0} (rooms : Rooms R S D) (disks : Disks D) (limit : ℕ) 
   -- it is so of each command that begins so
   abbrev pub Done : Ending → Type 0
   Done ending = (files names : List (List ℕ)) (next : List ℕ → Outcome) → IsNamed files name
-      → HasDone rooms disks ⊥ files names (with_bytes limit name (rooms.file old name) next) old new
-      ending
+      → HasDone rooms disks ⊥ files names [] (with_bytes limit name (rooms.file old name) next) old
+      new ending
 
 module _ {R S D : Type 0} (rooms : Rooms R S D) (disks : Disks D) (limit : ℕ) (name : List ℕ)
     (old new : R) (read : GivesBack rooms old new []) (only_now : OnlyNow disks) where
@@ -41,7 +41,7 @@ module _ {R S D : Type 0} (rooms : Rooms R S D) (disks : Disks D) (limit : ℕ) 
       → (rooms.tells old → rooms.file old name ≡ None)
       → Done rooms disks limit name old new ending
   absent ending reason is named none = subst (Done rooms disks limit name old new) (sym is)
-      (λ files names next among. stopped rooms disks files names _ old new read only_now _ tt
+      (λ files names next among. stopped rooms disks files names [] _ old new read only_now _ tt
       (λ is. absurd cc, search rules, λ t. no_file limit name next _ reason named (none t)))
 
   pub too_long : (ending : Ending) (reason : List ℕ)
@@ -49,17 +49,17 @@ module _ {R S D : Type 0} (rooms : Rooms R S D) (disks : Disks D) (limit : ℕ) 
       → (rooms.tells old → IsSomeAnd (rooms.file old name) (λ bytes. limit < length bytes))
       → Done rooms disks limit name old new ending
   too_long ending reason is named long = subst (Done rooms disks limit name old new) (sym is)
-      (λ files names next among. stopped rooms disks files names _ old new read only_now _ tt
+      (λ files names next among. stopped rooms disks files names [] _ old new read only_now _ tt
       (λ is. absurd cc, search rules, λ t. over limit name next _ reason named (long t)))
 
   pub failed : Rose (rooms.faults old) (rooms.faults new)
       → Done rooms disks limit name old new (room_failed name)
   failed rose = λ files names next among.
-      stopped rooms disks files names _ old new read only_now _ (rose, among) tt
+      stopped rooms disks files names [] _ old new read only_now _ (rose, among) tt
 
   pub starved : Done rooms disks limit name old new no_memory
   starved = λ files names next among.
-      stopped rooms disks files names _ old new read only_now no_memory tt tt
+      stopped rooms disks files names [] _ old new read only_now no_memory tt tt
 
 -- a file is there and short enough
 pub bytes_read : (limit : ℕ) (name : List ℕ) (file : Option (List ℕ)) (bytes : List ℕ)
@@ -75,12 +75,12 @@ module _ {R S D : Type 0} (rooms : Rooms R S D) (disks : Disks D) (limit : ℕ) 
     (old mid new : R) (bytes : List ℕ) (back : GivesBack rooms old mid [])
     (is : rooms.tells old → (rooms.file old name ≡ Some bytes) × (length bytes ≤ limit)) where
   -- a command that has read a file does the rest of its work
-  pub behind_file : (files names : List (List ℕ)) (next : List ℕ → Outcome) (wanted : Outcome)
-      (ending : Ending) → (rooms.tells old → wanted ≡ next bytes)
-      → HasDone rooms disks ⊥ files names wanted mid new ending
-      → HasDone rooms disks ⊥ files names (with_bytes limit name (rooms.file old name) next)
-      old new ending
-  behind_file files names next wanted ending same done =
-      behind rooms disks files files names _ wanted old mid new ending back
+  pub behind_file : (files names besides : List (List ℕ)) (next : List ℕ → Outcome)
+      (wanted : Outcome) (ending : Ending) → (rooms.tells old → wanted ≡ next bytes)
+      → HasDone rooms disks ⊥ files names besides wanted mid new ending
+      → HasDone rooms disks ⊥ files names besides
+      (with_bytes limit name (rooms.file old name) next) old new ending
+  behind_file files names besides next wanted ending same done =
+      behind rooms disks files files names besides _ wanted old mid new ending back
       (λ t. same t ∙ sym (bytes_read limit name (rooms.file old name) bytes next (is t).0 (is t).1))
       (λ file among. among) done

@@ -4,3 +4,5 @@ pub mod Inputs
 pub mod Works
 pub mod Valid
 pub mod Begins
+pub mod Tiled
+pub mod Beside

@@ -1,5 +1,6 @@
 -- What holds of each journal that a command works on, and of a command behind what it has read.
-use Rattle.std.proofs.Common.{◌≡◌, ◌≢◌, ◌≤◌, inl, inr, ℕ, List, [], ◌∷◌, refl, sym, subst, ap, ◌∙◌}
+use Rattle.std.proofs.Common.{◌≡◌, ◌≢◌, ◌≤◌, inl, inr, ℕ, List, [], ◌∷◌, ◌++◌, refl, sym, subst, ap}
+use Rattle.std.proofs.Common.{◌∙◌}
 use Rattle.std.proofs.Common.{arith}
 use Rattle.disk_core.specs.declared.disk.Disk.{Ghosts as Disks}
 use Rattle.mtc_io.specs.Counts.{Rose}
@@ -8,7 +9,7 @@ use Rattle.mtc_answers.specs.Answers.{Ending, replied, room_failed, no_memory, I
 use Rattle.mtc_answers.specs.Answers.{status_of, IsEarly}
 use Rattle.mtc_answers.specs.Endings.{FailedOnly, IsNamed, LeftBy, Replies}
 use Rattle.mtc_answers.specs.Made.{Journaled, untouched, Leaves}
-use Rattle.mtc_answers.specs.Served.{Journals, OfEach, done_with, GivesBack}
+use Rattle.mtc_answers.specs.Served.{Journals, OfEach, done_with, GivesBack, IsOther}
 use Rattle.mtc_answers.specs.Served.{LeavesEach, LeavesJournals, HasDone}
 use Rattle.mtc_answers.specs.Steps.{Outcome, answers}
 use Rattle.mtc_answers.specs.Wanted.{Wanted, Meets}
@@ -83,9 +84,36 @@ rose_since old mid new later rose = elim rose [
   | inr last ↦ inr last
 ]
 
+-- a name that is none of some and none of others is none of both
+pub other_both : (xs ys : List (List ℕ)) (name : List ℕ) → IsOther xs name → IsOther ys name
+    → IsOther (xs ++ ys) name
+other_both [] ys name first second = second
+other_both (x ∷ xs) ys name first second = (first.0, other_both xs ys name first.1 second)
+
+-- and one that is none of both is none of the others
+pub other_last : (xs ys : List (List ℕ)) (name : List ℕ) → IsOther (xs ++ ys) name
+    → IsOther ys name
+other_last [] ys name other = other
+other_last (x ∷ xs) ys name other = other_last xs ys name other.1
+
 module _ {R S D : Type 0} (rooms : Rooms R S D) (disks : Disks D) where
+  -- More files may be changed than are.
+  pub beside : (Bad : Type 0) (files names besides : List (List ℕ)) (wanted : Outcome) (old new : R)
+      (ending : Ending) → HasDone rooms disks Bad files names [] wanted old new ending
+      → HasDone rooms disks Bad files names besides wanted old new ending
+  beside Bad files names besides wanted old new ending done = record {
+    back = record {
+      lent = done.back.lent;
+      later = done.back.later;
+      tells = done.back.tells;
+      others = λ name other. done.back.others name (other_last besides names name other);
+    };
+    ends = done.ends;
+    made = done.made;
+  }
+
   -- A command that has given back what it read does the rest of its work.
-  module _ (files files' names : List (List ℕ)) (wanted wanted' : Outcome) (old mid new : R)
+  module _ (files files' names besides : List (List ℕ)) (wanted wanted' : Outcome) (old mid new : R)
       (ending : Ending) (read : GivesBack rooms old mid []) where
     made_behind : rooms.tells old → wanted' ≡ wanted
         → LeavesJournals rooms disks mid new (done_with names wanted'.journals) ending
@@ -107,8 +135,8 @@ module _ {R S D : Type 0} (rooms : Rooms R S D) (disks : Disks D) where
 
     pub behind : (rooms.tells old → wanted' ≡ wanted)
         → ((file : List ℕ) → IsNamed files' file → IsNamed files file)
-        → HasDone rooms disks ⊥ files' names wanted' mid new ending
-        → HasDone rooms disks ⊥ files names wanted old new ending
+        → HasDone rooms disks ⊥ files' names besides wanted' mid new ending
+        → HasDone rooms disks ⊥ files names besides wanted old new ending
     behind same more done = record {
       back = record {
         lent = done.back.lent ∙ read.lent;
@@ -134,7 +162,7 @@ module _ {R S D : Type 0} (rooms : Rooms R S D) (disks : Disks D) where
     }
 
   -- A command that has given back what it read ends, and opens no journal.
-  module _ (files names : List (List ℕ)) (wanted : Outcome) (old new : R)
+  module _ (files names besides : List (List ℕ)) (wanted : Outcome) (old new : R)
       (read : GivesBack rooms old new []) (only_now : OnlyNow disks) where
     alone : (ending : Ending) (name : List ℕ) (did : Journaled)
         → IfReply ending (λ reply. did ≡ untouched)
@@ -166,7 +194,7 @@ module _ {R S D : Type 0} (rooms : Rooms R S D) (disks : Disks D) where
         → FailedOnly (Rose (rooms.faults old) (rooms.faults new)) files ending
         → IfReply ending (λ reply. (status_of reply ≢ 1) × IsEarly (status_of reply)
         × (rooms.tells old → wanted ≡ answers reply))
-        → HasDone rooms disks ⊥ files names wanted old new ending
+        → HasDone rooms disks ⊥ files names besides wanted old new ending
     stopped ending fault is = record {
       back = record {
         lent = read.lent;
@@ -189,7 +217,7 @@ module _ {R S D : Type 0} (rooms : Rooms R S D) (disks : Disks D) where
 
     -- a command without a journal that replies as it should
     pub answered : (ending : Ending) (reply : Wanted) → (rooms.tells old → reply ≡ wanted.answer)
-        → Replies reply ending → HasDone rooms disks ⊥ files [] wanted old new ending
+        → Replies reply ending → HasDone rooms disks ⊥ files [] [] wanted old new ending
     answered ending reply same is = record {
       back = read;
       ends = record {

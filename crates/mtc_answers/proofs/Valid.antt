@@ -21,7 +21,7 @@ use Rattle.mtc_answers.proofs.Served.{each_is, each_so}
 use Rattle.mtc_answers.proofs.Works.{of_bytes, opened_at}
 
 -- a device that was lent and put back tells what it told, where the one that was worked on does
-told_lent : {D : Type 0} (g : Disks D) (x y : Option D) (d e : D)
+pub told_lent : {D : Type 0} (g : Disks D) (x y : Option D) (d e : D)
     → IsSomeAnd x (λ a. SameDevice g a d) → IsSomeAnd y (λ b. SameDevice g e b)
     → g.told e ≡ g.told d → told_at g y ≡ told_at g x
 told_lent g None y d e lent put same = absurd lent
@@ -44,6 +44,15 @@ module _ {D : Type 0} (g : Disks D) (Valid : List (List ℕ) → Type 0) (name :
         (λ o. AddsValid Valid (journaled_by o)) (g.told old) (g.told mid) refl looks.told found
         stands all (IfSome_then (option_map records_of (g.told mid)) adds (λ l is opened. is)))
   ]
+
+-- nothing was done
+pub gives_same : {R S D : Type 0} (rooms : Rooms R S D) (old : R) → GivesBack rooms old old []
+gives_same rooms old = record {
+  lent = refl;
+  later = omega arith;
+  tells = λ t. t;
+  others = λ name other. record { bytes = refl; disk = refl };
+}
 
 module _ {R S D : Type 0} (rooms : Rooms R S D) (disks : Disks D)
     (Valid : List (List ℕ) → Type 0) where
@@ -83,12 +92,8 @@ module _ {R S D : Type 0} (rooms : Rooms R S D) (disks : Disks D)
   -- nothing was done
   pub same_valid : (names : List (List ℕ)) (wanted : Outcome) (old : R) → OnlyNow disks
       → KeepsValid rooms disks Valid names wanted old old
-  same_valid names wanted old only_now = kept_valid names wanted old old (record {
-    lent = refl;
-    later = omega arith;
-    tells = λ t. t;
-    others = λ name other. record { bytes = refl; disk = refl };
-  }) only_now
+  same_valid names wanted old only_now =
+      kept_valid names wanted old old (gives_same rooms old) only_now
 
   -- what was read was given back, and then comes the rest of the command
   pub behind_valid : (names : List (List ℕ)) (wanted wanted' : Outcome) (old mid new : R)

@@ -19,17 +19,18 @@ use Rattle.mtc_answers.specs.Served.{HasServed}
 use Rattle.mtc_answers.specs.Steps.{Outcome, answers, answers_on, appends, with_file}
 use Rattle.mtc_answers.specs.Wanted.{Meets, exactly}
 use Rattle.mtc_answers.specs.declared.answer.Said.TheVariants.{Done}
-use Rattle.mtc_answers.specs.Works.{HasFinished, HasLent, HasTaken, HasWorked, HasWorkedOn}
+use Rattle.mtc_answers.specs.Works.{HasFinished, HasGiven, HasLent, HasTaken, HasWorked}
+use Rattle.mtc_answers.specs.Works.{HasWorkedOn}
 use Rattle.mtc_answers.specs.Works.{journaled_by}
 use Rattle.mtc_answers.proofs.Made.{ReadsImage, kept_of, left_kept, left_lent, worked}
 use Rattle.mtc_answers.proofs.Served.{failed_so, reply_so}
 
 module _ {X : Type 0} where
-  each_some : (x : Option X) (P : X → Type 0) → ((y : X) → P y) → IfSome x P
+  pub each_some : (x : Option X) (P : X → Type 0) → ((y : X) → P y) → IfSome x P
   each_some None P is = tt
   each_some (Some y) P is = is y
 
-  both_some : {P Q R : X → Type 0} (x : Option X) → IfSome x P → IfSome x Q
+  pub both_some : {P Q R : X → Type 0} (x : Option X) → IfSome x P → IfSome x Q
       → ((y : X) → P y → Q y → R y) → IfSome x R
   both_some None p q so = tt
   both_some (Some y) p q so = so y p q
@@ -128,7 +129,28 @@ module _ {D : Type 0} (g : Ghosts D) (name : List ℕ) (says : List ℕ → Outc
   no_early (room_failed file) adds = tt
   no_early no_memory adds = tt
 
-  -- the work behind an opening is work on the device that was lent
+  -- the work behind an opening has given what work on the device that was lent gives
+  pub given_on : (ending : Ending) → ReadsImage g → Looks g old mid
+      → IfSome (g.told old) (λ b. IfSome list (λ l. says b ≡ next l))
+      → IfSome (g.told mid) (λ b. IfSome list (StandsFor b))
+      → IfSome list (AllStandFor g mid)
+      → IfReply ending (λ reply. IfSome list (λ l. Meets (next l).answer reply))
+      → IfSome list (λ l. IsOpen g mid l → AddsBy g ending (journaled_by (next l)) mid new)
+      → HasGiven g says old new ending
+  given_on ending image looks found stands all reply adds = record {
+    reply = reply_so ending _ _ (λ reply is. opened_at (λ o. Meets o.answer reply) (g.told old)
+        (g.told mid) refl looks.told found stands all
+        (IfSome_then list is (λ l meets opened. meets))) reply;
+    left = opened_at (λ o. Leaves g (LeftBy ending (journaled_by o)) (Some old) (Some new))
+        (g.told old) (g.told mid) refl looks.told found stands all
+        (IfSome_then list adds (λ l made opened.
+        worked g old mid new ending (journaled_by (next l)) image looks (made opened)));
+    early = reply_so ending _ _ (λ reply is. opened_at
+        (λ o. journaled_by o ≡ untouched → IsEarly (status_of reply)) (g.told old) (g.told mid)
+        refl looks.told found stands all is) (no_early ending adds);
+  }
+
+  -- and is work on it
   pub worked_on : (ending : Ending) → ReadsImage g → Looks g old mid → g.faults mid ≡ g.faults old
       → IfSome (g.told old) (λ b. IfSome list (λ l. says b ≡ next l))
       → IfSome (g.told mid) (λ b. IfSome list (StandsFor b))
@@ -141,20 +163,13 @@ module _ {D : Type 0} (g : Ghosts D) (name : List ℕ) (says : List ℕ → Outc
       fault = failed_so ending _ _ (name ∷ []) (name ∷ [])
           (subst (λ n. Rose n (g.faults new)) fine) (λ file is. is) work.ends.fault;
     };
-    reply = reply_so ending _ _ (λ reply is. opened_at (λ o. Meets o.answer reply) (g.told old)
-        (g.told mid) refl looks.told found stands all
-        (IfSome_then list is (λ l meets opened. meets))) work.reply;
-    left = opened_at (λ o. Leaves g (LeftBy ending (journaled_by o)) (Some old) (Some new))
-        (g.told old) (g.told mid) refl looks.told found stands all
-        (IfSome_then list work.adds (λ l made opened.
-        worked g old mid new ending (journaled_by (next l)) image looks (made opened)));
-    early = reply_so ending _ _ (λ reply is. opened_at
-        (λ o. journaled_by o ≡ untouched → IsEarly (status_of reply)) (g.told old) (g.told mid)
-        refl looks.told found stands all is) (no_early ending work.adds);
+    reply = (given_on ending image looks found stands all work.reply work.adds).reply;
+    left = (given_on ending image looks found stands all work.reply work.adds).left;
+    early = (given_on ending image looks found stands all work.reply work.adds).early;
   }
 
 -- The opening was refused, and the device was only looked at.
-module _ {D : Type 0} (g : Ghosts D) (name : List ℕ) (says : List ℕ → Outcome) (old new : D)
+module _ {D : Type 0} (g : Ghosts D) (says : List ℕ → Outcome) (old new : D)
     (looks : Looks g old new) where
   kept : (ending : Ending) (did : Journaled) → IfReply ending (λ reply. did ≡ untouched)
       → Leaves g (LeftBy ending did) (Some old) (Some new)
@@ -172,20 +187,27 @@ module _ {D : Type 0} (g : Ghosts D) (name : List ℕ) (says : List ℕ → Outc
   refused_left no_memory is = each_some (g.told old) _
       (λ b. kept no_memory (journaled_by (says b)) tt)
 
-  pub not_opened : (ending : Ending) → HasFinished g name old new ending
-      → IfReply ending (λ reply. IsEarly (status_of reply))
+  pub given_early : (ending : Ending) → IfReply ending (λ reply. IsEarly (status_of reply))
       → IfReply ending (λ reply. IfSome (g.told old) (λ b. says b ≡ answers reply))
-      → HasWorkedOn g name says old new ending
-  not_opened ending ends early is = record {
-    ends = ends;
+      → HasGiven g says old new ending
+  given_early ending early is = record {
     reply = reply_so ending _ _ (λ reply same. IfSome_then (g.told old) same
         (λ b wanted. subst (λ (o : Outcome). Meets o.answer reply) (sym wanted) refl)) is;
     left = refused_left ending is;
     early = reply_so ending _ _ (λ reply soon. each_some (g.told old) _ (λ b none. soon)) early;
   }
 
+pub not_opened : {D : Type 0} (g : Ghosts D) (name : List ℕ) (says : List ℕ → Outcome)
+    (old new : D) → Looks g old new → (ending : Ending) → HasFinished g name old new ending
+    → IfReply ending (λ reply. IsEarly (status_of reply))
+    → IfReply ending (λ reply. IfSome (g.told old) (λ b. says b ≡ answers reply))
+    → HasWorkedOn g name says old new ending
+not_opened g name says old new looks ending ends early is =
+    let given = given_early g says old new looks ending early is in
+    record { ends = ends; reply = given.reply; left = given.left; early = given.early }
+
 -- a count that began at 0 and rose, added to another one
-rose_with : (before count : ℕ) → Rose 0 count → Rose before (with_count before count)
+pub rose_with : (before count : ℕ) → Rose 0 count → Rose before (with_count before count)
 rose_with before count rose = search rules
 
 -- a fact of the bytes that were lent is one of the file

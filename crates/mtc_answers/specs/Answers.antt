@@ -1,6 +1,6 @@
 -- How a command ends: with a reply or without one; and what a reply means: the status, and what
 -- goes to standard output and to standard error.
-use Rattle.std.specs.Prelude.{◌≡◌, ◌⊎◌, ℕ, [], ◌++◌, codes, Option, option_map}
+use Rattle.std.specs.Prelude.{◌≡◌, ◌⊎◌, ℕ, [], ◌++◌, codes, Option, Some, option_map}
 use Rattle.std.specs.Prelude.{Result, Ok, Err}
 use Rattle.std.specs.Fmt.{decimal}
 use Rattle.byte_forms.specs.Types.{Text}
@@ -18,6 +18,7 @@ use Rattle.mtc_answers.specs.declared.answer.Reason.{Reason}
 use Rattle.mtc_answers.specs.declared.answer.Refusal.{Refusal}
 use Rattle.mtc_answers.specs.declared.answer.Stop.{Stop}
 use Rattle.mtc_answers.specs.declared.answer.Stop.TheVariants.{Refused, Room, Memory}
+use Rattle.mtc_answers.specs.declared.answer.Stop.TheVariants.{Tiles, BadTile}
 
 -- What a command replies.
 pub data Reply : Type 0 where
@@ -82,6 +83,19 @@ more_text (Numbers first second) = codes " " ++ (decimal first ++ (codes " " ++ 
 abbrev pub reason_text : Reason → Text
 reason_text reason = reason.name.now ++ more_text reason.more
 
+-- The name of the file of tiles that goes with the journal of a log.
+abbrev pub tiles_name : Text → Text
+tiles_name journal = journal ++ codes ".tiles"
+
+-- The refusal of the tiles of a journal, by the level and the place of the first one that the file
+-- has not.
+abbrev pub bad_tile_text : ℕ → ℕ → Text
+bad_tile_text level place = codes "BadTile " ++ (decimal level ++ (codes " " ++ decimal place))
+
+abbrev pub bad_tile : Text → ℕ → ℕ → Reply
+bad_tile journal level place =
+    refused BadForm (Some (tiles_name journal)) (bad_tile_text level place)
+
 -- What the program's values say.
 abbrev pub refusal_reply : Refusal → Reply
 refusal_reply r = refused r.why (option_map (λ file. file.now) r.file) (reason_text r.reason)
@@ -89,6 +103,8 @@ refusal_reply r = refused r.why (option_map (λ file. file.now) r.file) (reason_
 abbrev pub stop_ending : Stop → Ending
 stop_ending (Refused refusal) = replied (refusal_reply refusal)
 stop_ending (Room file) = room_failed file.now
+stop_ending (Tiles journal) = room_failed (tiles_name journal.now)
+stop_ending (BadTile journal level place) = replied (bad_tile journal.now level place)
 stop_ending Memory = no_memory
 
 abbrev pub ending_of : Result Answer Stop → Ending

@@ -33,6 +33,14 @@ FailedOnly Fault files (replied reply) = Unit {0}
 FailedOnly Fault files (room_failed file) = Fault × IsNamed files file
 FailedOnly Fault files no_memory = Unit {0}
 
+-- The room is named as the cause only at the first file and where that failed, or at the second one
+-- and where that did; want of memory is free.
+abbrev pub FailsAt : Type 0 → Text → Type 0 → Text → Ending → Type 0
+FailsAt Fault file Beside beside (replied reply) = Unit {0}
+FailsAt Fault file Beside beside (room_failed at) =
+    ((at ≡ file) × Fault) ⊎ ((at ≡ beside) × Beside)
+FailsAt Fault file Beside beside no_memory = Unit {0}
+
 -- It replies as is wanted, unless memory was refused; the words are a command.
 abbrev pub Replies : Wanted → Ending → Type 0
 Replies wanted (replied reply) = Meets wanted reply × (status_of reply ≢ 1)

@@ -1,12 +1,12 @@
 -- What a command leaves of a room, and how it ends.
-use Rattle.std.specs.Prelude.{◌≡◌, ◌≢◌, ◌≤◌, List, [], ◌∷◌, None}
+use Rattle.std.specs.Prelude.{◌≡◌, ◌≢◌, ◌≤◌, List, [], ◌∷◌, ◌++◌, None}
 use Rattle.byte_forms.specs.Types.{Text}
 use Rattle.disk_core.specs.declared.disk.Disk.{Ghosts as Disks}
 use Rattle.mtc_io.specs.Counts.{Rose}
 use Rattle.mtc_room.specs.Room.{Stays}
 use Rattle.mtc_room.specs.declared.room.Room.{Ghosts as Rooms}
 use Rattle.mtc_answers.specs.Answers.{Ending, no_memory, IfReply, status_of, IsEarly}
-use Rattle.mtc_answers.specs.Made.{Journaled, IsOnOld, Leaves, Leaving, untouched}
+use Rattle.mtc_answers.specs.Made.{HasKept, Journaled, IsOnOld, Leaves, Leaving, untouched}
 use Rattle.mtc_answers.specs.Endings.{FailedOnly, LeftBy, RepliesToBadWords}
 use Rattle.mtc_answers.specs.Steps.{Outcome}
 use Rattle.mtc_answers.specs.Wanted.{Meets}
@@ -41,7 +41,7 @@ IsOther (other ∷ others) name = (name ≢ other) × IsOther others name
 
 module _ {R S D : Type 0} (rooms : Rooms R S D) (old new : R) where
   -- All that was lent is given back, the room's count of faults hasn't fallen, and each file that
-  -- is no journal of these names stays.
+  -- has none of these names stays.
   pub record GivesBack (names : List Text) : Type 0 where
     pub lent : rooms.lent new ≡ rooms.lent old
     pub later : rooms.faults old ≤ rooms.faults new
@@ -59,6 +59,12 @@ module _ {R S D : Type 0} (rooms : Rooms R S D) (disks : Disks D) (old new : R) 
   LeavesEach journals How =
       OfEach (λ name did. Leaves disks (How did) (rooms.device old name) (rooms.device new name))
       journals
+
+  -- This file is no journal, and was only looked at: where the room tells its files a crash leaves
+  -- nothing new of it. It may be made, with nothing in it.
+  abbrev pub LooksBeside : Text → Type 0
+  LooksBeside beside = rooms.tells old
+      → Leaves disks (HasKept untouched) (rooms.device old beside) (rooms.device new beside)
 
   -- No file is made but a new journal, and none at all where memory was refused.
   pub record LeavesJournals (journals : Journals) (ending : Ending) : Type 0 where
@@ -79,11 +85,12 @@ pub record EndsAs (Tells Fault Bad : Type 0) (files : List Text) (journals : Jou
       → OfEach (λ name did. did ≡ untouched → IsEarly (status_of reply)) journals)
 
 module _ {R S D : Type 0} (rooms : Rooms R S D) (disks : Disks D) (Bad : Type 0)
-    (files names : List Text) (wanted : Outcome) (old new : R) where
+    (files names besides : List Text) (wanted : Outcome) (old new : R) where
   -- A command that names these files, works on the journals of these names and has to give that
-  -- outcome left the room so, and ended so.
+  -- outcome left the room so, and ended so. The files beside its journals are no journals, and may
+  -- be made and changed.
   pub record HasDone (ending : Ending) : Type 0 where
-    pub back : GivesBack rooms old new names
+    pub back : GivesBack rooms old new (besides ++ names)
     pub ends : EndsAs (rooms.tells old) (Rose (rooms.faults old) (rooms.faults new)) Bad files
         (done_with names wanted.journals) wanted ending
     pub made : rooms.tells old
@@ -92,8 +99,13 @@ module _ {R S D : Type 0} (rooms : Rooms R S D) (disks : Disks D) (Bad : Type 0)
 module _ {R S D : Type 0} (rooms : Rooms R S D) (disks : Disks D) where
   -- A command that only reads these files.
   abbrev pub HasAnswered : List Text → Outcome → R → R → Ending → Type 0
-  HasAnswered files wanted = HasDone rooms disks ⊥ files [] wanted
+  HasAnswered files wanted = HasDone rooms disks ⊥ files [] [] wanted
 
   -- A command on the one journal of this name.
   abbrev pub HasServed : List Text → Text → Outcome → R → R → Ending → Type 0
-  HasServed files name wanted = HasDone rooms disks ⊥ files (name ∷ []) wanted
+  HasServed files name wanted = HasDone rooms disks ⊥ files (name ∷ []) [] wanted
+
+  -- A command on the one journal of this name, with one file beside it.
+  abbrev pub HasServedBeside : List Text → Text → Text → Outcome → R → R → Ending → Type 0
+  HasServedBeside files name beside wanted =
+      HasDone rooms disks ⊥ files (name ∷ []) (beside ∷ []) wanted

@@ -61,6 +61,11 @@ abbrev pub with_file : Text → Option Text → (Text → Outcome) → Outcome
 with_file file None next = stops_at Missing file (codes "Absent")
 with_file file (Some bytes) next = next bytes
 
+-- The bytes of a file that is made empty where it isn't there.
+abbrev pub held_in : Option Text → Text
+held_in None = []
+held_in (Some bytes) = bytes
+
 -- An input file of at most so many bytes is read.
 abbrev pub with_bytes : ℕ → Text → Option Text → (Text → Outcome) → Outcome
 with_bytes limit file None next = stops_at Missing file (codes "Absent")

@@ -43,3 +43,8 @@ module _ {D : Type 0} (g : Disks D)
   abbrev pub ServesValidly : (Text → Outcome) → D → D → Type 0
   ServesValidly says old new = Looks g old new
       ⊎ IfSome (g.told old) (λ bytes. AddsValid Valid (journaled_by (says bytes)))
+
+  -- And over these and the bytes of the device beside it.
+  abbrev pub ServesValidlyTiled : (Text → Text → Outcome) → D → D → D → Type 0
+  ServesValidlyTiled says old new tiles =
+      IfSome (g.told tiles) (λ held. ServesValidly (λ bytes. says bytes held) old new)

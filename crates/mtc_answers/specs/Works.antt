@@ -16,8 +16,8 @@ use Rattle.journal_core.specs.declared.error.StartError.TheVariants.{Failed, Mem
 use Rattle.mtc_answers.specs.declared.answer.Said.TheVariants.{Done}
 use Rattle.mtc_answers.specs.declared.answer.Stopped.TheVariants.{Missing}
 use Rattle.mtc_answers.specs.Answers.{Ending, replied, room_failed, no_memory, said, refused}
-use Rattle.mtc_answers.specs.Answers.{IfReply, status_of, IsEarly}
-use Rattle.mtc_answers.specs.Endings.{AddsBy, FailedOnly, LeftBy}
+use Rattle.mtc_answers.specs.Answers.{IfReply, status_of, IsEarly, tiles_name}
+use Rattle.mtc_answers.specs.Endings.{AddsBy, FailedOnly, FailsAt, LeftBy}
 use Rattle.mtc_answers.specs.Made.{IsOpen, Journaled, Leaves, untouched}
 use Rattle.mtc_answers.specs.Served.{first_journaled}
 use Rattle.mtc_answers.specs.Steps.{Outcome}
@@ -54,6 +54,43 @@ module _ {D : Type 0} (g : Ghosts D) (name : Text) where
     pub early : IfReply ending (λ reply. IfSome (g.told old) (λ bytes.
         journaled_by (says bytes) ≡ untouched → IsEarly (status_of reply)))
 
+module _ {D : Type 0} (g : Ghosts D) where
+  -- What the work on a device that was lent has given, which has to give the outcome of its bytes.
+  pub record HasGiven (says : Text → Outcome) (old new : D) (ending : Ending) : Type 0 where
+    pub reply : IfReply ending (λ reply. IfSome (g.told old) (λ bytes.
+        Meets (says bytes).answer reply))
+    pub left : IfSome (g.told old) (λ bytes.
+        Leaves g (LeftBy ending (journaled_by (says bytes))) (Some old) (Some new))
+    pub early : IfReply ending (λ reply. IfSome (g.told old) (λ bytes.
+        journaled_by (says bytes) ≡ untouched → IsEarly (status_of reply)))
+
+-- The same with the tiles of the journal on a second device: the device of the journal before the
+-- work and behind it, and so that of the tiles.
+module _ {D : Type 0} (g : Ghosts D) (name : Text) where
+  -- What holds of each ending, whatever the devices tell: the words were a command's, and a failure
+  -- is one of the device of the file that is named.
+  pub record HasFinishedTiled (old new tiles tiles' : D) (ending : Ending) : Type 0 where
+    pub plain : IfReply ending (λ reply. status_of reply ≢ 1)
+    pub later : g.faults old ≤ g.faults new
+    pub fault : FailsAt (Rose (g.faults old) (g.faults new)) name
+        (Rose (g.faults tiles) (g.faults tiles')) (tiles_name name) ending
+
+  -- The work on open devices, where these records were found if both tell them, which has to give
+  -- the outcome of those records.
+  pub record HasWorkedTiled (list : Option (List Text)) (says : List Text → Outcome)
+      (old new tiles tiles' : D) (ending : Ending) : Type 0 where
+    pub ends : HasFinishedTiled old new tiles tiles' ending
+    pub reply : IfReply ending (λ reply. IfSome list (λ records. Meets (says records).answer reply))
+    pub adds : IfSome list (λ records. IsOpen g old records
+        → AddsBy g ending (journaled_by (says records)) old new)
+
+  -- The work on devices that were lent, which has to give the outcome of the bytes of both.
+  pub record HasWorkedTiledOn (says : Text → Text → Outcome) (old new tiles tiles' : D)
+      (ending : Ending) : Type 0 where
+    pub ends : HasFinishedTiled old new tiles tiles' ending
+    pub gives : IfSome (g.told tiles) (λ held.
+        HasGiven g (λ bytes. says bytes held) old new ending)
+
 module _ {R S D : Type 0} (rooms : Rooms R S D) (g : Ghosts D) (name : Text) where
   -- The device of this journal was lent: it has no fault so far, reads as the file does, and leaves
   -- what the file's device leaves.
@@ -66,6 +103,23 @@ module _ {R S D : Type 0} (rooms : Rooms R S D) (g : Ghosts D) (name : Text) whe
     pub bytes : rooms.tells old → LendsBytes (rooms.file old name) (g.told disk)
     pub device : rooms.tells old → IsSomeAnd (rooms.device old name) (λ d. SameDevice g d disk)
 
+  -- The device of this file was lent, which was made empty where it wasn't there.
+  pub record HasLentBeside (old new : R) (disk : D) : Type 0 where
+    pub lent : rooms.lent new ≡ rooms.lent old + 1
+    pub fine : rooms.faults new ≡ rooms.faults old
+    pub tells : rooms.tells old → rooms.tells new
+    pub others : OthersStay (rooms.file old) (rooms.file new)
+        (rooms.device old) (rooms.device new) name
+    pub kept : rooms.tells old → IsSome (rooms.file old name)
+        → Stays (rooms.file old) (rooms.file new) (rooms.device old) (rooms.device new) name
+    pub made : rooms.tells old → rooms.file old name ≡ None → rooms.file new name ≡ Some []
+    pub begins : g.faults disk ≡ 0
+    pub bytes : rooms.tells old → LendsBytes (rooms.file new name) (g.told disk)
+    pub device : rooms.tells old → IsSomeAnd (rooms.device new name) (λ d. SameDevice g d disk)
+    pub only : rooms.tells old → rooms.file old name ≡ None
+        → (c : Text) → g.may_leave disk c → c ≡ []
+    pub time : rooms.tells old → rooms.file old name ≡ None → g.moment disk ≡ 0
+
   -- The device was put in the place of that file's, where there is one.
   pub record HasTaken (old new : R) (disk : D) : Type 0 where
     pub lent : rooms.lent new + 1 ≡ rooms.lent old
@@ -76,6 +130,17 @@ module _ {R S D : Type 0} (rooms : Rooms R S D) (g : Ghosts D) (name : Text) whe
     pub none : rooms.tells old → rooms.file old name ≡ None → rooms.file new name ≡ None
     pub device : rooms.tells old → IsSome (rooms.file old name)
         → IsSomeAnd (rooms.device new name) (λ d. SameDevice g disk d)
+
+module _ {R S D : Type 0} (rooms : Rooms R S D) (name : Text) where
+  -- The room failed at this file, which stays as it was, as each other one does.
+  pub record HasFailedBeside (old new : R) : Type 0 where
+    pub lent : rooms.lent new ≡ rooms.lent old
+    pub rose : Rose (rooms.faults old) (rooms.faults new)
+    pub later : rooms.faults old ≤ rooms.faults new
+    pub tells : rooms.tells old → rooms.tells new
+    pub others : OthersStay (rooms.file old) (rooms.file new)
+        (rooms.device old) (rooms.device new) name
+    pub stays : Stays (rooms.file old) (rooms.file new) (rooms.device old) (rooms.device new) name
 
 -- The refusal of a new journal of this name.
 abbrev pub not_new : Text → Text → Ending

@@ -82,6 +82,15 @@ pub enum Stop<'a> {
     Refused(Refusal<'a>),
     /// The room, or an object that it lent, failed at this file.
     Room(&'a str),
+    /// The same at the file of the tiles of this journal.
+    Tiles(&'a str),
+    /// The command is refused: the file of the tiles of this journal hasn't this tile, or another
+    /// one in its place.
+    BadTile {
+        journal: &'a str,
+        level: u8,
+        place: u64,
+    },
     /// Memory was refused.
     Memory,
 }

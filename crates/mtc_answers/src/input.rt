@@ -33,7 +33,7 @@ pub fn read_input<'a, R: Room>(
     ensures kind { IfErr result (λ stop. IsInputStop name.now (stop_ending stop)) }
     ensures stops { IfErr result (λ stop. (files names : List Text)
         (next : Text → Outcome) → IsNamed files name.now
-        → HasDone R.Room R.Dsk.Disk ⊥ files names
+        → HasDone R.Room R.Dsk.Disk ⊥ files names []
         (with_bytes limit name.now (R.file room.old name.now) next)
         room.old room.new (stop_ending stop)) }
 {

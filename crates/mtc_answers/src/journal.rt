@@ -1,21 +1,22 @@
 //! The journal of a command: one that is there is lent and given back, or a new one is made.
 
-ghost use Rattle.std.specs.Prelude.{◌≡◌, ◌⊎◌, ◌≤◌, ◌<◌, ◌^◌, List, [], IfOk, IfErr};
+ghost use Rattle.std.specs.Prelude.{◌≡◌, ◌⊎◌, ◌≤◌, ◌<◌, ◌^◌, List, [], IfOk, IfErr, string_bytes};
 ghost use Rattle.byte_forms.specs.Types.{Text};
 ghost use Rattle.journal_core.specs.Packed.{first_body};
-ghost use Rattle.mtc_answers.specs.Answers.{stop_ending, ending_of};
+ghost use Rattle.mtc_answers.specs.Answers.{stop_ending, ending_of, room_failed, tiles_name};
 ghost use Rattle.mtc_answers.specs.Endings.{IsNamed};
 ghost use Rattle.mtc_answers.specs.Served.{GivesBack, HasServed};
 ghost use Rattle.mtc_answers.specs.Steps.{Outcome, starts, with_file, with_fresh};
 ghost use Rattle.mtc_answers.specs.Works.{BeginsOn, HasBegunOn, HasLent, HasTaken, IsNotLent};
-ghost use Rattle.mtc_answers.specs.Works.{made_ending};
+ghost use Rattle.mtc_answers.specs.Works.{HasFailedBeside, HasLentBeside, made_ending};
 
 use crate::answer::{Answer, Reason, Said, Stop, Stopped};
 use crate::reason::refuse_file;
 use disk_core::Disk;
 use journal_core::{FirstRecord, Refused, StartError};
-use mtc_io::Bytes;
+use mtc_io::{Bytes, Failed, Memory};
 use mtc_room::{Room, RoomError};
+use std::alloc::Global;
 
 /// Lends the device of a journal that is there.
 ///
@@ -39,7 +40,34 @@ pub fn lend<'a, R: Room>(room: &mut R, journal: &'a str) -> Result<R::Dsk, Stop<
     }
 }
 
-/// Gives a journal's device back to the room.
+/// The name of the file of a journal's tiles.
+pub fn tiles_name(alloc: Global, journal: &str) -> Result<String, Memory>
+    ensures { IfOk result (λ name. string_bytes name ≡ tiles_name journal.now) }
+{
+    Ok(format!(in alloc; "{journal}.tiles")?)
+}
+
+/// Lends the device of the tiles of a journal, by the name of their file. Where that isn't there an
+/// empty one is made.
+///
+/// Errors: `Tiles` where the room failed, which leaves each file as it was.
+pub fn lend_tiles<'a, R: Room>(
+    room: &mut R,
+    journal: &'a str,
+    name: &str,
+) -> Result<R::Dsk, Stop<'a>>
+    requires { R.lent room.old < 2 ^ 32 }
+    ensures lent { IfOk result (HasLentBeside R.Room R.Dsk.Disk name.now room.old room.new) }
+    ensures told { IfErr result (λ stop. stop_ending stop ≡ room_failed (tiles_name journal.now)) }
+    ensures refused { IfErr result (λ _. HasFailedBeside R.Room name.now room.old room.new) }
+{
+    match room.scratch(name) {
+        Ok(disk) => Ok(disk),
+        Err(Failed) => Err(Stop::Tiles(journal)),
+    }
+}
+
+/// Gives a journal's device, or that of its tiles, back to the room.
 pub fn give_back<R: Room>(room: &mut R, journal: &str, disk: R::Dsk)
     requires { 0 < R.lent room.old }
     ensures { HasTaken R.Room R.Dsk.Disk journal.now room.old room.new disk }

@@ -13,5 +13,5 @@ mod reason;
 
 pub use answer::{Answer, More, Reason, Refusal, Said, Stop, Stopped};
 pub use input::{INPUT_LIMIT, LIST_LIMIT, read_input};
-pub use journal::{give_back, lend, make_journal};
+pub use journal::{give_back, lend, lend_tiles, make_journal, tiles_name};
 pub use reason::{refuse, refuse_file};
