@@ -1,5 +1,6 @@
 -- What contracts see of a command.
 use Rattle.std.specs.Prelude.{◌≡◌, ℕ, ◌==◌, ◌&&◌, ◌||◌, Bool, true, nat_le, List, Result, Ok, Err}
+use Rattle.std.specs.Prelude.{Option, Some, None}
 use Rattle.byte_forms.specs.Types.{Text}
 use Rattle.issuance_log.specs.Settings.{most_active, most_entries}
 use Rattle.mtc_words.specs.declared.command.Command.{Command}
@@ -10,6 +11,7 @@ use Rattle.mtc_words.specs.declared.command.Command.TheVariants.{InitCosigner, A
 use Rattle.mtc_words.specs.declared.command.Command.TheVariants.{Export}
 use Rattle.mtc_words.specs.declared.command.Command.TheVariants.{Landmark, Landmarks, LightCert}
 use Rattle.mtc_words.specs.declared.command.Command.TheVariants.{TrustLandmarks, Cert, Audit, Drill}
+use Rattle.mtc_words.specs.declared.command.Command.TheVariants.{Tile}
 use Rattle.mtc_words.specs.declared.error.WordError.{WordError}
 
 -- A command with the values of its words: a text is the list of its bytes, and so is an id.
@@ -35,6 +37,7 @@ pub data CommandValue : Type 0 where
   cert : Text → ℕ → ℕ → ℕ → Text → CommandValue
   audit : Text → Text → ℕ → Text → Text → CommandValue
   drill : ℕ → CommandValue
+  tile : Text → CommandValue
 
 -- The values of a command's words.
 abbrev pub command_value : Command → CommandValue
@@ -63,6 +66,7 @@ command_value (Cert journal index start end signatures) =
 command_value (Audit certificate store moment items kept) =
     audit certificate.now store.now moment items.now kept.now
 command_value (Drill number) = drill number
+command_value (Tile journal) = tile journal.now
 
 -- The answer, with the command seen by its values.
 abbrev pub said : Result Command WordError → Result CommandValue WordError
@@ -118,3 +122,29 @@ IsInRange (trust_landmarks list active items) = is_active active ≡ true
 IsInRange (cert journal index start end signatures) = Unit {0}
 IsInRange (audit certificate store moment items kept) = is_time moment ≡ true
 IsInRange (drill number) = Unit {0}
+IsInRange (tile journal) = Unit {0}
+
+-- The journal that a command names.
+abbrev pub journal_of : CommandValue → Option Text
+journal_of (member file) = None
+journal_of (show file) = None
+journal_of (verify certificate store moment) = None
+journal_of (init_log journal id active limit) = Some journal
+journal_of (issue journal request) = Some journal
+journal_of (checkpoint journal) = Some journal
+journal_of (entries journal size) = Some journal
+journal_of (consist journal old new) = Some journal
+journal_of (subtree journal start end size) = Some journal
+journal_of (keygen height width secret) = None
+journal_of (init_cosigner journal id log height width secret) = Some journal
+journal_of (advance journal request) = Some journal
+journal_of (cosign journal request) = Some journal
+journal_of (export journal) = Some journal
+journal_of (landmark journal) = Some journal
+journal_of (landmarks journal) = Some journal
+journal_of (light_cert journal index) = Some journal
+journal_of (trust_landmarks list active items) = None
+journal_of (cert journal index start end signatures) = Some journal
+journal_of (audit certificate store moment items kept) = None
+journal_of (drill number) = None
+journal_of (tile journal) = Some journal

@@ -1,5 +1,8 @@
--- The table of the commands: the name of each, and how many words it wants.
-use Rattle.std.specs.Prelude.{ℕ, Option, Some, None, codes, bytes_eq, if◌then◌else◌}
+-- The table of the commands: the name of each, how many words it wants, and whether the first of
+-- them is a journal.
+use Rattle.std.specs.Prelude.{ℕ, Bool, true, false, Option, Some, None, codes, bytes_eq, nat_eq}
+use Rattle.std.specs.Prelude.{if◌then◌else◌}
+use Rattle.std.specs.List.{ends_with}
 use Rattle.byte_forms.specs.Types.{Text}
 use Rattle.mtc_words.specs.declared.name.Name.{Name}
 use Rattle.mtc_words.specs.declared.name.Name.TheVariants.{Member, Show, Verify, InitLog, Issue}
@@ -8,6 +11,7 @@ use Rattle.mtc_words.specs.declared.name.Name.TheVariants.{Keygen, InitCosigner,
 use Rattle.mtc_words.specs.declared.name.Name.TheVariants.{Export}
 use Rattle.mtc_words.specs.declared.name.Name.TheVariants.{Landmark, Landmarks, LightCert}
 use Rattle.mtc_words.specs.declared.name.Name.TheVariants.{TrustLandmarks, Cert, Audit, Drill}
+use Rattle.mtc_words.specs.declared.name.Name.TheVariants.{Tile}
 
 -- The command that a word names.
 unfoldable pub named_command : Text → Option Name
@@ -33,7 +37,8 @@ named_command word =
     else (if bytes_eq word (codes "cert") then Some Cert
     else (if bytes_eq word (codes "audit") then Some Audit
     else (if bytes_eq word (codes "drill") then Some Drill
-    else None))))))))))))))))))))
+    else (if bytes_eq word (codes "tile") then Some Tile
+    else None)))))))))))))))))))))
 
 -- How many words stand behind a command.
 abbrev pub word_count : Name → ℕ
@@ -58,3 +63,33 @@ word_count TrustLandmarks = 3
 word_count Cert = 5
 word_count Audit = 5
 word_count Drill = 1
+word_count Tile = 1
+
+-- Whether the first word behind a command is a journal.
+abbrev pub takes_journal : Name → Bool
+takes_journal Member = false
+takes_journal Show = false
+takes_journal Verify = false
+takes_journal InitLog = true
+takes_journal Issue = true
+takes_journal Checkpoint = true
+takes_journal Entries = true
+takes_journal Consist = true
+takes_journal Subtree = true
+takes_journal Keygen = false
+takes_journal InitCosigner = true
+takes_journal Advance = true
+takes_journal Cosign = true
+takes_journal Export = true
+takes_journal Landmark = true
+takes_journal Landmarks = true
+takes_journal LightCert = true
+takes_journal TrustLandmarks = false
+takes_journal Cert = true
+takes_journal Audit = false
+takes_journal Drill = false
+takes_journal Tile = true
+
+-- Whether a name is that of a tile file.
+unfoldable pub is_tiles_name : Text → Bool
+is_tiles_name name = ends_with nat_eq name (codes ".tiles")

@@ -1,14 +1,15 @@
 -- The words of a command, and what they say: the first fault in the order of the tests, or the
 -- command.
 use Rattle.std.specs.Prelude.{ℕ, ◌+◌, ◌==◌, Bool, true, List, [], ◌∷◌, length, Option, Some, None}
-use Rattle.std.specs.Prelude.{Result, Ok, Err, slice_index_or, is_some, if◌then◌else◌}
+use Rattle.std.specs.Prelude.{Result, Ok, Err, ◌&&◌, slice_index_or, is_some, if◌then◌else◌}
 use Rattle.byte_forms.specs.Types.{Text}
 use Rattle.byte_forms.specs.Readings.{◌>>=◌, blamed}
 use Rattle.tls_wire.specs.Anchors.{anchor_text}
 use Rattle.tls_wire.specs.Decimal.{number_of}
 use Rattle.mtc_words.specs.declared.error.WordError.{WordError}
 use Rattle.mtc_words.specs.declared.error.WordError.TheVariants.{NoCommand, UnknownCommand, BadWord}
-use Rattle.mtc_words.specs.declared.error.WordError.TheVariants.{WrongCount, BadNumber, BadId}
+use Rattle.mtc_words.specs.declared.error.WordError.TheVariants.{WrongCount, TilesName, BadNumber}
+use Rattle.mtc_words.specs.declared.error.WordError.TheVariants.{BadId}
 use Rattle.mtc_words.specs.declared.name.Name.{Name}
 use Rattle.mtc_words.specs.declared.name.Name.TheVariants.{Member, Show, Verify, InitLog, Issue}
 use Rattle.mtc_words.specs.declared.name.Name.TheVariants.{Checkpoint, Entries, Consist, Subtree}
@@ -16,12 +17,14 @@ use Rattle.mtc_words.specs.declared.name.Name.TheVariants.{Keygen, InitCosigner,
 use Rattle.mtc_words.specs.declared.name.Name.TheVariants.{Export}
 use Rattle.mtc_words.specs.declared.name.Name.TheVariants.{Landmark, Landmarks, LightCert}
 use Rattle.mtc_words.specs.declared.name.Name.TheVariants.{TrustLandmarks, Cert, Audit, Drill}
+use Rattle.mtc_words.specs.declared.name.Name.TheVariants.{Tile}
 use Rattle.mtc_words.specs.Commands.{CommandValue, member, show, verify, init_log, issue}
 use Rattle.mtc_words.specs.Commands.{checkpoint, entries, consist, subtree, keygen, is_height}
 use Rattle.mtc_words.specs.Commands.{is_width, is_time, is_active, is_limit, is_any}
 use Rattle.mtc_words.specs.Commands.{init_cosigner, advance, cosign, landmark, landmarks}
 use Rattle.mtc_words.specs.Commands.{export, light_cert, trust_landmarks, cert, audit, drill}
-use Rattle.mtc_words.specs.Names.{named_command, word_count}
+use Rattle.mtc_words.specs.Commands.{tile}
+use Rattle.mtc_words.specs.Names.{named_command, word_count, takes_journal, is_tiles_name}
 
 -- Empty, or begins with a hyphen.
 abbrev pub is_bad_word : Text → Bool
@@ -41,6 +44,12 @@ count_fault have want None = if have == want then None else Some (WrongCount hav
 -- The fault of the words behind a command that wants so many.
 unfoldable pub word_fault : ℕ → List Text → Option WordError
 word_fault want ws = count_fault (length ws) want (bad_word 1 ws)
+
+-- The fault of a journal that has the name of a tile file.
+abbrev pub journal_fault : Name → List Text → Option WordError
+journal_fault name [] = None
+journal_fault name (w ∷ ws) =
+    if takes_journal name && is_tiles_name w then Some (TilesName 1) else None
 
 -- The word at a place, counted from 0.
 abbrev pub word : List Text → ℕ → Text
@@ -117,6 +126,7 @@ command_from Audit ws = do
 command_from Drill ws = do
   number ← number_word 1 is_any (word ws 0)
   Ok (drill number)
+command_from Tile ws = Ok (tile (word ws 0))
 
 -- The fault, or else the command.
 abbrev pub unless_fault : {A : Type 0} → Option WordError → Result A WordError → Result A WordError
@@ -126,7 +136,8 @@ unless_fault None wanted = wanted
 -- What the words behind a name say.
 abbrev pub command_named : Option Name → List Text → Result CommandValue WordError
 command_named None ws = Err UnknownCommand
-command_named (Some name) ws = unless_fault (word_fault (word_count name) ws) (command_from name ws)
+command_named (Some name) ws = unless_fault (word_fault (word_count name) ws)
+    (unless_fault (journal_fault name ws) (command_from name ws))
 
 -- What words say.
 unfoldable pub command_of : List Text → Result CommandValue WordError

@@ -253,5 +253,6 @@ pub fn build<'a>(alloc: Global, name: Name, words: &'a [String]) -> Result<Comma
         Name::Cert => cert(words),
         Name::Audit => audit(words),
         Name::Drill => drill(words),
+        Name::Tile => Ok(Command::Tile(words[0].as_str())),
     }
 }

@@ -3,7 +3,7 @@
 use tls_wire::AnchorId;
 
 /// A command with its words, in their order: a file word is a text, a number a `u64`, and an id an
-/// anchor id.
+/// anchor id. J is the journal of a log, S that of a cosigner; no journal's name ends in `.tiles`.
 #[derive(Debug, Drop)]
 pub enum Command<'a> {
     /// `member FILE`: evaluate the inclusion path that the file holds.
@@ -60,4 +60,6 @@ pub enum Command<'a> {
     /// `drill NUMBER`: play the drill with this number on devices in memory, and print what came of
     /// it.
     Drill(u64),
+    /// `tile J`: store the tiles of the log that are full and not stored.
+    Tile(&'a str),
 }

@@ -1,7 +1,7 @@
 //! The names of the commands.
 
 ghost use Rattle.std.specs.Prelude.{◌≡◌};
-ghost use Rattle.mtc_words.specs.Names.{named_command, word_count};
+ghost use Rattle.mtc_words.specs.Names.{named_command, takes_journal, word_count};
 
 /// The name of a command.
 #[derive(Clone, Copy, Debug, PartialEq, Eq)]
@@ -27,6 +27,7 @@ pub enum Name {
     Cert,
     Audit,
     Drill,
+    Tile,
 }
 
 // The name that a word is, if it is one.
@@ -56,6 +57,7 @@ pub fn read_name(word: &str) -> Option<Name>
         "cert" => Some(Name::Cert),
         "audit" => Some(Name::Audit),
         "drill" => Some(Name::Drill),
+        "tile" => Some(Name::Tile),
         _ => None,
     }
 }
@@ -66,11 +68,25 @@ pub fn wanted_count(name: Name) -> usize
 {
     match name {
         Name::Member | Name::Show | Name::Checkpoint => 1,
-        Name::Export | Name::Landmark | Name::Landmarks | Name::Drill => 1,
+        Name::Export | Name::Landmark | Name::Landmarks | Name::Drill | Name::Tile => 1,
         Name::Issue | Name::Entries | Name::Advance | Name::Cosign | Name::LightCert => 2,
         Name::Verify | Name::Consist | Name::Keygen | Name::TrustLandmarks => 3,
         Name::InitLog | Name::Subtree => 4,
         Name::Cert | Name::Audit => 5,
         Name::InitCosigner => 6,
+    }
+}
+
+// Whether the first word of a command is a journal.
+pub fn takes_journal(name: Name) -> bool
+    ensures { result ≡ takes_journal name }
+{
+    match name {
+        Name::Member | Name::Show | Name::Verify | Name::Keygen => false,
+        Name::TrustLandmarks | Name::Audit | Name::Drill => false,
+        Name::InitLog | Name::Issue | Name::Checkpoint | Name::Entries => true,
+        Name::Consist | Name::Subtree | Name::Landmark | Name::Landmarks => true,
+        Name::LightCert | Name::Cert | Name::Tile => true,
+        Name::InitCosigner | Name::Advance | Name::Cosign | Name::Export => true,
     }
 }

@@ -3,12 +3,14 @@
 ghost use Rattle.std.specs.Prelude.{◌≡◌, length, map, string_bytes, IfNone, IfOk};
 ghost use Rattle.byte_forms.specs.Readings.{Answers};
 ghost use Rattle.mtc_words.specs.Commands.{command_value, said, IsInRange};
-ghost use Rattle.mtc_words.specs.Words.{is_bad_word, bad_word, word_fault, command_of, known_word};
+ghost use Rattle.mtc_words.specs.Names.{is_tiles_name};
+ghost use Rattle.mtc_words.specs.Words.{is_bad_word, bad_word, journal_fault, word_fault};
+ghost use Rattle.mtc_words.specs.Words.{command_of, known_word};
 
 use crate::building::build;
 use crate::command::Command;
 use crate::error::WordError;
-use crate::name::{read_name, wanted_count};
+use crate::name::{Name, read_name, takes_journal, wanted_count};
 use std::alloc::Global;
 
 fn is_bad(word: &str) -> bool
@@ -46,10 +48,30 @@ fn fault(words: &[String], want: usize) -> Option<WordError>
     }
 }
 
+#[tactic(auto, unfolding(crate::specs::Names::is_tiles_name))]
+fn ends_as_tiles(word: &str) -> bool
+    ensures { result ≡ is_tiles_name word.now }
+{
+    word.as_bytes().ends_with(b".tiles")
+}
+
+// The fault of a journal that has the name of a tile file.
+fn journal_fault(name: Name, words: &[String]) -> Option<WordError>
+    ensures { result ≡ journal_fault name (map string_bytes words.now) }
+{
+    match words.first() {
+        Some(first) if takes_journal(name) && ends_as_tiles(first.as_str()) => {
+            Some(WordError::TilesName(1))
+        }
+        _ => None,
+    }
+}
+
 /// Reads the words of a command. Refuses, the first that holds: `NoCommand`, `UnknownCommand`,
 /// `BadWord` with the number of the first word that is empty or begins with a hyphen, `WrongCount`,
-/// `BadNumber` with the number of the first number word that is none, or lies outside its range,
-/// `BadId` with that of the first id word that is no anchor id.
+/// `TilesName` where a journal ends in `.tiles` (input files may), `BadNumber` with the number of
+/// the first number word that is none, or lies outside its range, `BadId` with that of the first id
+/// word that is no anchor id.
 #[tactic(auto, unfolding(crate::specs::Words::command_of))]
 pub fn read_words<'a>(alloc: Global, words: &'a [String]) -> Result<Command<'a>, WordError>
     ensures exact { Answers WordError.Memory
@@ -62,7 +84,10 @@ pub fn read_words<'a>(alloc: Global, words: &'a [String]) -> Result<Command<'a>,
     let Some(name) = read_name(first.as_str()) else {
         return Err(WordError::UnknownCommand);
     };
-    match fault(rest, wanted_count(name)) {
+    if let Some(why) = fault(rest, wanted_count(name)) {
+        return Err(why);
+    }
+    match journal_fault(name, rest) {
         Some(why) => Err(why),
         None => build(alloc, name, rest),
     }

@@ -1,0 +1,147 @@
+-- No journal of a command has the name of a tile file.
+use Rattle.std.proofs.Common.{◌≡◌, Bool, true, false, ◌&&◌, List, [], ◌∷◌, ◌++◌, Option, Some, None}
+use Rattle.std.proofs.Common.{Result, Ok, Err, IfSome, codes, if◌then◌else◌, refl, sym, ap, ◌∙◌}
+use Rattle.std.proofs.Common.{subst, nat_eq, true≢false}
+use Rattle.std.proofs.lemmas.Bool.Decides.{Decides-eqb}
+use Rattle.std.proofs.lemmas.Slice.Eq.{ends_is}
+use Rattle.byte_forms.specs.Types.{Text}
+use Rattle.byte_forms.specs.Readings.{◌>>=◌}
+use Rattle.mtc_words.specs.declared.error.WordError.{WordError}
+use Rattle.mtc_words.specs.declared.error.WordError.TheVariants.{TilesName}
+use Rattle.mtc_words.specs.declared.name.Name.{Name}
+use Rattle.mtc_words.specs.declared.name.Name.TheVariants.{Member, Show, Verify, InitLog, Issue}
+use Rattle.mtc_words.specs.declared.name.Name.TheVariants.{Checkpoint, Entries, Consist, Subtree}
+use Rattle.mtc_words.specs.declared.name.Name.TheVariants.{Keygen, InitCosigner, Advance, Cosign}
+use Rattle.mtc_words.specs.declared.name.Name.TheVariants.{Export, Landmark, Landmarks, LightCert}
+use Rattle.mtc_words.specs.declared.name.Name.TheVariants.{TrustLandmarks, Cert, Audit, Drill}
+use Rattle.mtc_words.specs.declared.name.Name.TheVariants.{Tile}
+use Rattle.mtc_words.specs.Commands.{CommandValue, journal_of, is_height, is_width, is_time}
+use Rattle.mtc_words.specs.Commands.{is_active, is_limit, is_any}
+use Rattle.mtc_words.specs.Names.{named_command, word_count, takes_journal, is_tiles_name}
+use Rattle.mtc_words.specs.Words.{word, word_fault, journal_fault, command_from, command_named}
+use Rattle.mtc_words.specs.Words.{command_of, unless_fault, number_word, id_word}
+
+-- A value that a step gives is given behind a value of the step before it.
+behind : {A B E : Type 0} (P : B → Type 0) (r : Result A E) (f : A → Result B E) (c : B)
+    → ((x : A) → f x ≡ Ok c → P c) → (r >>= f) ≡ Ok c → P c
+behind P (Ok x) f c next e = next x e
+behind P (Err why) f c next e = absurd (cc)
+
+-- The journal that a command of this name has.
+abbrev first_word : Name → List Text → Option Text
+first_word name ws = if takes_journal name then Some (word ws 0) else None
+
+abbrev Has : Name → List Text → CommandValue → Type 0
+Has name ws c = journal_of c ≡ first_word name ws
+
+-- The command itself.
+abbrev alone : CommandValue → Result CommandValue WordError
+alone c = Ok c
+
+told : (c d : CommandValue) → alone c ≡ Ok d → journal_of d ≡ journal_of c
+told c d e = let same : c ≡ d = cc in ap journal_of (sym same)
+
+from_words : (name : Name) (ws : List Text) (c : CommandValue) → command_from name ws ≡ Ok c
+    → Has name ws c
+from_words Member ws c e = told _ c e
+from_words Show ws c e = told _ c e
+from_words Verify ws c e =
+    behind (Has Verify ws) (number_word 3 is_time (word ws 2)) _ c (λ moment is. told _ c is) e
+from_words InitLog ws c e =
+    behind (Has InitLog ws) (number_word 3 is_active (word ws 2)) _ c (λ active first.
+    behind (Has InitLog ws) (number_word 4 is_limit (word ws 3)) _ c (λ limit second.
+    behind (Has InitLog ws) (id_word 2 (word ws 1)) _ c (λ id is. told _ c is) second) first) e
+from_words Issue ws c e = told _ c e
+from_words Checkpoint ws c e = told _ c e
+from_words Entries ws c e =
+    behind (Has Entries ws) (number_word 2 is_any (word ws 1)) _ c (λ size is. told _ c is) e
+from_words Consist ws c e =
+    behind (Has Consist ws) (number_word 2 is_any (word ws 1)) _ c (λ old first.
+    behind (Has Consist ws) (number_word 3 is_any (word ws 2)) _ c (λ new is. told _ c is) first) e
+from_words Subtree ws c e =
+    behind (Has Subtree ws) (number_word 2 is_any (word ws 1)) _ c (λ start first.
+    behind (Has Subtree ws) (number_word 3 is_any (word ws 2)) _ c (λ end second.
+    behind (Has Subtree ws) (number_word 4 is_any (word ws 3)) _ c (λ size is.
+    told _ c is) second) first) e
+from_words Keygen ws c e =
+    behind (Has Keygen ws) (number_word 1 is_height (word ws 0)) _ c (λ height first.
+    behind (Has Keygen ws) (number_word 2 is_width (word ws 1)) _ c (λ width is.
+    told _ c is) first) e
+from_words InitCosigner ws c e =
+    behind (Has InitCosigner ws) (number_word 4 is_height (word ws 3)) _ c (λ height first.
+    behind (Has InitCosigner ws) (number_word 5 is_width (word ws 4)) _ c (λ width second.
+    behind (Has InitCosigner ws) (id_word 2 (word ws 1)) _ c (λ id third.
+    behind (Has InitCosigner ws) (id_word 3 (word ws 2)) _ c (λ log is.
+    told _ c is) third) second) first) e
+from_words Advance ws c e = told _ c e
+from_words Cosign ws c e = told _ c e
+from_words Export ws c e = told _ c e
+from_words Landmark ws c e = told _ c e
+from_words Landmarks ws c e = told _ c e
+from_words LightCert ws c e =
+    behind (Has LightCert ws) (number_word 2 is_any (word ws 1)) _ c (λ index is. told _ c is) e
+from_words TrustLandmarks ws c e =
+    behind (Has TrustLandmarks ws) (number_word 2 is_active (word ws 1)) _ c (λ active is.
+    told _ c is) e
+from_words Cert ws c e =
+    behind (Has Cert ws) (number_word 2 is_any (word ws 1)) _ c (λ index first.
+    behind (Has Cert ws) (number_word 3 is_any (word ws 2)) _ c (λ start second.
+    behind (Has Cert ws) (number_word 4 is_any (word ws 3)) _ c (λ end is.
+    told _ c is) second) first) e
+from_words Audit ws c e =
+    behind (Has Audit ws) (number_word 3 is_time (word ws 2)) _ c (λ moment is. told _ c is) e
+from_words Drill ws c e =
+    behind (Has Drill ws) (number_word 1 is_any (word ws 0)) _ c (λ number is. told _ c is) e
+from_words Tile ws c e = told _ c e
+
+-- The first word passes the test, where the command has a journal.
+abbrev Own : Option Text → Type 0
+Own o = IfSome o (λ j. is_tiles_name j ≡ false)
+
+tested : (takes : Bool) (w : Text) (tiles : Bool) → tiles ≡ is_tiles_name w
+    → (if takes && tiles then Some (TilesName 1) else None) ≡ None
+    → Own (if takes then Some w else None)
+tested false w tiles is e = tt
+tested true w false is e = sym is
+tested true w true is e = absurd (cc)
+
+no_word : (takes : Bool) → Own (if takes then Some (word [] 0) else None)
+unfolding is_tiles_name
+no_word false = tt
+no_word true = refl
+
+passed : (name : Name) (ws : List Text) → journal_fault name ws ≡ None → Own (first_word name ws)
+passed name [] e = no_word (takes_journal name)
+passed name (w ∷ ws) e = tested (takes_journal name) w (is_tiles_name w) refl e
+
+-- What is answered behind the tests.
+answered : (fault : Option WordError) (wanted : Result CommandValue WordError) (c : CommandValue)
+    → unless_fault fault wanted ≡ Ok c → (fault ≡ None) × (wanted ≡ Ok c)
+answered None wanted c e = (refl, e)
+answered (Some fault) wanted c e = absurd (cc)
+
+named : (o : Option Name) (ws : List Text) (c : CommandValue) → command_named o ws ≡ Ok c
+    → Own (journal_of c)
+named None ws c e = absurd (cc)
+named (Some name) ws c e =
+    let counted = answered (word_fault (word_count name) ws) _ c e in
+    let own = answered (journal_fault name ws) _ c counted.1 in
+    subst Own (sym (from_words name ws c own.1)) (passed name ws own.0)
+
+-- Where words are a command, no journal of it has the name of a tile file.
+pub journals_have_own_names : (ws : List Text) (c : CommandValue) → command_of ws ≡ Ok c
+    → IfSome (journal_of c) (λ j. is_tiles_name j ≡ false)
+unfolding command_of
+journals_have_own_names [] c e = absurd (cc)
+journals_have_own_names (w ∷ ws) c e = named (named_command w) ws c e
+
+-- A name with `.tiles` behind it is the name of a tile file.
+pub tiles_name_ends : (name : Text) → is_tiles_name (name ++ codes ".tiles") ≡ true
+unfolding is_tiles_name
+tiles_name_ends name =
+    (ends_is {E = nat_eq} Decides-eqb (name ++ codes ".tiles") (codes ".tiles") _ refl).1 name refl
+
+-- So no name without that end is one.
+pub no_tiles_name : (name j : Text) → is_tiles_name j ≡ false → j ≡ name ++ codes ".tiles" → ⊥
+no_tiles_name name j is e =
+    true≢false (sym (tiles_name_ends name) ∙ (ap is_tiles_name (sym e) ∙ is))
