@@ -1,5 +1,7 @@
 -- Subtrees and proofs over the leaf hashes of entries.
-use Rattle.std.proofs.Common.{◌≡◌, ◌-◌, ℕ, ◌<◌, ◌∙◌, true, List, take, ap, arith}
+use Rattle.std.proofs.Common.{◌≡◌, ◌≢◌, ◌-◌, ℕ, ◌<◌, ◌∙◌, true, List, [], take, ap, sym, arith}
+use Rattle.std.proofs.Common.{Option, Some, None, IfSome, IfOk, Result, Ok, Err, option_map, refl}
+use Rattle.std.proofs.lemmas.Grind.{common_steps}
 use Rattle.std.specs.Prelude.{map}
 use Rattle.std.proofs.Math.Nat.{zero-mod}
 use Rattle.std.proofs.lemmas.List.{take-map}
@@ -7,11 +9,13 @@ use Rattle.byte_forms.specs.Types.{Hash, HashFunction, Text}
 use Rattle.tree_core.specs.Path.{part_of}
 use Rattle.tree_core.specs.Split.{power_over}
 use Rattle.tree_core.specs.Subtree.{is_subtree}
-use Rattle.tree_core.specs.Tree.{leaf_hash, tree_hash}
+use Rattle.tree_core.specs.Tree.{leaf_hash, root_of, tree_hash}
 use Rattle.tree_core.proofs.Powers.{power_over_least}
 use Rattle.tree_core.proofs.Subtrees.{is_subtree-from}
 use Rattle.tree_proofs.specs.Proof.{proof_of}
-use Rattle.mtc_logs.specs.RequestOutcomes.{prefix_proof}
+use Rattle.issuance_log.specs.Folds.{LogState}
+use Rattle.issuance_log.proofs.Leaves.{part_root}
+use Rattle.mtc_logs.specs.RequestOutcomes.{growth_at, prefix_proof}
 
 -- the first entries are a subtree, where there are some
 pub first_subtree : (n : ℕ) → 0 < n → is_subtree 0 n ≡ true
@@ -21,13 +25,50 @@ first_subtree n some = is_subtree-from 0 n (record {
 })
 
 -- the first ones as a part
-pub first_part : (h : HashFunction) (entries : List Text) (n : ℕ)
+first_part : (h : HashFunction) (entries : List Text) (n : ℕ)
     → tree_hash h (part_of entries 0 n) ≡ tree_hash h (take n entries)
 first_part h entries n =
     let all : n - 0 ≡ n = omega arith in ap (λ k. tree_hash h (take k entries)) all
 
-pub proof_is : (h : HashFunction) (entries : List Text) (start end size : ℕ) (proof : List Hash)
-    → proof ≡ proof_of h start end true (take size (map (leaf_hash h) entries))
-    → proof ≡ prefix_proof h entries start end size
-proof_is h entries start end size proof is =
-    is ∙ ap (proof_of h start end true) (take-map (leaf_hash h) size entries)
+-- ---- where both disks tell the log
+
+abbrev pub leaves_told : HashFunction → Option LogState → Option (List Hash)
+leaves_told h told = option_map (λ (s : LogState). map (leaf_hash h) s.entries) told
+
+pub hash_told : {E : Type 0} (h : HashFunction) (start end : ℕ) (told : Option LogState)
+    (result : Result Hash E)
+    → IfOk result (λ hash. IfSome (leaves_told h told)
+    (λ leaves. hash ≡ root_of h (part_of leaves start end)))
+    → IfOk result (λ hash. IfSome told (λ s. hash ≡ tree_hash h (part_of s.entries start end)))
+hash_told h start end told (Err e) is = tt
+hash_told h start end None (Ok hash) is = tt
+hash_told h start end (Some s) (Ok hash) is = is ∙ sym (part_root h s.entries start end)
+
+pub root_told : {E : Type 0} (h : HashFunction) (size : ℕ) (told : Option LogState)
+    (result : Result Hash E)
+    → IfOk result (λ hash. IfSome told (λ s. hash ≡ tree_hash h (part_of s.entries 0 size)))
+    → IfOk result (λ hash. IfSome told (λ s. hash ≡ tree_hash h (take size s.entries)))
+root_told h size told (Err e) is = tt
+root_told h size None (Ok hash) is = tt
+root_told h size (Some s) (Ok hash) is = is ∙ first_part h s.entries size
+
+pub proof_told : (h : HashFunction) (start end size : ℕ) (told : Option LogState)
+    (proof : List Hash)
+    → IfSome (leaves_told h told) (λ leaves. proof ≡ proof_of h start end true (take size leaves))
+    → IfSome told (λ s. proof ≡ prefix_proof h s.entries start end size)
+proof_told h start end size None proof is = tt
+proof_told h start end size (Some s) proof is =
+    is ∙ ap (proof_of h start end true) (take-map (leaf_hash h) size s.entries)
+
+pub no_growth : (h : HashFunction) (old new : ℕ) → old ≡ 0 → (told : Option LogState)
+    → IfSome told (λ s. [] ≡ growth_at h s.entries old new)
+no_growth h old new none None = tt
+no_growth h old new none (Some s) = rw none refl
+
+pub growth_told : {E : Type 0} (h : HashFunction) (old new : ℕ) → old ≢ 0
+    → (told : Option LogState) (result : Result (List Hash) E)
+    → IfOk result (λ proof. IfSome told (λ s. proof ≡ prefix_proof h s.entries 0 old new))
+    → IfOk result (λ proof. IfSome told (λ s. proof ≡ growth_at h s.entries old new))
+growth_told h old new some told (Err e) is = tt
+growth_told h old new some None (Ok proof) is = tt
+growth_told h old new some (Some s) (Ok proof) is = grind (arith, common_steps)

@@ -1,6 +1,7 @@
 -- The items of a log, one behind the other.
 use Rattle.std.proofs.Common.{◌≡◌, ℕ, zero, suc, ◌+◌, ◌<◌, ◌++◌, [], ◌∷◌, length, slice_index_or}
-use Rattle.std.proofs.Common.{Option, Some, None, Result, Ok, Err, true, refl, ap, sym, ◌∙◌, ◌≤◌}
+use Rattle.std.proofs.Common.{Option, Some, None, IfSome, Result, Ok, Err, true, refl, ap, sym}
+use Rattle.std.proofs.Common.{◌∙◌, ◌≤◌}
 use Rattle.std.proofs.Common.{arith}
 use Rattle.std.specs.Prelude.{map, ◌&&◌}
 use Rattle.std.specs.List.{concat, range_with_len}
@@ -18,7 +19,7 @@ use Rattle.entry_list.specs.Items.{ItemLists, file_text, first_items, has_key}
 use Rattle.entry_list.specs.Items.{is_key_of, listed_text}
 use Rattle.entry_list.specs.Reading.{items_in}
 use Rattle.entry_list.proofs.Written.{items_again}
-use Rattle.issuance_log.specs.Folds.{LogState}
+use Rattle.issuance_log.specs.Folds.{LogState, LogView, view_in}
 use Rattle.issuance_log.specs.Refusals.{item_at}
 use Rattle.issuance_log.specs.Sound.{IsSound}
 use Rattle.mtc_logs.specs.LogOutcomes.{IsItemAt, items_of}
@@ -57,6 +58,16 @@ is_item h s index entry key sound below is =
       short_entry = rw same.0 at both.0;
       short_key = rw same.1 at both.1;
     }
+
+-- where the journal tells the log
+pub item_told : (h : HashFunction) (told : Option LogState) (v : LogView) (index : ℕ)
+    (entry key : Text) → index < v.size → IfSome told (IsSound h)
+    → IfSome told (λ s. view_in s ≡ v) → IfSome told (λ s. item_at s index ≡ Ok (entry, key))
+    → IfSome told (λ s. IsItemAt s index entry key)
+item_told h None v index entry key below sound shows item = tt
+item_told h (Some s) v index entry key below sound shows item =
+    let same : length s.entries ≡ v.size = ap (λ (u : LogView). u.size) shows in
+    is_item h s index entry key sound (omega arith) item
 
 -- ---- the file
 

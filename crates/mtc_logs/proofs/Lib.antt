@@ -1,8 +1,13 @@
 pub mod Items
 pub mod Asked
-pub mod Opened
 pub mod Appends
+pub mod BadTiles
+pub mod Opened
 pub mod Issued
 pub mod Marked
+pub mod Stored
+pub mod Worked
+pub mod Replied
 pub mod Reading
 pub mod Certified
+pub mod Looked

@@ -1,19 +1,21 @@
 -- What comes of setting a landmark on a log that was opened just now.
 use Rattle.std.proofs.Common.{◌≡◌, ◌≢◌, ℕ, Bool, true, false, List, Option, None, Some, option_map}
-use Rattle.std.proofs.Common.{Result, Ok, Err, if◌then◌else◌, refl, sym, ap, ◌∙◌, length}
+use Rattle.std.proofs.Common.{Result, Ok, Err, if◌then◌else◌, refl, sym, ap, ◌∙◌}
 use Rattle.std.proofs.Common.{subst, IfSome, IsOk, ◌++◌, ◌∷◌, []}
 use Rattle.byte_forms.specs.Types.{HashFunction, Text}
 use Rattle.disk_core.specs.declared.disk.Disk.{Ghosts}
 use Rattle.journal_core.specs.declared.error.AppendError.TheVariants as append_error
 use Rattle.tree_core.specs.declared.hashing.TreeHash.{Ghosts as Hashes}
-use Rattle.issuance_log.specs.Folds.{log_of, with_mark}
+use Rattle.issuance_log.specs.Folds.{LogView, log_of, one_mark_more, with_mark}
 use Rattle.issuance_log.specs.Records.{landmark_record}
 use Rattle.issuance_log.specs.Refusals.{MarkKeepsTo, mark_refusal}
 use Rattle.issuance_log.specs.Words.{LogAppends, log_broken, log_disk, log_end, log_records}
-use Rattle.issuance_log.specs.Words.{log_state, view_of}
+use Rattle.issuance_log.specs.Shown.{shown_with}
+use Rattle.issuance_log.specs.Words.{view_of}
 use Rattle.issuance_log.specs.declared.error.LogError.{LogError}
 use Rattle.issuance_log.specs.declared.error.LogError.TheVariants.{Full, TooLarge, NoSuchEntry}
 use Rattle.issuance_log.specs.declared.error.LogError.TheVariants.{NothingNew, Append, Memory}
+use Rattle.issuance_log.specs.declared.error.LogError.TheVariants.{Failed as DiskFailed}
 use Rattle.issuance_log.specs.declared.log.Log.{Log as OpenLog}
 use Rattle.mtc_answers.specs.Answers.{replied, said, status_of}
 use Rattle.mtc_answers.specs.Steps.{Outcome}
@@ -21,32 +23,32 @@ use Rattle.mtc_answers.specs.Valid.{AddsValid}
 use Rattle.mtc_answers.specs.Works.{journaled_by}
 use Rattle.mtc_answers.specs.declared.answer.Said.TheVariants.{Done}
 use Rattle.mtc_logs.specs.LandmarkOutcomes.{MayRefuseMark, landmark_says, mark_ending, mark_refused}
-use Rattle.mtc_logs.specs.LandmarkOutcomes.{marked, next_line}
-use Rattle.mtc_logs.specs.Works.{HasWorkedOnLog, IsLog, IsReadyLog, StaysLog, found_log}
+use Rattle.mtc_logs.specs.LandmarkOutcomes.{marked_by, next_line}
+use Rattle.mtc_logs.specs.Works.{HasWorkedOnLog, IsLog, IsReadyLog, StaysLog}
 use Rattle.mtc_logs.proofs.Appends.{done_so, failed_so, starved_so, told_so, valid_so}
 
 module _ {H D : Type 0} {hashes : Hashes H} {g : Ghosts D} (name : Text)
-    (old new : OpenLog H D hashes g) (ready : IsReadyLog old) where
-  abbrev refusal_by : Bool → ℕ → Option LogError
-  refusal_by broken end = mark_refusal (view_of old) broken end
+    (old new : OpenLog H D D hashes g g) (ready : IsReadyLog old) where
+  abbrev refusal_by : LogView → Bool → ℕ → Option LogError
+  refusal_by v broken end = mark_refusal v broken end
 
   abbrev pub refusal : Option LogError
-  refusal = refusal_by (log_broken old) (log_end old)
+  refusal = refusal_by (view_of old) (log_broken old) (log_end old)
 
-  abbrev outcome_by : List Text → Option LogError → Outcome
-  outcome_by list why = marked (found_log (log_state old) list) why
+  abbrev outcome_by : LogView → List Text → Option LogError → Outcome
+  outcome_by = marked_by
 
   abbrev body : Text
-  body = landmark_record (length (log_state old).entries)
+  body = landmark_record (view_of old).size
 
   -- what the call leaves, by its answer
   abbrev pub HasMarked : Result (ℕ × ℕ) LogError → Type 0
-  HasMarked result = LogAppends body (with_mark (log_state old)) old new result
+  HasMarked result = LogAppends body one_mark_more with_mark old new result
 
   pub marked_so : (landmark : ℕ × ℕ) → refusal ≡ None → HasMarked (Ok landmark)
-      → HasWorkedOnLog name landmark_says old new (replied (said Done (next_line (log_state old))))
-  marked_so landmark free run = done_so outcome_by refusal_by name old new ready body
-      (next_line (log_state old)) (with_mark (log_state old)) (λ list. refl) free landmark run
+      → HasWorkedOnLog name landmark_says old new (replied (said Done (next_line (view_of old))))
+  marked_so landmark free run = done_so outcome_by refusal_by name old new ready
+      body (next_line (view_of old)) one_mark_more with_mark (λ list. refl) free landmark run
 
   told : (why : LogError) → status_of (mark_refused why) ≢ 1 → refusal ≡ Some why
       → log_disk new ≡ log_disk old
@@ -57,14 +59,14 @@ module _ {H D : Type 0} {hashes : Hashes H} {g : Ghosts D} (name : Text)
   pub refused_so : (why : LogError) → MayRefuseMark why → HasMarked (Err why)
       → MarkKeepsTo refusal (Err why) → HasWorkedOnLog name landmark_says old new
       (mark_ending name why)
-  refused_so NothingNew may run is = told NothingNew (λ e. absurd cc) is run.leaves.disk
+  refused_so NothingNew may run is = told NothingNew (λ e. absurd cc) is run.journal.leaves.disk
   refused_so (Append append_error.Full) may run is =
-      told (Append append_error.Full) (λ e. absurd cc) is run.leaves.disk
+      told (Append append_error.Full) (λ e. absurd cc) is run.journal.leaves.disk
   refused_so (Append append_error.Failed) may run is =
-      failed_so outcome_by refusal_by name old new ready body (next_line (log_state old))
-      (with_mark (log_state old)) (λ list. refl) is run
+      failed_so outcome_by refusal_by name old new ready body (next_line (view_of old))
+      one_mark_more with_mark (λ list. refl) is run
   refused_so Memory may run is =
-      starved_so outcome_by refusal_by name old new ready run.leaves.disk
+      starved_so outcome_by refusal_by name old new ready run.journal.leaves.disk
   refused_so other may run is = absurd may
 
   -- a log that no append has broken doesn't refuse a landmark as a broken one
@@ -81,17 +83,20 @@ module _ {H D : Type 0} {hashes : Hashes H} {g : Ghosts D} (name : Text)
   may_refuse Full is = absurd is
   may_refuse TooLarge is = absurd is
   may_refuse NoSuchEntry is = absurd is
+  may_refuse DiskFailed is = absurd is
   may_refuse (Append append_error.Broken) is =
-      first _ _ (sym (ap (λ broken. refusal_by broken (log_end old)) ready.sound) ∙ is)
+      first _ _
+      (sym (ap (λ broken. refusal_by (view_of old) broken (log_end old)) ready.sound) ∙ is)
   may_refuse other is = tt
 
   -- the record makes a log with those before it
   module _ (h : HashFunction) where
     abbrev pub IsSoundBehind : List Text → Type 0
-    IsSoundBehind list = log_of h (list ++ body ∷ []) ≡ Ok (with_mark (log_state old))
+    IsSoundBehind list =
+        log_of h (list ++ body ∷ []) ≡ Ok (with_mark (shown_with (view_of old) list))
 
     adds_valid : (list : List Text) (why : Option LogError) → (why ≡ None → IsSoundBehind list)
-        → AddsValid (IsLog h) (journaled_by (outcome_by list why))
+        → AddsValid (IsLog h) (journaled_by (outcome_by (view_of old) list why))
     adds_valid list None sound = subst IsOk (sym (sound refl)) refl
     adds_valid list (Some why) sound = tt
 

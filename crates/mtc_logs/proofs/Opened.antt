@@ -1,52 +1,97 @@
--- A log that is opened on a device.
-use Rattle.std.proofs.Common.{◌≡◌, List, Option, IfSome, Ok, Err, Some, inl, inr}
-use Rattle.std.proofs.Common.{refl, ap}
+-- A log that is opened on the devices of its journal and of its tiles.
+use Rattle.std.proofs.Common.{◌≡◌, ℕ, List, Option, None, IfSome, Ok, Err, Some, inl, inr}
+use Rattle.std.proofs.Common.{option_map, refl, ap, ◌∙◌}
 use Rattle.std.proofs.lemmas.Option.{IfSome_then}
 use Rattle.byte_forms.specs.Types.{HashFunction, Text}
 use Rattle.disk_core.specs.Moments.{Looks}
 use Rattle.disk_core.specs.declared.disk.Disk.{Ghosts}
 use Rattle.journal_core.specs.declared.error.OpenError.TheVariants as open_error
 use Rattle.issuance_log.specs.Folds.{LogState}
-use Rattle.issuance_log.specs.Openings.{HasLogCause, log_read}
+use Rattle.issuance_log.specs.Openings.{HasItsTiles, HasOpenCause, IsBadTile, log_read}
 use Rattle.issuance_log.specs.declared.error.LogOpenError.{LogOpenError}
 use Rattle.issuance_log.specs.declared.error.LogOpenError.TheVariants.{Open}
-use Rattle.mtc_answers.specs.Answers.{no_memory, refused, replied, room_failed}
-use Rattle.mtc_answers.specs.Steps.{with_form}
-use Rattle.mtc_answers.specs.Works.{HasWorkedOn}
+use Rattle.issuance_log.specs.declared.error.LogOpenError.TheVariants.{Tile as NoTiles}
+use Rattle.tile_store.specs.declared.error.TileError.TheVariants as tile_error
+use Rattle.mtc_answers.specs.Answers.{bad_tile, no_memory, refused, replied, room_failed}
+use Rattle.mtc_answers.specs.Answers.{tiles_name}
+use Rattle.mtc_answers.specs.Steps.{answers, with_form}
+use Rattle.mtc_answers.specs.Works.{HasWorkedTiledOn}
 use Rattle.mtc_answers.specs.declared.answer.Stopped.TheVariants.{BadForm}
-use Rattle.mtc_answers.proofs.Works.{not_opened}
-use Rattle.mtc_logs.specs.Works.{log_bytes_say, found_log, log_open_ending, log_open_text}
-use Rattle.mtc_logs.specs.Works.{log_says}
+use Rattle.mtc_answers.proofs.Tiled.{tiled_early}
+use Rattle.mtc_answers.proofs.Works.{each_some}
+use Rattle.mtc_logs.specs.Works.{found_log, log_bytes_say, log_open_ending, log_open_text}
+use Rattle.mtc_logs.specs.Works.{log_says, tested_says, unless_missing}
 use Rattle.mtc_logs.specs.declared.work.Work.{Work}
+use Rattle.mtc_logs.proofs.Appends.{mapped_some}
+use Rattle.mtc_logs.proofs.BadTiles.{bad_is, none_bad}
 
 module _ (h : HashFunction) (name : Text) (work : Work) where
-  -- the outcome of the bytes is that of the log that was found
-  pub found_says : (told : Option Text) (list : Option (List Text)) (state : LogState)
-      → IfSome told (λ b. IfSome list (λ l. log_read h b ≡ Ok (found_log state l)))
-      → IfSome told (λ b. IfSome list (λ l.
-      log_bytes_say h name work b ≡ log_says h work (found_log state l)))
-  found_says told list state found = IfSome_then told found (λ b read. IfSome_then list read
-      (λ l is. ap (λ r. with_form log_open_text name r (log_says h work)) is))
+  -- the outcome of the bytes of both is that of the log that was found
+  found_says : (told tiles : Option Text) (list : Option (List Text))
+      (state : List Text → LogState)
+      → IfSome told (λ b. IfSome list (λ l. log_read h b ≡ Ok (found_log (state l) l)))
+      → IfSome list (λ l. IfSome tiles (HasItsTiles h (state l)))
+      → IfSome tiles (λ held. IfSome told (λ b. IfSome list (λ l.
+      log_bytes_say h name work b held ≡ log_says h work (found_log (state l) l))))
+  found_says told None list state found all = tt
+  found_says None (Some held) list state found all = tt
+  found_says (Some b) (Some held) None state found all = tt
+  found_says (Some b) (Some held) (Some l) state found all =
+      ap (λ r. with_form log_open_text name r (tested_says h name work held)) found
+      ∙ ap (λ o. unless_missing name o (log_says h work (found_log (state l) l)))
+      (none_bad h (state l) held all)
 
-  module _ {D : Type 0} (g : Ghosts D) (old new : D) (looks : Looks g old new) where
+  pub found_tiles : (told tiles : Option Text) (list : Option (List Text))
+      (state : List Text → LogState)
+      → IfSome told (λ b. IfSome list (λ l. log_read h b ≡ Ok (found_log (state l) l)))
+      → IfSome (option_map state list) (λ s. IfSome tiles (HasItsTiles h s))
+      → IfSome tiles (λ held. IfSome told (λ b. IfSome list (λ l.
+      log_bytes_say h name work b held ≡ log_says h work (found_log (state l) l))))
+  found_tiles told tiles list state found all = found_says told tiles list state found
+      (mapped_some state list (λ s. IfSome tiles (HasItsTiles h s)) all)
+
+  -- the outcome where a tile isn't there
+  bad_says : (told tiles : Option Text) (level place : ℕ)
+      → IfSome told (λ b. IfSome tiles (λ held. IsBadTile h b held level place))
+      → IfSome tiles (λ held. IfSome told (λ b.
+      log_bytes_say h name work b held ≡ answers (bad_tile name level place)))
+  bad_says told None level place bad = tt
+  bad_says None (Some held) level place bad = tt
+  bad_says (Some b) (Some held) level place bad =
+      ap (λ r. with_form log_open_text name r (tested_says h name work held)) bad.is
+      ∙ ap (λ o. unless_missing name o (log_says h work bad.found))
+      (bad_is h bad.found.state held level place bad.few bad.bad)
+
+  module _ {D : Type 0} (g : Ghosts D) (old new tiles tiles' : D) (looks : Looks g old new) where
     -- a file that is no log
     no_log : (why : LogOpenError)
         → IfSome (g.told old) (λ b. log_read h b ≡ Err why)
-        → HasWorkedOn g name (log_bytes_say h name work) old new
+        → HasWorkedTiledOn g name (log_bytes_say h name work) old new tiles tiles'
         (replied (refused BadForm (Some name) (log_open_text why)))
-    no_log why is = not_opened g name (log_bytes_say h name work) old new looks
+    no_log why is = tiled_early g name (log_bytes_say h name work) old new tiles tiles' looks
         (replied (refused BadForm (Some name) (log_open_text why)))
         (record { plain = λ e. absurd cc; later = looks.faults; fault = tt }) (inr (inl refl))
-        (IfSome_then (g.told old) is
-        (λ b read. ap (λ r. with_form log_open_text name r (log_says h work)) read))
+        (each_some (g.told tiles) _ (λ held. IfSome_then (g.told old) is
+        (λ b read. ap (λ r. with_form log_open_text name r (tested_says h name work held)) read)))
 
     -- a log that wasn't opened
-    pub refused_says : (why : LogOpenError) → HasLogCause g h old new why
-        → HasWorkedOn g name (log_bytes_say h name work) old new (log_open_ending name why)
+    pub refused_says : (why : LogOpenError) → HasOpenCause g g h old new tiles tiles' why
+        → HasWorkedTiledOn g name (log_bytes_say h name work) old new tiles tiles'
+        (log_open_ending name why)
     refused_says (Open open_error.Failed) is =
-        not_opened g name (log_bytes_say h name work) old new looks (room_failed name)
-        (record { plain = tt; later = looks.faults; fault = (is, inl refl) }) tt tt
+        tiled_early g name (log_bytes_say h name work) old new tiles tiles' looks
+        (room_failed name)
+        (record { plain = tt; later = looks.faults; fault = inl (refl, is) }) tt tt
     refused_says (Open open_error.Memory) is =
-        not_opened g name (log_bytes_say h name work) old new looks no_memory
+        tiled_early g name (log_bytes_say h name work) old new tiles tiles' looks no_memory
         (record { plain = tt; later = looks.faults; fault = tt }) tt tt
+    refused_says (NoTiles tile_error.Failed) is =
+        tiled_early g name (log_bytes_say h name work) old new tiles tiles' looks
+        (room_failed (tiles_name name))
+        (record { plain = tt; later = looks.faults; fault = inr (refl, is) }) tt tt
+    refused_says (NoTiles (tile_error.BadTile level place)) is =
+        tiled_early g name (log_bytes_say h name work) old new tiles tiles' looks
+        (replied (bad_tile name level place))
+        (record { plain = λ e. absurd cc; later = looks.faults; fault = tt }) (inr (inl refl))
+        (bad_says (g.told old) (g.told tiles) level place is)
     refused_says why is = no_log why is

@@ -8,7 +8,7 @@ use Rattle.authority_core.specs.Files.{request_of}
 use Rattle.authority_core.specs.Requests.{RequestParts}
 use Rattle.authority_core.specs.declared.requests.error.RequestError.{RequestError}
 use Rattle.authority_core.specs.declared.requests.error.RequestError.TheVariants.{Memory}
-use Rattle.mtc_answers.specs.Answers.{no_memory, refused, replied}
+use Rattle.mtc_answers.specs.Answers.{no_memory, refused, replied, tiles_name}
 use Rattle.mtc_answers.specs.Served.{GivesBack, HasDone}
 use Rattle.mtc_answers.specs.Steps.{Files, answers, with_form}
 use Rattle.mtc_answers.specs.declared.answer.Stopped.TheVariants.{BadForm}
@@ -22,25 +22,30 @@ use Rattle.mtc_logs.specs.declared.work.Work.TheVariants.{Issue}
 
 module _ (h : HashFunction) (journal file : Text) (files : Files) (bytes : Text)
     (is : files file ≡ Some bytes) (few : length bytes ≤ 16777216) where
-  read_so : issue_outcome h journal file files ≡ request_says h journal file (files journal) bytes
+  abbrev tiles : Option Text
+  tiles = files (tiles_name journal)
+
+  read_so : issue_outcome h journal file files
+      ≡ request_says h journal file (files journal) tiles bytes
   read_so = bytes_read 16777216 file (files file) bytes
-      (request_says h journal file (files journal)) is few
+      (request_says h journal file (files journal) tiles) is few
 
   -- and it is a request
-  pub asked_so : (file' : Option Text) (r : RequestParts) → request_of bytes ≡ Ok r
-      → file' ≡ files journal
-      → log_outcome h journal file' (Issue r) ≡ issue_outcome h journal file files
-  asked_so file' r read same = sym (read_so
+  pub asked_so : (file' tiles' : Option Text) (r : RequestParts) → request_of bytes ≡ Ok r
+      → file' ≡ files journal → tiles' ≡ tiles
+      → log_outcome h journal file' tiles' (Issue r) ≡ issue_outcome h journal file files
+  asked_so file' tiles' r read same same_tiles = sym (read_so
       ∙ ap (λ x. with_form request_fault_text file x
-      (λ q. log_outcome h journal (files journal) (Issue q))) read
-      ∙ ap (λ x. log_outcome h journal x (Issue r)) (sym same))
+      (λ q. log_outcome h journal (files journal) tiles (Issue q))) read
+      ∙ ap (λ x. log_outcome h journal x tiles (Issue r)) (sym same)
+      ∙ ap (λ x. log_outcome h journal file' x (Issue r)) (sym same_tiles))
 
   -- or it is none
   refused_so : (why : RequestError) → request_of bytes ≡ Err why
       → issue_outcome h journal file files
       ≡ answers (refused BadForm (Some file) (request_fault_text why))
   refused_so why read = read_so ∙ ap (λ x. with_form request_fault_text file x
-      (λ q. log_outcome h journal (files journal) (Issue q))) read
+      (λ q. log_outcome h journal (files journal) tiles (Issue q))) read
 
 -- the command ends where the file is no request
 module _ {R S D : Type 0} (rooms : Rooms R S D) (disks : Disks D) (h : HashFunction)
@@ -48,17 +53,19 @@ module _ {R S D : Type 0} (rooms : Rooms R S D) (disks : Disks D) (h : HashFunct
     (only_now : OnlyNow disks)
     (is : rooms.tells old → (rooms.file old file ≡ Some bytes) × (length bytes ≤ 16777216)) where
   no_request : (why : RequestError) → request_of bytes ≡ Err why
-      → HasDone rooms disks ⊥ (journal ∷ file ∷ []) (journal ∷ [])
+      → HasDone rooms disks ⊥ (journal ∷ tiles_name journal ∷ file ∷ []) (journal ∷ [])
+      (tiles_name journal ∷ [])
       (issue_outcome h journal file (rooms.file old)) old new
       (replied (refused BadForm (Some file) (request_fault_text why)))
-  no_request why read = stopped rooms disks _ _ _ old new back only_now _ tt (
+  no_request why read = stopped rooms disks _ _ _ _ old new back only_now _ tt (
     λ e. absurd cc,
     inr (inl refl),
     λ t. refused_so h journal file (rooms.file old) bytes (is t).0 (is t).1 why read,
   )
 
   pub unread : (why : RequestError) → (why ≢ Memory → request_of bytes ≡ Err why)
-      → HasDone rooms disks ⊥ (journal ∷ file ∷ []) (journal ∷ [])
+      → HasDone rooms disks ⊥ (journal ∷ tiles_name journal ∷ file ∷ []) (journal ∷ [])
+      (tiles_name journal ∷ [])
       (issue_outcome h journal file (rooms.file old)) old new (request_ending file why)
-  unread Memory read = stopped rooms disks _ _ _ old new back only_now no_memory tt tt
+  unread Memory read = stopped rooms disks _ _ _ _ old new back only_now no_memory tt tt
   unread other read = no_request other (read (λ e. absurd cc))

@@ -1,17 +1,19 @@
 -- The outcome of `cert` over the room's files: the signatures first, then the journal.
 use Rattle.std.specs.Prelude.{ℕ, Option}
 use Rattle.byte_forms.specs.Types.{HashFunction, Text}
+use Rattle.mtc_answers.specs.Answers.{tiles_name}
 use Rattle.mtc_answers.specs.Steps.{Outcome, Files, with_bytes, with_form}
 use Rattle.mtc_logs.specs.CertOutcome.{signatures_fault_text, signatures_in}
 use Rattle.mtc_logs.specs.Works.{log_outcome}
 use Rattle.mtc_logs.specs.declared.work.Work.TheVariants.{Cert}
 
 -- The signatures are read, and then the certificate is written.
-abbrev pub signed_says : HashFunction → Text → ℕ → ℕ → ℕ → Text → Option Text → Text → Outcome
-signed_says h journal index start end file held bytes =
+abbrev pub signed_says : HashFunction → Text → ℕ → ℕ → ℕ → Text → Option Text → Option Text → Text
+    → Outcome
+signed_says h journal index start end file held tiles bytes =
     with_form signatures_fault_text file (signatures_in bytes)
-    (λ signatures. log_outcome h journal held (Cert index start end signatures))
+    (λ signatures. log_outcome h journal held tiles (Cert index start end signatures))
 
 abbrev pub cert_outcome : HashFunction → Text → ℕ → ℕ → ℕ → Text → Files → Outcome
 cert_outcome h journal index start end file files = with_bytes 16777216 file (files file)
-    (signed_says h journal index start end file (files journal))
+    (signed_says h journal index start end file (files journal) (files (tiles_name journal)))

@@ -22,7 +22,8 @@ use Rattle.authority_core.specs.declared.writing.error.WriteError.TheVariants as
 use Rattle.tree_core.specs.declared.spans.Span.{Span}
 use Rattle.mtc_answers.specs.declared.answer.Said.TheVariants.{Done}
 use Rattle.mtc_answers.specs.declared.answer.Stopped.TheVariants.{Beyond, BadForm}
-use Rattle.mtc_answers.specs.Answers.{Reply, Ending, replied, no_memory, said, refused}
+use Rattle.mtc_answers.specs.Answers.{Reply, Ending, replied, room_failed, no_memory, said}
+use Rattle.mtc_answers.specs.Answers.{refused, tiles_name}
 use Rattle.mtc_logs.specs.LogOutcomes.{beyond, not_allowed}
 
 -- Why bytes are no signatures.
@@ -48,12 +49,17 @@ cert_refused write_error.Outside = not_allowed (codes "Outside")
 cert_refused (write_error.Beyond size) = beyond size
 cert_refused write_error.NotCovered = not_allowed (codes "NotCovered")
 cert_refused write_error.TooManySignatures = refused Beyond None (codes "TooManySignatures")
+cert_refused write_error.JournalFailed = refused Beyond None (codes "Failed")
+cert_refused write_error.TilesFailed = refused Beyond None (codes "Failed")
 cert_refused write_error.Memory = refused Beyond None (codes "Memory")
 
--- What comes of it: it is told, unless memory was refused.
-abbrev pub cert_ending : WriteError → Ending
-cert_ending write_error.Memory = no_memory
-cert_ending why = replied (cert_refused why)
+-- What comes of it in a command on this journal: it is told, unless a device failed or memory was
+-- refused.
+abbrev pub cert_ending : Text → WriteError → Ending
+cert_ending journal write_error.JournalFailed = room_failed journal
+cert_ending journal write_error.TilesFailed = room_failed (tiles_name journal)
+cert_ending journal write_error.Memory = no_memory
+cert_ending journal why = replied (cert_refused why)
 
 -- The certificate of an entry that was read, with its key, index and proof. No log has an item
 -- behind the first one whose entry isn't of type 1.

@@ -1,10 +1,10 @@
 -- The outcome of `issue J REQUEST`.
-use Rattle.std.specs.Prelude.{ℕ, false, ◌++◌, length, codes, Option, Some, None}
+use Rattle.std.specs.Prelude.{ℕ, false, ◌++◌, List, codes, Option, Some, None}
 use Rattle.std.specs.Fmt.{decimal}
 use Rattle.byte_forms.specs.Types.{HashFunction, Text}
 use Rattle.journal_core.specs.Format.{end_behind}
 use Rattle.journal_core.specs.declared.error.AppendError.TheVariants as append_error
-use Rattle.issuance_log.specs.Folds.{view_in}
+use Rattle.issuance_log.specs.Folds.{LogView, view_in}
 use Rattle.issuance_log.specs.Openings.{FoundLog}
 use Rattle.issuance_log.specs.Refusals.{add_refusal}
 use Rattle.issuance_log.specs.declared.error.LogError.{LogError}
@@ -57,6 +57,7 @@ log_fault_text log_error.Full = codes "Full"
 log_fault_text log_error.TooLarge = codes "TooLarge"
 log_fault_text log_error.NoSuchEntry = codes "NoSuchEntry"
 log_fault_text log_error.NothingNew = codes "NothingNew"
+log_fault_text log_error.Failed = codes "Failed"
 log_fault_text (log_error.Append append_error.Failed) = codes "Failed"
 log_fault_text (log_error.Append append_error.Broken) = codes "Broken"
 log_fault_text (log_error.Append append_error.Full) = codes "JournalFull"
@@ -76,14 +77,16 @@ issue_ending journal (Log why) = log_ending journal why
 abbrev pub issued_text : ℕ → Text
 issued_text index = codes "issued " ++ (decimal index ++ codes "\n")
 
--- The entry of a request is added with its key, unless the log refuses it.
+-- The entry of a request is added with its key, where the log shows this and has these records,
+-- unless the log refuses it.
+abbrev pub issued_by : HashFunction → RequestParts → LogView → List Text → Option LogError → Outcome
+issued_by h r v list None = appends list (issued_record h v.settings r) (issued_text v.size)
+issued_by h r v list (Some why) = stops_on list Beyond (log_fault_text why)
+
 abbrev pub issued : HashFunction → RequestParts → FoundLog → Option LogError → Outcome
-issued h r found None =
-    appends found.records (issued_record h found.state r) (issued_text (length found.state.entries))
-issued h r found (Some why) =
-    stops_on found.records Beyond (log_fault_text why)
+issued h r found why = issued_by h r (view_in found.state) found.records why
 
 -- What `issue` makes of a log that was found.
 abbrev pub issue_says : HashFunction → RequestParts → FoundLog → Outcome
 issue_says h r found = issued h r found (add_refusal (view_in found.state) false
-    (end_behind found.records) (issued_entry h found.state r) r.key)
+    (end_behind found.records) (issued_entry h found.state.settings r) r.key)

@@ -1,10 +1,10 @@
 -- The outcomes of the commands on a log's landmarks: `landmark` and `landmarks`.
-use Rattle.std.specs.Prelude.{ℕ, ◌+◌, ◌++◌, false, length, codes, Option, Some, None}
+use Rattle.std.specs.Prelude.{ℕ, ◌+◌, ◌++◌, false, List, length, codes, Option, Some, None}
 use Rattle.std.specs.Fmt.{decimal}
 use Rattle.byte_forms.specs.Types.{Text}
 use Rattle.journal_core.specs.Format.{end_behind}
 use Rattle.journal_core.specs.declared.error.AppendError.TheVariants as append_error
-use Rattle.issuance_log.specs.Folds.{LogState, view_in}
+use Rattle.issuance_log.specs.Folds.{LogView, view_in}
 use Rattle.issuance_log.specs.Openings.{FoundLog}
 use Rattle.issuance_log.specs.Records.{landmark_record}
 use Rattle.issuance_log.specs.Refusals.{mark_refusal}
@@ -28,8 +28,8 @@ landmark_line number size =
     codes "landmark " ++ (decimal number ++ (codes " " ++ (decimal size ++ codes "\n")))
 
 -- That of the next landmark, at the size of the log. Landmarks are numbered from 1 on.
-abbrev pub next_line : LogState → Text
-next_line s = landmark_line (length s.marks + 1) (length s.entries)
+abbrev pub next_line : LogView → Text
+next_line v = landmark_line (length v.marks + 1) v.size
 
 -- Why a log takes no landmark.
 abbrev pub mark_refused : LogError → Reply
@@ -51,11 +51,14 @@ MayRefuseMark (log_error.Append append_error.Failed) = Unit {0}
 MayRefuseMark (log_error.Append append_error.Full) = Unit {0}
 MayRefuseMark why = ⊥
 
--- A landmark at the size of the log is set, unless the log refuses it.
+-- A landmark at the size of the log is set, where it shows this and has these records, unless the
+-- log refuses it.
+abbrev pub marked_by : LogView → List Text → Option LogError → Outcome
+marked_by v list None = appends list (landmark_record v.size) (next_line v)
+marked_by v list (Some why) = answers_on list (mark_refused why)
+
 abbrev pub marked : FoundLog → Option LogError → Outcome
-marked found None = appends found.records (landmark_record (length found.state.entries))
-    (next_line found.state)
-marked found (Some why) = answers_on found.records (mark_refused why)
+marked found why = marked_by (view_in found.state) found.records why
 
 -- What `landmark` makes of a log that was found.
 abbrev pub landmark_says : FoundLog → Outcome
@@ -65,9 +68,9 @@ landmark_says found =
 -- ---- landmarks
 
 -- The landmarks of a log, as many of them active as it allows.
-abbrev pub log_landmarks : LogState → LandmarkList
-log_landmarks s = landmarks_of s.marks s.settings.max_active
+abbrev pub log_landmarks : LogView → LandmarkList
+log_landmarks v = landmarks_of v.marks v.settings.max_active
 
 -- Their list.
-abbrev pub landmarks_reply : LogState → Reply
-landmarks_reply s = said Done (list_text (log_landmarks s))
+abbrev pub landmarks_reply : LogView → Reply
+landmarks_reply v = said Done (list_text (log_landmarks v))

@@ -3,6 +3,8 @@ pub mod RequestOutcomes
 pub mod IssueOutcome
 pub mod LandmarkOutcomes
 pub mod CertOutcome
+pub mod TileOutcome
+pub mod BadTiles
 pub mod Works
 pub mod CertCommand
 pub mod IssueCommand

@@ -12,7 +12,7 @@ use Rattle.issuance_log.specs.Records.{settings_record}
 use Rattle.issuance_log.specs.Settings.{Settings}
 use Rattle.mtc_answers.specs.declared.answer.Said.TheVariants.{Done}
 use Rattle.mtc_answers.specs.declared.answer.Stopped.TheVariants.{NotAllowed}
-use Rattle.mtc_answers.specs.Answers.{Reply, said, refused}
+use Rattle.mtc_answers.specs.Answers.{Ending, Reply, no_memory, refused, replied, room_failed, said}
 use Rattle.mtc_answers.specs.Steps.{Outcome, Files, starts, with_fresh}
 
 -- A new log.
@@ -31,9 +31,13 @@ init_log_outcome journal id active limit files = with_fresh journal (files journ
 
 -- The size and the tree hash.
 
+abbrev pub checkpoint_lines : ℕ → Text → Text
+checkpoint_lines size root = codes "size " ++ (decimal size
+    ++ (codes "\nroot " ++ (encode_lower root ++ codes "\n")))
+
 abbrev pub checkpoint_reply : HashFunction → List Text → Reply
-checkpoint_reply h entries = said Done (codes "size " ++ (decimal (length entries)
-    ++ (codes "\nroot " ++ (encode_lower (tree_hash h entries) ++ codes "\n"))))
+checkpoint_reply h entries =
+    said Done (checkpoint_lines (length entries) (tree_hash h entries))
 
 -- The items of a log: its entries, and the key of each.
 abbrev pub items_of : LogState → ItemLists
@@ -59,3 +63,9 @@ pub record IsItemAt (s : LogState) (index : ℕ) (entry key : Text) : Type 0 whe
   pub key_is : key ≡ slice_index_or s.keys index []
   pub short_entry : length entry < 65536
   pub short_key : length key < 65536
+
+-- It ends without a reply: the room failed at this file, or memory was refused.
+abbrev pub StopsAt : Type 0 → Text → Ending → Type 0
+StopsAt Fault file (replied reply) = ⊥
+StopsAt Fault file (room_failed at) = (at ≡ file) × Fault
+StopsAt Fault file no_memory = Unit {0}

@@ -1,14 +1,11 @@
 //! The commands `cert` and `light-cert`: the certificate of an entry.
 
-ghost use Rattle.std.specs.Prelude.{◌≡◌, ◌<◌, ◌^◌, [], ◌∷◌};
+ghost use Rattle.std.specs.Prelude.{◌≡◌, ◌+◌, ◌<◌, ◌^◌, [], ◌∷◌};
 ghost use Rattle.byte_forms.specs.Readings.{Gives};
-ghost use Rattle.issuance_log.specs.Words.{LogStays, log_state};
-ghost use Rattle.mtc_answers.specs.Answers.{stop_ending, ending_of};
-ghost use Rattle.mtc_answers.specs.Endings.{Replies};
-ghost use Rattle.mtc_answers.specs.Served.{HasServed};
+ghost use Rattle.mtc_answers.specs.Answers.{stop_ending, ending_of, tiles_name};
+ghost use Rattle.mtc_answers.specs.Served.{HasServedBeside, LooksBeside};
 ghost use Rattle.mtc_answers.specs.Valid.{KeepsValid};
-ghost use Rattle.mtc_logs.specs.Works.{IsLog};
-ghost use Rattle.mtc_answers.specs.Wanted.{exactly};
+ghost use Rattle.mtc_logs.specs.Works.{IsLog, RepliesOnLog};
 ghost use Rattle.mtc_proof.specs.Proofs.{AreSignatures};
 ghost use Rattle.mtc_logs.specs.CertOutcome.{cert_ending, cert_reply, light_reply};
 ghost use Rattle.mtc_logs.specs.CertOutcome.{signatures_ending, signatures_in};
@@ -65,9 +62,9 @@ impl Signatures {
     }
 }
 
-// Why no certificate is written.
-fn refuse_certificate<'a>(why: WriteError) -> Stop<'a>
-    ensures { stop_ending result ≡ cert_ending why }
+// Why no certificate is written of a log in this journal.
+fn refuse_certificate<'a>(journal: &'a str, why: WriteError) -> Stop<'a>
+    ensures { stop_ending result ≡ cert_ending journal.now why }
 {
     let not_allowed = Stopped::NotAllowed;
     match why {
@@ -80,6 +77,8 @@ fn refuse_certificate<'a>(why: WriteError) -> Stop<'a>
         WriteError::TooManySignatures => {
             refuse(Stopped::Beyond, Reason::named("TooManySignatures"))
         }
+        WriteError::JournalFailed => Stop::Room(journal),
+        WriteError::TilesFailed => Stop::Tiles(journal),
         WriteError::Memory => Stop::Memory,
     }
 }
@@ -87,42 +86,43 @@ fn refuse_certificate<'a>(why: WriteError) -> Stop<'a>
 /// The work of `cert J INDEX START END SIGNATURES`.
 pub(crate) fn certificate<'a, H: TreeHash, D: Disk>(
     alloc: Global,
-    log: &mut Log<H, D>,
+    journal: &'a str,
+    log: &mut Log<H, D, D>,
     index: u64,
     start: u64,
     end: u64,
     signatures: &Signatures,
 ) -> Result<Answer, Stop<'a>>
-    ensures reply { Replies
-        (exactly (cert_reply H.hash index start end signatures.now (log_state log.old)))
-        (ending_of result) }
-    ensures stays { LogStays log.old log.new }
+    ensures { RepliesOnLog journal.now (cert_reply H.hash index start end signatures.now) log.old
+        log.new (ending_of result) }
 {
+    log.sound();
     match authority_core::cert(alloc, log, index, start, end, signatures.as_slice()) {
         Ok(text) => Ok(Answer {
             status: Said::Done,
             text,
         }),
-        Err(why) => Err(refuse_certificate(why)),
+        Err(why) => Err(refuse_certificate(journal, why)),
     }
 }
 
 /// The work of `light-cert J INDEX`.
 pub(crate) fn light_certificate<'a, H: TreeHash, D: Disk>(
     alloc: Global,
-    log: &mut Log<H, D>,
+    journal: &'a str,
+    log: &mut Log<H, D, D>,
     index: u64,
 ) -> Result<Answer, Stop<'a>>
-    ensures reply { Replies (exactly (light_reply H.hash index (log_state log.old)))
+    ensures { RepliesOnLog journal.now (light_reply H.hash index) log.old log.new
         (ending_of result) }
-    ensures stays { LogStays log.old log.new }
 {
+    log.sound();
     match authority_core::light_cert(alloc, log, index) {
         Ok(text) => Ok(Answer {
             status: Said::Done,
             text,
         }),
-        Err(why) => Err(refuse_certificate(why)),
+        Err(why) => Err(refuse_certificate(journal, why)),
     }
 }
 
@@ -153,13 +153,16 @@ pub fn cert<'a, H: TreeHash, R: Room>(
     end: u64,
     file: &'a str,
 ) -> Result<Answer, Stop<'a>>
-    requires { R.lent room.old < 2 ^ 32 }
-    ensures serves { HasServed R.Room R.Dsk.Disk (journal.now ∷ file.now ∷ []) journal.now
+    requires { R.lent room.old + 1 < 2 ^ 32 }
+    ensures serves { HasServedBeside R.Room R.Dsk.Disk
+        (journal.now ∷ tiles_name journal.now ∷ file.now ∷ []) journal.now
+        (tiles_name journal.now)
         (cert_outcome H.hash journal.now index start end file.now (R.file room.old))
         room.old room.new (ending_of result) }
     ensures valid { KeepsValid R.Room R.Dsk.Disk (IsLog H.hash) (journal.now ∷ [])
         (cert_outcome H.hash journal.now index start end file.now (R.file room.old))
         room.old room.new }
+    ensures looked { LooksBeside R.Room R.Dsk.Disk room.old room.new (tiles_name journal.now) }
 {
     let bytes = read_input(alloc, room, file, INPUT_LIMIT)?;
     match Signatures::read(bytes) {

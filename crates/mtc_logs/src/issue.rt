@@ -1,8 +1,9 @@
 //! The command `issue`: the entry of a request is added to a log.
 
-ghost use Rattle.std.specs.Prelude.{◌≡◌, ◌≢◌, ◌<◌, ◌^◌, [], ◌∷◌, IfOk};
-ghost use Rattle.mtc_answers.specs.Answers.{stop_ending, ending_of};
-ghost use Rattle.mtc_answers.specs.Served.{HasServed};
+ghost use Rattle.std.specs.Prelude.{◌≡◌, ◌≢◌, ◌<◌, ◌+◌, ◌^◌, [], ◌∷◌, IfOk};
+ghost use Rattle.issuance_log.specs.Words.{log_tiles_disk};
+ghost use Rattle.mtc_answers.specs.Answers.{stop_ending, ending_of, tiles_name};
+ghost use Rattle.mtc_answers.specs.Served.{HasServedBeside, LooksBeside};
 ghost use Rattle.mtc_answers.specs.Valid.{KeepsValid};
 ghost use Rattle.mtc_logs.specs.IssueOutcome.{field_text, issue_ending, issue_says, issued_text};
 ghost use Rattle.mtc_logs.specs.IssueOutcome.{request_ending};
@@ -35,6 +36,7 @@ fn refuse_entry<'a>(journal: &'a str, why: IssueError) -> Stop<'a>
     requires sound { why ≢ IssueError.Log (LogError.Append AppendError.Broken) }
     requires reads { why ≢ IssueError.Log LogError.NoSuchEntry }
     requires marks { why ≢ IssueError.Log LogError.NothingNew }
+    requires disks { why ≢ IssueError.Log LogError.Failed }
     ensures { stop_ending result ≡ issue_ending journal.now why }
 {
     let beyond = Stopped::Beyond;
@@ -48,6 +50,7 @@ fn refuse_entry<'a>(journal: &'a str, why: IssueError) -> Stop<'a>
         IssueError::Log(LogError::Append(AppendError::Broken)) => unreachable!(),
         IssueError::Log(LogError::NoSuchEntry) => unreachable!(),
         IssueError::Log(LogError::NothingNew) => unreachable!(),
+        IssueError::Log(LogError::Failed) => unreachable!(),
         IssueError::Log(LogError::Memory) => Stop::Memory,
     }
 }
@@ -57,13 +60,14 @@ fn refuse_entry<'a>(journal: &'a str, why: IssueError) -> Stop<'a>
 pub fn issue_on<'a, H: TreeHash, D: Disk>(
     alloc: Global,
     journal: &'a str,
-    log: &mut Log<H, D>,
+    log: &mut Log<H, D, D>,
     request: &Request,
 ) -> Result<Answer, Stop<'a>>
     requires { IsReadyLog log.old }
     ensures works { HasWorkedOnLog journal.now (issue_says H.hash request.now) log.old log.new
         (ending_of result) }
     ensures valid { StaysLog H.hash (issue_says H.hash request.now) log.old log.new }
+    ensures tiles { log_tiles_disk log.new ≡ log_tiles_disk log.old }
 {
     let text = text_of_index(alloc, log.size())?;
     match authority_core::issue(alloc, log, request) {
@@ -114,12 +118,14 @@ pub fn issue<'a, H: TreeHash, R: Room>(
     journal: &'a str,
     file: &'a str,
 ) -> Result<Answer, Stop<'a>>
-    requires { R.lent room.old < 2 ^ 32 }
-    ensures serves { HasServed R.Room R.Dsk.Disk (journal.now ∷ file.now ∷ []) journal.now
+    requires { R.lent room.old + 1 < 2 ^ 32 }
+    ensures serves { HasServedBeside R.Room R.Dsk.Disk
+        (journal.now ∷ tiles_name journal.now ∷ file.now ∷ []) journal.now (tiles_name journal.now)
         (issue_outcome H.hash journal.now file.now (R.file room.old))
         room.old room.new (ending_of result) }
     ensures valid { KeepsValid R.Room R.Dsk.Disk (IsLog H.hash) (journal.now ∷ [])
         (issue_outcome H.hash journal.now file.now (R.file room.old)) room.old room.new }
+    ensures looked { LooksBeside R.Room R.Dsk.Disk room.old room.new (tiles_name journal.now) }
 {
     let text = read_input(alloc, room, file, INPUT_LIMIT)?;
     match read_request(alloc, text.as_slice()) {

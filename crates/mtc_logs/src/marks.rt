@@ -1,7 +1,7 @@
 //! The commands `landmark` and `landmarks`: a landmark more, and the list of the active ones.
 
 ghost use Rattle.std.specs.Prelude.{◌≡◌, IfOk};
-ghost use Rattle.issuance_log.specs.Words.{LogStays, log_state};
+ghost use Rattle.issuance_log.specs.Words.{LogStays, log_tiles_disk, view_of};
 ghost use Rattle.mtc_answers.specs.Answers.{ending_of, stop_ending};
 ghost use Rattle.mtc_answers.specs.Endings.{Replies};
 ghost use Rattle.mtc_answers.specs.Wanted.{exactly};
@@ -38,6 +38,7 @@ fn refuse_landmark<'a>(journal: &'a str, why: LogError) -> Stop<'a>
         LogError::Append(AppendError::Failed) => Stop::Room(journal),
         LogError::Memory => Stop::Memory,
         LogError::Append(AppendError::Broken)
+        | LogError::Failed
         | LogError::Full
         | LogError::TooLarge
         | LogError::NoSuchEntry => unreachable!(),
@@ -49,11 +50,12 @@ fn refuse_landmark<'a>(journal: &'a str, why: LogError) -> Stop<'a>
 pub fn set_landmark<'a, H: TreeHash, D: Disk>(
     alloc: Global,
     journal: &'a str,
-    log: &mut Log<H, D>,
+    log: &mut Log<H, D, D>,
 ) -> Result<Answer, Stop<'a>>
     requires { IsReadyLog log.old }
     ensures works { HasWorkedOnLog journal.now landmark_says log.old log.new (ending_of result) }
     ensures valid { StaysLog H.hash landmark_says log.old log.new }
+    ensures tiles { log_tiles_disk log.new ≡ log_tiles_disk log.old }
 {
     let number = log.marks().len() as u64 + 1;
     let text = text_of_landmark(alloc, number, log.size())?;
@@ -67,8 +69,11 @@ pub fn set_landmark<'a, H: TreeHash, D: Disk>(
 }
 
 // The landmarks of a log, as many of them active as it allows.
-fn landmarks_in<H: TreeHash, D: Disk>(alloc: Global, log: &Log<H, D>) -> Result<Landmarks, Memory>
-    ensures { IfOk result (λ l. l ≡ log_landmarks (log_state log.now)) }
+fn landmarks_in<H: TreeHash, D: Disk>(
+    alloc: Global,
+    log: &Log<H, D, D>,
+) -> Result<Landmarks, Memory>
+    ensures { IfOk result (λ l. l ≡ log_landmarks (view_of log.now)) }
 {
     log.sound();
     of_marks(alloc, log.marks(), log.settings().max_active)
@@ -77,9 +82,9 @@ fn landmarks_in<H: TreeHash, D: Disk>(alloc: Global, log: &Log<H, D>) -> Result<
 /// The work of `landmarks J`.
 pub fn list_landmarks<'a, H: TreeHash, D: Disk>(
     alloc: Global,
-    log: &mut Log<H, D>,
+    log: &mut Log<H, D, D>,
 ) -> Result<Answer, Stop<'a>>
-    ensures reply { Replies (exactly (landmarks_reply (log_state log.old))) (ending_of result) }
+    ensures reply { Replies (exactly (landmarks_reply (view_of log.old))) (ending_of result) }
     ensures stays { LogStays log.old log.new }
 {
     let landmarks = landmarks_in(alloc, log)?;

@@ -1,7 +1,8 @@
-//! Hashes and proofs over the first entries of a log.
+//! Hashes and proofs over the first entries of a log. Only the device of its tiles is called.
 
-ghost use Rattle.std.specs.Prelude.{◌≡◌, ◌<◌, ◌≤◌, true, take};
-ghost use Rattle.issuance_log.specs.Words.{LogStays, log_state, view_of};
+ghost use Rattle.std.specs.Prelude.{◌≡◌, ◌<◌, ◌≤◌, true, take, IfOk, IfSome};
+ghost use Rattle.issuance_log.specs.Words.{LogAsksTiles, log_tiles_disk, told_by_both, view_of};
+ghost use Rattle.mtc_io.specs.Counts.{HasCause};
 ghost use Rattle.tree_core.specs.Path.{part_of};
 ghost use Rattle.tree_core.specs.Subtree.{is_subtree};
 ghost use Rattle.tree_core.specs.Tree.{tree_hash};
@@ -14,53 +15,75 @@ use tree_core::TreeHash;
 use tree_proofs::{Path, node_of};
 
 // The hash of the subtree `[start, end)` of the entries.
-pub fn hash_of<H: TreeHash, D: Disk>(log: &mut Log<H, D>, start: u64, end: u64) -> [u8; 32]
+pub fn hash_of<H: TreeHash, D: Disk>(
+    log: &mut Log<H, D, D>,
+    start: u64,
+    end: u64,
+) -> Result<[u8; 32], Failed>
     requires valid { is_subtree start end ≡ true }
     requires within { end ≤ (view_of log.old).size }
-    ensures hash { result ≡ tree_hash H.hash (part_of (log_state log.old).entries start end) }
-    ensures stays { LogStays log.old log.new }
+    ensures hash { IfOk result (λ hash. IfSome (told_by_both log.old)
+        (λ s. hash ≡ tree_hash H.hash (part_of s.entries start end))) }
+    ensures asks { LogAsksTiles log.old log.new }
+    ensures cause { HasCause (D.faults (log_tiles_disk log.old)) (D.faults (log_tiles_disk log.new))
+        result }
 {
-    match node_of(log, start, end) {
-        Ok(hash) => hash,
-        Err(Failed) => unreachable!(),
-    }
+    node_of(log, start, end)
 }
 
 // The tree hash of the first `size` entries (RFC 9162, section 2.1.1).
-pub fn root_of<H: TreeHash, D: Disk>(log: &mut Log<H, D>, size: u64) -> [u8; 32]
+pub fn root_of<H: TreeHash, D: Disk>(log: &mut Log<H, D, D>, size: u64) -> Result<[u8; 32], Failed>
     requires some { 0 < size }
     requires within { size ≤ (view_of log.old).size }
-    ensures hash { result ≡ tree_hash H.hash (take size (log_state log.old).entries) }
-    ensures stays { LogStays log.old log.new }
+    ensures hash { IfOk result (λ hash. IfSome (told_by_both log.old)
+        (λ s. hash ≡ tree_hash H.hash (take size s.entries))) }
+    ensures asks { LogAsksTiles log.old log.new }
+    ensures cause { HasCause (D.faults (log_tiles_disk log.old)) (D.faults (log_tiles_disk log.new))
+        result }
 {
     hash_of(log, 0, size)
 }
 
 // The consistency proof of the subtree `[start, end)` in the first `size` entries.
-pub fn proof_of<H: TreeHash, D: Disk>(log: &mut Log<H, D>, start: u64, end: u64, size: u64) -> Path
+pub fn proof_of<H: TreeHash, D: Disk>(
+    log: &mut Log<H, D, D>,
+    start: u64,
+    end: u64,
+    size: u64,
+) -> Result<Path, Failed>
     requires valid { is_subtree start end ≡ true }
     requires inside { end ≤ size }
     requires within { size ≤ (view_of log.old).size }
-    ensures proof { result ≡ prefix_proof H.hash (log_state log.old).entries start end size }
-    ensures stays { LogStays log.old log.new }
+    ensures proof { IfOk result (λ proof. IfSome (told_by_both log.old)
+        (λ s. proof ≡ prefix_proof H.hash s.entries start end size)) }
+    ensures asks { LogAsksTiles log.old log.new }
+    ensures cause { HasCause (D.faults (log_tiles_disk log.old)) (D.faults (log_tiles_disk log.new))
+        result }
 {
     let mut proof = Path::new();
     match tree_proofs::consist(log, start, end, size, &mut proof) {
-        Ok(()) => proof,
-        Err(Failed) => unreachable!(),
+        Ok(()) => Ok(proof),
+        Err(Failed) => Err(Failed),
     }
 }
 
 // The proof that the first `old` entries are among the first `new` ones. Of none there is nothing
 // to prove.
-pub fn growth_of<H: TreeHash, D: Disk>(log: &mut Log<H, D>, old: u64, new: u64) -> Path
+pub fn growth_of<H: TreeHash, D: Disk>(
+    log: &mut Log<H, D, D>,
+    old: u64,
+    new: u64,
+) -> Result<Path, Failed>
     requires more { old < new }
     requires within { new ≤ (view_of log.old).size }
-    ensures proof { result ≡ growth_at H.hash (log_state log.old).entries old new }
-    ensures stays { LogStays log.old log.new }
+    ensures proof { IfOk result (λ proof. IfSome (told_by_both log.old)
+        (λ s. proof ≡ growth_at H.hash s.entries old new)) }
+    ensures asks { LogAsksTiles log.old log.new }
+    ensures cause { HasCause (D.faults (log_tiles_disk log.old)) (D.faults (log_tiles_disk log.new))
+        result }
 {
     if old == 0 {
-        Path::new()
+        Ok(Path::new())
     } else {
         proof_of(log, 0, old, new)
     }

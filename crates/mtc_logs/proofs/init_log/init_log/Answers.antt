@@ -1,4 +1,4 @@
-use Rattle.std.proofs.Common.{[], ◌∷◌, IsOk, inl, refl, rules, subst, sym}
+use Rattle.std.proofs.Common.{[], ◌∷◌, IsOk, inl, refl, subst, sym}
 use Rattle.byte_forms.specs.Types.{Text}
 use Rattle.issuance_log.specs.Records.{settings_record}
 use Rattle.mtc_answers.specs.Answers.{ending_of}

@@ -4,30 +4,37 @@ use Rattle.byte_forms.specs.Readings.{Answers}
 use Rattle.byte_forms.specs.Types.{Text}
 use Rattle.authority_core.specs.Files.{request_of}
 use Rattle.authority_core.specs.declared.requests.error.RequestError.TheVariants.{Memory}
-use Rattle.mtc_answers.specs.Answers.{Ending, ending_of}
-use Rattle.mtc_answers.specs.Served.{HasServed}
-use Rattle.mtc_answers.proofs.Served.{behind}
+use Rattle.mtc_answers.specs.Answers.{Ending, ending_of, tiles_name}
+use Rattle.mtc_answers.specs.Served.{HasServedBeside}
+use Rattle.mtc_answers.proofs.Served.{behind, beside}
 use Rattle.mtc_answers.proofs.Valid.{behind_valid, kept_valid}
 use Rattle.mtc_logs.specs.IssueCommand.{issue_outcome, request_says}
 use Rattle.mtc_logs.specs.Works.{IsLog, log_outcome}
 use Rattle.mtc_logs.specs.declared.work.Work.TheVariants.{Issue}
+use Rattle.mtc_logs.proofs.Looked.{looked_behind, looked_kept}
 use Rattle.mtc_logs.proofs.Reading.{asked_so, unread}
 use Rattle.mtc_logs.proofs.issue.issue.Goals as goal
 
 pub returns-in_err-text-clause-serves : goal.returns-in_err-text-clause-serves
 returns-in_err-text-clause-serves g c =
     let journal = c.args.journal.now in
+    let tiles = tiles_name journal in
     let file = c.args.file.now in
+    let old = c.args.room.now in
     let stopped = err_from_is_err_and c.from_residual.result c.from_residual.ensures.1 in
-    rw (stopped.1, stopped.2) (c.in_err-text.ensures.stops (journal ∷ file ∷ []) (journal ∷ [])
-    (request_says g.H.TreeHash.hash journal file (g.R.Room.file c.args.room.now journal))
-    (inr (inl refl)))
+    rw (stopped.1, stopped.2) (beside g.R.Room g.R.Dsk.Disk ⊥ (journal ∷ tiles ∷ file ∷ [])
+    (journal ∷ []) (tiles ∷ []) (issue_outcome g.H.TreeHash.hash journal file (g.R.Room.file old))
+    old c.read_input.new.room _
+    (c.in_err-text.ensures.stops (journal ∷ tiles ∷ file ∷ []) (journal ∷ [])
+    (request_says g.H.TreeHash.hash journal file (g.R.Room.file old journal)
+    (g.R.Room.file old tiles)) (inr (inr (inl refl)))))
 
 pub returns-in-Ok-clause-serves : goal.returns-in-Ok-clause-serves
 returns-in-Ok-clause-serves g c =
     let h = g.H.TreeHash.hash in
     let rooms = g.R.Room in
     let journal = c.args.journal.now in
+    let tiles = tiles_name journal in
     let file = c.args.file.now in
     let old = c.args.room.now in
     let mid = c.read_input.new.room in
@@ -35,27 +42,32 @@ returns-in-Ok-clause-serves g c =
     let is : request_of c.in_ok-text.text ≡ Ok c.in-Ok.request =
     subst (λ (t : Text). request_of t ≡ Ok c.in-Ok.request) c.as_slice.ensures
     c.in-Ok.ensures.exact in
-    behind rooms g.R.Dsk.Disk (journal ∷ file ∷ []) (journal ∷ []) (journal ∷ [])
-    (issue_outcome h journal file (rooms.file old))
-    (log_outcome h journal (rooms.file mid journal) (Issue c.in-Ok.request)) old mid
+    behind rooms g.R.Dsk.Disk (journal ∷ tiles ∷ file ∷ []) (journal ∷ tiles ∷ []) (journal ∷ [])
+    (tiles ∷ []) (issue_outcome h journal file (rooms.file old))
+    (log_outcome h journal (rooms.file mid journal) (rooms.file mid tiles)
+    (Issue c.in-Ok.request)) old mid
     c.on_log.new.room (ending_of c.on_log.result) read.settled
     (λ t. asked_so h journal file (rooms.file old) c.in_ok-text.text (read.bytes t).0
-    (read.bytes t).1 (rooms.file mid journal) c.in-Ok.request is
-    (read.settled.others journal tt).bytes)
-    (λ name is. elim is [ inl same ↦ inl same | inr never ↦ absurd never ])
+    (read.bytes t).1 (rooms.file mid journal) (rooms.file mid tiles) c.in-Ok.request is
+    (read.settled.others journal tt).bytes (read.settled.others tiles tt).bytes)
+    (λ name is. elim is [
+      | inl same ↦ inl same
+      | inr more ↦ elim more [ inl same ↦ inr (inl same) | inr never ↦ absurd never ]
+    ])
     c.on_log.ensures.serves
 
 pub returns-clause-serves : goal.returns-clause-serves
 returns-clause-serves g c =
     let journal = c.args.journal.now in
+    let tiles = tiles_name journal in
     let file = c.args.file.now in
     let old = c.args.room.now in
     let read = c.in_ok-text.ensures in
     let is : Answers Memory (request_of c.in_ok-text.text) (Err c.in-Err.why) =
     subst (λ (t : Text). Answers Memory (request_of t) (Err c.in-Err.why)) c.as_slice.ensures
     c.in-Err.ensures.exact in
-    subst (λ (e : Ending). HasServed g.R.Room g.R.Dsk.Disk (journal ∷ file ∷ []) journal
-    (issue_outcome g.H.TreeHash.hash journal file (g.R.Room.file old)) old
+    subst (λ (e : Ending). HasServedBeside g.R.Room g.R.Dsk.Disk (journal ∷ tiles ∷ file ∷ [])
+    journal tiles (issue_outcome g.H.TreeHash.hash journal file (g.R.Room.file old)) old
     c.read_input.new.room e) (sym c.refuse_request.ensures)
     (unread g.R.Room g.R.Dsk.Disk g.H.TreeHash.hash journal file old c.read_input.new.room
     c.in_ok-text.text read.settled g.met.R.Dsk.Disk.only_now read.bytes c.in-Err.why is)
@@ -72,6 +84,7 @@ returns-in-Ok-clause-valid g c =
     let h = g.H.TreeHash.hash in
     let rooms = g.R.Room in
     let journal = c.args.journal.now in
+    let tiles = tiles_name journal in
     let file = c.args.file.now in
     let old = c.args.room.now in
     let mid = c.read_input.new.room in
@@ -81,11 +94,12 @@ returns-in-Ok-clause-valid g c =
     c.in-Ok.ensures.exact in
     behind_valid rooms g.R.Dsk.Disk (IsLog h) (journal ∷ [])
     (issue_outcome h journal file (rooms.file old))
-    (log_outcome h journal (rooms.file mid journal) (Issue c.in-Ok.request)) old mid
+    (log_outcome h journal (rooms.file mid journal) (rooms.file mid tiles)
+    (Issue c.in-Ok.request)) old mid
     c.on_log.new.room read.settled
     (λ t. asked_so h journal file (rooms.file old) c.in_ok-text.text (read.bytes t).0
-    (read.bytes t).1 (rooms.file mid journal) c.in-Ok.request is
-    (read.settled.others journal tt).bytes)
+    (read.bytes t).1 (rooms.file mid journal) (rooms.file mid tiles) c.in-Ok.request is
+    (read.settled.others journal tt).bytes (read.settled.others tiles tt).bytes)
     c.on_log.ensures.valid
 
 pub returns-clause-valid : goal.returns-clause-valid
@@ -94,3 +108,19 @@ returns-clause-valid g c =
     (issue_outcome g.H.TreeHash.hash c.args.journal.now c.args.file.now
     (g.R.Room.file c.args.room.now)) c.args.room.now c.read_input.new.room
     c.in_ok-text.ensures.settled g.met.R.Dsk.Disk.only_now
+
+pub returns-in_err-text-clause-looked : goal.returns-in_err-text-clause-looked
+returns-in_err-text-clause-looked g c =
+    looked_kept g.R.Room g.R.Dsk.Disk (tiles_name c.args.journal.now) c.args.room.now
+    c.read_input.new.room c.in_err-text.ensures.settled g.met.R.Dsk.Disk.only_now
+
+pub returns-in-Ok-clause-looked : goal.returns-in-Ok-clause-looked
+returns-in-Ok-clause-looked g c =
+    looked_behind g.R.Room g.R.Dsk.Disk (tiles_name c.args.journal.now) c.args.room.now
+    c.read_input.new.room c.on_log.new.room c.in_ok-text.ensures.settled
+    (c.on_log.ensures.looked (λ e. absurd cc))
+
+pub returns-clause-looked : goal.returns-clause-looked
+returns-clause-looked g c =
+    looked_kept g.R.Room g.R.Dsk.Disk (tiles_name c.args.journal.now) c.args.room.now
+    c.read_input.new.room c.in_ok-text.ensures.settled g.met.R.Dsk.Disk.only_now

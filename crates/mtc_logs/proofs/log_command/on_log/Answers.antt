@@ -1,43 +1,28 @@
-use Rattle.std.proofs.Common.{[], ◌∷◌, inl, refl}
+use Rattle.std.proofs.Common.{[], ◌∷◌}
 use Rattle.std.proofs.lemmas.Result.{err_from_is_err_and}
-use Rattle.mtc_answers.specs.Answers.{ending_of}
-use Rattle.mtc_answers.proofs.Works.{served}
-use Rattle.mtc_answers.proofs.Valid.{kept_valid, served_valid}
-use Rattle.mtc_logs.specs.Works.{IsLog, log_bytes_say, log_outcome}
+use Rattle.mtc_answers.specs.Answers.{no_memory, tiles_name}
+use Rattle.mtc_answers.proofs.Served.{stopped}
+use Rattle.mtc_answers.proofs.Valid.{gives_same}
+use Rattle.mtc_logs.specs.Works.{log_outcome}
 use Rattle.mtc_logs.proofs.log_command.on_log.Goals as goal
 
-pub returns-clause-serves : goal.returns-clause-serves
-unfolding Rattle.mtc_logs.specs.Works.log_outcome
-returns-clause-serves g c =
+pub returns-in_err-name-clause-serves : goal.returns-in_err-name-clause-serves
+returns-in_err-name-clause-serves g c =
     let name = c.args.journal.now in
-    served g.R.Room g.R.Dsk.Disk name (name ∷ [])
-    (log_bytes_say g.H.TreeHash.hash name c.args.work) c.args.room.now c.lend.new.room
-    c.give_back.new.room c.in_ok-disk.disk c.on_device-disk.result.0
-    (ending_of c.on_device-disk.result.1) c.in_ok-disk.ensures.lent c.on_device-disk.ensures.serves
-    c.give_back.ensures (inl refl)
+    let refused = err_from_is_err_and c.from_residual.result c.from_residual.ensures.1 in
+    rw (refused.1, refused.2) (stopped g.R.Room g.R.Dsk.Disk (name ∷ tiles_name name ∷ [])
+    (name ∷ []) (tiles_name name ∷ [])
+    (log_outcome g.H.TreeHash.hash name (g.R.Room.file c.args.room.now name)
+    (g.R.Room.file c.args.room.now (tiles_name name)) c.args.work) c.args.room.now
+    c.args.room.now (gives_same g.R.Room c.args.room.now) g.met.R.Dsk.Disk.only_now no_memory tt tt)
 
-pub returns-in_err-disk-clause-serves : goal.returns-in_err-disk-clause-serves
-unfolding Rattle.mtc_logs.specs.Works.log_outcome
-returns-in_err-disk-clause-serves g c =
+pub returns-in_err-pool-clause-serves : goal.returns-in_err-pool-clause-serves
+returns-in_err-pool-clause-serves g c =
     let name = c.args.journal.now in
-    let stopped = err_from_is_err_and c.from_residual.result c.from_residual.ensures.1 in
-    rw (stopped.1, stopped.2) (c.in_err-disk.ensures.stops (name ∷ [])
-    (log_bytes_say g.H.TreeHash.hash name c.args.work) (inl refl))
-
-pub returns-clause-valid : goal.returns-clause-valid
-unfolding Rattle.mtc_logs.specs.Works.log_outcome
-returns-clause-valid g c =
-    let h = g.H.TreeHash.hash in
-    let name = c.args.journal.now in
-    served_valid g.R.Room g.R.Dsk.Disk (IsLog h) name (log_bytes_say h name c.args.work)
-    c.args.room.now c.lend.new.room c.give_back.new.room c.in_ok-disk.disk
-    c.on_device-disk.result.0 c.in_ok-disk.ensures.lent c.on_device-disk.ensures.valid
-    c.give_back.ensures
-
-pub returns-in_err-disk-clause-valid : goal.returns-in_err-disk-clause-valid
-returns-in_err-disk-clause-valid g c =
-    let h = g.H.TreeHash.hash in
-    let name = c.args.journal.now in
-    kept_valid g.R.Room g.R.Dsk.Disk (IsLog h) (name ∷ [])
-    (log_outcome h name (g.R.Room.file c.args.room.now name) c.args.work)
-    c.args.room.now c.lend.new.room c.in_err-disk.ensures.refused g.met.R.Dsk.Disk.only_now
+    let refused = err_from_is_err_and c.from_residual-in_err-pool.result
+    c.from_residual-in_err-pool.ensures.1 in
+    rw (refused.1, refused.2) (stopped g.R.Room g.R.Dsk.Disk (name ∷ tiles_name name ∷ [])
+    (name ∷ []) (tiles_name name ∷ [])
+    (log_outcome g.H.TreeHash.hash name (g.R.Room.file c.args.room.now name)
+    (g.R.Room.file c.args.room.now (tiles_name name)) c.args.work) c.args.room.now
+    c.args.room.now (gives_same g.R.Room c.args.room.now) g.met.R.Dsk.Disk.only_now no_memory tt tt)

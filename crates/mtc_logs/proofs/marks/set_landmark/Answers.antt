@@ -1,6 +1,6 @@
 use Rattle.std.proofs.Common.{◌≡◌, ◌∙◌, inl, refl, rules, subst, sym}
 use Rattle.byte_forms.specs.Types.{Text}
-use Rattle.issuance_log.specs.Words.{log_state}
+use Rattle.issuance_log.specs.Words.{view_of}
 use Rattle.mtc_answers.specs.Answers.{Ending, replied, said}
 use Rattle.mtc_answers.specs.declared.answer.Said.TheVariants.{Done}
 use Rattle.mtc_logs.specs.LandmarkOutcomes.{landmark_says, next_line}
@@ -18,7 +18,7 @@ returns-in-Ok-clause-works g c =
     let name = c.args.journal.now in
     let old = c.args.log.now in
     let new = c.mark.new.self in
-    let line : c.in_ok-text.text ≡ next_line (log_state old) =
+    let line : c.in_ok-text.text ≡ next_line (view_of old) =
     c.in_ok-text.ensures ∙ search rules in
     subst (λ (t : Text). HasWorkedOnLog name landmark_says old new (replied (said Done t)))
     (sym line)

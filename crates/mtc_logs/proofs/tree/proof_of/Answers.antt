@@ -1,8 +1,7 @@
-use Rattle.std.proofs.Common.{rules}
-use Rattle.issuance_log.specs.Words.{log_state}
-use Rattle.mtc_logs.proofs.Asked.{proof_is}
+use Rattle.issuance_log.specs.Words.{told_by_both}
+use Rattle.mtc_logs.proofs.Asked.{proof_told}
 use Rattle.mtc_logs.proofs.tree.proof_of.Goals as goal
 
-pub returns-clause-proof : goal.returns-clause-proof
-returns-clause-proof g c = proof_is g.H.TreeHash.hash (log_state c.args.log.now).entries
-    c.args.start c.args.end c.args.size _ (search rules)
+pub returns-in-Ok-clause-proof : goal.returns-in-Ok-clause-proof
+returns-in-Ok-clause-proof g c = proof_told g.H.TreeHash.hash c.args.start c.args.end c.args.size
+    (told_by_both c.args.log.now) c.consist.new.out c.in-Ok.ensures.proof

@@ -1,0 +1,28 @@
+-- The work on a log that only looks at it.
+use Rattle.std.proofs.Common.{◌≡◌, inr}
+use Rattle.byte_forms.specs.Types.{Text}
+use Rattle.disk_core.specs.declared.disk.Disk.{Ghosts}
+use Rattle.tree_core.specs.declared.hashing.TreeHash.{Ghosts as Hashes}
+use Rattle.issuance_log.specs.Folds.{LogState}
+use Rattle.issuance_log.specs.Shown.{shown_with}
+use Rattle.issuance_log.specs.Words.{both_records, log_disk, log_tiles_disk}
+use Rattle.issuance_log.specs.Words.{view_of}
+use Rattle.issuance_log.specs.declared.log.Log.{Log as OpenLog}
+use Rattle.mtc_answers.specs.Answers.{Ending, Reply}
+use Rattle.mtc_answers.specs.Steps.{answers_on}
+use Rattle.mtc_answers.proofs.Served.{reply_so}
+use Rattle.mtc_answers.proofs.Tiled.{read_tiled}
+use Rattle.mtc_logs.specs.Works.{HasWorkedOnLog, RepliesOnLog}
+use Rattle.mtc_logs.proofs.Appends.{mapped_some}
+
+module _ {H D : Type 0} {hashes : Hashes H} {g : Ghosts D} (name : Text)
+    (old new : OpenLog H D D hashes g g) (ending : Ending) where
+  -- it has worked as is wanted
+  pub worked_by : (wanted : LogState → Reply) → RepliesOnLog name wanted old new ending
+      → HasWorkedOnLog name (λ found. answers_on found.records (wanted found.state)) old new ending
+  worked_by wanted is = read_tiled g name (both_records old) (log_disk old) (log_disk new)
+      (log_tiles_disk old) (log_tiles_disk new)
+      (λ list. wanted (shown_with (view_of old) list)) ending (inr is.stays.looks)
+      (record { plain = is.plain; later = is.stays.looks.faults; fault = is.fault })
+      (reply_so ending _ _ (λ reply told. mapped_some (shown_with (view_of old))
+      (both_records old) (λ s. reply ≡ wanted s) told) is.reply)

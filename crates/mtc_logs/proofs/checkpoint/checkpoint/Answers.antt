@@ -1,0 +1,35 @@
+use Rattle.std.proofs.Common.{◌≡◌, ℕ, length, take, ap, arith}
+use Rattle.std.proofs.lemmas.Grind.{common_steps}
+use Rattle.std.proofs.lemmas.Option.{IfSome_then}
+use Rattle.byte_forms.specs.Types.{Hash, HashFunction, Text}
+use Rattle.tree_core.specs.Tree.{tree_hash}
+use Rattle.issuance_log.specs.Folds.{LogState, LogView, view_in}
+use Rattle.issuance_log.specs.Words.{log_disk, told_by_both, view_of}
+use Rattle.issuance_log.proofs.Asked.{asks_stays}
+use Rattle.mtc_answers.specs.Answers.{said}
+use Rattle.mtc_answers.specs.declared.answer.Said.TheVariants.{Done}
+use Rattle.mtc_logs.specs.LogOutcomes.{checkpoint_lines, checkpoint_reply}
+use Rattle.mtc_logs.proofs.Replied.{both_so, told_both, told_so}
+use Rattle.mtc_logs.proofs.checkpoint.checkpoint.Goals as goal
+
+hashed : (h : HashFunction) (s : LogState) (v : LogView) (size : ℕ) (root : Hash) (text : Text)
+    → size ≡ v.size → text ≡ checkpoint_lines size root → view_in s ≡ v
+    → root ≡ tree_hash h (take size s.entries) → said Done text ≡ checkpoint_reply h s.entries
+hashed h s v size root text is lines shows whole =
+    let same : length s.entries ≡ v.size = ap (λ (u : LogView). u.size) shows in
+    grind (arith, common_steps)
+
+pub returns-in_ok-checkpoint_text-in-Ok : goal.returns-in_ok-checkpoint_text-in-Ok
+returns-in_ok-checkpoint_text-in-Ok g c =
+    let h = g.H.TreeHash.hash in
+    let log = c.args.log.now in
+    let text = c.in_ok-checkpoint_text-in-Ok.field-0 in
+    let size = c.size-size.result in
+    told_so c.args.journal.now (λ s. checkpoint_reply h s.entries) log c.root_of.new.log
+    (asks_stays log c.root_of.new.log (g.met.D.Disk.only_now (log_disk log)) c.root_of.ensures.asks)
+    (said Done text) (λ e. absurd cc)
+    (IfSome_then (told_by_both log)
+    (both_so (λ s. view_in s ≡ view_of log) (λ s. c.in-Ok.root ≡ tree_hash h (take size s.entries))
+    (told_by_both log) (told_both _ log c.sound.ensures.view) c.in-Ok.ensures.hash)
+    (λ s is. hashed h s (view_of log) size c.in-Ok.root text c.size-size.ensures.value
+    c.in_ok-checkpoint_text-in-Ok.ensures is.0 is.1))
