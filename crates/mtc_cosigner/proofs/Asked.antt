@@ -45,11 +45,11 @@ module _ {F : Type 0} (read : Text → Result F FormError) (next : F → Outcome
       → (rooms.tells old → (rooms.file old file ≡ Some bytes) × (length bytes ≤ 16777216))
       → read bytes ≡ Err why → reason ≡ form_fault_text why
       → ending ≡ replied (refused BadForm (Some file) reason)
-      → HasDone rooms disks ⊥ files names (asks (rooms.file old file)) old new ending
+      → HasDone rooms disks ⊥ files names [] (asks (rooms.file old file)) old new ending
   no_request rooms disks files names old new bytes reason why ending back only_now is form named
-      ends = subst (HasDone rooms disks ⊥ files names (asks (rooms.file old file)) old new)
+      ends = subst (HasDone rooms disks ⊥ files names [] (asks (rooms.file old file)) old new)
       (sym (ends ∙ ap (λ r. replied (refused BadForm (Some file) r)) named))
-      (stopped rooms disks files names _ old new back only_now _ tt (
+      (stopped rooms disks files names [] _ old new back only_now _ tt (
         λ e. absurd cc,
         inr (inl refl),
         λ t. refused_so (rooms.file old file) bytes why (is t).0 (is t).1 form,

@@ -68,7 +68,7 @@ module _ (h : HashFunction) (moment : ℕ) (cert store entries export : Text) wh
         → Ends (of_export (rooms.file mid export) c s e) mid
         → Ends (of_entries (rooms.file old entries) (rooms.file old export) c s) old
     behind_entries c s e is = behind_file rooms disks 1073741824 entries old mid new e back is
-        names [] (λ y. of_export (rooms.file old export) c s y)
+        names [] [] (λ y. of_export (rooms.file old export) c s y)
         (of_export (rooms.file mid export) c s e) ending
         (λ t. ap (λ fx. of_export fx c s e) (same export))
 
@@ -76,7 +76,7 @@ module _ (h : HashFunction) (moment : ℕ) (cert store entries export : Text) wh
         → Ends (of_entries (rooms.file mid entries) (rooms.file mid export) c s) mid
         → Ends (of_store (rooms.file old store) (rooms.file old entries) (rooms.file old export) c)
         old
-    behind_store c s is = behind_file rooms disks 16777216 store old mid new s back is names []
+    behind_store c s is = behind_file rooms disks 16777216 store old mid new s back is names [] []
         (λ y. of_entries (rooms.file old entries) (rooms.file old export) c y)
         (of_entries (rooms.file mid entries) (rooms.file mid export) c s) ending
         (λ t. ap (λ fe. of_entries fe (rooms.file mid export) c s) (same entries)
@@ -87,7 +87,7 @@ module _ (h : HashFunction) (moment : ℕ) (cert store entries export : Text) wh
         mid
         → Ends (of_cert (rooms.file old cert) (rooms.file old store) (rooms.file old entries)
         (rooms.file old export)) old
-    behind_cert c is = behind_file rooms disks 16777216 cert old mid new c back is names []
+    behind_cert c is = behind_file rooms disks 16777216 cert old mid new c back is names [] []
         (λ y. of_store (rooms.file old store) (rooms.file old entries) (rooms.file old export) y)
         (of_store (rooms.file mid store) (rooms.file mid entries) (rooms.file mid export) c) ending
         (λ t. ap (λ fs. of_store fs (rooms.file mid entries) (rooms.file mid export) c) (same store)
@@ -104,7 +104,7 @@ module _ (h : HashFunction) (moment : ℕ) (cert store entries export : Text) wh
         → Replies (audit_store_says h fc fs moment fe fx).answer ending
         → HasAnswered rooms disks names (of_export (rooms.file old export) c s e) old new ending
     behind_export fc fs fe fx c s e x is is_c is_s is_e is_x replies =
-        answered rooms disks names [] (of_export (rooms.file old export) c s e) old new back
+        answered rooms disks names [] [] (of_export (rooms.file old export) c s e) old new back
         only_now ending (says c s e x).answer
         (λ t. ap (λ (w : Outcome). w.answer) (sym (bytes_read 1073741824 export
         (rooms.file old export) x (λ y. says c s e y) (is t).0 (is t).1)))

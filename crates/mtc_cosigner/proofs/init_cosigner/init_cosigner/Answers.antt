@@ -29,7 +29,7 @@ returns-clause-serves g c =
     let read = c.in_ok-secret.ensures in
     let id = c.args.id in
     let log = c.args.log in
-    behind rooms g.R.Dsk.Disk (journal ∷ (file ∷ [])) (journal ∷ (file ∷ [])) (journal ∷ [])
+    behind rooms g.R.Dsk.Disk (journal ∷ (file ∷ [])) (journal ∷ (file ∷ [])) (journal ∷ []) []
     (init_cosigner_outcome journal id log c.args.height c.args.width file (rooms.file old))
     (init_says journal (record {
       id = id;

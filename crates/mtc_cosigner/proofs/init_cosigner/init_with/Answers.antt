@@ -17,14 +17,14 @@ use Rattle.mtc_cosigner.proofs.init_cosigner.init_with.Goals as goal
 pub returns-in_err-text-in-Ok-clause-serves : goal.returns-in_err-text-in-Ok-clause-serves
 returns-in_err-text-in-Ok-clause-serves g c =
     let p = err_from_is_err_and c.from_residual.result c.from_residual.ensures.1 in
-    rw (p.1, p.2) (stopped g.R.Room g.R.Dsk.Disk _ _ _ _ _ (search rules)
+    rw (p.1, p.2) (stopped g.R.Room g.R.Dsk.Disk _ _ _ _ _ _ (search rules)
     g.met.R.Dsk.Disk.only_now no_memory tt tt)
 
 pub returns-in_err-first-in-Ok-clause-serves : goal.returns-in_err-first-in-Ok-clause-serves
 returns-in_err-first-in-Ok-clause-serves g c =
     let p = err_from_is_err_and c.from_residual-in_err-first-in-Ok.result
     c.from_residual-in_err-first-in-Ok.ensures.1 in
-    rw (p.1, p.2) (stopped g.R.Room g.R.Dsk.Disk _ _ _ _ _ (search rules)
+    rw (p.1, p.2) (stopped g.R.Room g.R.Dsk.Disk _ _ _ _ _ _ (search rules)
     g.met.R.Dsk.Disk.only_now no_memory tt tt)
 
 pub returns-in_ok-first-in-Ok-clause-serves : goal.returns-in_ok-first-in-Ok-clause-serves

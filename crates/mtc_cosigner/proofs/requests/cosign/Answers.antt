@@ -43,7 +43,7 @@ returns-in-Ok-clause-serves g c =
     let r = subtree_parts c.in-Ok.request in
     let is : subtree_in c.in_ok-bytes.bytes ≡ Ok r =
     subst (λ (t : Text). subtree_in t ≡ Ok r) c.as_slice.ensures c.in-Ok.ensures in
-    behind rooms g.R.Dsk.Disk (journal ∷ (file ∷ [])) (journal ∷ []) (journal ∷ [])
+    behind rooms g.R.Dsk.Disk (journal ∷ (file ∷ [])) (journal ∷ []) (journal ∷ []) []
     (cosign_outcome h journal file (rooms.file old))
     (cosigner_outcome h journal (rooms.file mid journal) (cosign_says h r)) old mid
     c.on_cosigner.new.room (ending_of c.on_cosigner.result) read.settled

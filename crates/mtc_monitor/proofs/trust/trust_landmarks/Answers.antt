@@ -18,7 +18,7 @@ pub returns-in_err-bytes : goal.returns-in_err-bytes
 returns-in_err-bytes g c =
     let p = err_from_is_err_and c.from_residual-in_err-bytes.result
     c.from_residual-in_err-bytes.ensures.1 in
-    rw (p.1, p.2) (behind g.R.Room g.R.Dsk.Disk _ _ _ _ _ _ _ _ _ c.in_ok-text.ensures.settled
+    rw (p.1, p.2) (behind g.R.Room g.R.Dsk.Disk _ _ _ _ _ _ _ _ _ _ c.in_ok-text.ensures.settled
     (λ tells. grind (
       arith,
       c.in_ok-text.ensures.bytes tells,

@@ -16,7 +16,7 @@ pub returns-in_err-text : goal.returns-in_err-text
 returns-in_err-text g c =
     let p = err_from_is_err_and c.from_residual-in_err-text.result
     c.from_residual-in_err-text.ensures.1 in
-    rw (p.1, p.2) (behind g.R.Room g.R.Dsk.Disk _ _ _ _ _ _ _ _ _ c.in_ok-bytes.ensures.settled
+    rw (p.1, p.2) (behind g.R.Room g.R.Dsk.Disk _ _ _ _ _ _ _ _ _ _ c.in_ok-bytes.ensures.settled
     (λ tells. grind (
       arith,
       c.in_ok-bytes.ensures.bytes tells,
