@@ -1,26 +1,72 @@
--- The log of a drill, whose device was only looked at.
-use Rattle.std.proofs.Common.{◌≡◌, ◌∙◌, List, Some, Ok, sym, ap, subst}
+-- What a log on devices in memory shows, behind calls that only look at them and behind one that
+-- adds a record.
+use Rattle.std.proofs.Common.{◌≡◌, ◌∙◌, List, [], ◌∷◌, ◌++◌, Option, Some, Ok, option_map, true}
+use Rattle.std.proofs.Common.{sym, ap, subst, refl}
 use Rattle.byte_forms.specs.Types.{Text, HashFunction}
 use Rattle.disk_core.specs.Memory.{bytes_of, images_of}
+use Rattle.disk_core.specs.Noted.{made_calls}
+use Rattle.disk_core.specs.ReplayLaws.{since_now}
+use Rattle.disk_core.specs.contracts.memory.mem_disk.MemDiskDisk.TheImpl.{ghosts as disks}
 use Rattle.disk_core.specs.declared.memory.mem_disk.MemDisk.{MemDisk}
+use Rattle.tree_core.specs.declared.hashing.TreeHash.{Ghosts as Hashes}
 use Rattle.journal_core.specs.Format.{StandsFor, records_of}
+use Rattle.issuance_log.proofs.Asked.{asks_stays, told_stays}
 use Rattle.issuance_log.specs.Folds.{LogState, log_of}
-use Rattle.fleet.specs.Nodes.{IsLogDisk, records_on}
+use Rattle.issuance_log.specs.Shown.{shown_with}
+use Rattle.issuance_log.specs.Words.{LogAsksTiles, LogStays, log_disk, log_tiles_disk, view_of}
+use Rattle.issuance_log.specs.declared.log.Log.{Log}
+use Rattle.fleet.specs.Calls.{HasCalledLog, log_called, record_of}
+use Rattle.fleet.specs.Nodes.{IsLogDisk, log_seen, records_on}
+use Rattle.fleet.specs.declared.calls.LogCall.{LogCall}
 
-bytes_are : (a b : Text) → Some a ≡ Some b → a ≡ b
-bytes_are a b e = cc
+pub some_is : {A : Type 0} (x y : A) → Some x ≡ Some y → x ≡ y
+some_is x y e = cc
 
-pub still_stands : (h : HashFunction) (s t : LogState) (old new : MemDisk) → t ≡ s
-    → Some (bytes_of new) ≡ Some (bytes_of old)
-    → ((c : Text) → images_of new c → images_of old c)
-    → IsLogDisk h s old → IsLogDisk h t new
-still_stands h s t old new same told crash is =
-    let list : records_on new ≡ records_on old =
-    ap records_of (bytes_are (bytes_of new) (bytes_of old) told) in
-    record {
-      holds = subst (λ (b : Text). StandsFor b (records_of b))
-          (sym (bytes_are (bytes_of new) (bytes_of old) told)) is.holds;
-      images = λ c i. subst (λ (l : List Text). StandsFor c l) (sym list)
-          (is.images c (crash c i));
-      valid = ap (log_of h) list ∙ is.valid ∙ ap Ok (sym same);
-    }
+-- since this moment a crash leaves nothing else
+pub mem_now : (m : MemDisk) (c : Text) → disks.left_since m (disks.moment m) c
+    → disks.may_leave m c
+mem_now m c is = since_now m.past.first (made_calls m.past.calls) c is
+
+module _ {H : Type 0} {hashes : Hashes H} where
+  pub seen_stays : (old new : Log H MemDisk MemDisk hashes disks disks) → LogStays old new
+      → log_seen new ≡ log_seen old
+  seen_stays old new is = some_is (log_seen new) (log_seen old) (told_stays old new is)
+
+  -- nodes alone were asked for
+  pub nodes_stay : (old new : Log H MemDisk MemDisk hashes disks disks) → LogAsksTiles old new
+      → LogStays old new
+  nodes_stay old new is = asks_stays old new (mem_now (log_disk old)) is
+
+  pub still_stands : (h : HashFunction) (old new : Log H MemDisk MemDisk hashes disks disks)
+      → LogStays old new → IsLogDisk h (log_seen old) (log_disk old)
+      → IsLogDisk h (log_seen new) (log_disk new)
+  still_stands h old new stays is =
+      let same : bytes_of (log_disk new) ≡ bytes_of (log_disk old) =
+      some_is (bytes_of (log_disk new)) (bytes_of (log_disk old)) stays.looks.told in
+      let list : records_on (log_disk new) ≡ records_on (log_disk old) = ap records_of same in
+      record {
+        holds = subst (λ (b : Text). StandsFor b (records_of b)) (sym same) is.holds;
+        images = λ c there. subst (λ (l : List Text). StandsFor c l) (sym list)
+            (is.images c (stays.looks.crash c there));
+        valid = ap (log_of h) list ∙ is.valid ∙ ap Ok (sym (seen_stays old new stays));
+      }
+
+  -- a call was done that adds a record
+  module _ (h : HashFunction) (call : LogCall) (old new : Log H MemDisk MemDisk hashes disks disks)
+      (called : HasCalledLog h call old new true) where
+    pub seen_called : log_seen new ≡ log_called h (log_seen old) call
+    seen_called = some_is (log_seen new) (log_called h (log_seen old) call) (called.grown refl).told
+
+    pub called_stands : StandsFor (bytes_of (log_disk new)) (records_on (log_disk new))
+        → IsLogDisk h (log_seen new) (log_disk new)
+    called_stands holds =
+        let body : Text = record_of h (view_of old) call in
+        let list : records_on (log_disk new) ≡ records_on (log_disk old) ++ body ∷ [] =
+        some_is (records_on (log_disk new)) (records_on (log_disk old) ++ body ∷ [])
+        (called.grown refl).records in
+        record {
+          holds = holds;
+          images = λ c there. subst (λ (l : List Text). StandsFor c l) (sym list)
+              ((called.grown refl).kept c there);
+          valid = ap (log_of h) list ∙ called.valid ∙ ap Ok (sym seen_called);
+        }

@@ -24,3 +24,20 @@ module _ {S E : Type 0} (fold : Fold S E) where
       (sym read ∙ read_standing fold b wanted t stands is))
   found_on (Some b) None s same read = λ wanted t stands is. absurd cc
   found_on None list s same read = tt
+
+  -- the state is told by the records
+  pub found_told : (told : Option Text) (list : Option (List Text)) (state : List Text → S)
+      → list ≡ option_map records_of told
+      → IfSome told (λ b. IfSome list (λ found. read_by fold b
+      ≡ Ok (record { records = found; state = state found })))
+      → IfSome told (λ b. (wanted : List Text) (t : S) → StandsFor b wanted
+      → state_behind fold wanted ≡ Ok t → (list ≡ Some wanted) × (option_map state list ≡ Some t))
+  found_told (Some b) (Some found) state same read = λ wanted t stands is.
+      let both = same_found (record { records = found; state = state found })
+      (record { records = wanted; state = t })
+      (ok_is E (record { records = found; state = state found })
+      (record { records = wanted; state = t })
+      (sym read ∙ read_standing fold b wanted t stands is)) in
+      (both.0, ap Some both.1)
+  found_told (Some b) None state same read = λ wanted t stands is. absurd cc
+  found_told None list state same read = tt

@@ -3,7 +3,7 @@ use Rattle.std.proofs.Common.{◌≡◌, ◌≤◌, inl, inr, List, [], ◌∷�
 use Rattle.std.proofs.lemmas.List.{length-append}
 use Rattle.byte_forms.specs.Types.{Text, HashFunction}
 use Rattle.journal_core.specs.Format.{StandsFor}
-use Rattle.issuance_log.specs.Folds.{LogState, log_of}
+use Rattle.issuance_log.specs.Folds.{LogState, log_of, view_in}
 use Rattle.fleet.specs.Calls.{count_in, log_called, record_of}
 use Rattle.fleet.specs.Nodes.{IsEither, IsLeft}
 use Rattle.fleet.specs.declared.calls.LogCall.{LogCall}
@@ -17,8 +17,8 @@ pub reopened : (h : HashFunction) (call : LogCall) (s t : LogState) (images : Te
 reopened h call s t images bytes left image opened =
     elim (left.either bytes image) [
       | inl stands ↦ inl (opened left.list s stands left.old)
-      | inr stands ↦ inr (opened (left.list ++ record_of h s call ∷ []) (log_called h s call) stands
-          left.new)
+      | inr stands ↦ inr (opened (left.list ++ record_of h (view_in s) call ∷ [])
+          (log_called h s call) stands left.new)
     ]
 
 -- a log with no more records of the call's kind is that from before

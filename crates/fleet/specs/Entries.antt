@@ -67,4 +67,5 @@ log_with h size marks = record {
   entries = entries_to h size;
   keys = keys_to size;
   marks = marks;
+  tiled = 0;
 }

@@ -2,12 +2,12 @@
 use Rattle.std.specs.Prelude.{ℕ, length}
 use Rattle.tree_core.specs.declared.hashing.TreeHash.{Ghosts as Hashes}
 use Rattle.issuance_log.specs.Folds.{LogState}
-use Rattle.issuance_log.specs.Words.{log_state}
+use Rattle.fleet.specs.Nodes.{log_seen}
 use Rattle.fleet.specs.declared.log_node.LogNode.{LogNode}
 
 -- what the log of a drill shows
 abbrev pub log_shown : {H : Type 0} {hashes : Hashes H} → LogNode H hashes → LogState
-log_shown node = log_state node.log
+log_shown node = log_seen node.log
 
 -- how many stops were made in its calls
 abbrev pub log_stops : {H : Type 0} {hashes : Hashes H} → LogNode H hashes → ℕ

@@ -32,7 +32,8 @@ use Rattle.fleet.specs.declared.turns.Three.{Three}
 unfoldable pub issued_to : HashFunction → ℕ → LogState → LogState
 issued_to h zero s = s
 issued_to h (suc count) s =
-    let t = issued_to h count s in issued_log h t (request_for (length t.entries))
+    let t = issued_to h count s in
+    issued_log h t.settings (request_for (length t.entries)) t
 
 -- the cosigner that holds all of this log
 abbrev pub holding_all : HashFunction → LogState → CosignerState → CosignerState

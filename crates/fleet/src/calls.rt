@@ -6,6 +6,7 @@ ghost use Rattle.fleet.specs.declared.calls.LogCall.TheVariants.{Issue, Mark};
 
 use authority_core::{IssueError, Request, issue};
 use disk_core::Disk;
+use frame_pool::Pool;
 use issuance_log::{Log, LogError};
 use journal_core::AppendError;
 use mtc_io::Memory;
@@ -22,9 +23,9 @@ pub(crate) enum LogCall {
 }
 
 // Issues a request. An error that isn't the device's is answered as want of memory.
-fn issue_on<H: TreeHash, D: Disk>(
+fn issue_on<H: TreeHash, D: Disk, T: Disk>(
     alloc: Global,
-    log: &mut Log<H, D>,
+    log: &mut Log<H, D, T>,
     request: &Request,
 ) -> Result<bool, Memory>
     ensures { IfOk result (HasCalledLog H.hash (Issue request.now) log.old log.new) }
@@ -37,7 +38,7 @@ fn issue_on<H: TreeHash, D: Disk>(
 }
 
 // Sets a landmark, likewise.
-fn mark_on<H: TreeHash, D: Disk>(log: &mut Log<H, D>) -> Result<bool, Memory>
+fn mark_on<H: TreeHash, D: Disk, T: Disk>(log: &mut Log<H, D, T>) -> Result<bool, Memory>
     ensures { IfOk result (HasCalledLog H.hash Mark log.old log.new) }
 {
     match log.mark() {
@@ -48,9 +49,9 @@ fn mark_on<H: TreeHash, D: Disk>(log: &mut Log<H, D>) -> Result<bool, Memory>
 }
 
 /// Makes the call: whether it was done, or its device failed.
-pub(crate) fn call_log<H: TreeHash, D: Disk>(
+pub(crate) fn call_log<H: TreeHash, D: Disk, T: Disk>(
     alloc: Global,
-    log: &mut Log<H, D>,
+    log: &mut Log<H, D, T>,
     call: &LogCall,
 ) -> Result<bool, Memory>
     ensures { IfOk result (HasCalledLog H.hash call.now log.old log.new) }
@@ -61,14 +62,17 @@ pub(crate) fn call_log<H: TreeHash, D: Disk>(
     }
 }
 
-/// Opens the log on a device that stands for one. Each error is answered as want of memory.
-pub(crate) fn open_log<H: TreeHash, D: Disk + Drop>(
+/// Opens the log on a device that stands for one, and a device for its tiles, of which it has
+/// stored none. Each error is answered as want of memory.
+pub(crate) fn open_log<H: TreeHash, D: Disk + Drop, T: Disk + Drop>(
     alloc: Global,
     disk: D,
-) -> Result<Log<H, D>, Memory>
+    tiles: T,
+) -> Result<Log<H, D, T>, Memory>
     ensures { IfOk result (HasOpenedLog H.hash disk) }
 {
-    match Log::open(alloc, disk) {
+    let pool = Pool::new(alloc, 1)?;
+    match Log::open(alloc, disk, tiles, pool) {
         Ok(log) => Ok(log),
         Err(_) => Err(Memory),
     }

@@ -6,6 +6,7 @@ ghost use Rattle.fleet.specs.Tallies.{AddUp};
 ghost use Rattle.fleet.specs.Views.{shown};
 
 use crate::dice::Dice;
+use crate::log_node::size_of;
 use crate::made::Fleet;
 use crate::nodes::FleetNodes;
 use mtc_io::Memory;
@@ -32,7 +33,7 @@ fn go_on<H: TreeHash>(
         → AddUp H.hash number count nodes → AddUp H.hash number (count + 1) it) }
 {
     nodes.log.log.sound();
-    let size = nodes.log.log.size();
+    let size = size_of(&nodes.log.log);
     let round = dice.round(alloc, size)?;
     let played = nodes.play(alloc, &round)?;
     Ok(played)

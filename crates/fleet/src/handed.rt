@@ -1,16 +1,18 @@
 //! What the nodes of a drill hand out.
 
-ghost use Rattle.std.specs.Prelude.{◌≡◌, ◌≤◌, ◌^◌, length, IfOk};
+ghost use Rattle.std.specs.Prelude.{◌≡◌, ◌≤◌, ◌+◌, ◌^◌, length, IfOk};
 ghost use Rattle.std.specs.List.{count_by};
 ghost use Rattle.cosigner_core.specs.Counts.{indices_of};
 ghost use Rattle.fleet.specs.CosignerViews.{IsStill, records_shown};
 ghost use Rattle.fleet.specs.Counts.{is_sign, signs_on};
 ghost use Rattle.fleet.specs.Fleets.{IsDiskOf, IsHandedOut};
-ghost use Rattle.fleet.specs.Nodes.{FailsNone};
+ghost use Rattle.fleet.specs.LogNodes.{log_shown};
+ghost use Rattle.fleet.specs.Nodes.{FailsNone, IsLogDisk};
 ghost use Rattle.fleet.specs.Tallies.{all_stops};
 
 use crate::audits::kept_in;
 use crate::cosigner_node::CosignerNode;
+use crate::log_node::{LogNode, size_of};
 use crate::made::{Certs, Counts, Fleet};
 use crate::nodes::FleetNodes;
 use cosigner_core::Step;
@@ -68,6 +70,29 @@ fn cosigner_out<H: TreeHash>(alloc: Global, node: CosignerNode<H>) -> Result<(Me
     Ok((disk, count))
 }
 
+fn sum(one: u64, two: u64, three: u64) -> u64
+    requires one { one ≤ 2 ^ 25 }
+    requires two { two ≤ 2 ^ 25 }
+    requires three { three ≤ 2 ^ 25 }
+    ensures { result ≡ one + two + three }
+{
+    one + two + three
+}
+
+// The device of the log's journal, and how many entries and landmarks it has.
+fn log_out<H: TreeHash>(node: LogNode<H>) -> Result<(MemDisk, u64, u64), Memory>
+    ensures disk { IfOk result (λ x. IsLogDisk H.hash (log_shown node) x.0) }
+    ensures fails_none { IfOk result (λ x. FailsNone x.0) }
+    ensures entries { IfOk result (λ x. x.1 ≡ length (log_shown node).entries) }
+    ensures landmarks { IfOk result (λ x. x.2 ≡ length (log_shown node).marks) }
+{
+    let entries = size_of(&node.log);
+    let landmarks = node.log.marks().len() as u64;
+    let (journal, _tiles) = node.log.into_disks();
+    let disk = whole(journal)?;
+    Ok((disk, entries, landmarks))
+}
+
 impl<H: TreeHash> FleetNodes<H> {
     // How many stops were made.
     fn stops(&self) -> u64
@@ -87,25 +112,22 @@ impl<H: TreeHash> FleetNodes<H> {
         ensures { IfOk result (IsHandedOut H.hash self) }
     {
         let stops = self.stops();
-        let log = self.log;
-        let entries = log.log.size();
-        let landmarks = log.log.marks().len() as u64;
+        let (log, entries, landmarks) = log_out(self.log)?;
         let trio = self.trio;
         let (first, one) = cosigner_out(alloc, trio.first)?;
         let (second, two) = cosigner_out(alloc, trio.second)?;
         let (third, three) = cosigner_out(alloc, trio.third)?;
-        let disk = whole(log.log.into_disk())?;
         let counts = Counts {
             entries,
             landmarks,
-            signatures: one + two + three,
+            signatures: sum(one, two, three),
             stops,
             verified: self.verified,
             stands: self.stands,
             light: self.light,
         };
         Ok(Fleet {
-            log: disk,
+            log,
             first,
             second,
             third,

@@ -2,15 +2,17 @@
 
 ghost use Rattle.std.specs.Prelude.{◌≡◌, ◌≤◌, ◌++◌, IfOk, OnOk};
 ghost use Rattle.landmarks.specs.Landmarks.{active_of, landmarks_of};
-ghost use Rattle.issuance_log.specs.Words.{LogStays, log_state};
+ghost use Rattle.issuance_log.specs.Words.{LogStays};
 ghost use Rattle.fleet.specs.LightStores.{AreOfLandmarks, IsDue, IsLit, TrustsActive};
 ghost use Rattle.fleet.specs.LightStores.{cover_with, with_hash};
+ghost use Rattle.fleet.specs.Nodes.{log_seen};
 
 use crate::ids::{LOG, id_of};
+use crate::log_node::size_of;
 use crate::requests::NOT_BEFORE;
 use authority_core::{entries_say_what_was_asked, light_cert};
 use cert_names::log_name;
-use disk_core::Disk;
+use disk_core::MemDisk;
 use issuance_log::Log;
 use landmarks::{Landmarks, active, of_marks, subtrees};
 use mtc_io::{Failed, Memory};
@@ -21,32 +23,33 @@ use tree_core::{Cover, Span, TreeHash, subtree_ok};
 use tree_proofs::node_of;
 
 // A subtree of the log with its hash.
-fn trusted<H: TreeHash, D: Disk>(log: &mut Log<H, D>, span: Span) -> Result<Trusted, Memory>
-    ensures hash { IfOk result (λ t. t ≡ with_hash H.hash (log_state log.old).entries span) }
+fn trusted<H: TreeHash>(log: &mut Log<H, MemDisk, MemDisk>, span: Span) -> Result<Trusted, Memory>
+    ensures hash { IfOk result (λ t. t ≡ with_hash H.hash (log_seen log.old).entries span) }
     ensures stays { LogStays log.old log.new }
 {
     // The subtrees of a landmark are subtrees of the log.
-    if !subtree_ok(span.start, span.end) || log.size() < span.end {
+    if !subtree_ok(span.start, span.end) || size_of(log) < span.end {
         return Err(Memory);
     }
+    log.sound();
     match node_of(log, span.start, span.end) {
         Ok(hash) => Ok(Trusted {
             start: span.start,
             end: span.end,
             hash,
         }),
-        Err(Failed) => unreachable!(),
+        Err(Failed) => Err(Memory),
     }
 }
 
 // Puts the subtrees of a cover behind others.
-fn put_cover<H: TreeHash, D: Disk>(
-    log: &mut Log<H, D>,
+fn put_cover<H: TreeHash>(
+    log: &mut Log<H, MemDisk, MemDisk>,
     cover: &Cover,
     trust: &mut Vec<Trusted>,
 ) -> Result<(), Memory>
     ensures put { OnOk result (trust.new.items
-        ≡ trust.old.items ++ cover_with H.hash (log_state log.old).entries cover.now) }
+        ≡ trust.old.items ++ cover_with H.hash (log_seen log.old).entries cover.now) }
     ensures stays { LogStays log.old log.new }
 {
     let first = trusted(log, cover.first)?;
@@ -60,12 +63,12 @@ fn put_cover<H: TreeHash, D: Disk>(
 }
 
 // The subtrees of all active landmarks, from the oldest.
-fn active_subtrees<H: TreeHash, D: Disk>(
+fn active_subtrees<H: TreeHash>(
     alloc: Global,
-    log: &mut Log<H, D>,
+    log: &mut Log<H, MemDisk, MemDisk>,
     landmarks: &Landmarks,
 ) -> Result<Subtrees, Memory>
-    ensures active { IfOk result (AreOfLandmarks H.hash (log_state log.old).entries landmarks.now
+    ensures active { IfOk result (AreOfLandmarks H.hash (log_seen log.old).entries landmarks.now
         (active_of landmarks.now).start (active_of landmarks.now).end) }
     ensures stays { LogStays log.old log.new }
 {
@@ -78,17 +81,23 @@ fn active_subtrees<H: TreeHash, D: Disk>(
 }
 
 // The landmarks of the log.
-fn landmarks_of<H: TreeHash, D: Disk>(alloc: Global, log: &Log<H, D>) -> Result<Landmarks, Memory>
+fn landmarks_of<H: TreeHash>(
+    alloc: Global,
+    log: &Log<H, MemDisk, MemDisk>,
+) -> Result<Landmarks, Memory>
     ensures { IfOk result (λ l. l
-        ≡ landmarks_of (log_state log.now).marks (log_state log.now).settings.max_active) }
+        ≡ landmarks_of (log_seen log.now).marks (log_seen log.now).settings.max_active) }
 {
     log.sound();
     of_marks(alloc, log.marks(), log.settings().max_active)
 }
 
 // The store that trusts the active subtrees of the log, and no cosigner.
-fn landmark_store<H: TreeHash, D: Disk>(alloc: Global, log: &mut Log<H, D>) -> Result<Store, Memory>
-    ensures trusts { IfOk result (TrustsActive H.hash (log_state log.old)) }
+fn landmark_store<H: TreeHash>(
+    alloc: Global,
+    log: &mut Log<H, MemDisk, MemDisk>,
+) -> Result<Store, Memory>
+    ensures trusts { IfOk result (TrustsActive H.hash (log_seen log.old)) }
     ensures stays { LogStays log.old log.new }
 {
     let landmarks = landmarks_of(alloc, log)?;
@@ -106,18 +115,18 @@ fn landmark_store<H: TreeHash, D: Disk>(alloc: Global, log: &mut Log<H, D>) -> R
 
 /// 1 where the certificate of the newest entry without signatures is accepted by the active
 /// subtrees alone, or else 0. It is where that entry is one of the drill's log.
-pub(crate) fn one_light<H: TreeHash, D: Disk>(
+pub(crate) fn one_light<H: TreeHash>(
     alloc: Global,
-    log: &mut Log<H, D>,
+    log: &mut Log<H, MemDisk, MemDisk>,
 ) -> Result<u64, Memory>
     ensures few { IfOk result (λ count. count ≤ 1) }
-    ensures accepted { IfOk result (λ count. IsDue H.hash (log_state log.old) → count ≡ 1) }
-    ensures only { IfOk result (λ count. count ≡ 1 → IsLit H.hash (log_state log.old)) }
+    ensures accepted { IfOk result (λ count. IsDue H.hash (log_seen log.old) → count ≡ 1) }
+    ensures only { IfOk result (λ count. count ≡ 1 → IsLit H.hash (log_seen log.old)) }
     ensures stays { LogStays log.old log.new }
 {
     entries_say_what_was_asked();
     let store = landmark_store(alloc, log)?;
-    let newest = log.size() - 1;
+    let newest = size_of(log) - 1;
     let Ok(cert) = light_cert(alloc, log, newest) else {
         return Err(Memory);
     };

@@ -3,12 +3,13 @@
 ghost use Rattle.std.specs.Prelude.{◌≡◌, ◌<◌, ◌++◌, length, Ok, IfOk, OnOk};
 ghost use Rattle.entry_list.specs.Items.{file_text, listed_text};
 ghost use Rattle.entry_list.specs.Reading.{items_in};
-ghost use Rattle.issuance_log.specs.Words.{LogStays, log_state};
+ghost use Rattle.issuance_log.specs.Words.{LogStays};
 ghost use Rattle.fleet.specs.Listed.{IsListedAt, log_items};
 ghost use Rattle.fleet.specs.LogNodes.{log_shown, log_stops};
+ghost use Rattle.fleet.specs.Nodes.{log_seen};
 
-use crate::log_node::{LogNode, looked_at};
-use disk_core::Disk;
+use crate::log_node::{LogNode, looked_at, size_of};
+use disk_core::MemDisk;
 use issuance_log::Log;
 use mtc_io::{Bytes, Memory};
 use std::alloc::Global;
@@ -16,35 +17,34 @@ use tls_wire::put_vec16;
 use tree_core::TreeHash;
 
 // The item at an index: the entry and its key, in the place of what the two byte strings held.
-fn read_item<H: TreeHash, D: Disk>(
-    log: &mut Log<H, D>,
+fn read_item<H: TreeHash>(
+    log: &mut Log<H, MemDisk, MemDisk>,
     index: u64,
     entry: &mut Bytes,
     key: &mut Bytes,
 ) -> Result<(), Memory>
-    requires { index < length (log_state log.old).entries }
-    ensures item { OnOk result (IsListedAt (log_state log.old) index entry.new key.new) }
+    requires { index < length (log_seen log.old).entries }
+    ensures item { OnOk result (IsListedAt (log_seen log.old) index entry.new key.new) }
     ensures stays { LogStays log.old log.new }
 {
     log.sound();
     match log.entry(index, entry, key) {
         Ok(()) => Ok(()),
-        // The log has the item, so memory was refused.
         Err(_) => Err(Memory),
     }
 }
 
 // Puts the item at an index behind the bytes, by way of two byte strings.
-fn put_item<H: TreeHash, D: Disk>(
-    log: &mut Log<H, D>,
+fn put_item<H: TreeHash>(
+    log: &mut Log<H, MemDisk, MemDisk>,
     index: u64,
     entry: &mut Bytes,
     key: &mut Bytes,
     out: &mut Bytes,
 ) -> Result<(), Memory>
-    requires { index < length (log_state log.old).entries }
+    requires { index < length (log_seen log.old).entries }
     ensures text { OnOk result
-        (out.new ≡ out.old ++ listed_text (log_items (log_state log.old)) index) }
+        (out.new ≡ out.old ++ listed_text (log_items (log_seen log.old)) index) }
     ensures stays { LogStays log.old log.new }
 {
     read_item(log, index, entry, key)?;
@@ -53,15 +53,18 @@ fn put_item<H: TreeHash, D: Disk>(
 }
 
 // The file of all items.
-fn item_file<H: TreeHash, D: Disk>(alloc: Global, log: &mut Log<H, D>) -> Result<Bytes, Memory>
+fn item_file<H: TreeHash>(
+    alloc: Global,
+    log: &mut Log<H, MemDisk, MemDisk>,
+) -> Result<Bytes, Memory>
     ensures text { IfOk result (λ text. text
-        ≡ file_text (log_items (log_state log.old)) (length (log_state log.old).entries)) }
+        ≡ file_text (log_items (log_seen log.old)) (length (log_seen log.old).entries)) }
     ensures stays { LogStays log.old log.new }
 {
     let mut out = Bytes::new(alloc);
     let mut entry = Bytes::new(alloc);
     let mut key = Bytes::new(alloc);
-    for index in 0..log.size() {
+    for index in 0..size_of(log) {
         put_item(log, index, &mut entry, &mut key, &mut out)?;
     }
     Ok(out)

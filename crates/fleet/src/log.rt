@@ -15,7 +15,7 @@ ghost use Rattle.fleet.specs.Rounds.{stops_in};
 
 use crate::calls::{LogCall, call_log, open_log};
 use crate::ids::{LOG, id_of};
-use crate::log_node::LogNode;
+use crate::log_node::{LogNode, size_of};
 use crate::requests::request_for;
 use crate::turns::{Stop, Turn, Turns};
 use disk_core::{Fuse, MemDisk};
@@ -29,52 +29,61 @@ const ACTIVE: u32 = 4;
 
 const LIMIT: u32 = 64;
 
-// A log on a device that stands for its records, with the stops so far.
-fn opened<H: TreeHash>(alloc: Global, disk: MemDisk, stops: Vec<Stop>) -> Result<LogNode<H>, Memory>
+// A log on a device that stands for its records, and one for its tiles, with the stops so far.
+fn opened<H: TreeHash>(
+    alloc: Global,
+    disk: MemDisk,
+    tiles: MemDisk,
+    stops: Vec<Stop>,
+) -> Result<LogNode<H>, Memory>
     ensures state { IfOk result (λ it. (list : List Text) (s : LogState)
         → StandsFor (bytes_of disk) list → log_of H.hash list ≡ Ok s → log_shown it ≡ s) }
     ensures stops { IfOk result (λ it. log_stops it ≡ length stops.items) }
 {
     Ok(LogNode {
-        log: open_log(alloc, disk)?,
+        log: open_log(alloc, disk, tiles)?,
         stops,
     })
 }
 
-// The log behind a fuse, and the stops so far.
+// The log with its journal behind a fuse, and the stops so far.
 fn fused<H: TreeHash>(
     alloc: Global,
     node: LogNode<H>,
     passes: u64,
-) -> Result<(Log<H, Fuse<MemDisk>>, Vec<Stop>), Memory>
+) -> Result<(Log<H, Fuse<MemDisk>, MemDisk>, Vec<Stop>), Memory>
     ensures state { IfOk result (λ x. IsLogWith H.hash (log_shown node) x.0) }
     ensures stops { IfOk result (λ x. length x.1.items ≡ log_stops node) }
 {
-    let fuse = Fuse::new(node.log.into_disk(), passes);
-    let log = open_log(alloc, fuse)?;
+    let (disk, tiles) = node.log.into_disks();
+    let fuse = Fuse::new(disk, passes);
+    let log = open_log(alloc, fuse, tiles)?;
+    log.sound();
     Ok((log, node.stops))
 }
 
-// What a call leaves of the device behind the fuse. It may find no memory.
+// What a call leaves of the device behind the fuse, and of that of the tiles. It may find no
+// memory.
 fn halted<H: TreeHash>(
     alloc: Global,
-    log: Log<H, Fuse<MemDisk>>,
+    log: Log<H, Fuse<MemDisk>, MemDisk>,
     call: &LogCall,
-) -> Result<MemDisk, Memory>
+) -> Result<(MemDisk, MemDisk), Memory>
     ensures { IfOk result (λ left. (s : LogState) → IsLogWith H.hash s log
-        → IsLeft H.hash call.now s (images_of left)) }
+        → IsLeft H.hash call.now s (images_of left.0)) }
 {
     let mut log = log;
     call_log(alloc, &mut log, call)?;
-    let left = log.into_disk().into_inner();
+    let (fuse, tiles) = log.into_disks();
+    let left = fuse.into_inner();
     if left.starved() > 0 {
         return Err(Memory);
     }
-    Ok(left)
+    Ok((left, tiles))
 }
 
-// The call is made behind a fuse, and the log is opened again on an image of what is left. This is
-// the one place where a stop is counted.
+// The call is made behind a fuse, and the log is opened again on an image of what is left of each
+// device. This is the one place where a stop is counted.
 fn stopped<H: TreeHash>(
     alloc: Global,
     node: LogNode<H>,
@@ -85,15 +94,16 @@ fn stopped<H: TreeHash>(
     ensures stops { IfOk result (λ it. log_stops it ≡ log_stops node + 1) }
 {
     let (log, mut stops) = fused(alloc, node, stop.passes)?;
-    let left = halted(alloc, log, call)?;
+    let (left, tiles) = halted(alloc, log, call)?;
     let image = left.crash(stop.pick)?;
+    let tiles = tiles.crash(stop.pick)?;
     stops.push(stop)?;
-    let again = opened(alloc, image, stops)?;
+    let again = opened(alloc, image, tiles, stops)?;
     Ok(again)
 }
 
 impl<H: TreeHash> LogNode<H> {
-    /// A new log on an empty device.
+    /// A new log on an empty device, and another empty one for its tiles.
     pub(crate) fn create(alloc: Global) -> Result<LogNode<H>, Memory>
         ensures state { IfOk result (λ it. log_shown it ≡ new_log log_settings) }
         ensures stops { IfOk result (λ it. log_stops it ≡ 0) }
@@ -106,7 +116,8 @@ impl<H: TreeHash> LogNode<H> {
         let disk = MemDisk::new(alloc, Vec::new(alloc));
         match create(alloc, disk, &settings) {
             Ok(journal) => {
-                let node = opened(alloc, journal.into_disk(), Vec::new(alloc))?;
+                let tiles = MemDisk::new(alloc, Vec::new(alloc));
+                let node = opened(alloc, journal.into_disk(), tiles, Vec::new(alloc))?;
                 Ok(node)
             }
             Err(_) => Err(Memory),
@@ -118,7 +129,7 @@ impl<H: TreeHash> LogNode<H> {
         ensures { result ≡ count_in (log_shown self.now) call.now }
     {
         match call {
-            LogCall::Issue(_) => self.log.size(),
+            LogCall::Issue(_) => size_of(&self.log),
             LogCall::Mark => self.log.marks().len() as u64,
         }
     }
@@ -159,11 +170,12 @@ impl<H: TreeHash> LogNode<H> {
 
     /// Issues the next entry.
     pub(crate) fn issue(self, alloc: Global, turn: Turn) -> Result<LogNode<H>, Memory>
-        ensures state { IfOk result (λ it. log_shown it ≡ issued_log H.hash (log_shown self)
-            (request_for (length (log_shown self).entries))) }
+        ensures state { IfOk result (λ it. log_shown it
+            ≡ issued_log H.hash (log_shown self).settings
+            (request_for (length (log_shown self).entries)) (log_shown self)) }
         ensures stops { IfOk result (λ it. log_stops it ≡ log_stops self + stops_in (turn ∷ [])) }
     {
-        let request = request_for(alloc, self.log.size())?;
+        let request = request_for(alloc, size_of(&self.log))?;
         self.asked(alloc, &LogCall::Issue(request), turn)
     }
 

@@ -17,7 +17,7 @@ ghost use Rattle.fleet.specs.Views.{shown};
 use crate::audits::audited;
 use crate::cosigner_trio::Trio;
 use crate::light::one_light;
-use crate::log_node::{LogNode, looked_at};
+use crate::log_node::{LogNode, looked_at, size_of};
 use crate::nodes::FleetNodes;
 use crate::round::Round;
 use crate::store::one_accepted;
@@ -65,7 +65,7 @@ fn certificate<H: TreeHash>(
 {
     entries_say_what_was_asked();
     let mut inner = log.log;
-    let size = inner.size();
+    let size = size_of(&inner);
     if check_signatures(signatures.as_slice()).is_err() {
         return Err(Memory);
     }

@@ -1,64 +1,70 @@
 //! Hashes and proofs over the entries of a log.
 
-ghost use Rattle.std.specs.Prelude.{◌≡◌, ◌<◌, ◌≤◌, length};
+ghost use Rattle.std.specs.Prelude.{◌≡◌, ◌<◌, ◌≤◌, length, IfOk};
 ghost use Rattle.tree_core.specs.Path.{part_of};
 ghost use Rattle.tree_core.specs.Tree.{tree_hash};
-ghost use Rattle.issuance_log.specs.Words.{LogStays, log_state};
+ghost use Rattle.issuance_log.specs.Words.{LogStays};
+ghost use Rattle.fleet.specs.Nodes.{log_seen};
 
-use disk_core::Disk;
+use crate::log_node::size_of;
+use disk_core::MemDisk;
 use issuance_log::Log;
-use mtc_io::Failed;
+use mtc_io::{Failed, Memory};
 use tree_core::TreeHash;
 use tree_proofs::{Path, consist, node_of};
 
 // The hash of the subtree of the first entries, so many of them.
-fn hash_of<H: TreeHash, D: Disk>(log: &mut Log<H, D>, size: u64) -> [u8; 32]
+fn hash_of<H: TreeHash>(log: &mut Log<H, MemDisk, MemDisk>, size: u64) -> Result<[u8; 32], Memory>
     requires some { 0 < size }
-    requires within { size ≤ length (log_state log.old).entries }
-    ensures hash { result ≡ tree_hash H.hash (part_of (log_state log.old).entries 0 size) }
+    requires within { size ≤ length (log_seen log.old).entries }
+    ensures hash { IfOk result (λ x. x
+        ≡ tree_hash H.hash (part_of (log_seen log.old).entries 0 size)) }
     ensures stays { LogStays log.old log.new }
 {
+    log.sound();
     match node_of(log, 0, size) {
-        Ok(hash) => hash,
-        Err(Failed) => unreachable!(),
+        Ok(hash) => Ok(hash),
+        Err(Failed) => Err(Memory),
     }
 }
 
 // The tree hash of all entries.
-fn root_of<H: TreeHash, D: Disk>(log: &mut Log<H, D>) -> [u8; 32]
-    ensures hash { result ≡ tree_hash H.hash (log_state log.old).entries }
+fn root_of<H: TreeHash>(log: &mut Log<H, MemDisk, MemDisk>) -> Result<[u8; 32], Memory>
+    ensures hash { IfOk result (λ x. x ≡ tree_hash H.hash (log_seen log.old).entries) }
     ensures stays { LogStays log.old log.new }
 {
-    let size = log.size();
-    hash_of(log, size)
+    let size = size_of(log);
+    let root = hash_of(log, size)?;
+    Ok(root)
 }
 
 // The consistency proof of the first entries, of which there may be none.
-fn proof_from<H: TreeHash, D: Disk>(log: &mut Log<H, D>, held: u64) -> Path
-    requires { held ≤ length (log_state log.old).entries }
+fn proof_from<H: TreeHash>(log: &mut Log<H, MemDisk, MemDisk>, held: u64) -> Result<Path, Memory>
+    requires { held ≤ length (log_seen log.old).entries }
     ensures { LogStays log.old log.new }
 {
+    log.sound();
     let mut proof = Path::new();
     if held == 0 {
-        return proof;
+        return Ok(proof);
     }
-    let size = log.size();
+    let size = size_of(log);
     match consist(log, 0, held, size, &mut proof) {
-        Ok(()) => proof,
-        Err(Failed) => unreachable!(),
+        Ok(()) => Ok(proof),
+        Err(Failed) => Err(Memory),
     }
 }
 
 /// The tree hash of all entries, and the consistency proof of the first ones.
-pub(crate) fn root_and_proof<H: TreeHash, D: Disk>(
-    log: &mut Log<H, D>,
+pub(crate) fn root_and_proof<H: TreeHash>(
+    log: &mut Log<H, MemDisk, MemDisk>,
     held: u64,
-) -> ([u8; 32], Path)
-    requires { held ≤ length (log_state log.old).entries }
-    ensures hash { result.0 ≡ tree_hash H.hash (log_state log.old).entries }
+) -> Result<([u8; 32], Path), Memory>
+    requires { held ≤ length (log_seen log.old).entries }
+    ensures hash { IfOk result (λ x. x.0 ≡ tree_hash H.hash (log_seen log.old).entries) }
     ensures stays { LogStays log.old log.new }
 {
-    let root = root_of(log);
-    let proof = proof_from(log, held);
-    (root, proof)
+    let root = root_of(log)?;
+    let proof = proof_from(log, held)?;
+    Ok((root, proof))
 }

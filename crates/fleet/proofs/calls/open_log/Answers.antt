@@ -1,15 +1,16 @@
 use Rattle.std.proofs.Common.{ap, option_map}
 use Rattle.journal_core.specs.Format.{records_of}
 use Rattle.issuance_log.specs.Folds.{log_fold}
-use Rattle.issuance_log.specs.Words.{log_records, log_state}
-use Rattle.fleet.proofs.Opened.{found_on}
+use Rattle.issuance_log.specs.Shown.{shown_with}
+use Rattle.issuance_log.specs.Words.{log_records, view_of}
+use Rattle.fleet.proofs.Opened.{found_told}
 use Rattle.fleet.proofs.calls.open_log.Goals as goal
 
 pub returns-in-Ok : goal.returns-in-Ok
 returns-in-Ok g c = record {
   sound = c.in-Ok.ensures.sound;
-  found = found_on (log_fold g.H.TreeHash.hash) (g.D.Disk.told c.args.disk)
-      (log_records c.in-Ok.log) (log_state c.in-Ok.log)
+  found = found_told (log_fold g.H.TreeHash.hash) (g.D.Disk.told c.args.disk)
+      (log_records c.in-Ok.log) (shown_with (view_of c.in-Ok.log))
       (ap (option_map records_of) c.in-Ok.ensures.looks.told) c.in-Ok.ensures.found;
   valid = c.in-Ok.ensures.valid;
   images = c.in-Ok.ensures.all;

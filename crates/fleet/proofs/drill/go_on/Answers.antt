@@ -11,13 +11,13 @@ returns-clause-state g c = λ number count is.
     c.in_ok-round.round (shown c.args.nodes) (shown c.in_ok-played.played) (record {
       was = is;
       drawn = c.in_ok-round.ensures.drawn ∙ ap (λ (k : ℕ). round k c.args.dice.now.number)
-          c.size-size.ensures.value;
+          c.size_of-size.ensures.value;
       played = c.in_ok-played.ensures.state;
       early = c.requires.verified;
       three = c.in_ok-round.ensures.few;
       index = subst (λ (n : ℕ). (1 ≤ c.in_ok-round.round.index)
           × (c.in_ok-round.round.index < n + length c.in_ok-round.round.entries))
-          c.size-size.ensures.value c.in_ok-round.ensures.index;
+          c.size_of-size.ensures.value c.in_ok-round.ensures.index;
     })
 
 pub returns-clause-counts : goal.returns-clause-counts
@@ -26,12 +26,12 @@ returns-clause-counts g c = λ number count is up.
     c.in_ok-round.round c.args.nodes c.in_ok-played.played (record {
       was = is;
       drawn = c.in_ok-round.ensures.drawn ∙ ap (λ (k : ℕ). round k c.args.dice.now.number)
-          c.size-size.ensures.value;
+          c.size_of-size.ensures.value;
       played = c.in_ok-played.ensures.state;
       early = c.requires.verified;
       three = c.in_ok-round.ensures.few;
       index = subst (λ (n : ℕ). (1 ≤ c.in_ok-round.round.index)
           × (c.in_ok-round.round.index < n + length c.in_ok-round.round.entries))
-          c.size-size.ensures.value c.in_ok-round.ensures.index;
+          c.size_of-size.ensures.value c.in_ok-round.ensures.index;
     }) c.in_ok-played.played.trio.first.stands c.in_ok-played.played.trio.second.stands
     c.in_ok-played.played.trio.third.stands c.in_ok-played.ensures.counts up

@@ -2,20 +2,23 @@ use Rattle.std.proofs.Common.{◌≡◌, ◌∙◌, ◌+◌, ◌++◌, ◌≤◌
 use Rattle.tree_core.specs.declared.spans.Span.{Span}
 use Rattle.landmarks.specs.Landmarks.{active_of}
 use Rattle.issuance_log.specs.Staying.{stays_alone, stays_both}
-use Rattle.issuance_log.specs.Words.{log_disk, log_state}
+use Rattle.issuance_log.specs.Words.{log_disk, log_tiles_disk}
+use Rattle.fleet.specs.Nodes.{log_seen}
 use Rattle.policy_core.specs.declared.lists.Trusted.{Trusted}
 use Rattle.fleet.specs.LightStores.{AreOfLandmarks, cover_with}
 use Rattle.fleet.proofs.OwnSubtrees.{next_landmark, none_of_landmarks}
+use Rattle.fleet.proofs.Looked.{mem_now, seen_stays}
 use Rattle.fleet.proofs.light.active_subtrees.Goals as goal
 
 pub loop-number-init : goal.loop-number-init
 loop-number-init g c =
     let h = g.H.TreeHash.hash in
-    let entries = (log_state c.args.log.now).entries in
+    let entries = (log_seen c.args.log.now).entries in
     let l = c.args.landmarks.now in
     let from : ℕ = (active_of l).start in
     record {
-      stays = stays_alone c.args.log.now (g.met.D.Disk.only_now (log_disk c.args.log.now));
+      stays = stays_alone c.args.log.now (mem_now (log_disk c.args.log.now))
+          (mem_now (log_tiles_disk c.args.log.now));
       active = subst (λ (x : List Trusted). AreOfLandmarks h entries l from
           c.active-numbers.result.start x) (sym c.new-trust.ensures.items)
           (subst (λ (n : ℕ). AreOfLandmarks h entries l from n [])
@@ -26,7 +29,7 @@ loop-number-init g c =
 pub loop-number-preserved : goal.loop-number-preserved
 loop-number-preserved g c =
     let h = g.H.TreeHash.hash in
-    let entries = (log_state c.args.log.now).entries in
+    let entries = (log_seen c.args.log.now).entries in
     let l = c.args.landmarks.now in
     let from : ℕ = (active_of l).start in
     let loop = c.loop-number in
@@ -34,7 +37,7 @@ loop-number-preserved g c =
     ++ cover_with h entries c.subtrees.result =
     c.in_ok-put_cover.ensures.put
     ∙ ap (λ s. loop.trust.items ++ cover_with h s.entries c.subtrees.result)
-    loop.invariant.stays.state in
+    (seen_stays _ _ loop.invariant.stays) in
     record {
       stays = stays_both _ _ _ loop.invariant.stays c.put_cover.ensures.stays;
       active = subst (λ (x : List Trusted). AreOfLandmarks h entries l from (loop.number + 1) x)
@@ -45,7 +48,7 @@ loop-number-preserved g c =
 pub returns-clause-active : goal.returns-clause-active
 returns-clause-active g c =
     let h = g.H.TreeHash.hash in
-    let entries = (log_state c.args.log.now).entries in
+    let entries = (log_seen c.args.log.now).entries in
     let l = c.args.landmarks.now in
     let from : ℕ = (active_of l).start in
     let loop = c.loop-number in
@@ -62,3 +65,7 @@ returns-clause-active g c =
     (sym c.from_vec.ensures)
     (subst (λ (n : ℕ). AreOfLandmarks h entries l from n loop.trust.items) all
     loop.invariant.active)
+
+pub returns-in_err-put_cover-clause-stays : goal.returns-in_err-put_cover-clause-stays
+returns-in_err-put_cover-clause-stays g c =
+    stays_both _ _ _ c.loop-number.invariant.stays c.put_cover.ensures.stays

@@ -3,12 +3,13 @@ use Rattle.std.specs.Prelude.{pos}
 use Rattle.byte_forms.specs.Types.{Text}
 use Rattle.issuance_log.specs.Folds.{LogState}
 use Rattle.issuance_log.specs.Staying.{stays_both}
-use Rattle.issuance_log.specs.Words.{log_state}
+use Rattle.fleet.specs.Nodes.{log_seen}
 use Rattle.policy_core.specs.Judgement.{judgement}
 use Rattle.authority_core.specs.Acceptance.{StoresAcceptLightly}
 use Rattle.authority_core.specs.Certificates.{IsLightlyWritten}
 use Rattle.fleet.proofs.Accepting.{due_entry}
 use Rattle.fleet.proofs.LightAccepted.{accepted_lightly}
+use Rattle.fleet.proofs.Looked.{seen_stays}
 use Rattle.fleet.proofs.light.one_light.Goals as goal
 
 pub returns-in-Ok-judge-clause-stays : goal.returns-in-Ok-judge-clause-stays
@@ -22,9 +23,9 @@ returns-in-Ok-judge-clause-only g c = λ one.
     record {
       cert = c.in-Ok.cert;
       written = subst (λ (t : LogState). IsLightlyWritten h t (length t.entries - 1) c.in-Ok.cert)
-          c.landmark_store.ensures.stays.state
-          (subst (λ (n : ℕ). IsLightlyWritten h (log_state c.landmark_store.new.log) (n - 1)
-          c.in-Ok.cert) c.size-newest.ensures.value c.in-Ok.ensures.written);
+          (seen_stays _ _ c.landmark_store.ensures.stays)
+          (subst (λ (n : ℕ). IsLightlyWritten h (log_seen c.landmark_store.new.log) (n - 1)
+          c.in-Ok.cert) c.size_of-newest.ensures.value c.in-Ok.ensures.written);
       store = store;
       trusts = c.in_ok-store.ensures.trusts;
       accepted = c.in-Ok-judge.field-0;
@@ -39,14 +40,14 @@ returns-clause-stays g c =
 pub returns-clause-accepted : goal.returns-clause-accepted
 returns-clause-accepted g c = λ due.
     let h = g.H.TreeHash.hash in
-    let s : LogState = log_state c.args.log.now in
+    let s : LogState = log_seen c.args.log.now in
     let says = c.entries_say_what_was_asked.ensures in
     let store = c.in_ok-store.store in
     let accepted : StoresAcceptLightly h s (length s.entries - 1) c.in-Ok.cert =
     subst (λ (t : LogState). StoresAcceptLightly h t (length t.entries - 1) c.in-Ok.cert)
-    c.landmark_store.ensures.stays.state
-    (subst (λ (n : ℕ). StoresAcceptLightly h (log_state c.landmark_store.new.log) (n - 1)
-    c.in-Ok.cert) c.size-newest.ensures.value c.in-Ok.ensures.accepted) in
+    (seen_stays _ _ c.landmark_store.ensures.stays)
+    (subst (λ (n : ℕ). StoresAcceptLightly h (log_seen c.landmark_store.new.log) (n - 1)
+    c.in-Ok.cert) c.size_of-newest.ensures.value c.in-Ok.ensures.accepted) in
     let taken = accepted_lightly h s (length s.entries - 1) c.in-Ok.cert store
     c.in_ok-store.ensures.trusts due.id
     (due_entry h s (length s.entries - 1) g.met.H.TreeHash.sized says.read says.known due.id
@@ -56,3 +57,7 @@ returns-clause-accepted g c = λ due.
     ∙ sym c.in-Err.ensures in
     let wrong : Ok taken.0 ≡ Err c.in-Err.field-0 = sym taken.1 ∙ refused in
     absurd cc
+
+pub returns-in_default-clause-stays : goal.returns-in_default-clause-stays
+returns-in_default-clause-stays g c =
+    stays_both _ _ _ c.landmark_store.ensures.stays c.light_cert.ensures.stays

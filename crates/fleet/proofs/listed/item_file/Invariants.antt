@@ -1,5 +1,6 @@
 use Rattle.std.proofs.Common.{◌≡◌}
-use Rattle.issuance_log.specs.Words.{LogStays, log_state}
+use Rattle.issuance_log.specs.Words.{LogStays}
+use Rattle.fleet.specs.Nodes.{log_seen}
 use Rattle.entry_list.specs.Items.{file_text}
 use Rattle.fleet.specs.Listed.{log_items}
 use Rattle.fleet.proofs.listed.item_file.Given as goal
@@ -8,5 +9,5 @@ use Rattle.fleet.proofs.listed.item_file.Given as goal
 abbrev pub invariant-loop-index : goal.invariant-loop-index
 invariant-loop-index g l = record {
   stays : LogStays l.initial.log l.log;
-  text : l.out ≡ file_text (log_items (log_state l.initial.log)) l.index;
+  text : l.out ≡ file_text (log_items (log_seen l.initial.log)) l.index;
 }

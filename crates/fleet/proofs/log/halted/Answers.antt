@@ -9,5 +9,5 @@ pub returns : goal.returns
 returns g c = λ s is. log_left g.H.TreeHash.hash (images_of c.into_inner-left.result)
     c.args.call.now c.args.log c.call_log.new.log _ s
     (λ x there. subst (λ (m : MemDisk). images_of m x)
-    (c.into_inner-left.ensures ∙ ap inner_of c.into_disk.ensures) there) is
+    (c.into_inner-left.ensures ∙ ap inner_of c.into_disks-fuse.ensures.journal) there) is
     c.in_ok-call_log.ensures

@@ -3,5 +3,10 @@ use Rattle.fleet.proofs.tree.root_and_proof.Goals as goal
 
 pub returns-clause-stays : goal.returns-clause-stays
 returns-clause-stays g c =
-    stays_both c.args.log.now c.root_of-root.new.log c.proof_from-proof.new.log
-    c.root_of-root.ensures.stays c.proof_from-proof.ensures
+    stays_both c.args.log.now c.root_of.new.log c.proof_from.new.log
+    c.root_of.ensures.stays c.proof_from.ensures
+
+pub returns-in_err-proof-clause-stays : goal.returns-in_err-proof-clause-stays
+returns-in_err-proof-clause-stays g c =
+    stays_both c.args.log.now c.root_of.new.log c.proof_from.new.log
+    c.root_of.ensures.stays c.proof_from.ensures

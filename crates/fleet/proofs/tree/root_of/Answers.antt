@@ -1,13 +1,14 @@
 use Rattle.std.proofs.Common.{◌∙◌, ℕ, ap}
 use Rattle.tree_core.specs.Path.{part_of}
 use Rattle.tree_core.specs.Tree.{tree_hash}
-use Rattle.issuance_log.specs.Words.{log_state}
+use Rattle.fleet.specs.Nodes.{log_seen}
 use Rattle.fleet.proofs.FirstEntries.{all_of}
 use Rattle.fleet.proofs.tree.root_of.Goals as goal
 
 pub returns-clause-hash : goal.returns-clause-hash
 returns-clause-hash g c =
-    let entries = (log_state c.args.log.now).entries in
-    c.hash_of.ensures.hash
-    ∙ ap (λ (n : ℕ). tree_hash g.H.TreeHash.hash (part_of entries 0 n)) c.size-size.ensures.value
+    let entries = (log_seen c.args.log.now).entries in
+    c.in_ok-root.ensures.hash
+    ∙ ap (λ (n : ℕ). tree_hash g.H.TreeHash.hash (part_of entries 0 n))
+    c.size_of-size.ensures.value
     ∙ ap (tree_hash g.H.TreeHash.hash) (all_of entries)

@@ -1,13 +1,10 @@
 use Rattle.std.proofs.Common.{◌∙◌}
 use Rattle.fleet.proofs.Looked.{still_stands}
-use Rattle.issuance_log.specs.Words.{log_disk, log_state}
 use Rattle.fleet.proofs.trio.advanced_on.Goals as goal
 
 pub looked_at-requires-clause-sound : goal.looked_at-requires-clause-sound
 looked_at-requires-clause-sound g c = c.in_ok-node.ensures.stays.broken ∙ c.args.log.sound
 
 pub looked_at-requires-clause-stands : goal.looked_at-requires-clause-stands
-looked_at-requires-clause-stands g c = still_stands g.H.TreeHash.hash (log_state c.args.log.log) _
-    (log_disk c.args.log.log) _ c.in_ok-node.ensures.stays.state
-    c.in_ok-node.ensures.stays.looks.told c.in_ok-node.ensures.stays.looks.crash
-    c.args.log.stands
+looked_at-requires-clause-stands g c = still_stands g.H.TreeHash.hash _ _
+    c.in_ok-node.ensures.stays c.args.log.stands

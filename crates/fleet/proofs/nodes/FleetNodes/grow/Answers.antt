@@ -1,5 +1,6 @@
 use Rattle.std.proofs.Common.{◌≡◌, ◌∙◌, ◌+◌, length, ap, arith, refl}
 use Rattle.issuance_log.specs.Folds.{LogState}
+use Rattle.cosigner_core.specs.Folds.{CosignerState}
 use Rattle.fleet.specs.CosignerViews.{cosigner_shown}
 use Rattle.fleet.specs.LogNodes.{log_shown}
 use Rattle.fleet.specs.Played.{holding_all, issued_to}
@@ -64,3 +65,24 @@ returns-clause-stands g c = refl
 
 pub returns-clause-light : goal.returns-clause-light
 returns-clause-light g c = refl
+
+pub invariant_of-result : goal.invariant_of-result
+invariant_of-result g c =
+    let held = c.in_ok-trio.ensures.state in
+    let log : length (log_shown c.in_ok-trio.log).entries
+    ≡ length (log_shown c.in_ok-log.log).entries =
+    ap (λ (l : LogState). length l.entries) c.in_ok-trio.ensures.same in
+    let first : (cosigner_shown c.in_ok-trio.trio.first).held.size
+    ≡ length (log_shown c.in_ok-log.log).entries =
+    ap (λ (s : CosignerState). s.held.size) held.first in
+    let second : (cosigner_shown c.in_ok-trio.trio.second).held.size
+    ≡ length (log_shown c.in_ok-log.log).entries =
+    ap (λ (s : CosignerState). s.held.size) held.second in
+    let third : (cosigner_shown c.in_ok-trio.trio.third).held.size
+    ≡ length (log_shown c.in_ok-log.log).entries =
+    ap (λ (s : CosignerState). s.held.size) held.third in
+    record {
+      first_holds = omega (arith, log, first);
+      second_holds = omega (arith, log, second);
+      third_holds = omega (arith, log, third);
+    }
