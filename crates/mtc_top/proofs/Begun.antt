@@ -27,9 +27,11 @@ use Rattle.node_history.proofs.Agreement.{agree}
 use Rattle.node_history.proofs.GoesOn.{begins_fresh}
 use Rattle.mtc_top.specs.Courses.{DidWith, HandsOut, HasHeld, HasTurned, IsBegun, IsCourse}
 use Rattle.mtc_top.specs.Courses.{IsHeard, Link, Turn, WasHeld, images_in, ran}
+use Rattle.mtc_top.specs.Facts.{facts}
 use Rattle.mtc_top.specs.Nodes.{end_state, has_handed, has_settled, steps_of}
 use Rattle.mtc_top.specs.Run.{journals}
 use Rattle.mtc_top.proofs.Commands.{spoken_records}
+use Rattle.mtc_top.proofs.Beside.{IsOwn, journal_own}
 use Rattle.mtc_top.proofs.Courses.{Fronts, Goes, RunGoes, course_goes, course_held}
 use Rattle.mtc_top.proofs.Courses.{fronts_on, grown_at, later_on}
 use Rattle.mtc_top.proofs.Nodes.{Allows, hand_on, heard_dec, one_list, settle_on, some_image}
@@ -160,6 +162,10 @@ module _ {R S D O E : Type 0} (h : HashFunction) (rooms : Rooms R S D) (disks : 
         stands = held_stands h rooms disks outs errs image only told old turn name (first ∷ others)
             run tells held
 
+        own : IsOwn name
+        own = journal_own h turn.words ((facts h (command_of turn.words)).outcome
+            (rooms.file old)).journals name held.did held.among
+
         -- there are no other records
         same_list : (list : List (List ℕ)) → HasHeld h rooms disks outs errs name old turn list
             → list ≡ first ∷ others
@@ -190,6 +196,7 @@ module _ {R S D O E : Type 0} (h : HashFunction) (rooms : Rooms R S D) (disks : 
                   more = all.steps;
                   state = all.state;
                   at = record {
+                    own = own;
                     tells = run.back.tells tells;
                     leads = all.leads;
                     stands = λ c at. inl (subst (λ (l : List (List ℕ)). StandsFor c (first ∷ l))
@@ -223,6 +230,7 @@ module _ {R S D O E : Type 0} (h : HashFunction) (rooms : Rooms R S D) (disks : 
                   more = was.steps ++ steps_of 0 end;
                   state = end_state end was.state;
                   at = record {
+                    own = own;
                     tells = run.back.tells tells;
                     leads = hand_on h was.state first false body
                         (allows h start first begins front body was all) was.started (start ∷ [])

@@ -11,7 +11,7 @@ use Rattle.mtc_words.specs.Words.{command_of}
 use Rattle.mtc_answers.specs.Made.{Journaled, appended, images_at, images_since, moment_at}
 use Rattle.mtc_answers.specs.Served.{IsOther}
 use Rattle.mtc_answers.proofs.Made.{OnlyNow, ReadsImage}
-use Rattle.node_history.specs.Laws.{Begins, HasGrown, LeadsTo}
+use Rattle.node_history.specs.Laws.{AreAtMost, Begins, HasGrown, LeadsTo, handed_bodies}
 use Rattle.node_history.specs.Nodes.{HistoryState}
 use Rattle.node_history.specs.Rules.{StartsWith, may_follow}
 use Rattle.node_history.specs.declared.start.NodeStart.{NodeStart}
@@ -21,14 +21,13 @@ use Rattle.node_history.proofs.Steps.{some_is}
 use Rattle.mtc_top.specs.Courses.{Turn, Link, ran, stops, cut, died, writes, HasTurned, DidWith}
 use Rattle.mtc_top.specs.Courses.{images_in, images_from, HasStopped, HasWritten, IsCourse}
 use Rattle.mtc_top.specs.Courses.{HasDied, HasHeld, WasHeld, HandsOut, IsHeard, WentOut, WentOutBy}
-use Rattle.mtc_top.specs.Nodes.{AllStandForNode, EndsWell, StandsForNode}
-use Rattle.mtc_top.specs.Nodes.{end_state, steps_of}
+use Rattle.mtc_top.specs.Nodes.{AllStandForNode, End, EndsWell, MayEnd, StandsForNode, begun}
+use Rattle.mtc_top.specs.Nodes.{end_state, has_handed, has_settled, same, steps_of, stopped}
 use Rattle.mtc_top.specs.Facts.{facts}
 use Rattle.mtc_top.specs.Run.{journals}
-use Rattle.node_history.specs.Laws.{AreAtMost, handed_bodies}
 use Rattle.node_history.proofs.Agreement.{alone}
 use Rattle.node_history.proofs.Sound.{sound}
-use Rattle.mtc_top.specs.Nodes.{End, MayEnd, begun, has_handed, has_settled, same, stopped}
+use Rattle.mtc_top.proofs.Beside.{IsOwn, none_beside, other_beside}
 use Rattle.mtc_top.proofs.Died.{died_ends, died_hands}
 use Rattle.mtc_top.proofs.Nodes.{heard_dec}
 use Rattle.mtc_top.proofs.WentOut.{end_hands, find_added, moment_hands, other_none, out_by}
@@ -54,6 +53,7 @@ module _ {R S D O E : Type 0} (h : HashFunction) (rooms : Rooms R S D) (disks : 
     where
       -- the steps lead to a state for which each image stands
       pub record IsAt (steps : List NodeStep) (s : HistoryState) (room : R) : Type 0 where
+        pub own : IsOwn name
         pub tells : rooms.tells room
         pub leads : LeadsTo (may_follow h) (start ∷ []) steps 0 s
         pub stands : AllStandForNode s first (Images room name)
@@ -101,6 +101,7 @@ module _ {R S D O E : Type 0} (h : HashFunction) (rooms : Rooms R S D) (disks : 
         more = [];
         state = s;
         at = record {
+          own = at.own;
           tells = at.tells;
           leads = leads_same steps s at.leads;
           stands = at.stands;
@@ -126,8 +127,18 @@ module _ {R S D O E : Type 0} (h : HashFunction) (rooms : Rooms R S D) (disks : 
           leads.allowed in
           subst (HasGrown s) (some_is new.0 later.state (sym new.1.0 ∙ leads.there)) new.1.1
 
-      -- ---- a run
+      -- where the device stays
+      still : (steps : List NodeStep) (s : HistoryState) (old new : R) → IsAt steps s old
+          → rooms.tells new → rooms.device new name ≡ rooms.device old name → IsAt steps s new
+      still steps s old new at tells disk = record {
+        own = at.own;
+        tells = tells;
+        leads = at.leads;
+        stands = subst (λ (x : Option D). AllStandForNode s first (images_at disks x)) (sym disk)
+            at.stands;
+      }
 
+      -- ---- a run
       by_end : (steps : List NodeStep) (s : HistoryState) (old : R) (turn : Turn R O E)
           (did : Journaled) → IsAt steps s old → Turned old turn → Did old turn name did
           → EndsWell h did turn.status (IsHeard outs turn) s first (Images turn.room name) (Between
@@ -145,6 +156,7 @@ module _ {R S D O E : Type 0} (h : HashFunction) (rooms : Rooms R S D) (disks : 
             more = steps_of 0 e.end;
             state = end_state e.end s;
             at = record {
+              own = at.own;
               tells = run.back.tells at.tells;
               leads = e.goes_on (starts_of steps s old at) (start ∷ []) steps 0 at.leads;
               stands = e.stands;
@@ -152,25 +164,11 @@ module _ {R S D O E : Type 0} (h : HashFunction) (rooms : Rooms R S D) (disks : 
           }
 
       -- of a run that doesn't work on the journal
-      idle_stands : (steps : List NodeStep) (s : HistoryState) (old : R) (turn : Turn R O E)
-          → IsAt steps s old → Turned old turn
+      idle_device : (old : R) (turn : Turn R O E) → IsOwn name → Turned old turn
           → IsOther (facts h (command_of turn.words)).journals name
-          → IsAt steps s turn.room
-      idle_stands steps s old turn at run other = record {
-        tells = run.back.tells at.tells;
-        leads = at.leads;
-        stands = subst (λ (x : Option D). AllStandForNode s first (images_at disks x))
-            (sym (run.back.others name other).disk) at.stands;
-      }
-
-      idle_moment : (old : R) (turn : Turn R O E) (c : List ℕ) → Turned old turn
-          → IsOther (facts h (command_of turn.words)).journals name → Between old turn.room name c
-          → Images old name c
-      idle_moment old turn c run other is =
-          now_of disks only (rooms.device old name) c
-          (subst (λ (x : Option D). images_since disks x
-          (moment_at disks (rooms.device old name)) c)
-          (run.back.others name other).disk is)
+          → rooms.device turn.room name ≡ rooms.device old name
+      idle_device old turn own run other =
+          (run.back.others name (other_beside h (command_of turn.words) name own other)).disk
 
       find : (old : R) (turn : Turn R O E)
           → IsOther (facts h (command_of turn.words)).journals name
@@ -242,7 +240,8 @@ module _ {R S D O E : Type 0} (h : HashFunction) (rooms : Rooms R S D) (disks : 
           → IsAt steps s old → Turned old turn
           → IsOther (facts h (command_of turn.words)).journals name → RunGoes steps s old turn
       goes_idle steps s old turn at run other = record {
-        later = later_same steps s turn.room (idle_stands steps s old turn at run other);
+        later = later_same steps s turn.room (still steps s old turn.room at
+            (run.back.tells at.tells) (idle_device old turn at.own run other));
         out = [];
         went = inr (
           refl,
@@ -282,7 +281,10 @@ module _ {R S D O E : Type 0} (h : HashFunction) (rooms : Rooms R S D) (disks : 
           more = [];
           state = s;
           leads = leads_same steps s at.leads;
-          stands = at.stands c (idle_moment old turn c run other is);
+          stands = at.stands c (now_of disks only (rooms.device old name) c
+              (subst (λ (x : Option D). images_since disks x
+              (moment_at disks (rooms.device old name)) c)
+              (idle_device old turn at.own run other) is));
           handed = refl;
         }
         | inr found ↦
@@ -297,10 +299,10 @@ module _ {R S D O E : Type 0} (h : HashFunction) (rooms : Rooms R S D) (disks : 
       ]
 
       -- ---- a stop
-
       stop_stands : (steps : List NodeStep) (s : HistoryState) (old new : R) → IsAt steps s old
           → HasStopped h rooms disks outs errs (Images old) old new → IsAt steps s new
       stop_stands steps s old new at stop = record {
+        own = at.own;
         tells = stop.tells at.tells;
         leads = at.leads;
         stands = λ c is. subst (StandsForNode s first) (sym (stop.only name c is))
@@ -323,6 +325,7 @@ module _ {R S D O E : Type 0} (h : HashFunction) (rooms : Rooms R S D) (disks : 
               more = may.more;
               state = may.state;
               at = record {
+                own = at.own;
                 tells = stop.tells (run.back.tells at.tells);
                 leads = may.leads;
                 stands = λ c is. subst (StandsForNode may.state first) (sym (stop.only name c is))
@@ -340,14 +343,11 @@ module _ {R S D O E : Type 0} (h : HashFunction) (rooms : Rooms R S D) (disks : 
         | inl other ↦
             (let j = facts h (command_of turn.words) in
             let stays = killed.stays (λ did among. other_none j.journals
-            (j.outcome (rooms.file old)).journals name did other among) in
+            (j.outcome (rooms.file old)).journals name did other among)
+            (none_beside h (command_of turn.words) name at.own) in
             record {
-              later = later_same steps s new (record {
-                tells = killed.tells at.tells;
-                leads = at.leads;
-                stands = subst (λ (x : Option D). AllStandForNode s first (images_at disks x))
-                    (sym stays.disk) at.stands;
-              });
+              later = later_same steps s new (still steps s old new at (killed.tells at.tells)
+                  stays.disk);
               handed = refl;
             })
         | inr found ↦
@@ -358,6 +358,7 @@ module _ {R S D O E : Type 0} (h : HashFunction) (rooms : Rooms R S D) (disks : 
                 more = steps_of 0 e.end;
                 state = end_state e.end s;
                 at = record {
+                  own = at.own;
                   tells = killed.tells at.tells;
                   leads = e.goes_on (starts_of steps s old at) (start ∷ []) steps 0 at.leads;
                   stands = e.stands;
@@ -368,18 +369,12 @@ module _ {R S D O E : Type 0} (h : HashFunction) (rooms : Rooms R S D) (disks : 
       ]
 
       -- ---- other files that change
-
       written_stands : (steps : List NodeStep) (s : HistoryState) (old new : R) → IsAt steps s old
           → HasWritten h rooms disks outs errs name old new → IsAt steps s new
-      written_stands steps s old new at wrote = record {
-        tells = wrote.tells at.tells;
-        leads = at.leads;
-        stands = subst (λ (x : Option D). AllStandForNode s first (images_at disks x))
-            (sym wrote.stays.disk) at.stands;
-      }
+      written_stands steps s old new at wrote =
+          still steps s old new at (wrote.tells at.tells) wrote.stays.disk
 
       -- ---- a course
-
       pub record Goes (steps : List NodeStep) (s : HistoryState) (old new : R)
           (links : List (Link R O E)) : Type 0 where
         pub later : IsLater steps new

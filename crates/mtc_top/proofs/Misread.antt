@@ -1,5 +1,5 @@
--- Status 2 behind a course is about an input.
-use Rattle.std.proofs.Common.{◌≡◌, ◌≢◌, inl, inr, ℕ, true, false, Bool, List, [], ◌∷◌, ◌++◌}
+-- Status 2 behind a course is about an input, or a tile that the file of a log's tiles hasn't.
+use Rattle.std.proofs.Common.{◌≡◌, ◌≢◌, ◌⊎◌, inl, inr, ℕ, true, false, Bool, List, [], ◌∷◌, ◌++◌}
 use Rattle.std.proofs.Common.{length, Option, None, Some, Result, Ok, Err, codes, refl, sym, subst}
 use Rattle.std.proofs.Common.{ap, ◌∙◌, arith, not}
 use Rattle.std.specs.Fmt.{decimal}
@@ -15,7 +15,7 @@ use Rattle.mtc_room.specs.Room.{TellsFile}
 use Rattle.mtc_room.specs.declared.room.Room.{Ghosts as Rooms}
 use Rattle.mtc_words.specs.Commands.{CommandValue, advance, cert, checkpoint, consist, cosign}
 use Rattle.mtc_words.specs.Commands.{entries, export, init_cosigner, init_log, issue, landmark}
-use Rattle.mtc_words.specs.Commands.{landmarks, light_cert, subtree}
+use Rattle.mtc_words.specs.Commands.{landmarks, light_cert, subtree, tile}
 use Rattle.mtc_words.specs.Words.{command_of, known_word}
 use Rattle.mtc_words.specs.declared.error.WordError.{WordError}
 use Rattle.authority_core.specs.Files.{request_of}
@@ -36,14 +36,15 @@ use Rattle.entry_list.specs.Items.{file_text}
 use Rattle.issuance_log.specs.Folds.{LogState, log_fold, log_of, view_in}
 use Rattle.issuance_log.specs.Openings.{FoundLog, log_read}
 use Rattle.issuance_log.specs.Records.{settings_record}
-use Rattle.issuance_log.specs.Refusals.{add_refusal, mark_refusal}
+use Rattle.issuance_log.specs.Refusals.{add_refusal, mark_refusal, tile_refusal}
 use Rattle.issuance_log.specs.declared.error.LogError.{LogError}
 use Rattle.issuance_log.specs.declared.error.LogError.TheVariants as log_error
-use Rattle.mtc_answers.specs.Answers.{Reply, err_of, refused, said, status_of}
+use Rattle.mtc_answers.specs.Answers.{Reply, bad_tile_text, err_of, refused, said, status_of}
+use Rattle.mtc_answers.specs.Answers.{tiles_name}
 use Rattle.mtc_answers.specs.Endings.{IsNamed}
 use Rattle.mtc_answers.specs.Lines.{line_of}
-use Rattle.mtc_answers.specs.Steps.{Files, Outcome, starts, stops_at, with_bytes, with_form}
-use Rattle.mtc_answers.specs.Steps.{with_fresh}
+use Rattle.mtc_answers.specs.Steps.{Files, Outcome, held_in, starts, stops_at, with_bytes}
+use Rattle.mtc_answers.specs.Steps.{with_form, with_fresh}
 use Rattle.mtc_answers.specs.Wanted.{Meets}
 use Rattle.mtc_answers.specs.declared.answer.Said.TheVariants.{Done}
 use Rattle.mtc_answers.specs.declared.answer.Stopped.TheVariants.{BadForm, Beyond, Missing}
@@ -55,6 +56,7 @@ use Rattle.mtc_cosigner.specs.InitOutcome.{cosigner_settings_of, init_says}
 use Rattle.mtc_cosigner.specs.KeygenOutcome.{public_line, with_secret}
 use Rattle.mtc_cosigner.specs.Works.{IsCosigner, advance_outcome, cosign_outcome, export_outcome}
 use Rattle.mtc_cosigner.specs.Works.{cosigner_outcome, cosigner_open_text}
+use Rattle.mtc_logs.specs.BadTiles.{first_bad}
 use Rattle.mtc_logs.specs.CertOutcome.{cert_refused, cert_replies, cert_reply, certificate_in}
 use Rattle.mtc_logs.specs.CertOutcome.{light_reply, light_text, signatures_fault_text}
 use Rattle.mtc_logs.specs.CertOutcome.{signatures_in}
@@ -63,10 +65,13 @@ use Rattle.mtc_logs.specs.LandmarkOutcomes.{landmarks_reply, mark_refused, marke
 use Rattle.mtc_logs.specs.LogOutcomes.{beyond, checkpoint_reply, entries_reply, items_of}
 use Rattle.mtc_logs.specs.LogOutcomes.{init_log_outcome, log_line, log_settings_of, not_allowed}
 use Rattle.mtc_logs.specs.RequestOutcomes.{advance_by_log, consist_reply, subtree_of, subtree_reply}
-use Rattle.mtc_logs.specs.Works.{IsLog, log_outcome, log_open_text, log_says}
+use Rattle.mtc_logs.specs.TileOutcome.{tiled_by, tiles_refused}
+use Rattle.mtc_logs.specs.Works.{IsLog, log_outcome, log_open_text, log_says, tested_says}
+use Rattle.mtc_logs.specs.Works.{unless_missing}
 use Rattle.mtc_logs.specs.declared.work.Work.{Work}
 use Rattle.mtc_logs.specs.declared.work.Work.TheVariants.{Cert, Checkpoint, Consist, Entries, Issue}
 use Rattle.mtc_logs.specs.declared.work.Work.TheVariants.{Landmark, Landmarks, LightCert, Subtree}
+use Rattle.mtc_logs.specs.declared.work.Work.TheVariants.{Tile}
 use Rattle.node_history.specs.Rules.{IsReadAs}
 use Rattle.node_history.specs.declared.start.NodeStart.{NodeStart}
 use Rattle.node_history.specs.declared.start.NodeStart.TheVariants.{Cosigner, Log}
@@ -74,7 +79,7 @@ use Rattle.mtc_top.specs.Concluded.{Reports}
 use Rattle.mtc_top.specs.CourseLaws.{AreOfNode}
 use Rattle.mtc_top.specs.Courses.{Turn, HasTurned}
 use Rattle.mtc_top.specs.Facts.{facts, facts_of}
-use Rattle.mtc_top.specs.StatusLaws.{IsAboutInput, MisreadFilesAreInputs, WorksOn}
+use Rattle.mtc_top.specs.StatusLaws.{IsAboutInput, LacksTile, MisreadFilesAreInputs, WorksOn}
 use Rattle.mtc_top.proofs.Begun.{made_so}
 use Rattle.mtc_top.proofs.Recovered.{last, read_again}
 use Rattle.mtc_top.proofs.Turns.{file_bytes}
@@ -116,8 +121,14 @@ mark_two : (why : LogError) → NotTwo (mark_refused why)
 mark_two log_error.NothingNew = four_two
 mark_two other = nine_two
 
+tiles_two : (why : LogError) → NotTwo (tiles_refused why)
+tiles_two log_error.NothingNew = four_two
+tiles_two other = nine_two
+
 write_two : (why : WriteError) → NotTwo (cert_refused why)
 write_two write_error.TooManySignatures = nine_two
+write_two write_error.JournalFailed = nine_two
+write_two write_error.TilesFailed = nine_two
 write_two write_error.Memory = nine_two
 write_two other = four_two
 
@@ -144,6 +155,11 @@ module _ (h : HashFunction) where
   landmark_two : (found : FoundLog) (why : Option LogError) → NeverTwo (marked found why)
   landmark_two found None = λ reply. exact_two _ reply zero_two
   landmark_two found (Some why) = λ reply. exact_two (mark_refused why) reply (mark_two why)
+
+  tile_two : (found : FoundLog) (why : Option LogError)
+      → NeverTwo (tiled_by (view_in found.state) found.records why)
+  tile_two found None = λ reply. exact_two _ reply zero_two
+  tile_two found (Some why) = λ reply. exact_two (tiles_refused why) reply (tiles_two why)
 
   entries_two : (size : ℕ) (s : LogState) → NotTwo (entries_reply size s)
   entries_two size s =
@@ -176,7 +192,7 @@ module _ (h : HashFunction) where
   work_two (Entries size) found =
       λ reply. exact_two (entries_reply size found.state) reply (entries_two size found.state)
   work_two (Issue request) found = issue_two request found (add_refusal (view_in found.state) false
-      (end_behind found.records) (issued_entry h found.state request) request.key)
+      (end_behind found.records) (issued_entry h found.state.settings request) request.key)
   work_two (Consist old new) found = λ reply. exact_two (consist_reply h old new found.state) reply
       (consist_two old new found.state)
   work_two (Subtree start end size) found =
@@ -185,7 +201,7 @@ module _ (h : HashFunction) where
   work_two Landmark found =
       landmark_two found (mark_refusal (view_in found.state) false (end_behind found.records))
   work_two Landmarks found =
-      λ reply. exact_two (landmarks_reply found.state) reply zero_two
+      λ reply. exact_two (landmarks_reply (view_in found.state)) reply zero_two
   work_two (LightCert index) found = λ reply. exact_two (light_reply h index found.state) reply
       (cert_two (light_refusal (view_in found.state) index)
       (light_text h index found.state (covering_in (view_in found.state) index)))
@@ -193,38 +209,53 @@ module _ (h : HashFunction) where
       λ reply. exact_two (cert_reply h index start end signatures found.state) reply
       (cert_two (cert_refusal (view_in found.state) index start end signatures)
       (certificate_in h index start end signatures found.state))
+  work_two Tile found =
+      tile_two found (tile_refusal (view_in found.state) false (end_behind found.records))
 
-  -- ---- status 2 comes with an input
+  -- ---- status 2 comes with such a file and reason
 
-  -- with one of these
-  abbrev OnlyInputs : List (List ℕ) → Outcome → Type 0
-  OnlyInputs inputs o = (reply : Reply) → Meets o.answer reply → status_of reply ≡ 2
+  abbrev OnlyAbout : (List ℕ → List ℕ → Type 0) → Outcome → Type 0
+  OnlyAbout A o = (reply : Reply) → Meets o.answer reply → status_of reply ≡ 2
       → (file : List ℕ) × ((reason : List ℕ)
-      × (IsNamed inputs file × (reply ≡ refused BadForm (Some file) reason)))
+      × (A file reason × (reply ≡ refused BadForm (Some file) reason)))
 
-  none_only : (inputs : List (List ℕ)) (o : Outcome) → NeverTwo o → OnlyInputs inputs o
-  none_only inputs o never = λ reply meets two. absurd (never reply meets two)
+  -- an input, or a tile that isn't there
+  abbrev Told : Files → List ℕ → List (List ℕ) → List ℕ → List ℕ → Type 0
+  Told files name inputs file reason =
+      IsNamed inputs file ⊎ LacksTile h files name file reason
 
-  only_bytes : (inputs : List (List ℕ)) (limit : ℕ) (file : List ℕ) (o : Option (List ℕ))
-      (next : List ℕ → Outcome) → ((b : List ℕ) → OnlyInputs inputs (next b))
-      → OnlyInputs inputs (with_bytes limit file o next)
-  only_bytes inputs limit file None next rest =
-      none_only inputs (stops_at Missing file (codes "Absent"))
+  none_only : (A : List ℕ → List ℕ → Type 0) (o : Outcome) → NeverTwo o → OnlyAbout A o
+  none_only A o never = λ reply meets two. absurd (never reply meets two)
+
+  only_bytes : (A : List ℕ → List ℕ → Type 0) (limit : ℕ) (file : List ℕ) (o : Option (List ℕ))
+      (next : List ℕ → Outcome) → ((b : List ℕ) → OnlyAbout A (next b))
+      → OnlyAbout A (with_bytes limit file o next)
+  only_bytes A limit file None next rest =
+      none_only A (stops_at Missing file (codes "Absent"))
       (λ reply. exact_two _ reply seven_two)
-  only_bytes inputs limit file (Some b) next rest = go (nat_lt limit (length b))
+  only_bytes A limit file (Some b) next rest = go (nat_lt limit (length b))
     where
       go : (t : Bool)
-          → OnlyInputs inputs (if t then stops_at Beyond file (codes "TooLong") else next b)
-      go true = none_only inputs (stops_at Beyond file (codes "TooLong"))
+          → OnlyAbout A (if t then stops_at Beyond file (codes "TooLong") else next b)
+      go true = none_only A (stops_at Beyond file (codes "TooLong"))
           (λ reply. exact_two _ reply nine_two)
       go false = rest b
 
-  only_form : {F W : Type 0} (fault_text : W → List ℕ) (file : List ℕ) (r : Result F W)
-      (next : F → Outcome) → ((x : F) → NeverTwo (next x))
-      → OnlyInputs (file ∷ []) (with_form fault_text file r next)
-  only_form {F} {W} fault_text file (Ok x) next rest = none_only (file ∷ []) (next x) (rest x)
-  only_form {F} {W} fault_text file (Err why) next rest =
-      λ reply meets two. (file, (fault_text why, (inl refl, meets)))
+  only_form : {F W : Type 0} (A : List ℕ → List ℕ → Type 0) (fault_text : W → List ℕ)
+      (file : List ℕ) (r : Result F W) (next : F → Outcome)
+      → ((reason : List ℕ) → A file reason) → ((x : F) → OnlyAbout A (next x))
+      → OnlyAbout A (with_form fault_text file r next)
+  only_form {F} {W} A fault_text file (Ok x) next among rest = rest x
+  only_form {F} {W} A fault_text file (Err why) next among rest =
+      λ reply meets two. (file, (fault_text why, (among (fault_text why), meets)))
+
+  only_tiles : (A : List ℕ → List ℕ → Type 0) (name : List ℕ) (o : Option (ℕ × ℕ))
+      (next : Outcome) → NeverTwo next
+      → ((bad : ℕ × ℕ) → o ≡ Some bad → A (tiles_name name) (bad_tile_text bad.0 bad.1))
+      → OnlyAbout A (unless_missing name o next)
+  only_tiles A name None next never lacks = none_only A next never
+  only_tiles A name (Some bad) next never lacks =
+      λ reply meets two. (tiles_name name, (bad_tile_text bad.0 bad.1, (lacks bad refl, meets)))
 
   -- ---- the journal is read
 
@@ -235,14 +266,28 @@ module _ (h : HashFunction) where
   CosignersRead o =
       (c : List ℕ) → o ≡ Some c → (found : FoundCosigner) × (cosigner_read h c ≡ Ok found)
 
-  log_two : (name : List ℕ) (o : Option (List ℕ)) (work : Work) → LogsRead o
-      → NeverTwo (log_outcome h name o work)
+  only_log : (files : Files) (inputs : List (List ℕ)) (name : List ℕ) (o tiles : Option (List ℕ))
+      (work : Work) → files name ≡ o → files (tiles_name name) ≡ tiles → LogsRead o
+      → OnlyAbout (Told files name inputs) (log_outcome h name o tiles work)
   unfolding log_outcome
-  log_two name None work reads = λ reply. exact_two _ reply seven_two
-  log_two name (Some c) work reads =
+  only_log files inputs name None tiles work there beside reads =
+      none_only (Told files name inputs)
+      (stops_at Missing name (codes "Absent")) (λ reply. exact_two _ reply seven_two)
+  only_log files inputs name (Some c) tiles work there beside reads =
       let found = reads c refl in
-      subst (λ r. NeverTwo (with_form log_open_text name r (log_says h work))) (sym found.1)
-      (work_two work found.0)
+      subst (λ r. OnlyAbout (Told files name inputs) (with_form log_open_text name r
+      (tested_says h name work (held_in tiles)))) (sym found.1)
+      (only_tiles (Told files name inputs) name (first_bad h found.0.state (held_in tiles))
+      (log_says h work found.0) (work_two work found.0) (λ bad is. inr (record {
+        bytes = c;
+        found = found.0;
+        missing = bad;
+        there = there;
+        log_is = found.1;
+        lacks = ap (λ (t : Option (List ℕ)). first_bad h found.0.state (held_in t)) beside ∙ is;
+        named = refl;
+        says = refl;
+      })))
 
   cosigner_two : (name : List ℕ) (o : Option (List ℕ)) (says : FoundCosigner → Outcome)
       → CosignersRead o → ((found : FoundCosigner) → NeverTwo (says found))
@@ -257,20 +302,24 @@ module _ (h : HashFunction) where
   fresh_two name None body text = λ reply. exact_two (said Done text) reply zero_two
   fresh_two name (Some c) body text = λ reply. exact_two _ reply seven_two
 
-  only_either : (b : Bool) (file reason : List ℕ) (next : Outcome) → OnlyInputs (file ∷ []) next
-      → OnlyInputs (file ∷ []) (if b then stops_at BadForm file reason else next)
-  only_either true file reason next rest = λ reply meets two. (file, (reason, (inl refl, meets)))
-  only_either false file reason next rest = rest
+  only_either : (A : List ℕ → List ℕ → Type 0) (b : Bool) (file reason : List ℕ) (next : Outcome)
+      → ((reason : List ℕ) → A file reason) → OnlyAbout A next
+      → OnlyAbout A (if b then stops_at BadForm file reason else next)
+  only_either A true file reason next among rest =
+      λ reply meets two. (file, (reason, (among reason, meets)))
+  only_either A false file reason next among rest = rest
 
-  only_secret : (file secret : List ℕ) (next : Outcome) → OnlyInputs (file ∷ []) next
-      → OnlyInputs (file ∷ []) (with_secret file secret next)
-  only_secret file secret next rest =
-      only_either (nat_lt (length secret) 48) file (codes "Short " ++ decimal 0)
-      (if nat_lt 48 (length secret) then stops_at BadForm file (codes "Trailing") else next)
-      (only_either (nat_lt 48 (length secret)) file (codes "Trailing") next rest)
+  only_secret : (A : List ℕ → List ℕ → Type 0) (file secret : List ℕ) (next : Outcome)
+      → ((reason : List ℕ) → A file reason) → OnlyAbout A next
+      → OnlyAbout A (with_secret file secret next)
+  only_secret A file secret next among rest =
+      only_either A (nat_lt (length secret) 48) file (codes "Short " ++ decimal 0)
+      (if nat_lt 48 (length secret) then stops_at BadForm file (codes "Trailing") else next) among
+      (only_either A (nat_lt 48 (length secret)) file (codes "Trailing") next among rest)
 
-  abbrev Only : Files → CommandValue → Type 0
-  Only files command = OnlyInputs (facts_of h command).inputs ((facts_of h command).outcome files)
+  abbrev Only : Files → List ℕ → CommandValue → Type 0
+  Only files name command = OnlyAbout (Told files name (facts_of h command).inputs)
+      ((facts_of h command).outcome files)
 
   -- ---- each command, over a file that stands for the records of a node
 
@@ -296,15 +345,18 @@ module _ (h : HashFunction) where
           read_standing (cosigner_fold h) c s.0 made.0 s.1.0 made.1,
         )
 
-    of_log : (journal : List ℕ) (work : Work) → journal ∷ [] ≡ name ∷ [] → AreOf (IsLog h)
-        → NeverTwo (log_outcome h journal (files journal) work)
-    of_log journal work same kind = log_two journal (files journal) work
-        (subst (λ (n : List ℕ). LogsRead (files n)) (sym (one_is journal name same)) (logs kind))
+    abbrev By : List (List ℕ) → List ℕ → List ℕ → Type 0
+    By inputs = Told files name inputs
 
-    no_input : (journal : List ℕ) (work : Work) → journal ∷ [] ≡ name ∷ [] → AreOf (IsLog h)
-        → OnlyInputs [] (log_outcome h journal (files journal) work)
-    no_input journal work same kind =
-        none_only [] (log_outcome h journal (files journal) work) (of_log journal work same kind)
+    of_log : (inputs : List (List ℕ)) (journal : List ℕ) (work : Work)
+        → journal ∷ [] ≡ name ∷ [] → AreOf (IsLog h) → OnlyAbout (By inputs)
+        (log_outcome h journal (files journal) (files (tiles_name journal)) work)
+    of_log inputs journal work same kind =
+        subst (λ (n : List ℕ). OnlyAbout (Told files n inputs)
+        (log_outcome h journal (files journal) (files (tiles_name journal)) work))
+        (one_is journal name same)
+        (only_log files inputs journal (files journal) (files (tiles_name journal)) work refl refl
+        (subst (λ (n : List ℕ). LogsRead (files n)) (sym (one_is journal name same)) (logs kind)))
 
     of_cosigner : (journal : List ℕ) (says : FoundCosigner → Outcome) → journal ∷ [] ≡ name ∷ []
         → AreOf (IsCosigner h) → ((found : FoundCosigner) → NeverTwo (says found))
@@ -314,52 +366,65 @@ module _ (h : HashFunction) where
         (cosigners kind))
 
     only_inputs : (command : CommandValue) → WorksOn h start first name command
-        → Only files command
+        → Only files name command
     unfolding advance_outcome cosign_outcome export_outcome
     only_inputs (init_log journal id active limit) on =
-        none_only [] (init_log_outcome journal id active limit files)
+        none_only (By []) (init_log_outcome journal id active limit files)
         (fresh_two journal (files journal) (settings_record (log_settings_of id active limit))
         (log_line id))
     only_inputs (issue journal request) on =
-        only_bytes (request ∷ []) 16777216 request (files request) _
-        (λ b. only_form request_fault_text request (request_of b) _
-        (λ r. of_log journal (Issue r) on.works on.kind))
-    only_inputs (checkpoint journal) on = no_input journal Checkpoint on.works on.kind
-    only_inputs (entries journal size) on = no_input journal (Entries size) on.works on.kind
+        let about = By (request ∷ []) in
+        only_bytes about 16777216 request (files request) _
+        (λ b. only_form about request_fault_text request (request_of b) _
+        (λ reason. inl (inl refl))
+        (λ r. of_log (request ∷ []) journal (Issue r) on.works on.kind))
+    only_inputs (checkpoint journal) on = of_log [] journal Checkpoint on.works on.kind
+    only_inputs (entries journal size) on = of_log [] journal (Entries size) on.works on.kind
     only_inputs (consist journal old new) on =
-        no_input journal (Consist old new) on.works on.kind
+        of_log [] journal (Consist old new) on.works on.kind
     only_inputs (subtree journal start' end size) on =
-        no_input journal (Subtree start' end size) on.works on.kind
-    only_inputs (landmark journal) on = no_input journal Landmark on.works on.kind
-    only_inputs (landmarks journal) on = no_input journal Landmarks on.works on.kind
+        of_log [] journal (Subtree start' end size) on.works on.kind
+    only_inputs (landmark journal) on = of_log [] journal Landmark on.works on.kind
+    only_inputs (landmarks journal) on = of_log [] journal Landmarks on.works on.kind
     only_inputs (light_cert journal index) on =
-        no_input journal (LightCert index) on.works on.kind
+        of_log [] journal (LightCert index) on.works on.kind
+    only_inputs (tile journal) on = of_log [] journal Tile on.works on.kind
     only_inputs (cert journal index start' end file) on =
-        only_bytes (file ∷ []) 16777216 file (files file) _
-        (λ b. only_form signatures_fault_text file (signatures_in b) _
-        (λ signatures. of_log journal (Cert index start' end signatures) on.works on.kind))
+        let about = By (file ∷ []) in
+        only_bytes about 16777216 file (files file) _
+        (λ b. only_form about signatures_fault_text file (signatures_in b) _
+        (λ reason. inl (inl refl))
+        (λ signatures. of_log (file ∷ []) journal (Cert index start' end signatures) on.works
+        on.kind))
     only_inputs (init_cosigner journal id log height width file) on =
         let s = cosigner_settings_of id log height width in
-        only_bytes (file ∷ []) 16777216 file (files file)
+        only_bytes (By (file ∷ [])) 16777216 file (files file)
         (init_says journal s file (files journal))
         (λ secret.
         let body = cosigner_record s secret in
         let line = public_line s.lms s.ots secret in
         let next = with_fresh journal (files journal) (starts body line) in
-        only_secret file secret next (none_only (file ∷ []) next
+        only_secret (By (file ∷ [])) file secret next (λ reason. inl (inl refl))
+        (none_only (By (file ∷ [])) next
         (fresh_two journal (files journal) body line)))
     only_inputs (advance journal request) on =
-        only_bytes (request ∷ []) 16777216 request (files request) _
-        (λ b. only_form form_fault_text request (advance_in b) _
-        (λ r. of_cosigner journal (advance_says h r) on.works on.kind
-        (λ found. step_two found _ _ _)))
+        only_bytes (By (request ∷ [])) 16777216 request (files request) _
+        (λ b. only_form (By (request ∷ [])) form_fault_text request (advance_in b) _
+        (λ reason. inl (inl refl))
+        (λ r. none_only (By (request ∷ []))
+        (cosigner_outcome h journal (files journal) (advance_says h r))
+        (of_cosigner journal (advance_says h r) on.works on.kind
+        (λ found. step_two found _ _ _))))
     only_inputs (cosign journal request) on =
-        only_bytes (request ∷ []) 16777216 request (files request) _
-        (λ b. only_form form_fault_text request (subtree_in b) _
-        (λ r. of_cosigner journal (cosign_says h r) on.works on.kind
-        (λ found. step_two found _ _ _)))
+        only_bytes (By (request ∷ [])) 16777216 request (files request) _
+        (λ b. only_form (By (request ∷ [])) form_fault_text request (subtree_in b) _
+        (λ reason. inl (inl refl))
+        (λ r. none_only (By (request ∷ []))
+        (cosigner_outcome h journal (files journal) (cosign_says h r))
+        (of_cosigner journal (cosign_says h r) on.works on.kind
+        (λ found. step_two found _ _ _))))
     only_inputs (export journal) on =
-        none_only [] (cosigner_outcome h journal (files journal) export_says)
+        none_only (By []) (cosigner_outcome h journal (files journal) export_says)
         (of_cosigner journal export_says on.works on.kind export_two)
     only_inputs other on =
         let none : [] ≡ name ∷ [] = on.works in
@@ -388,11 +453,12 @@ module _ {R S D O E : Type 0} (h : HashFunction) (rooms : Rooms R S D) (disks : 
       subst (λ (r : Reply). Reports errs turn.err turn.err_after
       (err_of (known_word turn.words) r)) is line
 
-  about_input : (room : R) (command : CommandValue) (turn : Turn R O E) → rooms.tells room
+  about_input : (name : List ℕ) (room : R) (command : CommandValue) (turn : Turn R O E)
+      → rooms.tells room
       → HasTurned h rooms disks outs errs room turn → command_of turn.words ≡ Ok command
-      → turn.status ≡ 2 → Only h (rooms.file room) command
-      → IsAboutInput h rooms disks outs errs command room turn
-  about_input room command turn tells run spoken two fits =
+      → turn.status ≡ 2 → Only h (rooms.file room) name command
+      → IsAboutInput h rooms disks outs errs name command room turn
+  about_input name room command turn tells run spoken two fits =
       let a = run.answered (λ five. omega (arith, two, five)) (λ eight. omega (arith, two, eight))
       in
       let not6 : turn.status ≢ 6 = λ six. omega (arith, two, six) in
@@ -413,7 +479,7 @@ module _ {R S D O E : Type 0} (h : HashFunction) (rooms : Rooms R S D) (disks : 
   misread_inputs name start first begins new links begun course command turn on run spoken two =
       let end = last h rooms disks outs errs image only told bytes name start first begins new links
       begun course in
-      about_input new command turn end.at.tells run spoken two
+      about_input name new command turn end.at.tells run spoken two
       (only_inputs h start first name (rooms.file new) (λ c is.
       let node = read_again h rooms disks outs errs image only told bytes name start first begins
       new links begun course c (inr is) in

@@ -11,7 +11,7 @@ use Rattle.journal_core.proofs.Standing.{found_stands}
 use Rattle.mtc_words.specs.declared.error.WordError.{WordError}
 use Rattle.mtc_words.specs.Commands.{CommandValue, init_log, issue, checkpoint, entries, consist}
 use Rattle.mtc_words.specs.Commands.{subtree, init_cosigner, advance, cosign, export, landmark}
-use Rattle.mtc_words.specs.Commands.{landmarks, light_cert, cert}
+use Rattle.mtc_words.specs.Commands.{landmarks, light_cert, cert, tile}
 use Rattle.authority_core.specs.Files.{request_of}
 use Rattle.authority_core.specs.Requests.{RequestParts}
 use Rattle.cosigner_core.specs.Folds.{cosigner_fold}
@@ -20,14 +20,15 @@ use Rattle.cosigner_core.specs.Reading.{advance_in, subtree_in}
 use Rattle.cosigner_core.specs.Records.{advance_record, cosigner_record, sign_record}
 use Rattle.cosigner_core.specs.Refusals.{advance_refused, cosign_refused}
 use Rattle.cosigner_core.specs.declared.error.CosignError.{CosignError}
-use Rattle.issuance_log.specs.Folds.{log_fold}
+use Rattle.issuance_log.specs.Folds.{log_fold, view_in}
 use Rattle.issuance_log.specs.Openings.{FoundLog, log_read}
 use Rattle.issuance_log.specs.Records.{settings_record}
 use Rattle.issuance_log.specs.declared.error.LogError.{LogError}
+use Rattle.mtc_answers.specs.Answers.{tiles_name}
 use Rattle.mtc_answers.specs.Made.{IsOnOld, Journaled, untouched, reads, appended, started}
 use Rattle.mtc_answers.specs.Served.{OfEach, done_with}
 use Rattle.mtc_answers.specs.Steps.{Files, Outcome, with_bytes, with_file, with_form, with_fresh}
-use Rattle.mtc_answers.specs.Steps.{starts, stops_at}
+use Rattle.mtc_answers.specs.Steps.{held_in, starts, stops_at}
 use Rattle.mtc_answers.specs.Works.{journaled_by}
 use Rattle.mtc_answers.specs.declared.answer.Stopped.TheVariants.{BadForm, Beyond}
 use Rattle.mtc_cosigner.specs.CosignerOutcomes.{advance_says, advanced_text, cosign_says}
@@ -38,17 +39,20 @@ use Rattle.mtc_cosigner.specs.KeygenOutcome.{public_line, with_secret}
 use Rattle.mtc_cosigner.specs.Works.{IsCosigner, advance_outcome, cosign_outcome}
 use Rattle.mtc_cosigner.specs.Works.{cosigner_bytes_say, cosigner_open_text, cosigner_outcome}
 use Rattle.mtc_cosigner.specs.Works.{export_outcome}
+use Rattle.mtc_logs.specs.BadTiles.{first_bad}
 use Rattle.mtc_logs.specs.CertCommand.{cert_outcome, signed_says}
 use Rattle.mtc_logs.specs.CertOutcome.{signatures_fault_text, signatures_in}
 use Rattle.mtc_logs.specs.IssueCommand.{issue_outcome, request_says}
 use Rattle.mtc_logs.specs.IssueOutcome.{issued, request_fault_text}
 use Rattle.mtc_logs.specs.LandmarkOutcomes.{marked}
 use Rattle.mtc_logs.specs.LogOutcomes.{log_line, log_settings_of}
+use Rattle.mtc_logs.specs.TileOutcome.{tiled_by}
 use Rattle.mtc_logs.specs.Works.{IsLog, log_bytes_say, log_open_text, log_outcome, log_says}
+use Rattle.mtc_logs.specs.Works.{tested_says, unless_missing}
 use Rattle.mtc_logs.specs.declared.work.Work.{Work}
 use Rattle.mtc_logs.specs.declared.work.Work.TheVariants.{Checkpoint, Entries, Issue, Consist}
 use Rattle.mtc_logs.specs.declared.work.Work.TheVariants.{Subtree, Landmark, Landmarks, LightCert}
-use Rattle.mtc_logs.specs.declared.work.Work.TheVariants.{Cert}
+use Rattle.mtc_logs.specs.declared.work.Work.TheVariants.{Cert, Tile}
 use Rattle.mtc_top.specs.Facts.{facts, facts_of}
 
 -- the file is a journal of these records, which keep to the rules
@@ -112,6 +116,11 @@ module _ (h : HashFunction) (files : Files)
     find_form fault file (Ok f) next find = find f refl
     find_form fault file (Err why) next find = none V name
 
+    find_tiles : (file : List ℕ) (o : Option (ℕ × ℕ)) (next : Outcome) → Find next
+        → Find (unless_missing file o next)
+    find_tiles file None next find = find
+    find_tiles file (Some bad) next find = none V name
+
     find_file : (next : List ℕ → Outcome)
         → ((b : List ℕ) → files name ≡ Some b → Find (next b))
         → Find (with_file name (files name) next)
@@ -154,37 +163,49 @@ module _ (h : HashFunction) (files : Files)
   find_marked name found None is = is.1 _
   find_marked name found (Some why) is = is.0
 
+  find_tiled : (name : List ℕ) (found : FoundLog) (o : Option LogError)
+      → IsOpened (Is (IsLog h) name) found.records
+      → FindLog name (tiled_by (view_in found.state) found.records o)
+  find_tiled name found None is = is.1 _
+  find_tiled name found (Some why) is = is.0
+
   find_work : (name : List ℕ) (work : Work) (found : FoundLog)
       → IsOpened (Is (IsLog h) name) found.records → FindLog name (log_says h work found)
   unfolding log_says
   find_work name (Issue request) found is = find_issued name request found _ is
   find_work name Landmark found is = find_marked name found _ is
+  find_work name Tile found is = find_tiled name found _ is
   find_work name other found is = is.0
 
   of_log : (journal : List ℕ) (work : Work)
-      → FindLog journal (log_outcome h journal (files journal) work)
+      → FindLog journal (log_outcome h journal (files journal) (files (tiles_name journal)) work)
   unfolding log_outcome
-  of_log journal work = find_file (IsLog h) journal (log_bytes_say h journal work)
+  of_log journal work =
+      let tiles = held_in (files (tiles_name journal)) in
+      find_file (IsLog h) journal (λ b. log_bytes_say h journal work b tiles)
       (λ b there. find_form (IsLog h) journal log_open_text journal (log_read h b)
-      (log_says h work)
-      (λ found read. find_work journal work found (log journal b found there read)))
+      (tested_says h journal work tiles)
+      (λ found read. find_tiles (IsLog h) journal journal (first_bad h found.state tiles)
+      (log_says h work found)
+      (find_work journal work found (log journal b found there read))))
 
   of_issue : (journal request : List ℕ)
       → FindLog journal (issue_outcome h journal request files)
   of_issue journal request =
       find_bytes (IsLog h) journal 16777216 request (files request)
-      (request_says h journal request (files journal))
+      (request_says h journal request (files journal) (files (tiles_name journal)))
       (λ bytes. find_form (IsLog h) journal request_fault_text request (request_of bytes)
-      (λ r. log_outcome h journal (files journal) (Issue r))
+      (λ r. log_outcome h journal (files journal) (files (tiles_name journal)) (Issue r))
       (λ r read. of_log journal (Issue r)))
 
   of_cert : (journal : List ℕ) (index start end : ℕ) (file : List ℕ)
       → FindLog journal (cert_outcome h journal index start end file files)
   of_cert journal index start end file =
       find_bytes (IsLog h) journal 16777216 file (files file)
-      (signed_says h journal index start end file (files journal))
+      (signed_says h journal index start end file (files journal) (files (tiles_name journal)))
       (λ bytes. find_form (IsLog h) journal signatures_fault_text file (signatures_in bytes)
-      (λ s. log_outcome h journal (files journal) (Cert index start end s))
+      (λ s. log_outcome h journal (files journal) (files (tiles_name journal))
+      (Cert index start end s))
       (λ s read. of_log journal (Cert index start end s)))
 
   -- ---- a cosigner
@@ -277,6 +298,7 @@ module _ (h : HashFunction) (files : Files)
   of_command (landmark journal) = (of_log journal Landmark, tt)
   of_command (landmarks journal) = (of_log journal Landmarks, tt)
   of_command (light_cert journal index) = (of_log journal (LightCert index), tt)
+  of_command (tile journal) = (of_log journal Tile, tt)
   of_command (cert journal index start end file) = (of_cert journal index start end file, tt)
   of_command other = tt
 

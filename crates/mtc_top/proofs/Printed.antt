@@ -29,11 +29,11 @@ use Rattle.issuance_log.specs.Folds.{log_fold, view_in}
 use Rattle.issuance_log.specs.Openings.{FoundLog, log_read}
 use Rattle.issuance_log.specs.Refusals.{add_refusal}
 use Rattle.issuance_log.specs.declared.error.LogError.{LogError}
-use Rattle.mtc_answers.specs.Answers.{Reply, refused, said}
+use Rattle.mtc_answers.specs.Answers.{Reply, bad_tile_text, refused, said, tiles_name}
 use Rattle.mtc_answers.specs.declared.answer.Said.TheVariants.{Done}
 use Rattle.mtc_answers.specs.Made.{Journaled, appended}
 use Rattle.mtc_answers.specs.Served.{Journals, done_with}
-use Rattle.mtc_answers.specs.Steps.{Outcome, appends, stops_at, with_bytes, with_file}
+use Rattle.mtc_answers.specs.Steps.{Outcome, appends, held_in, stops_at, with_bytes, with_file}
 use Rattle.mtc_answers.specs.Steps.{with_form}
 use Rattle.mtc_answers.specs.Wanted.{Meets, exactly}
 use Rattle.mtc_answers.specs.declared.answer.Stopped.{Stopped}
@@ -41,9 +41,10 @@ use Rattle.mtc_answers.specs.declared.answer.Stopped.TheVariants.{BadForm, Beyon
 use Rattle.mtc_cosigner.specs.CosignerOutcomes.{cosigned_text, form_fault_text}
 use Rattle.mtc_cosigner.specs.CosignerOutcomes.{stepped}
 use Rattle.mtc_cosigner.specs.Works.{cosign_outcome, cosigner_open_text}
+use Rattle.mtc_logs.specs.BadTiles.{first_bad}
 use Rattle.mtc_logs.specs.IssueCommand.{issue_outcome}
 use Rattle.mtc_logs.specs.IssueOutcome.{issued, issued_text, request_fault_text}
-use Rattle.mtc_logs.specs.Works.{log_open_text, log_outcome, log_says}
+use Rattle.mtc_logs.specs.Works.{log_open_text, log_outcome, log_says, unless_missing}
 use Rattle.node_history.proofs.Cosigners.{number_added, sign_read}
 use Rattle.node_history.proofs.Entries.{item_read}
 use Rattle.mtc_top.specs.Courses.{Turn, HasTurned, DidWith, AreAmong, HasPrinted, IsHeard}
@@ -114,6 +115,13 @@ module _ {R S D O E : Type 0} (h : HashFunction) (rooms : Rooms R S D) (disks : 
     past_form {F} {W} fault_text file (Ok x) next done = (x, refl, done)
     past_form {F} {W} fault_text file (Err why) next done =
         absurd (none_stopped BadForm (Some file) (fault_text why) [] done)
+
+    -- of a log whose tiles are there
+    pub past_tiles : (file : List ℕ) (o : Option (ℕ × ℕ)) (next : Outcome)
+        → HasDone (unless_missing file o next) → HasDone next
+    past_tiles file None next done = done
+    past_tiles file (Some bad) next done = absurd (none_stopped BadForm (Some (tiles_name file))
+        (bad_tile_text bad.0 bad.1) [] done)
 
     pub said_so : (text : List ℕ) (dids : List Journaled)
         → HasDone (record { answer = exactly (said Done text); journals = dids })
@@ -192,7 +200,7 @@ module _ {R S D O E : Type 0} (h : HashFunction) (rooms : Rooms R S D) (disks : 
 
     issued_so : (r : RequestParts) (found : FoundLog) (why : Option LogError)
         → Done' (issued h r found why)
-        → HasAdded found.records (issued_record h found.state r)
+        → HasAdded found.records (issued_record h found.state.settings r)
         (issued_text (length found.state.entries)) × (why ≡ None)
     issued_so r found None done = (added_so found.records _ _ done, refl)
     issued_so r found (Some why) done =
@@ -215,8 +223,11 @@ module _ {R S D O E : Type 0} (h : HashFunction) (rooms : Rooms R S D) (disks : 
         (told old name tells) journal.1 in
         let stands = found_stands (log_fold h) journal.0 found.0 are found.1 in
         let state = found.0.state in
+        let entry = issued_entry h state.settings form.0 in
+        let there = past_tiles (name ∷ []) old turn run heard name (first_bad h state (held_in
+        (rooms.file old (tiles_name name)))) _ found.2 in
         let added = issued_so form.0 found.0 (add_refusal (view_in state) false
-        (end_behind found.0.records) (issued_entry h state form.0) form.0.key) found.2 in
+        (end_behind found.0.records) entry form.0.key) there in
         record {
           text = file.0;
           has_text = record { there = file.1; few = file.2 };
@@ -225,10 +236,10 @@ module _ {R S D O E : Type 0} (h : HashFunction) (rooms : Rooms R S D) (disks : 
           list = found.0.records;
           state = state;
           log_is = stands.1;
-          body = issued_record h state form.0;
+          body = issued_record h state.settings form.0;
           did = added.0.did;
-          item = item_read (view_in state) false (end_behind found.0.records)
-              (issued_entry h state form.0) form.0.key added.1;
+          item = item_read (view_in state) false (end_behind found.0.records) entry form.0.key
+              added.1;
           printed = added.0.printed;
         }
 

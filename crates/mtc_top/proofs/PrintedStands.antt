@@ -59,7 +59,7 @@ module _ {R S D O E : Type 0} (h : HashFunction) (rooms : Rooms R S D) (disks : 
       spoken heard in
       let log = added_stand h rooms disks outs errs image only told bytes name start first begins
       new
-      links begun course settings i.list found i.body (issued_entry h i.state i.request)
+      links begun course settings i.list found i.body (issued_entry h i.state.settings i.request)
       i.request.key i.state is (held (i.list ++ i.body ∷ [])
       (heard_held h rooms disks outs errs old turn run heard name i.list i.body i.did)) i.log_is
       i.item recovered in

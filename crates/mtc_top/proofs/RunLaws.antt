@@ -192,6 +192,7 @@ module _ {R S D O E : Type 0} (h : List ℕ → List ℕ) (rooms : Rooms R S D) 
       only = λ one. absurd (omega (arith, one));
       first = λ bad not8. absurd (spoken_words bad);
       back = run.back;
+      looked = run.looked;
       no_file = run.no_file;
       early = λ tells. each_so _ _ (λ name did early is. absurd (not_early (early is)))
           (journals h rooms disks outs errs words old new out out' err err') (run.early tells);

@@ -1,5 +1,5 @@
 -- A command that was done, and whose ending went out, is a run.
-use Rattle.std.proofs.Common.{◌≡◌, ◌≤◌, ◌⊎◌, inl, inr, ℕ, List, ◌++◌, None, Some}
+use Rattle.std.proofs.Common.{◌≡◌, ◌≤◌, ◌⊎◌, inl, inr, ℕ, List, [], ◌++◌, None, Some}
 use Rattle.std.proofs.Common.{codes}
 use Rattle.std.proofs.Common.{refl, sym, subst, ◌∙◌, arith, IsErr, IfSome}
 use Rattle.disk_core.specs.declared.disk.Disk.{Ghosts as Disks}
@@ -8,8 +8,8 @@ use Rattle.mtc_room.specs.declared.room.Room.{Ghosts as Rooms}
 use Rattle.mtc_words.specs.Words.{command_of, known_word}
 use Rattle.mtc_answers.specs.Answers.{Ending, Reply, replied, room_failed, no_memory, said, refused}
 use Rattle.mtc_answers.specs.Answers.{status_of, IsEarly}
-use Rattle.mtc_answers.specs.Made.{untouched, IsOnOld}
-use Rattle.mtc_answers.specs.Served.{HasDone, OfEach, IsUnmade, done_with}
+use Rattle.mtc_answers.specs.Made.{untouched, HasKept, IsOnOld}
+use Rattle.mtc_answers.specs.Served.{HasDone, LeavesEach, OfEach, IsUnmade, done_with}
 use Rattle.mtc_answers.specs.Steps.{Outcome}
 use Rattle.mtc_answers.specs.Valid.{KeepsValid}
 use Rattle.mtc_answers.specs.declared.answer.Said.{Said}
@@ -71,7 +71,8 @@ module _ {R S D O E : Type 0} (h : List ℕ → List ℕ) (rooms : Rooms R S D) 
   want = asked.outcome (rooms.file old)
 
   abbrev Did : Ending → Type 0
-  Did = HasDone rooms disks Bad (asked.journals ++ asked.inputs) asked.journals want old new
+  Did = HasDone rooms disks Bad (asked.journals ++ (asked.besides ++ asked.inputs)) asked.journals
+      asked.besides want old new
 
   abbrev New : Ending → Type 0
   New ending = IfSome asked.makes (λ name. TellsNew rooms disks name old new ending)
@@ -79,16 +80,19 @@ module _ {R S D O E : Type 0} (h : List ℕ → List ℕ) (rooms : Rooms R S D) 
   abbrev Valid : Type 0
   Valid = KeepsValid rooms disks asked.Valid asked.journals want old new
 
+  abbrev Looked : Type 0
+  Looked = rooms.tells old → LeavesEach rooms disks old new (done_with asked.looks []) HasKept
+
   no_file : (ending : Ending) → Did ending → rooms.tells old
       → OfEach (λ name did. IsOnOld did → IsUnmade rooms old new name)
       (done_with asked.journals want.journals)
   no_file ending done tells = (done.made tells).no_file
 
   -- the reply went out
-  run_wrote : (reply : Reply) (status : ℕ) → Valid → New (replied reply)
+  run_wrote : (reply : Reply) (status : ℕ) → Valid → Looked → New (replied reply)
       → Did (replied reply)
       → Wrote outs errs (known_word words) out out' err err' reply status → Run status
-  run_wrote reply status valid began done wrote =
+  run_wrote reply status valid looked began done wrote =
       let code = reply_code reply in
       record {
         answered = λ not5 not8. record {
@@ -112,6 +116,7 @@ module _ {R S D O E : Type 0} (h : List ℕ → List ℕ) (rooms : Rooms R S D) 
         first = λ bad not8. wrote.code ∙ (done.ends.words bad).1;
         no_memory = λ is. absurd (code.not8 (sym wrote.code ∙ is));
         back = done.back;
+        looked = looked;
         no_file = no_file (replied reply) done;
         valid = valid;
         early = λ tells. subst (λ n. OfEach (λ name did. did ≡ untouched → IsEarly n)
@@ -120,10 +125,10 @@ module _ {R S D O E : Type 0} (h : List ℕ → List ℕ) (rooms : Rooms R S D) 
       }
 
   -- standard output failed
-  run_lost : (kind : Said) (text : List ℕ) (status : ℕ) → Valid → New (replied (said kind text))
-      → Did (replied (said kind text))
+  run_lost : (kind : Said) (text : List ℕ) (status : ℕ) → Valid → Looked
+      → New (replied (said kind text)) → Did (replied (said kind text))
       → Lost outs errs (known_word words) out out' err err' text status → Run status
-  run_lost kind text status valid began done lost = record {
+  run_lost kind text status valid looked began done lost = record {
     answered = λ not5 not8. record {
       reply = said kind text;
       is = λ where_. elim where_ [
@@ -145,6 +150,7 @@ module _ {R S D O E : Type 0} (h : List ℕ → List ℕ) (rooms : Rooms R S D) 
     first = λ bad not8. absurd ((said_late kind text).0 (done.ends.words bad).1);
     no_memory = λ is. absurd (omega (arith, lost.code, is));
     back = done.back;
+    looked = looked;
     no_file = no_file (replied (said kind text)) done;
     valid = valid;
     early = λ tells. each_so (λ name did. did ≡ untouched → IsEarly (status_of (said kind text)))
@@ -155,11 +161,11 @@ module _ {R S D O E : Type 0} (h : List ℕ → List ℕ) (rooms : Rooms R S D) 
   }
 
   -- the room failed
-  run_failed : (file : List ℕ) (status : ℕ) → Valid → New (room_failed file)
+  run_failed : (file : List ℕ) (status : ℕ) → Valid → Looked → New (room_failed file)
       → Did (room_failed file)
       → Told outs errs (known_word words) out out' err err' 5 (Some file) (codes "Failed") status
       → Run status
-  run_failed file status valid began done told = record {
+  run_failed file status valid looked began done told = record {
     only = λ one. absurd (omega (arith, told.is, one));
     first = λ bad not8. absurd (done.ends.words bad);
     answered = λ not5 not8. absurd (not5 told.is);
@@ -174,6 +180,7 @@ module _ {R S D O E : Type 0} (h : List ℕ → List ℕ) (rooms : Rooms R S D) 
     };
     no_memory = λ is. absurd (omega (arith, told.is, is));
     back = done.back;
+    looked = looked;
     no_file = no_file (room_failed file) done;
     valid = valid;
     early = λ tells. each_is (λ name did. did ≡ untouched → IsEarly status)
@@ -182,10 +189,10 @@ module _ {R S D O E : Type 0} (h : List ℕ → List ℕ) (rooms : Rooms R S D) 
   }
 
   -- memory was refused
-  run_starved : (status : ℕ) → Valid → New no_memory → Did no_memory
+  run_starved : (status : ℕ) → Valid → Looked → New no_memory → Did no_memory
       → Told outs errs (known_word words) out out' err err' 8 None (codes "Memory") status
       → Run status
-  run_starved status valid began done told = record {
+  run_starved status valid looked began done told = record {
     only = λ one. absurd (omega (arith, told.is, one));
     first = λ bad not8. absurd (not8 told.is);
     answered = λ not5 not8. absurd (not8 told.is);
@@ -198,6 +205,7 @@ module _ {R S D O E : Type 0} (h : List ℕ → List ℕ) (rooms : Rooms R S D) 
       unmade = λ tells. (done.made tells).unmade refl;
     };
     back = done.back;
+    looked = looked;
     no_file = no_file no_memory done;
     valid = valid;
     early = λ tells. each_is (λ name did. did ≡ untouched → IsEarly status)
@@ -205,15 +213,16 @@ module _ {R S D O E : Type 0} (h : List ℕ → List ℕ) (rooms : Rooms R S D) 
         (done_with asked.journals want.journals);
   }
 
-  pub has_run : (ending : Ending) (status : ℕ) → Did ending → Valid → New ending
+  pub has_run : (ending : Ending) (status : ℕ) → Did ending → Valid → Looked → New ending
       → Concludes outs errs (known_word words) out out' err err' ending status
       → HasRun h rooms disks outs errs words old new out out' err err' status
-  has_run (replied (said kind text)) status done valid began ends = elim ends [
-    | inl wrote ↦ run_wrote (said kind text) status valid began done wrote
-    | inr lost ↦ run_lost kind text status valid began done lost
+  has_run (replied (said kind text)) status done valid looked began ends = elim ends [
+    | inl wrote ↦ run_wrote (said kind text) status valid looked began done wrote
+    | inr lost ↦ run_lost kind text status valid looked began done lost
   ]
-  has_run (replied (refused why file reason)) status done valid began wrote =
-      run_wrote (refused why file reason) status valid began done wrote
-  has_run (room_failed file) status done valid began told =
-      run_failed file status valid began done told
-  has_run no_memory status done valid began told = run_starved status valid began done told
+  has_run (replied (refused why file reason)) status done valid looked began wrote =
+      run_wrote (refused why file reason) status valid looked began done wrote
+  has_run (room_failed file) status done valid looked began told =
+      run_failed file status valid looked began done told
+  has_run no_memory status done valid looked began told =
+      run_starved status valid looked began done told

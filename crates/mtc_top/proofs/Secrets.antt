@@ -14,7 +14,7 @@ use Rattle.mtc_room.specs.declared.room.Room.{Ghosts as Rooms}
 use Rattle.mtc_words.specs.Commands.{CommandValue, member, show, verify, init_log, issue}
 use Rattle.mtc_words.specs.Commands.{checkpoint, entries, consist, subtree, keygen}
 use Rattle.mtc_words.specs.Commands.{init_cosigner, advance, cosign, export, landmark, landmarks}
-use Rattle.mtc_words.specs.Commands.{light_cert, trust_landmarks, cert, audit, drill}
+use Rattle.mtc_words.specs.Commands.{light_cert, trust_landmarks, cert, audit, drill, tile}
 use Rattle.mtc_words.specs.Words.{command_of}
 use Rattle.mtc_words.specs.declared.error.WordError.{WordError}
 use Rattle.cosigner_core.specs.Exports.{export_text}
@@ -212,6 +212,7 @@ module _ {R S D O E : Type 0} (h : HashFunction) (rooms : Rooms R S D) (disks : 
     says_so (audit certificate store moment items kept) spoken =
         logs (audit certificate store moment items kept) spoken (λ list is. absurd is)
     says_so (drill number) spoken = logs (drill number) spoken (λ list is. absurd is)
+    says_so (tile journal) spoken = logs (tile journal) spoken (λ list is. is)
 
     -- words that are no command are refused
     has_command : (r : Result CommandValue WordError) → command_of turn.words ≡ r

@@ -11,7 +11,7 @@ use Rattle.mtc_room.specs.declared.room.Room.{Ghosts as Rooms}
 use Rattle.mtc_words.specs.Words.{command_of}
 use Rattle.mtc_answers.specs.Made.{Journaled, Leaves, MayHaveMade, appended, images_at}
 use Rattle.mtc_answers.specs.Made.{images_since, moment_at}
-use Rattle.mtc_answers.specs.Served.{Journals}
+use Rattle.mtc_answers.specs.Served.{IsOther, Journals}
 use Rattle.mtc_answers.specs.Valid.{LeavesValid}
 use Rattle.node_history.specs.Laws.{LeadsTo, handed_bodies}
 use Rattle.node_history.specs.Nodes.{HistoryState}
@@ -97,13 +97,14 @@ module _ {R S D O E : Type 0} (h : HashFunction) (rooms : Rooms R S D) (disks : 
     pub only : (name c : Text) → images_in new name c → c ≡ image name
 
   -- The program died in the middle of the run. Of the journal it has left what a run leaves of
-  -- which the room failed; or the run doesn't work on it, and it stays.
+  -- which the room failed; or the run doesn't work on it, nor beside another one, and it stays.
   pub record HasDied (name : Text) (old : R) (turn : Turn R O E) (new : R) : Type 0 where
     pub tells : rooms.tells old → rooms.tells new
     pub left : (did : Journaled) → DidWith old turn name did
         → Leaves disks (MayHaveMade did) (rooms.device old name) (rooms.device new name)
         × LeavesValid rooms disks (facts h (command_of turn.words)).Valid old new name did
     pub stays : ((did : Journaled) → DidWith old turn name did → ⊥)
+        → IsOther (facts h (command_of turn.words)).besides name
         → Stays (rooms.file old) (rooms.file new) (rooms.device old) (rooms.device new) name
 
   -- Files were written, but not that of this name.

@@ -48,7 +48,7 @@ module _ {R S D O E : Type 0} (h : HashFunction) (rooms : Rooms R S D) (disks : 
     pub log_is : log_of h list ≡ Ok state
     pub body : Text
     pub did : DidWith h rooms disks outs errs old turn name (appended list body)
-    pub item : item_in body ≡ Some (issued_entry h state request, request.key)
+    pub item : item_in body ≡ Some (issued_entry h state.settings request, request.key)
     pub printed : HasPrinted outs turn (issued_text (length state.entries))
 
   -- The run read a request from this file, and added a Sign record to a cosigner with these
@@ -123,7 +123,7 @@ module _ {R S D O E : Type 0} (h : HashFunction) (rooms : Rooms R S D) (disks : 
     pub log : LogState
     pub log_is : log_of h found ≡ Ok log
     pub at_index : HasItemAt (length issued.state.entries)
-        (issued_entry h issued.state issued.request) issued.request.key log
+        (issued_entry h issued.state.settings issued.request) issued.request.key log
 
   -- Of each run of a course: so it is of each log with which the journal may be recovered.
   abbrev pub IssuedEntriesStand : Type 0

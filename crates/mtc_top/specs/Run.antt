@@ -66,12 +66,12 @@ module _ {R S D O E : Type 0} (h : HashFunction) (rooms : Rooms R S D) (disks : 
     pub cause : Rose (rooms.faults old) (rooms.faults new)
     pub text : Prints outs out out' []
     pub file : Text
-    pub named : IsNamed (asked.journals ++ asked.inputs) file
+    pub named : IsNamed (asked.journals ++ (asked.besides ++ asked.inputs)) file
     pub line : Reports errs err err' (line_of (known_word words) (Some file) (codes "Failed"))
     pub made : Left MayHaveMade
     pub began : Began (room_failed file)
 
-  -- Memory was refused: nothing went out, no journal has a new record, and no file is made.
+  -- Memory was refused: nothing went out, no journal has a new record, and none is made.
   pub record NoMemory : Type 0 where
     pub text : Prints outs out out' []
     pub line : Reports errs err err' (line_of (known_word words) None (codes "Memory"))
@@ -87,9 +87,12 @@ module _ {R S D O E : Type 0} (h : HashFunction) (rooms : Rooms R S D) (disks : 
     -- Status 1 says that the words are no command, and such words are answered by it.
     pub only : status ≡ 1 → IsErr (command_of words)
     pub first : IsErr (command_of words) → status ≢ 8 → status ≡ 1
-    -- What was lent is given back, and no file changes but the journals.
-    pub back : GivesBack rooms old new asked.journals
-    -- No file is made but a new journal.
+    -- What was lent is given back, and no file changes but the journals and those beside them.
+    pub back : GivesBack rooms old new (asked.besides ++ asked.journals)
+    -- Nothing new is left of a file that is only looked at.
+    pub looked : rooms.tells old
+        → LeavesEach rooms disks old new (done_with asked.looks []) HasKept
+    -- No journal is made but a new one.
     pub no_file : rooms.tells old
         → OfEach (λ name did. IsOnOld did → IsUnmade rooms old new name) journals
     -- A journal that isn't opened goes with a status that may come before.

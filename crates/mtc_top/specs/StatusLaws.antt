@@ -1,16 +1,19 @@
 -- Status 2 behind a course: it is never about the journal.
-use Rattle.std.specs.Prelude.{◌≡◌, List, [], ◌∷◌, Some, Ok}
+use Rattle.std.specs.Prelude.{◌≡◌, ◌⊎◌, ℕ, List, [], ◌∷◌, Some, Ok}
 use Rattle.byte_forms.specs.Types.{HashFunction, Text}
 use Rattle.disk_core.specs.declared.disk.Disk.{Ghosts as Disks}
 use Rattle.mtc_io.specs.declared.sink.Sink.{Ghosts as Sinks}
 use Rattle.mtc_room.specs.declared.room.Room.{Ghosts as Rooms}
 use Rattle.mtc_words.specs.Commands.{CommandValue}
 use Rattle.mtc_words.specs.Words.{command_of, known_word}
-use Rattle.mtc_answers.specs.Answers.{refused}
+use Rattle.issuance_log.specs.Openings.{FoundLog, log_read}
+use Rattle.mtc_answers.specs.Answers.{bad_tile_text, refused, tiles_name}
 use Rattle.mtc_answers.specs.Endings.{IsNamed}
 use Rattle.mtc_answers.specs.Lines.{line_of}
+use Rattle.mtc_answers.specs.Steps.{Files, held_in}
 use Rattle.mtc_answers.specs.Wanted.{Meets}
 use Rattle.mtc_answers.specs.declared.answer.Stopped.TheVariants.{BadForm}
+use Rattle.mtc_logs.specs.BadTiles.{first_bad}
 use Rattle.node_history.specs.declared.start.NodeStart.{NodeStart}
 use Rattle.mtc_top.specs.Concluded.{Reports}
 use Rattle.mtc_top.specs.CourseLaws.{AreOfNode, OfCourses}
@@ -24,23 +27,37 @@ pub record WorksOn (h : HashFunction) (start : NodeStart) (first name : Text)
   pub works : (facts_of h command).journals ≡ name ∷ []
   pub kind : (list : List Text) → AreOfNode h start first list → (facts_of h command).Valid list
 
+-- The file is that of the tiles of this journal's log, and the reason names the first of the tiles
+-- of the log's last size that it hasn't.
+pub record LacksTile (h : HashFunction) (files : Files) (journal file reason : Text) : Type 0 where
+  pub bytes : Text
+  pub found : FoundLog
+  pub missing : ℕ × ℕ
+  pub there : files journal ≡ Some bytes
+  pub log_is : log_read h bytes ≡ Ok found
+  pub lacks : first_bad h found.state (held_in (files (tiles_name journal))) ≡ Some missing
+  pub named : file ≡ tiles_name journal
+  pub says : reason ≡ bad_tile_text missing.0 missing.1
+
 module _ {R S D O E : Type 0} (h : HashFunction) (rooms : Rooms R S D) (disks : Disks D)
     (outs : Sinks O) (errs : Sinks E) where
-  -- What is asked for is a refusal of an input of the command, a file behind its journal; and the
-  -- line on standard error says so.
-  pub record IsAboutInput (command : CommandValue) (room : R) (turn : Turn R O E) : Type 0 where
+  -- What is asked for is a refusal of an input of the command, or of the file of its log's tiles
+  -- for a tile that it hasn't; and the line on standard error says so.
+  pub record IsAboutInput (name : Text) (command : CommandValue) (room : R) (turn : Turn R O E)
+      : Type 0 where
     pub file : Text
     pub reason : Text
     pub input : IsNamed (facts_of h command).inputs file
+        ⊎ LacksTile h (rooms.file room) name file reason
     pub asked : Meets ((facts_of h command).outcome (rooms.file room)).answer
         (refused BadForm (Some file) reason)
     pub line : Reports errs turn.err turn.err_after
         (line_of (known_word turn.words) (Some file) reason)
 
   -- So it is of each run with status 2 that works on the journal behind a course of it. A command
-  -- that has no input never ends so.
+  -- that has no input never ends so, unless the file of its log's tiles hasn't one of them.
   abbrev pub MisreadFilesAreInputs : Type 0
   MisreadFilesAreInputs = OfCourses h rooms disks outs errs (λ name start first old links new.
       (command : CommandValue) (turn : Turn R O E) → WorksOn h start first name command
       → HasTurned h rooms disks outs errs new turn → command_of turn.words ≡ Ok command
-      → turn.status ≡ 2 → IsAboutInput command new turn)
+      → turn.status ≡ 2 → IsAboutInput name command new turn)

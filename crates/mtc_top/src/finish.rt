@@ -1,9 +1,9 @@
 //! The last step: what was decided goes out.
 
-ghost use Rattle.std.specs.Prelude.{◌≡◌, ◌⊎◌, ◌++◌, codes, option_map};
+ghost use Rattle.std.specs.Prelude.{◌≡◌, ◌⊎◌, ◌++◌, Some, codes, option_map};
 ghost use Rattle.mtc_io.specs.Counts.{Rose};
 ghost use Rattle.mtc_answers.specs.Answers.{said, said_code, stopped_code, ending_of, more_text};
-ghost use Rattle.mtc_answers.specs.Answers.{reason_text};
+ghost use Rattle.mtc_answers.specs.Answers.{reason_text, tiles_name};
 ghost use Rattle.mtc_answers.specs.Lines.{line_of, of_command, WritesLine};
 ghost use Rattle.mtc_top.specs.Concluded.{Wrote, Lost, Concludes};
 
@@ -58,15 +58,15 @@ fn texts_of<'x>(more: More, first: &'x mut Buffer, second: &'x mut Buffer) -> Te
 fn write_pieces_of<'x, E: Sink>(
     err: &mut E,
     command: &'x str,
-    file: (&'x str, &'x str),
+    file: (&'x str, &'x str, &'x str),
     name: &'x str,
     more: Texts<'x>,
 )
     ensures { WritesLine (Rose (E.faults err.old) (E.faults err.new))
         (E.taken err.old) (E.taken err.new)
         (codes "mtc: " ++ of_command command.now (file.entry.0.now ++ (file.entry.1.now
-        ++ (name.now ++ (more.entry.0.now ++ (more.entry.1.now ++ (more.entry.2.now
-        ++ (more.entry.3.now ++ codes "\n")))))))) }
+        ++ (file.entry.2.now ++ (name.now ++ (more.entry.0.now ++ (more.entry.1.now
+        ++ (more.entry.2.now ++ (more.entry.3.now ++ codes "\n"))))))))) }
 {
     let behind_command = if command.is_empty() { "" } else { ": " };
     let _ = write_pieces(
@@ -77,6 +77,7 @@ fn write_pieces_of<'x, E: Sink>(
             behind_command.as_bytes(),
             file.0.as_bytes(),
             file.1.as_bytes(),
+            file.2.as_bytes(),
             name.as_bytes(),
             more.0.as_bytes(),
             more.1.as_bytes(),
@@ -97,9 +98,21 @@ fn write_line<E: Sink>(err: &mut E, command: &str, file: Option<&str>, reason: R
     let mut second = Buffer::new();
     let more = texts_of(reason.more, &mut first, &mut second);
     match file {
-        Some(file) => write_pieces_of(err, command, (file, ": "), reason.name, more),
-        None => write_pieces_of(err, command, ("", ""), reason.name, more),
+        Some(file) => write_pieces_of(err, command, (file, "", ": "), reason.name, more),
+        None => write_pieces_of(err, command, ("", "", ""), reason.name, more),
     }
+}
+
+// The line of a refusal or a failure of the file of tiles beside a journal.
+fn write_tiles_line<E: Sink>(err: &mut E, command: &str, journal: &str, reason: Reason)
+    ensures { WritesLine (Rose (E.faults err.old) (E.faults err.new))
+        (E.taken err.old) (E.taken err.new)
+        (line_of command.now (Some (tiles_name journal.now)) (reason_text reason)) }
+{
+    let mut first = Buffer::new();
+    let mut second = Buffer::new();
+    let more = texts_of(reason.more, &mut first, &mut second);
+    write_pieces_of(err, command, (journal, ".tiles", ": "), reason.name, more);
 }
 
 // Writes the text of an answer. At one that is empty no output fails.
@@ -139,6 +152,21 @@ pub fn conclude<O: Sink, E: Sink>(
         Err(Stop::Room(file)) => {
             write_line(err, command, Some(file), Reason::named("Failed"));
             ROOM_FAILED
+        }
+        Err(Stop::Tiles(journal)) => {
+            write_tiles_line(err, command, journal, Reason::named("Failed"));
+            ROOM_FAILED
+        }
+        Err(
+            Stop::BadTile {
+                journal,
+                level,
+                place,
+            },
+        ) => {
+            let reason = Reason::with_numbers("BadTile", u64::from(level), place);
+            write_tiles_line(err, command, journal, reason);
+            code_stopped(Stopped::BadForm)
         }
         Err(Stop::Memory) => {
             write_line(err, command, None, Reason::named("Memory"));

@@ -91,7 +91,9 @@ pub fn no_journal_is_refused<H: TreeHash, R: Room, O: Sink, E: Sink>()
 {}
 
 /// A run that opens the journal that a course has reached, as that of its log or its cosigner, ends
-/// with status 2 only for an input of its command. So it never does where the command has none.
+/// with status 2 only for an input of its command, or for the file of its log's tiles, where that
+/// hasn't a tile of the last size. So it never does where the command has no input and the file has
+/// the tiles.
 pub fn misread_files_are_inputs<H: TreeHash, R: Room, O: Sink, E: Sink>()
     ensures { MisreadFilesAreInputs H.hash R.Room R.Dsk.Disk O.Sink E.Sink }
 {}

@@ -18,6 +18,7 @@ pub fn word_reason(why: WordError) -> Reason
         WordError::WrongCount { have, want } => {
             Reason::with_numbers("WrongCount", have as u64, want as u64)
         }
+        WordError::TilesName(place) => Reason::with_number("TilesName", place as u64),
         WordError::BadNumber(place) => Reason::with_number("BadNumber", place as u64),
         WordError::BadId(place) => Reason::with_number("BadId", place as u64),
         WordError::Memory => Reason::named("Memory"),

@@ -1,10 +1,12 @@
 //! The program's one call: the words, the work, and what goes out.
 
-ghost use Rattle.std.specs.Prelude.{◌≡◌, ◌<◌, ◌^◌, ◌++◌, map, string_bytes, IfSome, IsErr};
+ghost use Rattle.std.specs.Prelude.{◌≡◌, ◌<◌, ◌^◌, ◌+◌, [], ◌++◌, map, string_bytes, IfSome};
+ghost use Rattle.std.specs.Prelude.{IsErr};
 ghost use Rattle.mtc_words.specs.Commands.{command_value, IsInRange};
 ghost use Rattle.mtc_words.specs.Words.{command_of};
 ghost use Rattle.mtc_answers.specs.Answers.{ending_of};
-ghost use Rattle.mtc_answers.specs.Served.{HasDone};
+ghost use Rattle.mtc_answers.specs.Made.{HasKept};
+ghost use Rattle.mtc_answers.specs.Served.{HasDone, LeavesEach, done_with};
 ghost use Rattle.mtc_answers.specs.Valid.{KeepsValid};
 ghost use Rattle.mtc_answers.specs.Works.{TellsNew};
 ghost use Rattle.mtc_top.specs.Facts.{facts, facts_of};
@@ -39,16 +41,19 @@ fn perform<'a, H: TreeHash, R: Room>(
     room: &mut R,
     command: Command<'a>,
 ) -> Result<Answer, Stop<'a>>
-    requires lent { R.lent room.old < 2 ^ 32 }
+    requires lent { R.lent room.old + 1 < 2 ^ 32 }
     requires range { IsInRange (command_value command) }
     ensures done { let asked = facts_of H.hash (command_value command.entry) in
-        HasDone R.Room R.Dsk.Disk ⊥ (asked.journals ++ asked.inputs) asked.journals
-        (asked.outcome (R.file room.old)) room.old room.new (ending_of result) }
+        HasDone R.Room R.Dsk.Disk ⊥ (asked.journals ++ (asked.besides ++ asked.inputs))
+        asked.journals asked.besides (asked.outcome (R.file room.old)) room.old room.new
+        (ending_of result) }
     ensures valid { let asked = facts_of H.hash (command_value command.entry) in
         KeepsValid R.Room R.Dsk.Disk asked.Valid asked.journals
         (asked.outcome (R.file room.old)) room.old room.new }
     ensures began { IfSome (facts_of H.hash (command_value command.entry)).makes (λ name.
         TellsNew R.Room R.Dsk.Disk name room.old room.new (ending_of result)) }
+    ensures looked { R.tells room.old → LeavesEach R.Room R.Dsk.Disk room.old room.new
+        (done_with (facts_of H.hash (command_value command.entry)).looks []) HasKept }
 {
     match command {
         Command::Member(file) => member::<H, R>(alloc, room, file),
@@ -80,6 +85,7 @@ fn perform<'a, H: TreeHash, R: Room>(
             audit::<H, R>(alloc, room, cert, store, now, entries, export)
         }
         Command::Drill(number) => drill::<H>(alloc, number),
+        Command::Tile(log) => on_log::<H, R>(alloc, room, log, Work::Tile),
     }
 }
 
@@ -89,16 +95,19 @@ fn answer<'a, H: TreeHash, R: Room>(
     words: &'a [String],
     room: &mut R,
 ) -> Result<Answer, Stop<'a>>
-    requires { R.lent room.old < 2 ^ 32 }
+    requires { R.lent room.old + 1 < 2 ^ 32 }
     ensures done { let said = command_of (map string_bytes words.now) in
         let asked = facts H.hash said in
-        HasDone R.Room R.Dsk.Disk (IsErr said) (asked.journals ++ asked.inputs) asked.journals
+        HasDone R.Room R.Dsk.Disk (IsErr said)
+        (asked.journals ++ (asked.besides ++ asked.inputs)) asked.journals asked.besides
         (asked.outcome (R.file room.old)) room.old room.new (ending_of result) }
     ensures valid { let asked = facts H.hash (command_of (map string_bytes words.now)) in
         KeepsValid R.Room R.Dsk.Disk asked.Valid asked.journals
         (asked.outcome (R.file room.old)) room.old room.new }
     ensures began { IfSome (facts H.hash (command_of (map string_bytes words.now))).makes (λ name.
         TellsNew R.Room R.Dsk.Disk name room.old room.new (ending_of result)) }
+    ensures looked { R.tells room.old → LeavesEach R.Room R.Dsk.Disk room.old room.new
+        (done_with (facts H.hash (command_of (map string_bytes words.now))).looks []) HasKept }
 {
     match read_words(alloc, words) {
         Ok(command) => perform::<H, R>(alloc, room, command),
@@ -108,17 +117,19 @@ fn answer<'a, H: TreeHash, R: Room>(
 }
 
 /// Does all that the program does: reads the words of a command, carries it out over a room, and
-/// writes its text to `out` or a line to `err`. Everything that the room lends is given back, each
-/// file but the command's journal stays as it was, and none is made but a new journal.
+/// writes its text to `out` or a line to `err`. Everything that the room lends is given back. Each
+/// file stays as it was but the command's journal and the file of its log's tiles, and none is made
+/// but a new journal and such a file of tiles.
 ///
 /// Answers the status. 0 the command did its work, 3 the judgement is against, and 10 two different
 /// strings with one hash were found: each wrote to `out`. The others wrote a line to `err`: 1 the
-/// words are no command; 2 a named file isn't in its grammar; 4 the log or the cosigner doesn't
-/// allow what is asked; 5 the room failed; 6 `out` failed; 7 a named file isn't there, or that of a
-/// new journal is there already; 8 memory was refused; 9 an input is over its limit, or the log or
-/// a journal takes no more. Tests come in the order of the program's steps: the words, the input
-/// files, their grammars (a certificate's with its judgement), the journal, and the command's own.
-/// A fault of `err` changes no status.
+/// words are no command; 2 a named file isn't in its grammar, or that of a log's tiles hasn't what
+/// the log has stored; 4 the log or the cosigner doesn't allow what is asked; 5 the room failed; 6
+/// `out` failed; 7 a named file isn't there, or that of a new journal is there already; 8 memory
+/// was refused; 9 an input is over its limit, or the log or a journal takes no more. Tests come in
+/// the order of the program's steps: the words, the input files, their grammars (a certificate's
+/// with its judgement), the journal, the log's tiles, and the command's own. A fault of `err`
+/// changes no status.
 ///
 /// What follows of each run, and how it ends as steps of a node, is [`crate::runs_are_steps`].
 pub fn run<H: TreeHash, R: Room, O: Sink, E: Sink>(

@@ -8,7 +8,7 @@ use Rattle.mtc_top.proofs.top.perform.Goals as goal
 pub returns-in-Drill-clause-done : goal.returns-in-Drill-clause-done
 returns-in-Drill-clause-done g c =
     rw c.in-Drill.is
-    (answered g.R.Room g.R.Dsk.Disk [] [] (drill_outcome c.in-Drill.number) c.args.room.now
+    (answered g.R.Room g.R.Dsk.Disk [] [] [] (drill_outcome c.in-Drill.number) c.args.room.now
     c.args.room.now
     (record {
       lent = refl;
