@@ -24,6 +24,7 @@ pub struct Tally {
     pub silent: u64,
     pub cut: u64,
     pub stops: u64,
+    pub within: u64,
 }
 
 // What a run printed of a record, all of it or its front.
@@ -154,8 +155,8 @@ impl Course {
         self.replay()
     }
 
-    // Begins a record behind a stop, if the rules allow it.
-    fn begin_record(&mut self, node: Node, body: Bytes) -> Result<bool, Difference> {
+    /// Begins a record behind a stop, if the rules allow it.
+    pub fn begin_record(&mut self, node: Node, body: Bytes) -> Result<bool, Difference> {
         self.restart(node, false)?;
         let number = self.steps.len() as u64;
         let node = node.number();
@@ -286,9 +287,13 @@ impl Course {
         Ok(status == 5)
     }
 
-    /// One run of a drawn command, and a stop behind it where it failed, or by chance.
+    /// One run of a drawn command, and a stop behind it where it failed, or by chance; or one in
+    /// which the machine stops.
     pub fn turn(&mut self) -> Result<(), Difference> {
         let plan = self.plan()?;
+        if self.draws.below(10) == 0 {
+            return self.stop_within(plan);
+        }
         let node = plan.node;
         if self.perform(plan)? {
             self.stop_behind(node)

@@ -1,4 +1,4 @@
-//! Courses of a hundred turns.
+//! Courses of eighty turns.
 
 use crate::course::{Course, Tally};
 use crate::difference::Difference;
@@ -12,7 +12,7 @@ fn played(alloc: Global, seed: u64, tally: Tally) -> Result<Tally, (u64, Differe
         Ok(course) => course,
         Err(why) => return Err((0, why)),
     };
-    for turn in 1..101 {
+    for turn in 1..81 {
         if let Err(why) = course.turn() {
             return Err((turn, why));
         }
@@ -28,6 +28,7 @@ const NOTHING: Tally = Tally {
     silent: 0,
     cut: 0,
     stops: 0,
+    within: 0,
 };
 
 // Whether each kind of end came.
@@ -40,6 +41,7 @@ fn has_all(tally: Tally) -> bool {
         tally.silent,
         tally.cut,
         tally.stops,
+        tally.within,
     ];
     counts.iter().all(|count| *count > 0)
 }

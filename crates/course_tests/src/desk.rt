@@ -87,9 +87,8 @@ impl Desk {
         Ok(Bytes::copy_of(self.alloc, image.bytes())?)
     }
 
-    /// The machine stops, and leaves that image.
-    pub fn crash(&mut self, name: &str, pick: u64) -> Result<(), Difference> {
-        let image = self.image(name, pick)?;
+    /// The machine stops, and leaves this image.
+    pub fn leave(&mut self, name: &str, image: Bytes) -> Result<(), Difference> {
         stop_leaving::<Sha, MemSink, MemSink>(&mut self.room, name, image, Vec::new(self.alloc))?;
         Ok(())
     }

@@ -4,7 +4,7 @@ use crate::course::Course;
 use crate::desk::Outlet;
 use crate::difference::Difference;
 use crate::node::Node;
-use crate::records::{ADVANCE, ENTRY, LANDMARK, SIGN, count, last_size};
+use crate::records::{ADVANCE, ENTRY, LANDMARK, SIGN, TILES, count, last_size};
 use mtc_io::Bytes;
 
 /// A command on a node's journal, and the body of its record.
@@ -83,6 +83,17 @@ impl Course {
         })
     }
 
+    // No course has a full tile: there is nothing to store.
+    fn tile(&self) -> Result<Plan, Difference> {
+        let mut body = Bytes::copy_of(self.alloc, &[TILES])?;
+        body.append(&0u64.to_be_bytes())?;
+        Ok(Plan {
+            node: Node::Log,
+            words: String::from_str(self.alloc, "tile j")?,
+            body,
+        })
+    }
+
     // Asks the log for a request to the cosigner. One byte of it is spoilt where one is named.
     fn request(
         &mut self,
@@ -143,12 +154,13 @@ impl Course {
 
     /// The next command.
     pub fn plan(&mut self) -> Result<Plan, Difference> {
-        match self.draws.below(12) {
+        match self.draws.below(13) {
             0..=2 => self.issue(),
             3 => self.landmark(),
             4..=6 => self.advance(false),
             7 => self.advance(true),
             8 => self.cosign(true),
+            9 => self.tile(),
             _ => self.cosign(false),
         }
     }

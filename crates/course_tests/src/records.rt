@@ -12,6 +12,8 @@ pub const ENTRY: u8 = 2;
 
 pub const LANDMARK: u8 = 3;
 
+pub const TILES: u8 = 4;
+
 pub const ADVANCE: u8 = 0x12;
 
 pub const SIGN: u8 = 0x13;

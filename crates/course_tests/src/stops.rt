@@ -1,9 +1,12 @@
 //! Stops: what the journals hold behind one says which step it was, and the next run opens them.
 
 use crate::course::Course;
+use crate::desk::Outlet;
 use crate::difference::Difference;
 use crate::node::{NODES, Node};
+use crate::plans::Plan;
 use crate::records::{ENTRY, count, kept_in};
+use mtc_io::Bytes;
 
 impl Course {
     // Whether the journal holds the pending record of its state.
@@ -49,17 +52,56 @@ impl Course {
         self.open(node)
     }
 
-    /// The machine stops. Of each journal it leaves a drawn image.
-    pub fn stop_machine(&mut self) -> Result<(), Difference> {
-        self.tally.stops = self.tally.stops.saturating_add(1);
-        for node in NODES {
-            let pick = self.draws.below(65_536);
-            self.desk.crash(node.file(), pick)?;
+    // The machine stops, and leaves one of the images of each file that it may leave; of the node's
+    // journal this one, where there is one.
+    fn leave_images(&mut self, given: Option<(Node, Bytes)>) -> Result<(), Difference> {
+        let mut names = Vec::from_slice(self.alloc, &["j", "s"])?;
+        if self.desk.bytes("j.tiles").is_ok() {
+            names.push("j.tiles")?;
         }
+        for name in names {
+            let pick = self.draws.below(65_536);
+            let image = self.desk.image(name, pick)?;
+            self.desk.leave(name, image)?;
+        }
+        match given {
+            Some((node, image)) => self.desk.leave(node.file(), image),
+            None => Ok(()),
+        }
+    }
+
+    fn stop_all(&mut self) -> Result<(), Difference> {
         for node in NODES {
             self.stop(node)?;
         }
         Ok(())
+    }
+
+    /// The machine stops. Of each file it leaves a drawn image.
+    pub fn stop_machine(&mut self) -> Result<(), Difference> {
+        self.tally.stops = self.tally.stops.saturating_add(1);
+        self.leave_images(None)?;
+        self.stop_all()
+    }
+
+    /// The machine stops in the middle of a run, before a byte of it goes out: of the node's
+    /// journal it leaves an image of before the run, or of behind it.
+    pub fn stop_within(&mut self, plan: Plan) -> Result<(), Difference> {
+        self.tally.within = self.tally.within.saturating_add(1);
+        let node = plan.node;
+        self.desk.renew(node.file(), Vec::new(self.alloc))?;
+        let pick = self.draws.below(65_536);
+        let before = self.desk.image(node.file(), pick)?;
+        self.begin_record(node, plan.body)?;
+        self.desk
+            .run(plan.words.as_str(), Outlet::whole(self.alloc))?;
+        let given = if self.draws.below(2) == 0 {
+            Some((node, before))
+        } else {
+            None
+        };
+        self.leave_images(given)?;
+        self.stop_all()
     }
 
     /// Behind a run that failed the machine stops, or the program alone.

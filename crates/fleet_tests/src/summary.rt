@@ -3,6 +3,7 @@
 use cosigner_core::{Cosigner, Export, Step, read_export};
 use disk_core::MemDisk;
 use fleet::Fleet;
+use frame_pool::Pool;
 use issuance_log::Log;
 use mtc_io::{Bytes, MemSink, Memory};
 use policy_core::{By, Cosigners, Known, Places, Revoked, Rule, Rules, Store, Subtrees};
@@ -11,8 +12,13 @@ use std::alloc::Global;
 use tls_wire::AnchorId;
 use tree_core::Sha;
 
-pub(crate) fn open_log(alloc: Global, disk: &MemDisk) -> Result<Log<Sha, MemDisk>, Memory> {
-    match Log::open(alloc, disk.lend()?) {
+/// The log on a device, with an empty one for its tiles, of which it has stored none.
+pub(crate) fn open_log(
+    alloc: Global,
+    disk: &MemDisk,
+) -> Result<Log<Sha, MemDisk, MemDisk>, Memory> {
+    let tiles = MemDisk::new(alloc, Vec::new(alloc));
+    match Log::open(alloc, disk.lend()?, tiles, Pool::new(alloc, 1)?) {
         Ok(log) => Ok(log),
         Err(_) => Err(Memory),
     }

@@ -90,8 +90,9 @@ fn reads_what_was_added(alloc: Global) -> Result<bool, Memory> {
     }
     let read = journal.read(27, &mut body) == Ok(()) && body == [0xaa, 0xbb];
     let sized = journal.read(23, &mut length) == Ok(()) && length == [0, 0, 0, 2];
+    let number = journal.read_size(23) == Ok(2);
     let left = [1, 0, 0, 0, 1, 1, 1, 0, 0, 0, 2, 0xaa, 0xbb, 0];
-    Ok(added && read && sized && is_taken(alloc, journal.into_disk(), &left))
+    Ok(added && read && sized && number && is_taken(alloc, journal.into_disk(), &left))
 }
 
 #[test]

@@ -69,7 +69,9 @@ pub(crate) fn read_all<D: Disk + Drop>(alloc: Global, disk: D) -> Result<Reading
     for count in 0..1000 {
         if let Some(end) = step(&mut opening, &mut found)? {
             let again = step(&mut opening, &mut found)?;
-            if again == Some(end) && opening.read_count() == count {
+            // Four bytes of length stand for the gate and the length of each record.
+            let behind = (found.as_slice().len() as u64).saturating_add(count + 16);
+            if again == Some(end) && opening.read_count() == count && opening.place() == behind {
                 return Ok(Some((found, end)));
             }
             return Ok(None);

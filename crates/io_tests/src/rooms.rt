@@ -124,3 +124,27 @@ fn a_room_puts_devices_back(rt: HostRuntime) -> Result<(), Fail> {
     assert!(rt; lends_again(rt.alloc())?);
     Ok(())
 }
+
+// A file that isn't there is made, and takes three bytes; lent a second time it has them.
+fn lends_what_it_made(alloc: Global) -> Result<bool, Memory> {
+    let mut room = MemRoom::new(alloc);
+    let Ok(mut disk) = room.scratch("t") else {
+        return Ok(false);
+    };
+    let empty = room.bytes("t") == Some(b"".as_slice());
+    let written = disk.len() == Ok(0) && disk.write_at(0, b"abc") == Ok(());
+    room.keep("t", disk);
+    let Ok(mut again) = room.scratch("t") else {
+        return Ok(false);
+    };
+    let length = again.len();
+    room.keep("t", again);
+    let kept = room.bytes("t") == Some(b"abc".as_slice());
+    Ok(empty && written && length == Ok(3) && kept)
+}
+
+#[test]
+fn a_room_makes_what_it_has_not(rt: HostRuntime) -> Result<(), Fail> {
+    assert!(rt; lends_what_it_made(rt.alloc())?);
+    Ok(())
+}

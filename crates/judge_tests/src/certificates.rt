@@ -1,9 +1,8 @@
 //! Certificates of the entries of a small log.
 
-use crate::issuing::{DATES, DNS, KEY, issued, new_log, open};
-use authority_core::{WriteError, cert};
-use disk_core::MemDisk;
-use issuance_log::Log;
+use crate::issuing::{DATES, DNS, KEY, MemLog, disk_over, issued, new_log, open, open_over};
+use crate::texts::joined;
+use authority_core::{WriteError, cert, issue, read_request};
 use mtc_io::Bytes;
 use mtc_proof::check_signatures;
 use std::alloc::Global;
@@ -29,12 +28,12 @@ const MOST: [u8; 32] = [
 ];
 
 // Adds the one entry, behind the null entry.
-fn add_entry(alloc: Global, log: &mut Log<Sha, MemDisk>) -> Result<bool, Fail> {
+fn add_entry(alloc: Global, log: &mut MemLog) -> Result<bool, Fail> {
     Ok(issued(alloc, log, &[DATES, DNS, KEY])? == Ok(1))
 }
 
 // The log with the null entry and the one entry.
-fn log_of_two(alloc: Global) -> Result<Log<Sha, MemDisk>, Fail> {
+fn log_of_two(alloc: Global) -> Result<MemLog, Fail> {
     let mut log = open(alloc, new_log(alloc, 64)?)?;
     if add_entry(alloc, &mut log)? {
         Ok(log)
@@ -63,7 +62,7 @@ fn signatures(alloc: Global, size: Option<u16>) -> Result<Bytes, Fail> {
 // What the log answers: the leaf hash of the certificate's bytes, or why there is none.
 fn written(
     alloc: Global,
-    log: &mut Log<Sha, MemDisk>,
+    log: &mut MemLog,
     index: u64,
     interval: (u64, u64),
     signed: &[u8],
@@ -136,5 +135,81 @@ fn a_certificate_is_refused(rt: HostRuntime) -> Result<(), Fail> {
         count = count.saturating_add(1);
     }
     assert!(rt; count == 10);
+    Ok(())
+}
+
+// The bytes of the journal and of the tiles of a log of so many entries, tiled.
+fn files(alloc: Global, size: u64) -> Result<(Bytes, Bytes), Fail> {
+    let mut log = open(alloc, new_log(alloc, 1024)?)?;
+    let asked = read_request(alloc, joined(alloc, &[DATES, DNS, KEY])?.as_bytes())?;
+    for index in 1..size {
+        if issue(alloc, &mut log, &asked) != Ok(index) {
+            return Err(Fail::from("not issued"));
+        }
+    }
+    if log.tile().is_err() {
+        return Err(Fail::from("not tiled"));
+    }
+    let (journal, tiles) = log.into_disks();
+    Ok((
+        Bytes::copy_of(alloc, journal.bytes())?,
+        Bytes::copy_of(alloc, tiles.bytes())?,
+    ))
+}
+
+// What the log over these bytes answers of its first entry, where these calls of the journal and of
+// the tiles fail; none where it isn't opened.
+fn answer_over(
+    alloc: Global,
+    files: (&[u8], &[u8]),
+    calls: (&[u64], &[u64]),
+) -> Result<Option<Result<[u8; 32], WriteError>>, Fail> {
+    let (journal, tiles) = (
+        disk_over(alloc, files.0, calls.0)?,
+        disk_over(alloc, files.1, calls.1)?,
+    );
+    match open_over(alloc, journal, tiles)? {
+        Some(mut log) => Ok(Some(written(alloc, &mut log, 1, (0, 512), &[])?)),
+        None => Ok(None),
+    }
+}
+
+// How many calls of one of both disks fail a certificate so before it is written as ever.
+fn failures(
+    alloc: Global,
+    files: (&[u8], &[u8]),
+    why: WriteError,
+    wanted: [u8; 32],
+) -> Result<u64, Fail> {
+    let mut failed = 0u64;
+    for call in 0..100 {
+        let one = [call];
+        let calls: (&[u64], &[u64]) = if why == WriteError::TilesFailed {
+            (&[], &one)
+        } else {
+            (&one, &[])
+        };
+        match answer_over(alloc, files, calls)? {
+            None if failed == 0 => {}
+            Some(Err(found)) if found == why => failed = failed.saturating_add(1),
+            Some(Ok(found)) if found == wanted => return Ok(failed),
+            _ => return Err(Fail::from("another answer")),
+        }
+    }
+    Err(Fail::from("never written"))
+}
+
+// The one frame holds the second tile, so the first is read for the path; of the entry its length
+// and its record are read from the journal.
+#[test]
+fn a_disk_may_fail_a_certificate(rt: HostRuntime) -> Result<(), Fail> {
+    let alloc = rt.alloc();
+    let (journal, tiles) = files(alloc, 512)?;
+    let both = (journal.as_slice(), tiles.as_slice());
+    let Some(Ok(wanted)) = answer_over(alloc, both, (&[], &[]))? else {
+        return Err("refused".into());
+    };
+    assert!(rt; failures(alloc, both, WriteError::JournalFailed, wanted)? == 2);
+    assert!(rt; failures(alloc, both, WriteError::TilesFailed, wanted)? == 1);
     Ok(())
 }

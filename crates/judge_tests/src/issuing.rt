@@ -4,6 +4,7 @@ use crate::entries::entry_in_log;
 use crate::texts::joined;
 use authority_core::{IssueError, issue, read_request};
 use disk_core::MemDisk;
+use frame_pool::Pool;
 use issuance_log::{Log, LogError, LogSettings, create};
 use journal_core::AppendError;
 use mtc_io::Bytes;
@@ -38,17 +39,30 @@ pub(crate) fn new_log(alloc: Global, limit: u32) -> Result<MemDisk, Fail> {
     }
 }
 
-pub(crate) fn open(alloc: Global, disk: MemDisk) -> Result<Log<Sha, MemDisk>, Fail> {
-    match Log::<Sha, MemDisk>::open(alloc, disk) {
-        Ok(log) => Ok(log),
-        Err(_) => Err(Fail::from("no log")),
+/// A log over two disks in memory, that of its journal and that of its tiles.
+pub(crate) type MemLog = Log<Sha, MemDisk, MemDisk>;
+
+/// The log over these disks, with one frame for its tiles; none where it isn't opened.
+pub(crate) fn open_over(
+    alloc: Global,
+    disk: MemDisk,
+    tiles: MemDisk,
+) -> Result<Option<MemLog>, Fail> {
+    let pool = Pool::new(alloc, 1)?;
+    Ok(MemLog::open(alloc, disk, tiles, pool).ok())
+}
+
+pub(crate) fn open(alloc: Global, disk: MemDisk) -> Result<MemLog, Fail> {
+    match open_over(alloc, disk, MemDisk::new(alloc, Vec::new(alloc)))? {
+        Some(log) => Ok(log),
+        None => Err(Fail::from("no log")),
     }
 }
 
 // What a log answers to the request of these lines.
 pub(crate) fn issued(
     alloc: Global,
-    log: &mut Log<Sha, MemDisk>,
+    log: &mut MemLog,
     lines: &[&str],
 ) -> Result<Result<u64, IssueError>, Fail> {
     let asked = read_request(alloc, joined(alloc, lines)?.as_bytes())?;
@@ -56,7 +70,7 @@ pub(crate) fn issued(
 }
 
 // The entry at index 1 of the log, where it has one.
-fn first_entry(alloc: Global, log: &mut Log<Sha, MemDisk>) -> Option<Bytes> {
+fn first_entry(alloc: Global, log: &mut MemLog) -> Option<Bytes> {
     let mut entry = Bytes::new(alloc);
     let mut key = Bytes::new(alloc);
     match log.entry(1, &mut entry, &mut key) {
@@ -82,17 +96,22 @@ fn a_request_is_issued_where_there_is_room(rt: HostRuntime) -> Result<(), Fail> 
     let mut log = open(alloc, new_log(alloc, 2)?)?;
     assert!(rt; issued(alloc, &mut log, &lines)? == Ok(1));
     assert!(rt; issued(alloc, &mut log, &lines)? == Err(IssueError::Log(LogError::Full)));
-    let disk = log.into_disk();
-    assert!(rt; disk.bytes().len() == 221);
+    let (disk, tiles) = log.into_disks();
+    assert!(rt; disk.bytes().len() == 221 && tiles.bytes().is_empty());
     assert!(rt; holds(alloc, disk, entry_in_log(alloc, &lines)?.as_slice())?);
     Ok(())
 }
 
+/// A disk with these bytes, of which these calls fail.
+pub(crate) fn disk_over(alloc: Global, bytes: &[u8], failing: &[u64]) -> Result<MemDisk, Fail> {
+    let bytes = Bytes::copy_of(alloc, bytes)?;
+    Ok(MemDisk::over(alloc, bytes, Vec::from_slice(alloc, failing)?))
+}
+
 // The log in these bytes, on a disk of which this call fails; none where it isn't opened.
-fn failing_log(alloc: Global, bytes: &[u8], call: u64) -> Result<Option<Log<Sha, MemDisk>>, Fail> {
-    let failing = Vec::from_slice(alloc, &[call])?;
-    let disk = MemDisk::over(alloc, Bytes::copy_of(alloc, bytes)?, failing);
-    Ok(Log::<Sha, MemDisk>::open(alloc, disk).ok())
+fn failing_log(alloc: Global, bytes: &[u8], call: u64) -> Result<Option<MemLog>, Fail> {
+    let disk = disk_over(alloc, bytes, &[call])?;
+    open_over(alloc, disk, MemDisk::new(alloc, Vec::new(alloc)))
 }
 
 // Whether a failure of the log's disk is told of this request, and its size then; none where the

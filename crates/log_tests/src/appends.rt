@@ -1,17 +1,15 @@
 //! Entries that are added, or refused.
 
 use crate::journals::{
-    ENTRY, KEY, MemLog, NEW_LOG, add, add_entry, begin, changed, disk, log_in, open, size_of,
-    with_entry,
+    ENTRY, KEY, MemLog, NEW_LOG, add, add_entry, begin, changed, disk, disk_of, entry_for, log_in,
+    open, size_of, with_entry,
 };
 use disk_core::MemDisk;
 use issuance_log::{LogError, LogOpenError, LogRefused};
 use journal_core::{AppendError, OpenError};
-use log_entry::key_hash;
 use mtc_io::{Bytes, Memory};
 use std::alloc::Global;
 use std::test::Fail;
-use tree_core::Sha;
 
 // The head of a public key like that one in so many bytes, of which the last ones are 0: the
 // lengths of the whole and of the bits take two bytes each.
@@ -28,7 +26,7 @@ fn is_filled(alloc: Global) -> Result<bool, Memory> {
     let first = add(&mut log, &ENTRY, &KEY);
     let second = add(&mut log, &ENTRY, &KEY);
     let answers = first == Ok(1) && second == Err(LogError::Full) && log.size() == 2;
-    Ok(answers && log.into_disk().bytes().len() == 221)
+    Ok(answers && disk_of(log).bytes().len() == 221)
 }
 
 // The journal of the same log with a second entry.
@@ -59,17 +57,6 @@ fn long_key(alloc: Global, size: usize) -> Result<Bytes, Memory> {
         key.push(0)?;
     }
     Ok(Bytes::from_vec(key))
-}
-
-// The entry with the hash of another key.
-fn entry_for(alloc: Global, key: &[u8]) -> Result<Bytes, Memory> {
-    let mut entry = Vec::from_slice(alloc, &ENTRY)?;
-    for (place, byte) in key_hash::<Sha>(key).iter().enumerate() {
-        if let Some(old) = entry.get_mut(70 + place) {
-            *old = *byte;
-        }
-    }
-    Ok(Bytes::from_vec(entry))
 }
 
 // What a new log answers to an entry whose key has so many bytes; none where the key has other
@@ -103,7 +90,7 @@ fn an_item_has_65535_bytes_at_most(rt: HostRuntime) -> Result<(), Fail> {
 fn shows_the_old_log(alloc: Global, mut log: MemLog) -> Result<bool, Memory> {
     let broken = Err(LogError::Append(AppendError::Broken));
     let kept = log.size() == 1 && add(&mut log, &ENTRY, &KEY) == broken && log.size() == 1;
-    let left = log.into_disk();
+    let left = disk_of(log);
     for pick in 0..16 {
         let image = left.lend()?.crash(pick)?;
         if !matches!(size_of(alloc, image.bytes())?, Ok(1 | 2)) {
@@ -122,7 +109,7 @@ fn fails_soundly(alloc: Global, call: u64) -> Result<bool, Memory> {
             let told = call >= 4 && add(&mut log, &ENTRY, &KEY) == failed;
             Ok(shows_the_old_log(alloc, log)? && told)
         }
-        Err(LogRefused { disk, why }) => {
+        Err(LogRefused { disk, why, .. }) => {
             let told = call < 4 && why == LogOpenError::Open(OpenError::Failed);
             Ok(told && disk.bytes() == NEW_LOG.as_slice())
         }

@@ -3,9 +3,10 @@
 ghost use Rattle.std.specs.Prelude.{◌≤◌};
 
 use disk_core::MemDisk;
+use frame_pool::Pool;
 use issuance_log::{Log, LogError, LogOpenError, LogRefused, LogSettings, create};
-use journal_core::{Refused, StartError};
-use log_entry::key_matches;
+use journal_core::{OpenError, Refused, StartError};
+use log_entry::{key_hash, key_matches};
 use mtc_io::{Bytes, Memory};
 use std::alloc::Global;
 use tls_wire::AnchorId;
@@ -41,15 +42,38 @@ pub(crate) const KEY: [u8; 44] = [
     0x00, 0x00, 0x00, 0x00, 0x00, 0x00, 0x00, 0x00, 0x00, 0x00, 0x00, 0x00,
 ];
 
-pub(crate) type MemLog = Log<Sha, MemDisk>;
+pub(crate) type MemLog = Log<Sha, MemDisk, MemDisk>;
 
 pub(crate) fn disk(alloc: Global, bytes: &[u8], failing: &[u64]) -> Result<MemDisk, Memory> {
     let bytes = Bytes::copy_of(alloc, bytes)?;
     Ok(MemDisk::over(alloc, bytes, Vec::from_slice(alloc, failing)?))
 }
 
-pub(crate) fn open(alloc: Global, disk: MemDisk) -> Result<MemLog, LogRefused<MemDisk>> {
-    MemLog::open(alloc, disk)
+/// Opens the log on a disk, with an empty one for its tiles.
+pub(crate) fn open(alloc: Global, disk: MemDisk) -> Result<MemLog, LogRefused<MemDisk, MemDisk>> {
+    open_over(alloc, disk, MemDisk::new(alloc, Vec::new(alloc)))
+}
+
+/// Opens the log on a disk, with its tiles on another one and a pool of one frame.
+pub(crate) fn open_over(
+    alloc: Global,
+    disk: MemDisk,
+    tiles: MemDisk,
+) -> Result<MemLog, LogRefused<MemDisk, MemDisk>> {
+    match Pool::new(alloc, 1) {
+        Ok(pool) => MemLog::open(alloc, disk, tiles, pool),
+        Err(Memory) => Err(LogRefused {
+            disk,
+            tiles,
+            why: LogOpenError::Open(OpenError::Memory),
+        }),
+    }
+}
+
+/// The disk of a log's journal.
+pub(crate) fn disk_of(log: MemLog) -> MemDisk {
+    let (disk, _tiles) = log.into_disks();
+    disk
 }
 
 /// The log in these bytes, where there is one.
@@ -127,4 +151,27 @@ pub(crate) fn changed(
         *old = byte;
     }
     Ok(Bytes::from_vec(bytes))
+}
+
+/// The entry with the hash of another key.
+pub(crate) fn entry_for(alloc: Global, key: &[u8]) -> Result<Bytes, Memory> {
+    let mut entry = Vec::from_slice(alloc, &ENTRY)?;
+    for (place, byte) in key_hash::<Sha>(key).iter().enumerate() {
+        if let Some(old) = entry.get_mut(70 + place) {
+            *old = *byte;
+        }
+    }
+    Ok(Bytes::from_vec(entry))
+}
+
+/// What a log gives at an index, where the two byte strings held another text.
+pub(crate) fn item_at(
+    alloc: Global,
+    log: &mut MemLog,
+    index: u64,
+) -> Result<(Bytes, Bytes, Result<(), LogError>), Memory> {
+    let mut entry = Bytes::copy_of(alloc, b"old")?;
+    let mut key = Bytes::copy_of(alloc, b"old")?;
+    let answer = log.entry(index, &mut entry, &mut key);
+    Ok((entry, key, answer))
 }

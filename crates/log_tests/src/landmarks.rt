@@ -1,6 +1,8 @@
 //! Landmarks that are set, read and refused.
 
-use crate::journals::{ENTRY, KEY, MemLog, NEW_LOG, add, disk, log_in, open, size_of, with_entry};
+use crate::journals::{
+    ENTRY, KEY, MemLog, NEW_LOG, add, disk, disk_of, log_in, open, size_of, with_entry,
+};
 use issuance_log::{LogError, LogOpenError, LogRefused};
 use journal_core::AppendError;
 use mtc_io::{Bytes, Memory};
@@ -45,7 +47,7 @@ fn landmarks_are_set_and_found_again(rt: HostRuntime) -> Result<(), Fail> {
     let mut log = log_in(rt.alloc(), &NEW_LOG)?.ok_or("refused")?;
     assert!(rt; answers(&mut log));
     let wanted = with_landmarks(rt.alloc())?;
-    let disk = log.into_disk();
+    let disk = disk_of(log);
     assert!(rt; disk.bytes() == wanted.as_slice());
     let again = open(rt.alloc(), disk).ok().ok_or("refused")?;
     assert!(rt; again.size() == 2 && again.marks() == [1, 2].as_slice());
@@ -123,7 +125,7 @@ fn count_left(alloc: Global, bytes: &[u8]) -> Result<Option<usize>, Memory> {
 fn shows_the_old_log(alloc: Global, mut log: MemLog) -> Result<bool, Memory> {
     let broken = Err(LogError::Append(AppendError::Broken));
     let kept = log.marks().is_empty() && log.mark() == broken && log.marks().is_empty();
-    let left = log.into_disk();
+    let left = disk_of(log);
     for pick in 0..16 {
         let image = left.lend()?.crash(pick)?;
         if !matches!(count_left(alloc, image.bytes())?, Some(0 | 1)) {

@@ -13,3 +13,5 @@ mod landmarks;
 mod logs;
 #[cfg(test)]
 mod openings;
+#[cfg(test)]
+mod tiles;

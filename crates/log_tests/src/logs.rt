@@ -1,10 +1,12 @@
 //! Logs that are begun, read and added to.
 
-use crate::journals::{ENTRY, KEY, MemLog, NEW_LOG, add, begin, log_in, open, with_entry};
+use crate::journals::{
+    ENTRY, KEY, MemLog, NEW_LOG, add, begin, disk_of, item_at, log_in, open, with_entry,
+};
 use disk_core::MemDisk;
 use issuance_log::LogError;
 use journal_core::StartError;
-use mtc_io::{Bytes, Failed, Memory};
+use mtc_io::{Failed, Memory};
 use std::alloc::Global;
 use std::test::Fail;
 use tree_core::{Sha, leaf, subtree_ok};
@@ -15,18 +17,6 @@ const ROOT: [u8; 32] = [
     0x77, 0x56, 0x68, 0x25, 0xCD, 0x25, 0xF2, 0x63, 0x27, 0x1E, 0x3F, 0xA5, 0x34, 0x1D, 0xB2, 0x8E,
     0xD2, 0xC8, 0x79, 0x45, 0xEE, 0x98, 0xF7, 0x31, 0xB2, 0xAA, 0x96, 0xB9, 0xE6, 0xB1, 0x1C, 0xF6,
 ];
-
-// What a log gives at an index, where the two byte strings held another text.
-fn item_at(
-    alloc: Global,
-    log: &mut MemLog,
-    index: u64,
-) -> Result<(Bytes, Bytes, Result<(), LogError>), Memory> {
-    let mut entry = Bytes::copy_of(alloc, b"old")?;
-    let mut key = Bytes::copy_of(alloc, b"old")?;
-    let answer = log.entry(index, &mut entry, &mut key);
-    Ok((entry, key, answer))
-}
 
 // Whether an item is given, and no second one.
 fn gives_one(
@@ -67,7 +57,7 @@ fn a_new_log_has_the_null_entry(rt: HostRuntime) -> Result<(), Fail> {
     let mut log = open(rt.alloc(), made).ok().ok_or("refused")?;
     assert!(rt; log.size() == 1 && settings_are_kept(&log));
     assert!(rt; gives_one(rt.alloc(), &mut log, 0, (&[0, 0], &[]))?);
-    assert!(rt; is_taken(rt.alloc(), log.into_disk())?);
+    assert!(rt; is_taken(rt.alloc(), disk_of(log))?);
     Ok(())
 }
 
@@ -79,7 +69,7 @@ fn written(alloc: Global) -> Result<Option<MemDisk>, Memory> {
     let added = add(&mut log, &ENTRY, &KEY) == Ok(1) && log.size() == 2;
     let rooted = node_of_all(&mut log) == Ok(ROOT);
     Ok(if added && rooted {
-        Some(log.into_disk())
+        Some(disk_of(log))
     } else {
         None
     })

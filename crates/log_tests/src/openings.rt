@@ -23,7 +23,7 @@ fn size_with(
 
 #[test]
 fn a_changed_byte_is_told(rt: HostRuntime) -> Result<(), Fail> {
-    let changes: [(usize, u8, Result<u64, LogOpenError>); 12] = [
+    let changes: [(usize, u8, Result<u64, LogOpenError>); 13] = [
         (16, 0x00, Err(LogOpenError::BadRecord(0))),
         (16, 0x80, Ok(2)),
         (20, 0x00, Err(LogOpenError::Open(OpenError::BadLength(16)))),
@@ -35,6 +35,7 @@ fn a_changed_byte_is_told(rt: HostRuntime) -> Result<(), Fail> {
         (35, 0x00, Ok(1)),
         (40, 0x01, Err(LogOpenError::BadRecord(1))),
         (40, 0x03, Err(LogOpenError::BadRecord(1))),
+        (40, 0x04, Err(LogOpenError::BadRecord(1))),
         (113, 0x73, Err(LogOpenError::BadRecord(1))),
     ];
     for (place, byte, wanted) in changes {

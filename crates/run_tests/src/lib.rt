@@ -25,6 +25,8 @@ mod one_file;
 #[cfg(test)]
 mod scripts;
 #[cfg(test)]
+mod tiles;
+#[cfg(test)]
 mod trust;
 #[cfg(test)]
 mod words;

@@ -8,6 +8,8 @@
 //! toy             in it the program hashes by the sum of the bytes
 //! name X BYTES    from here on X stands for these bytes
 //! file F BYTES    the room has this file
+//! again F         a file that is there, as it then is
+//! times N BYTES   so many times these bytes
 //! cut N           of its bytes the first N alone
 //! byte N HEX      another byte at the place N of it
 //! fails N ..      the calls on it that fail
@@ -21,6 +23,8 @@
 //! > F BYTES       its output isn't compared: it becomes this file, behind these bytes
 //! left F BYTES    what a file holds then
 //! gone F          there is no such file then
+//! same F G        two files hold the same
+//! length F N      a file holds so many bytes
 //! ```
 //!
 //! BYTES are pairs of hexadecimal digits and names. They go on in lines that begin with a blank,
@@ -153,6 +157,15 @@ impl Script {
         Ok(true)
     }
 
+    // So many times the same bytes: `N BYTES`.
+    fn append_times(&mut self, words: &str) -> Result<bool, Fail> {
+        let (count, bytes) = parted(words);
+        for _ in 0..count.parse::<u64>()? {
+            self.append(bytes)?;
+        }
+        Ok(true)
+    }
+
     fn append_text(&mut self, text: &str, end: &str) -> Result<bool, Fail> {
         self.bytes.extend_from_slice(text.as_bytes())?;
         self.bytes.extend_from_slice(end.as_bytes())?;
@@ -250,6 +263,32 @@ impl Script {
         self.append(bytes)
     }
 
+    // Begins with what a file holds.
+    fn begin_again(&mut self, name: &str) -> Result<bool, Fail> {
+        let Some(bytes) = self.desk.bytes(name) else {
+            return Ok(false);
+        };
+        self.bytes.extend_from_slice(bytes)?;
+        self.begun = Begun::File(String::from_str(self.alloc, name)?);
+        Ok(true)
+    }
+
+    // Whether two files hold the same.
+    fn are_same(&self, words: &str) -> bool {
+        let (first, second) = parted(words);
+        match (self.desk.bytes(first), self.desk.bytes(second)) {
+            (Some(first), Some(second)) => first == second,
+            _ => false,
+        }
+    }
+
+    // Whether a file holds so many bytes: `F N`.
+    fn has_length(&self, words: &str) -> Result<bool, Fail> {
+        let (name, length) = parted(words);
+        let length = length.parse::<usize>()?;
+        Ok(self.desk.bytes(name).map(|bytes| bytes.len()) == Some(length))
+    }
+
     // The output of the run that was begun is kept.
     fn keep_into(&mut self, words: &str) -> Result<bool, Fail> {
         let (name, bytes) = parted(words);
@@ -276,6 +315,9 @@ impl Script {
                 Ok(true)
             }
             "$" => self.run(words),
+            "again" => self.begin_again(words),
+            "same" => Ok(self.are_same(words)),
+            "length" => self.has_length(words),
             "gone" => Ok(self.desk.bytes(words).is_none()),
             _ => self.begin(what, words),
         }
@@ -312,6 +354,7 @@ impl Script {
         match what {
             "#" => Ok(true),
             "" => self.append(words),
+            "times" => self.append_times(words),
             "|" => self.append_text(words, "\n"),
             "|=" => self.append_text(words, ""),
             "!" => self.want_error(words, "\n"),
@@ -355,8 +398,9 @@ pub fn desk_of(alloc: Global, text: &str) -> Result<Option<Desk>, Fail> {
 
 // Scripts that fail in their last line: another status, no line of an error, an output that isn't
 // written, bytes that a file doesn't have, a file that is there, a cut behind the end, no such
-// line, a status of no run, and an output of a refusal.
-const WRONG: [&str; 9] = [
+// line, a status of no run, an output of a refusal, a file that isn't there, files that differ, and
+// another length.
+const WRONG: [&str; 12] = [
     "$ frob\n! mtc: UnknownCommand",
     "$ frob\nstatus 1",
     "$ frob\nstatus 1\n! mtc: UnknownCommand\n| frob",
@@ -366,6 +410,9 @@ const WRONG: [&str; 9] = [
     "$ frob\nstatus 1\n! mtc: UnknownCommand\nfrob",
     "file f 00\nstatus 1",
     "$ frob\n> f",
+    "again f",
+    "file f 00\nfile g 01\nsame f g",
+    "file f 00\nlength f 2",
 ];
 
 #[test]

@@ -49,6 +49,16 @@ drill 7 7 => WrongCount 2 1
 drill -7 => BadWord 1
 drill 07 => BadNumber 1
 drill 9223372036854775808 => BadNumber 1
+tile => WrongCount 0 1
+tile -j => BadWord 1
+tile j.tiles => TilesName 1
+tile .tiles => TilesName 1
+init-log j.tiles 01 2 1 => TilesName 1
+entries j.tiles x => TilesName 1
+export s.tiles => TilesName 1
+cosign s.tiles r => TilesName 1
+issue j.tiles => WrongCount 1 2
+cert j 1 0 x s.tiles => BadNumber 4
 ";
 
 // The fault that is meant; its first number is 0 where it has none.
@@ -63,6 +73,7 @@ fn fault_in(text: &str) -> Result<Option<WordError>, Fail> {
         "BadWord" => Some(WordError::BadWord(first)),
         "BadNumber" => Some(WordError::BadNumber(first)),
         "BadId" => Some(WordError::BadId(first)),
+        "TilesName" => Some(WordError::TilesName(first)),
         "WrongCount" => Some(WordError::WrongCount {
             have: first,
             want: second,
@@ -101,7 +112,7 @@ fn words_are_refused_by_their_first_fault(rt: HostRuntime) -> Result<(), Fail> {
         assert!(rt; is_refused(rt.alloc(), line)?, "{line}");
         count = count.saturating_add(1);
     }
-    assert!(rt; count == 42);
+    assert!(rt; count == 52);
     Ok(())
 }
 

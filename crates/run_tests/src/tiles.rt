@@ -1,0 +1,199 @@
+//! What `tile` answers, and what the commands on a log answer to the file of its tiles.
+
+use crate::scripts::{Outcome, outcome_of};
+use std::alloc::Global;
+use std::test::Fail;
+
+// The journal of log 32473.1 with 2 active landmarks and at most 1,024 entries, its header and its
+// first record without the gate behind it; the record of an entry; and that of 256 stored tiles'
+// entries. The expected values are those of an implementation that was written apart from the
+// program.
+const NAMES: &str = r#"
+name SETTINGS 6d74632d6a6f75726e616c2f76310a00010000000e010481fd59010000000200000400
+name ITEM
+  01000000b40200830001a003020102301931173015060a2b0601040182da4b2f010c0733323437332e31301e17
+  0d3236303130313030303030305a170d3236303130383030303030305a30000420722abd12e99a5367f375aeb9
+  672a8e07712e03c2add16fa8d6914d1cfa2efe0ca31b301930170603551d110101ff040d300b8209612e657861
+  6d706c65002c302a300506032b6570032100000000000000000000000000000000000000000000000000000000
+  0000000000
+name TILED 0100000009040000000000000100
+file r
+| not_before = "2026-01-01T00:00:00Z"
+| not_after = "2026-01-08T00:00:00Z"
+| dns = ["a.example"]
+| key = "MCowBQYDK2VwAyEAAAAAAAAAAAAAAAAAAAAAAAAAAAAAAAAAAAAAAAAAAAA="
+file none
+file j SETTINGS
+times 255 ITEM
+ 00
+"#;
+
+const STORED: &str = r#"
+# No tile is full yet, and only then is one stored; a certificate stays as it is.
+gone j.tiles
+$ cert j 1 0 256 none
+> c
+length j.tiles 0
+$ tile j
+| tiled 256
+left j SETTINGS
+times 255 ITEM
+ TILED 00
+length j.tiles 8192
+$ cert j 1 0 256 none
+> d
+same c d
+$ tile j
+status 4
+! mtc: tile: NothingNew
+$ checkpoint j
+| size 256
+| root e789d24923f083dce0c8fdfa13328e704286fa7b60dff1e2f70a3e4763aa3391
+
+# Entries behind the tiles, up to the last one before the next tile is full, and that one.
+file j SETTINGS
+times 255 ITEM
+ TILED
+times 255 ITEM
+ 00
+$ tile j
+status 4
+! mtc: tile: NothingNew
+length j.tiles 8192
+$ checkpoint j
+| size 511
+| root 09d0a129d601967da3b377af6a5f47c9c556d63063041f59c986f287216c623d
+$ issue j r
+| issued 511
+$ cert j 1 0 512 none
+> c
+$ tile j
+| tiled 512
+length j 94599
+length j.tiles 16384
+$ cert j 1 0 512 none
+> d
+same c d
+$ checkpoint j
+| size 512
+| root 6d0a2d1ba4e0f5fa3da1d5f3a971f52138c7c8fe6a522849b21d16b7bedf720b
+
+# What stands behind the tiles means nothing. A file of tiles that is another one is refused.
+again j.tiles
+ 00
+$ checkpoint j
+| size 512
+| root 6d0a2d1ba4e0f5fa3da1d5f3a971f52138c7c8fe6a522849b21d16b7bedf720b
+again j.tiles
+byte 16383 00
+$ issue j r
+status 2
+! mtc: issue: j.tiles: BadTile 0 1
+again j.tiles
+cut 16383
+$ landmarks j
+status 2
+! mtc: landmarks: j.tiles: BadTile 0 1
+again j.tiles
+byte 0 71
+$ tile j
+status 2
+! mtc: tile: j.tiles: BadTile 0 0
+file j.tiles
+$ checkpoint j
+status 2
+! mtc: checkpoint: j.tiles: BadTile 0 0
+length j 94599
+length j.tiles 0
+
+# A refused journal leaves an empty file of tiles; one that isn't there, or is made, leaves none.
+file k 00
+$ tile k
+status 2
+! mtc: tile: k: NotJournal
+left k 00
+left k.tiles
+$ tile l
+status 7
+! mtc: tile: l: Absent
+gone l.tiles
+$ init-log l 32473.1 2 64
+| log 32473.1
+gone l.tiles
+$ tile l
+status 4
+! mtc: tile: NothingNew
+
+# No journal's name ends like that of a file of tiles; an input's may.
+$ tile l.tiles
+status 1
+! mtc: tile: TilesName 1
+$ init-log l.tiles 32473.1 2 64
+status 1
+! mtc: init-log: TilesName 1
+length l.tiles 0
+$ member j.tiles
+status 2
+! mtc: member: j.tiles: Short 0
+"#;
+
+#[test]
+fn tiles_are_stored_beside_a_log(rt: HostRuntime) -> Result<(), Fail> {
+    let script = format!(in rt.alloc(); "{NAMES}{STORED}")?;
+    let outcome = outcome_of(rt.alloc(), script.as_str())?;
+    assert!(rt; outcome == Outcome::Passed(24), "{outcome:?}");
+    Ok(())
+}
+
+// What comes before the run in which a call of the file of tiles fails, the words of this run, what
+// it prints where none fails, and how many calls it makes: tiles are settled, written and settled;
+// or their file's length and a tile are read, and the tile once more for a path.
+const FAILING: [(&str, &str, &str, u64); 3] = [
+    ("file j.tiles", "tile j", "| tiled 256", 3),
+    (
+        "$ tile j\n| tiled 256\nagain j.tiles",
+        "cert j 1 0 256 none",
+        "> c",
+        3,
+    ),
+    (
+        "$ tile j\n| tiled 256\nagain j.tiles",
+        "issue j r",
+        "| issued 256",
+        2,
+    ),
+];
+
+// How a command ends where a call of the file of tiles fails, and where none fails any more.
+fn failed(
+    alloc: Global,
+    (before, words, printed, calls): (&str, &str, &str, u64),
+    call: u64,
+) -> Result<Outcome, Fail> {
+    let command = words.split_once(' ').map_or(words, |parts| parts.0);
+    let script = if call < calls {
+        format!(in alloc;
+            "{NAMES}{before}\nfails {call}\n$ {words}\nstatus 5\n\
+             ! mtc: {command}: j.tiles: Failed\n$ {words}\n{printed}\n"
+        )?
+    } else {
+        format!(in alloc; "{NAMES}{before}\nfails {call}\n$ {words}\n{printed}\n")?
+    };
+    outcome_of(alloc, script.as_str())
+}
+
+#[test]
+fn a_file_of_tiles_fails(rt: HostRuntime) -> Result<(), Fail> {
+    for case in FAILING {
+        let runs = if case.0.starts_with('$') { 1 } else { 0 };
+        for call in 0..case.3.saturating_add(1) {
+            let wanted = if call < case.3 { runs + 2 } else { runs + 1 };
+            assert!(rt;
+                failed(rt.alloc(), case, call)? == Outcome::Passed(wanted),
+                "{} at {call}",
+                case.1
+            );
+        }
+    }
+    Ok(())
+}
