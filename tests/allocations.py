@@ -2,7 +2,7 @@
 """Refuses each allocation of each command in turn, over real files; of a drill, which makes many, one in so many.
 
 The command then ends with status 8, one line that says so, nothing on standard output and every file as it was; or with
-its outcome, as if nothing had been refused. The allocations are those of the C library, of which a preloaded library
+its outcome, as if nothing had been refused. Of a log without a file of tiles an empty one may be there then. The allocations are those of the C library, of which a preloaded library
 refuses one. Needs a C compiler; where there is none it says so, and ends with status 0.
 Usage: tests/allocations.py [PROGRAM]
 """
@@ -30,6 +30,7 @@ COMMANDS = [
     "landmarks log", "light-cert log 2", "light-cert log 4", "trust-landmarks list 2 entries",
     "cert log 2 0 4 signatures", "audit cert store " + MOMENT + " entries export",
     "audit light trusting " + MOMENT + " entries empty", "audit light trusting " + MOMENT + " few empty", "drill 7",
+    "checkpoint bare", "tile log", "tile full", "cert tiled 2 0 256 empty", "issue tiled request", "tile none.tiles",
 ]
 
 # Of the allocations of this command one in so many is refused.
@@ -58,6 +59,10 @@ def make_files(folder):
         shutil.copy(ROOT / f"examples/first.{name}", folder.path / f"first.{name}")
     folder.run("show", "first.cert")
     folder.run("checkpoint", "first.journal")
+    shutil.copy(ROOT / "examples/first.journal", folder.path / "bare")
+    for journal in ("full", "tiled"):
+        subprocess.run([sys.executable, ROOT / "bench/log/make_journal.py", "256", folder.path / journal], check=True)
+        folder.run("tile" if journal == "tiled" else "checkpoint", journal)
     for journal in ("early", "cosigner"):
         key = folder.run(*f"init-cosigner {journal} {COSIGNER} {LOG} 5 4 secret".split()).decode().strip()
     folder.run("advance", "cosigner", "advance")
@@ -107,7 +112,8 @@ class Refusals:
         wanted, number, wrong, step = self.ended(words, 0)[1], 0, [], STEPS.get(words, 1)
         # The command isn't known before its words are kept.
         lines = ["mtc: Memory\n", f"mtc: {words.split()[0]}: Memory\n"]
-        allowed = [wanted, *((8, b"", line, self.files) for line in lines)]
+        made = {**self.files, "bare.tiles": b""} if words == "checkpoint bare" else self.files
+        allowed = [wanted, *((8, b"", line, files) for line in lines for files in (self.files, made))]
         while True:
             came, found = self.ended(words, number + step)
             if not came:

@@ -110,6 +110,13 @@ light-cert j 5|4|-|mtc: light-cert: NoSuchEntry
 light-cert j 05|1|-|mtc: light-cert: BadNumber 2
 light-cert k 1|7|-|mtc: light-cert: k: Absent
 light-cert w 1|2|-|mtc: light-cert: w: BadRecord 0
+tile j|4|-|mtc: tile: NothingNew
+tile w|2|-|mtc: tile: w: BadRecord 0
+tile k|7|-|mtc: tile: k: Absent
+tile j r|1|-|mtc: tile: WrongCount 2 1
+tile j.tiles|1|-|mtc: tile: TilesName 1
+init-log j.tiles 32473.1 2 64|1|-|mtc: init-log: TilesName 1
+init-cosigner w.tiles 32473.2 32473.1 5 4 secret|1|-|mtc: init-cosigner: TilesName 1
 init-log m 32473.1 2 64|0|d2ef99de8024e444|
 light-cert m 1|4|-|mtc: light-cert: NoSuchEntry
 issue m r|0|2c79a1c0b381d236|

@@ -2,7 +2,7 @@
 """Has three cosigners sign a log, and compares what `verify` says of its certificates.
 
 The keys of the entries are points of P-256, and each entry has two names. Over real files.
-Usage: tests/cosigned_log.py [ENTRIES]   a power of two from 32 on; the gate takes 64
+Usage: tests/cosigned_log.py [ENTRIES]   a power of two from 32 on; the gate takes 64. From 256 on the log is tiled at the end
 """
 
 import base64
@@ -226,6 +226,15 @@ def check_most(log, index, _whole):
     log.expect("one byte more", found, (9, b"", "mtc: cert: TooManySignatures\n"))
 
 
+def check_tiles(log, index, whole):
+    """The same certificate once the log is tiled."""
+    full = log.size // 256 * 256
+    if full:
+        log.expect("tile", log.run("tile", "j"), f"tiled {full}\n".encode())
+        log.expect("the file of tiles", (log.path / "j.tiles").stat().st_size, 8192 * (full // 256 + full // 65536))
+        log.expect("the certificate over tiles", log.cert(index, b"".join(log.signatures)), whole)
+
+
 def main():
     size = int(sys.argv[1]) if len(sys.argv) > 1 else 64
     built = subprocess.run([ROOT / "mtc", "member", ROOT / "examples/first.member"],
@@ -234,7 +243,7 @@ def main():
         return 70
     log, index = CosignedLog(ROOT / "crates/mtc_main/out/mtc_main", size), size - 24
     whole = log.cert(index, b"".join(log.signatures))
-    for check in (check_lengths, check_signatures, check_certificates, check_most):
+    for check in (check_lengths, check_signatures, check_certificates, check_most, check_tiles):
         check(log, index, whole)
     shutil.rmtree(log.path)
     print(*log.wrong, f"certificates of a log of {size} entries and three cosigners are judged",

@@ -25,9 +25,10 @@ NEW_LOG = ["init-log", "j", "32473.1", "2", "100000"]
 # What makes a file system, and how many bytes it needs.
 SYSTEMS = {"ext2": (["mkfs.ext2", "-q"], 32 << 20), "ext4": (["mkfs.ext4", "-q"], 32 << 20),
            "xfs": (["mkfs.xfs", "-q"], 400 << 20)}
-# The syncs of a command that adds a record: three of its opening, that of the record, that of its gate. `init-log` makes two
-# at its opening, so its fourth is that of the gate.
-RECORD, GATE, FIRST = 4, 5, 4
+# The syncs of a command that adds a record to a log: those of its journal and the folder, of its file of tiles and the folder,
+# and of the journal once more; that of the record, that of its gate. `tile` makes two between, about the writes of the tiles.
+# `init-log` makes two at its opening, so its fourth is that of the gate.
+RECORD, GATE, TILES, FIRST = 6, 7, 7, 4
 
 
 def done(*words, **options):
@@ -163,6 +164,20 @@ def check_first(program, disk):
     yield from goes_on(program, disk, 1)
 
 
+def check_tiles(program, disk):
+    """The sync of a file of tiles fails behind their writes"""
+    subprocess.run([sys.executable, ROOT / "bench/log/make_journal.py", "600", disk.path / "j"], check=True)
+    (disk.path / "j.tiles").unlink(missing_ok=True)
+    os.sync()
+    wanted = (5, "", "mtc: tile: j.tiles: Failed\n")
+    yield from unlike("the tile that is stopped", stopped(program, disk, TILES, ["tile", "j"]), wanted)
+    yield from unlike("the size behind a power cut now", disk.cut(lambda copy: size(program, copy)), 600)
+    yield from unlike("tile", run(program, disk.path, "tile", "j"), (0, "tiled 512\n", ""))
+    yield from unlike("the size behind a power cut", disk.cut(lambda copy: size(program, copy)), 600)
+    yield from unlike("tile behind it", disk.cut(lambda copy: run(program, copy, "tile", "j")),
+                      (4, "", "mtc: tile: NothingNew\n"))
+
+
 def missing():
     """What isn't there and is needed."""
     if os.getuid() != 0:
@@ -184,7 +199,7 @@ def main(words):
         if not shutil.which(make[0]):
             print(f"left out: {system}, {make[0]} isn't here")
             continue
-        for check in (check_gate, check_record, check_first):
+        for check in (check_gate, check_record, check_first, check_tiles):
             folder = Path(tempfile.mkdtemp())
             disk = Disk(folder, system)
             try:

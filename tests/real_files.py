@@ -1,6 +1,6 @@
 #!/usr/bin/env python3
 """Runs the program on real files and streams, and checks what a proof can't see: locks, modes, closed streams, the order
-of the system's calls, commands at once, and commands that are killed.
+of the system's calls, commands at once, and commands that are killed. A log's file of tiles is looked at as its journal is.
 
 Prints a line for each check, and below it what is wrong. As root it runs the program as nobody, so that modes count.
 Usage: tests/real_files.py [KILLS [CHECK ..]]      `issue` is killed so many times, 100 if nothing is said; with
@@ -63,8 +63,15 @@ class Folder:
         return ended(self.start(words, **options))
 
     def new_log(self, file="j"):
-        (self.path / file).unlink(missing_ok=True)
+        for name in (file, f"{file}.tiles"):
+            (self.path / name).unlink(missing_ok=True)
         return self.run(["init-log", file, *NEW_LOG[2:]])
+
+    def long_log(self, size, file="j"):
+        """Makes the journal of a log of so many entries, without a file of tiles."""
+        (self.path / f"{file}.tiles").unlink(missing_ok=True)
+        subprocess.run([sys.executable, ROOT / "bench/log/make_journal.py", str(size), self.path / file], check=True)
+        self.own(self.path / file)
 
     def size(self, file="j"):
         """How many entries the log has, or what is wrong."""
@@ -106,7 +113,7 @@ def failed(command, file):
 
 
 def check_locks(folder, _kills):
-    """A journal that another process has locked is not opened, and stays as it is; inputs are not locked"""
+    """A journal or a file of tiles that another process has locked is not opened, and stays as it is; inputs are not locked"""
     folder.new_log()
     before = folder.bytes()
     with open(folder.path / "j", "rb") as held, open(folder.path / "r", "rb") as request:
@@ -116,8 +123,15 @@ def check_locks(folder, _kills):
             for words in (["checkpoint", "j"], ["issue", "j", "r"], ["entries", "j", "1"], ["subtree", "j", "0", "1", "1"]):
                 yield from unlike(words[0], folder.run(words), failed(words[0], "j"))
         yield from unlike("the journal", folder.bytes(), before)
+        yield from unlike("the file of tiles", folder.bytes("j.tiles"), None)
         fcntl.flock(held, fcntl.LOCK_UN)
         yield from unlike("issue", folder.run(["issue", "j", "r"]), (0, "issued 1\n", ""))
+    before = folder.bytes()
+    with open(folder.path / "j.tiles", "rb") as held:
+        fcntl.flock(held, fcntl.LOCK_EX)
+        for words in (["checkpoint", "j"], ["issue", "j", "r"], ["tile", "j"]):
+            yield from unlike(words[0], folder.run(words), failed(words[0], "j.tiles"))
+        yield from unlike("both files", (folder.bytes(), folder.bytes("j.tiles")), (before, b""))
 
 
 def check_refusals(folder, _kills):
@@ -149,11 +163,14 @@ def check_refusals(folder, _kills):
 
 
 def check_modes(folder, _kills):
-    """A new journal is its owner's alone, and one in a folder that may be entered and not read is not opened"""
+    """A new journal and file of tiles are their owner's alone; a journal in a folder that may not be read is not opened"""
     folder.new_log()
     (folder.path / "j").unlink()
     folder.run(NEW_LOG, umask=0)
-    yield from unlike("the mode", oct((folder.path / "j").stat().st_mode & 0o7777), "0o600")
+    folder.run(["checkpoint", "j"], umask=0)
+    for file in ("j", "j.tiles"):
+        yield from unlike(f"the mode of {file}", oct((folder.path / file).stat().st_mode & 0o7777), "0o600")
+    (folder.path / "j.tiles").unlink()
     before, inner = folder.bytes(), folder.path / "d"
     inner.mkdir(mode=0o700)
     (folder.path / "j").rename(inner / "j")
@@ -164,6 +181,7 @@ def check_modes(folder, _kills):
         yield from unlike(command, folder.run([command, file, *more]), failed(command, file))
     inner.chmod(0o700)
     yield from unlike("the journal and the new file", (folder.bytes("d/j"), folder.bytes("d/new")), (before, b""))
+    yield from unlike("the file of tiles", folder.bytes("d/j.tiles"), None)
     yield from unlike("issue", folder.run(["issue", "d/j", "r"]), (0, "issued 1\n", ""))
 
 
@@ -215,12 +233,13 @@ def can_trace(folder):
 
 
 OPENING = ["flock j", "fsync j", "fsync d"]
-REOPENING = ["flock j", "pwrite64 j", "fsync j", "fsync d"]
+REOPENING = ["flock j", "pwrite64 j", "fsync j", "fsync d", "flock j.tiles", "fsync j.tiles", "fsync d", "fsync j"]
 RECORD = ["pwrite64 j", "fsync j", "pwrite64 j", "fsync j"]
+TILE = ["fsync j.tiles", "pwrite64 j.tiles", "fsync j.tiles"]
 
 
 def check_order(folder, _kills):
-    """A journal is locked, its end is written again, it and its folder are synced, and only then its records are read and written"""
+    """Both files of a log are locked and synced before a record is read, and tiles are on the disk before their record"""
     if not can_trace(folder):
         folder.notes.append("left out: strace isn't here, or may not trace")
         return
@@ -229,13 +248,19 @@ def check_order(folder, _kills):
     folder.own(inner)
     for words, wanted in (
             (["init-log", "d/j", *NEW_LOG[2:]], [*OPENING, *RECORD]),
-            (["issue", "d/j", "r"], [*REOPENING, "fsync j", *RECORD]),
-            (["checkpoint", "d/j"], [*REOPENING, "fsync j"])):
+            (["issue", "d/j", "r"], [*REOPENING, *RECORD]), (["checkpoint", "d/j"], REOPENING)):
         status, calls = traced(folder, words)
         yield from unlike(words[0], (status, [f"{call} {file}" for call, file, _ in calls]), (0, wanted))
+    folder.long_log(256, "d/j")
+    # Of its end every page is written again.
+    status, calls = traced(folder, ["tile", "d/j"])
+    found = [f"{call} {file}" for call, file, _ in calls]
+    pages = len(tail_pages(len(folder.bytes("d/j")) - 14))
+    wanted = [REOPENING[0], *REOPENING[1:2] * pages, *REOPENING[2:], *TILE, *RECORD]
+    yield from unlike("tile", (status, found), (0, wanted))
     shell = ["sh", "-c", 'exec "$0" "$@" <&- >&- 2>&-']
     status, calls = traced(folder, ["issue", "d/j", "r"], *shell)
-    numbers = {number > 2 for _, file, number in calls if file == "j"}
+    numbers = {number > 2 for _, file, number in calls if file.startswith("j")}
     yield from unlike("issue without streams", (status, numbers), (6, {True}))
 
 
@@ -254,10 +279,16 @@ def check_faults(folder, _kills):
     folder.new_log()
     before = folder.bytes()
     tail = ["pread64:error=EIO:when=1", "pread64:error=EIO:when=2", "pwrite64:error=ENOSPC:when=1"]
-    for fault in [*faults, *tail, "fsync:error=EIO:when=3"]:
-        injected = ["-e", f"trace={fault.split(':')[0]}", "-e", f"inject={fault}", "-P", folder.path / "j", "-P", folder.path]
+    # The syncs are those of the journal, the folder, the file of tiles, the folder, and the journal once more.
+    for fault in [*faults, *tail, *(f"fsync:error=EIO:when={number}" for number in (3, 4, 5))]:
+        paths = [part for file in ("j", "j.tiles", ".") for part in ("-P", (folder.path / file).resolve())]
+        injected = ["-e", f"trace={fault.split(':')[0]}", "-e", f"inject={fault}", *paths]
         yield from unlike(f"issue {fault}", traced(folder, ["issue", "j", "r"], *injected)[0], 5)
         yield from unlike("the journal", folder.bytes(), before)
+    for fault in faults[:3]:
+        injected = ["-e", f"trace={fault.split(':')[0]}", "-e", f"inject={fault}", "-P", folder.path / "j.tiles"]
+        yield from unlike(f"issue {fault} of the tiles", traced(folder, ["issue", "j", "r"], *injected)[0], 5)
+        yield from unlike("both files", (folder.bytes(), folder.bytes("j.tiles")), (before, b""))
 
 
 def placed(folder, words):
@@ -274,10 +305,15 @@ def placed(folder, words):
     return [(call, int(size), int(place)) for call, size, place in lines], text.count("pwrite64("), err
 
 
+def tail_pages(length):
+    """Where the pieces begin by which the end of a journal of so many bytes is written again."""
+    return range(max(length - TAIL, 0), length, PIECE)
+
+
 def tail_calls(length):
     """The calls that write the end of a journal of so many bytes again, piece by piece."""
     yield "pread64", len(HEADER), 0
-    for place in range(max(length - TAIL, 0), length, PIECE):
+    for place in tail_pages(length):
         size = min(PIECE, length - place)
         yield "pread64", size, place
         yield "pwrite64", size, place
@@ -313,7 +349,7 @@ def opened_before_its_lock(folder, words):
     folder.own(trace)
     waits = ["strace", "-qq", "-o", trace, "-e", "trace=openat,flock", "-e", "inject=flock:delay_enter=1000000"]
     process = folder.start(words, before=waits)
-    while '"j"' not in trace.read_text() and process.poll() is None:
+    while not re.search(r'"j", .* = \d', trace.read_text()) and process.poll() is None:
         time.sleep(0.01)
     return process
 

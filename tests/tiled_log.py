@@ -1,0 +1,216 @@
+#!/usr/bin/env python3
+"""Tiles logs of many sizes over real files, and compares what the commands then write with what they wrote before, and with
+the plain list of the log's entries: roots, paths and proofs, and each byte of the file of tiles. Then it spoils that file, and
+has it made anew, and kills `tile` at random moments.
+
+Prints a line for each size and each check, and below it what is wrong.
+Usage: tests/tiled_log.py [KILLS [SIZE ..]]      100 kills, and the sizes of SIZES, if nothing is said
+"""
+
+import hashlib
+import random
+import shutil
+import subprocess
+import sys
+import time
+
+from cosigned_log import parts
+from cosignatures import items
+from real_files import ROOT, Folder, unlike
+
+# About the ends of the first tiles, and about the first one of the next level.
+SIZES = [255, 256, 257, 511, 512, 65535, 65536, 65537]
+TILE = 8192
+# Of a log of more entries so many places are tried, and not each.
+PLACES = 40
+ID = bytes.fromhex("0481fd5901")
+
+
+def pair(left, right):
+    return hashlib.sha256(b"\1" + left + right).digest()
+
+
+class List:
+    """The plain list of a log's entries: the hashes of all full subtrees, level by level."""
+
+    def __init__(self, entries):
+        self.rows = [[hashlib.sha256(b"\0" + entry).digest() for entry in entries]]
+        while len(self.rows[-1]) > 1:
+            row = self.rows[-1]
+            self.rows.append([pair(row[at], row[at + 1]) for at in range(0, len(row) - 1, 2)])
+
+    def hash(self, start, end):
+        """The tree hash of the entries from `start` up to `end`."""
+        level = (end - start).bit_length() - 1
+        if end - start == 1 << level:
+            return self.rows[level][start >> level]
+        split = 1 << (end - start - 1).bit_length() - 1
+        return pair(self.hash(start, start + split), self.hash(start + split, end))
+
+    def path(self, index, start, end):
+        """The inclusion path of an entry in such a subtree."""
+        if end - start == 1:
+            return []
+        split = start + (1 << (end - start - 1).bit_length() - 1)
+        if index < split:
+            return [*self.path(index, start, split), self.hash(split, end)]
+        return [*self.path(index, split, end), self.hash(start, split)]
+
+    def proof(self, first, start, end, whole=True):
+        """The consistency proof of the first entries from `start` on (RFC 9162, section 2.1.4.1)."""
+        if first == end:
+            return [] if whole else [self.hash(start, end)]
+        split = start + (1 << (end - start - 1).bit_length() - 1)
+        if first <= split:
+            return [*self.proof(first, start, split, whole), self.hash(split, end)]
+        return [*self.proof(first, split, end, False), self.hash(start, split)]
+
+    def tiles(self, size):
+        """What a file holds of the full tiles of so many entries, and the level and place of each tile."""
+        found = {}
+        for level in range(3):
+            for place in range(size // 256 ** (level + 1)):
+                number = [place + place // 256 + place // 65536, 256 * (place + 1) + place + place // 256,
+                          65792 * (place + 1) + place][level]
+                found[number] = (level, place, b"".join(self.rows[8 * level][256 * place:256 * (place + 1)]))
+        return [found[number] for number in range(len(found))]
+
+
+def hashes(some):
+    return (32 * len(some)).to_bytes(2, "big") + b"".join(some)
+
+
+def said(folder, *words):
+    """What a command writes to standard output; it has to end with status 0."""
+    status, out, err = folder.run(words)
+    return out.encode("latin-1") if status == 0 else f"{' '.join(words)}: {status} {err}".encode()
+
+
+def places_of(size):
+    """Each place of a small log, and some of a large one, those about its tiles among them."""
+    if size < 1000:
+        return range(1, size)
+    ends = [1, 2, 255, 256, 257, 511, 512, 65279, 65280, size - 2, size - 1]
+    return sorted({*ends, *random.sample(range(1, size), PLACES)})
+
+
+def written(folder, size):
+    """What the commands that ask for nodes write: by a name, their bytes."""
+    found = {"checkpoint": said(folder, "checkpoint", "j")}
+    for index in places_of(size):
+        found["cert", index] = said(folder, "cert", "j", str(index), "0", str(size), "none")
+        found["consist", index] = said(folder, "consist", "j", str(index), str(size))
+    return found
+
+
+def in_list(leaves, size, found):
+    """What differs of these bytes and the list."""
+    root = leaves.hash(0, size)
+    yield from unlike("checkpoint", found["checkpoint"], f"size {size}\nroot {root.hex()}\n".encode())
+    for command, index in (name for name in found if name != "checkpoint"):
+        text, end = found[command, index], size.to_bytes(8, "big")
+        if command == "consist":
+            wanted = ID + end + root + hashes(leaves.proof(index, 0, size))
+        else:
+            text = parts(text)[2][-len(hashes(leaves.path(index, 0, size))) - 18:]
+            wanted = bytes(8) + end + hashes(leaves.path(index, 0, size)) + bytes(2)
+        yield from unlike(f"{command} {index}", text, wanted)
+
+
+def check_size(folder, size):
+    """What is wrong with a log of so many entries, which is left tiled."""
+    random.seed(size)
+    folder.long_log(size)
+    leaves = List(items(said(folder, "entries", "j", str(size))))
+    before, full = written(folder, size), size // 256 * 256
+    nothing = (4, "", "mtc: tile: NothingNew\n")
+    yield from unlike("tile", folder.run(["tile", "j"]), (0, f"tiled {full}\n", "") if full else nothing)
+    yield from unlike("a second tile", folder.run(["tile", "j"]), nothing)
+    wanted = b"".join(tile for _, _, tile in leaves.tiles(full))
+    yield from unlike("the file of tiles is that of the list", folder.bytes("j.tiles") == wanted, True)
+    random.seed(size)
+    after = written(folder, size)
+    yield from unlike("what was written and is written over tiles is the same", before == after, True)
+    yield from in_list(leaves, size, after)
+    yield from spoiled(folder, leaves.tiles(full), before["checkpoint"])
+
+
+def changes(tiles):
+    """Other files of tiles, and the first bad tile of each: none where the log opens."""
+    whole = b"".join(tile for _, _, tile in tiles)
+    yield whole + b"\0", None
+    yield whole + random.randbytes(TILE), None
+    yield b"", 0
+    last, next_level = len(tiles) - 1, [number for number, (level, _, _) in enumerate(tiles) if level > 0][:1]
+    for number in sorted({0, last, last // 2, *next_level}):
+        yield whole[:number * TILE], number
+        yield whole[:(number + 1) * TILE - 1], number
+        for byte in (0, random.randrange(TILE), TILE - 1):
+            place = number * TILE + byte
+            yield whole[:place] + bytes([whole[place] ^ 1]) + whole[place + 1:], number
+
+
+def spoiled(folder, tiles, checkpoint):
+    """What is wrong where the file of tiles is another one."""
+    journal, whole = folder.bytes(), folder.bytes("j.tiles")
+    for text, bad in changes(tiles) if tiles else ():
+        (folder.path / "j.tiles").write_bytes(text)
+        line = bad is not None and "mtc: checkpoint: j.tiles: BadTile {} {}\n".format(*tiles[bad][:2])
+        wanted = (0, checkpoint.decode(), "") if bad is None else (2, "", line)
+        yield from unlike(f"{len(text)} bytes, bad tile {bad}", folder.run(["checkpoint", "j"]), wanted)
+        kept = folder.bytes("j.tiles") == text and folder.bytes() == journal
+        yield from unlike("both files stay", kept, True)
+    subprocess.run([sys.executable, ROOT / "tests/tiles_anew.py", folder.path / "j"], check=True, capture_output=True)
+    folder.own(folder.path / "j.tiles")
+    yield from unlike("the file of tiles is the same anew", folder.bytes("j.tiles") == whole, True)
+
+
+def one_tile(folder):
+    folder.long_log(1024)
+    began = time.monotonic()
+    folder.run(["tile", "j"])
+    return time.monotonic() - began
+
+
+def check_kills(folder, kills):
+    """`tile` is killed at random moments: the log opens each time with its root, and is tiled then or by the next `tile`."""
+    span, told, kept = sorted(one_tile(folder) for _ in range(5))[2], 0, 0
+    root = folder.run(["checkpoint", "j"])
+    for number in range(kills):
+        folder.long_log(1024)
+        process = folder.start(["tile", "j"])
+        time.sleep(random.uniform(0, span))
+        process.kill()
+        line = process.communicate()[0].decode()
+        yield from unlike(f"checkpoint behind kill {number}", folder.run(["checkpoint", "j"]), root)
+        again = folder.run(["tile", "j"])
+        if again == (4, "", "mtc: tile: NothingNew\n"):
+            kept += 1
+        else:
+            yield from unlike(f"tile behind kill {number}", again, (0, "tiled 1024\n", ""))
+            yield from unlike(f"what was said before kill {number}", line, "")
+        told += line == "tiled 1024\n"
+        yield from unlike(f"checkpoint over tiles {number}", folder.run(["checkpoint", "j"]), root)
+        # So that some three of ten end, however long a `tile` takes by now.
+        span = min(span * (0.8 if line else 1.1), 10)
+    folder.notes.append(f"{kills} times, {told} acknowledged, {kept - told} not acknowledged and there")
+
+
+def main(words):
+    if subprocess.run([ROOT / "mtc", "member", ROOT / "examples/first.member"], stdout=subprocess.DEVNULL).returncode:
+        return 70
+    kills, sizes = int(words[0]) if words else 100, [int(word) for word in words[1:]] or SIZES
+    folder, status = Folder(ROOT / "crates/mtc_main/out/mtc_main"), 0
+    (folder.path / "none").write_bytes(b"")
+    for size in sizes:
+        wrong = list(check_size(folder, size))
+        print(f"{'wrong' if wrong else 'ok'}: a log of {size} entries", *wrong[:9], sep="\n    ")
+        status |= bool(wrong)
+    wrong = list(check_kills(folder, kills))
+    shutil.rmtree(folder.path)
+    print(f"{'wrong' if wrong else 'ok'}: {check_kills.__doc__}", *wrong[:9], *folder.notes, sep="\n    ")
+    return status | bool(wrong)
+
+
+if __name__ == "__main__":
+    sys.exit(main(sys.argv[1:]))
