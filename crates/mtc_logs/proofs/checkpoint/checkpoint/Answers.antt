@@ -1,6 +1,7 @@
 use Rattle.std.proofs.Common.{◌≡◌, ℕ, length, take, ap, arith}
 use Rattle.std.proofs.lemmas.Grind.{common_steps}
 use Rattle.std.proofs.lemmas.Option.{IfSome_then}
+use Rattle.std.proofs.lemmas.Result.{err_from_is_err_and}
 use Rattle.byte_forms.specs.Types.{Hash, HashFunction, Text}
 use Rattle.tree_core.specs.Tree.{tree_hash}
 use Rattle.issuance_log.specs.Folds.{LogState, LogView, view_in}
@@ -9,7 +10,7 @@ use Rattle.issuance_log.proofs.Asked.{asks_stays}
 use Rattle.mtc_answers.specs.Answers.{said}
 use Rattle.mtc_answers.specs.declared.answer.Said.TheVariants.{Done}
 use Rattle.mtc_logs.specs.LogOutcomes.{checkpoint_lines, checkpoint_reply}
-use Rattle.mtc_logs.proofs.Replied.{both_so, told_both, told_so}
+use Rattle.mtc_logs.proofs.Replied.{both_so, starved_so, told_both, told_so}
 use Rattle.mtc_logs.proofs.checkpoint.checkpoint.Goals as goal
 
 hashed : (h : HashFunction) (s : LogState) (v : LogView) (size : ℕ) (root : Hash) (text : Text)
@@ -33,3 +34,13 @@ returns-in_ok-checkpoint_text-in-Ok g c =
     (told_by_both log) (told_both _ log c.sound.ensures.view) c.in-Ok.ensures.hash)
     (λ s is. hashed h s (view_of log) size c.in-Ok.root text c.size-size.ensures.value
     c.in_ok-checkpoint_text-in-Ok.ensures is.0 is.1))
+
+pub returns-in_err-checkpoint_text-in-Ok : goal.returns-in_err-checkpoint_text-in-Ok
+returns-in_err-checkpoint_text-in-Ok g c =
+    let h = g.H.TreeHash.hash in
+    let log = c.args.log.now in
+    let refused = err_from_is_err_and c.from_residual.result c.from_residual.ensures.1 in
+    rw (refused.1, refused.2) (starved_so c.args.journal.now
+    (λ s. checkpoint_reply h s.entries) log c.root_of.new.log
+    (asks_stays log c.root_of.new.log (g.met.D.Disk.only_now (log_disk log))
+    c.root_of.ensures.asks))

@@ -30,3 +30,7 @@ loop-index-preserved g c =
           c.put_item.new.out ≡ c.loop-index.out ++ listed_text (items_of s) c.loop-index.index))
           (told_stays first log so_far.stays) c.in_ok-put_item.ensures.text);
     }
+
+pub returns-in_err-put_item-clause-stays : goal.returns-in_err-put_item-clause-stays
+returns-in_err-put_item-clause-stays g c =
+    stays_both _ _ _ c.loop-index.invariant.stays c.put_item.ensures.stays

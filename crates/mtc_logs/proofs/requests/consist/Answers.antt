@@ -1,14 +1,18 @@
-use Rattle.std.proofs.Common.{◌≡◌, ℕ, ◌<◌, length, ap, sym, subst, arith}
+use Rattle.std.proofs.Common.{◌≡◌, ℕ, ◌<◌, ◌≤◌, length, ap, sym, subst, arith}
 use Rattle.std.proofs.lemmas.Grind.{common_steps}
-use Rattle.byte_forms.specs.Types.{HashFunction}
+use Rattle.std.proofs.lemmas.Option.{IfSome_then}
+use Rattle.byte_forms.specs.Types.{HashFunction, Text}
+use Rattle.cosigner_core.specs.Requests.{advance_text}
 use Rattle.issuance_log.specs.Folds.{LogState, LogView, view_in}
 use Rattle.issuance_log.specs.Staying.{stays_alone}
-use Rattle.issuance_log.specs.Words.{log_disk, log_tiles_disk, view_of}
-use Rattle.mtc_answers.specs.Answers.{Ending}
+use Rattle.issuance_log.specs.Words.{log_disk, log_tiles_disk, told_by_both, view_of}
+use Rattle.issuance_log.proofs.Asked.{asks_stays}
+use Rattle.mtc_answers.specs.Answers.{Ending, said}
+use Rattle.mtc_answers.specs.declared.answer.Said.TheVariants.{Done}
 use Rattle.mtc_logs.specs.LogOutcomes.{beyond}
-use Rattle.mtc_logs.specs.RequestOutcomes.{consist_reply}
+use Rattle.mtc_logs.specs.RequestOutcomes.{advance_by_log, consist_reply}
 use Rattle.mtc_logs.specs.Works.{RepliesOnLog}
-use Rattle.mtc_logs.proofs.Replied.{shown_so}
+use Rattle.mtc_logs.proofs.Replied.{both_so, shown_so, told_both, told_so}
 use Rattle.mtc_logs.proofs.requests.consist.Goals as goal
 
 too_few : (h : HashFunction) (s : LogState) (v : LogView) (old new have : ℕ) → have ≡ v.size
@@ -30,3 +34,27 @@ returns-then-size-new g c =
     (beyond c.size-then-size-new.result) (λ e. absurd cc) c.sound.ensures.view
     (λ s shows. too_few h s (view_of log) c.args.old c.args.new _
     c.size-then-size-new.ensures.value (omega arith) (omega arith) shows))
+
+asked : (h : HashFunction) (s : LogState) (v : LogView) (old new : ℕ) (text : Text) → old < new
+    → new ≤ v.size → view_in s ≡ v → text ≡ advance_text (advance_by_log h s old new)
+    → said Done text ≡ consist_reply h old new s
+asked h s v old new text more within shows is =
+    let same : length s.entries ≡ v.size = ap (λ (u : LogView). u.size) shows in
+    grind (arith, common_steps)
+
+pub returns : goal.returns
+returns g c =
+    let h = g.H.TreeHash.hash in
+    let log = c.args.log.now in
+    let text = c.in_ok-advance_request.field-0 in
+    let old = c.args.old in
+    let new = c.args.new in
+    told_so c.args.journal.now (consist_reply h old new) log c.advance_request.new.log
+    (asks_stays log c.advance_request.new.log (g.met.D.Disk.only_now (log_disk log))
+    c.advance_request.ensures.asks)
+    (said Done text) (λ e. absurd cc)
+    (IfSome_then (told_by_both log)
+    (both_so (λ s. view_in s ≡ view_of log)
+    (λ s. text ≡ advance_text (advance_by_log h s old new))
+    (told_by_both log) (told_both _ log c.sound.ensures.view) c.in_ok-advance_request.ensures.text)
+    (λ s is. asked h s (view_of log) old new text (omega arith) (omega arith) is.0 is.1))
