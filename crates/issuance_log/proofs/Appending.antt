@@ -15,13 +15,12 @@ use Rattle.journal_core.specs.declared.journal.Journal.{Journal}
 use Rattle.journal_core.proofs.Records.{records_of-stands}
 use Rattle.journal_core.proofs.Told.{if_some}
 use Rattle.log_entry.specs.Matching.{matches}
-use Rattle.tile_store.specs.Store.{tiles_leaves}
 use Rattle.tree_core.specs.Tree.{leaf_hash}
 use Rattle.tree_core.specs.declared.hashing.TreeHash.{Ghosts as Hashes}
 use Rattle.issuance_log.specs.Folds.{LogState, LogView, log_of, next_log, next_view, view_in}
 use Rattle.issuance_log.specs.Folds.{with_item, with_mark, with_tiles}
 use Rattle.issuance_log.specs.Items.{AreBelow, AreHashed, AreKept, HasShortItem, StandAt}
-use Rattle.issuance_log.specs.Items.{items_places, items_tiles}
+use Rattle.issuance_log.specs.Items.{items_leaves, items_places}
 use Rattle.issuance_log.specs.Marks.{last_mark}
 use Rattle.issuance_log.specs.Records.{IsShort, entry_record, item_in, landmark_record}
 use Rattle.issuance_log.specs.Records.{tiles_record}
@@ -303,16 +302,16 @@ shown_either h v places text (Some list) (Some b) same either stand = elim eithe
 module _ {H D T : Type 0} {hashes : Hashes H} {g : Ghosts D} {k : Ghosts T}
     (log : Log H D T hashes g k) (sound : log_broken log ≡ false) where
   pub log_keeps : IfSome (log_records log) (AreKept hashes.hash (view_of log)
-      (items_places log.items) (tiles_leaves (items_tiles log.items)))
+      (items_places log.items) (items_leaves log.items))
   log_keeps = kept_all hashes.hash (view_of log) (items_places log.items)
-      (tiles_leaves (items_tiles log.items)) (log_records log) (log.agrees sound) log.stand
+      (items_leaves log.items) (log_records log) (log.agrees sound) log.stand
       log.hashed
 
   pub log_shows : IfSome (log_records log) (MakesShown hashes.hash (view_of log))
   log_shows = each (log_records log) log_keeps
     where
       each : (o : Option (List Text)) → IfSome o (AreKept hashes.hash (view_of log)
-          (items_places log.items) (tiles_leaves (items_tiles log.items)))
+          (items_places log.items) (items_leaves log.items))
           → IfSome o (MakesShown hashes.hash (view_of log))
       each None kept = tt
       each (Some list) kept = record { made = kept.made; within = kept.stand.within }

@@ -14,10 +14,9 @@ use Rattle.journal_core.specs.declared.error.AppendError.{AppendError}
 use Rattle.journal_core.specs.declared.error.AppendError.TheVariants.{Broken, Failed, Full}
 use Rattle.journal_core.proofs.Appends.{all_kept, untouched_after, untouched_moment}
 use Rattle.journal_core.proofs.Owners.{refused_by}
-use Rattle.tile_store.specs.Store.{tiles_leaves}
 use Rattle.tree_core.specs.declared.hashing.TreeHash.{Ghosts as Hashes}
 use Rattle.issuance_log.specs.Folds.{LogState, LogView, next_log, next_view}
-use Rattle.issuance_log.specs.Items.{items_places, items_tiles}
+use Rattle.issuance_log.specs.Items.{items_leaves, items_places}
 use Rattle.issuance_log.specs.Shown.{shown_with}
 use Rattle.issuance_log.specs.Words.{LogAppends, LogIsTold, log_disk, log_leaves, log_owner}
 use Rattle.issuance_log.specs.Words.{log_records, log_tiles_disk, of_log_journal, told_state}
@@ -156,7 +155,7 @@ module _ {H D T : Type 0} {hashes : Hashes H} {g : Ghosts D} {k : Ghosts T}
             journal = record {
               leaves = record {
                 records = records_are h v (view_of new) (items_places old.items)
-                    (tiles_leaves (items_tiles old.items)) old.journal new.journal text body
+                    (items_leaves old.items) old.journal new.journal text body
                     spelled grown shows;
                 state = view;
                 end = grown.end
@@ -175,10 +174,10 @@ module _ {H D T : Type 0} {hashes : Hashes H} {g : Ghosts D} {k : Ghosts T}
             };
             tells = record {
               told = grown_told h v (view_of new) (items_places old.items)
-                  (tiles_leaves (items_tiles old.items)) old.journal new.journal text body spelled
+                  (items_leaves old.items) old.journal new.journal text body spelled
                   grown shows next kept makes;
               leaves = grown_leaves h v (view_of new) (items_places old.items)
-                  (tiles_leaves (items_tiles old.items)) old.journal new.journal text body spelled
+                  (items_leaves old.items) old.journal new.journal text body spelled
                   grown shows next (k.told (log_tiles_disk old)) (k.told (log_tiles_disk new))
                   tiles kept makes;
             };

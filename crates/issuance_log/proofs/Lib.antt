@@ -1,13 +1,15 @@
 pub mod Adds
 mod Adopting
+mod Answering
 mod Appending
 pub mod Asked
 pub mod Behind
 mod Growth
 pub mod Ids
 mod Keeping
-mod Leaving
 pub mod Leaves
+mod Leaving
+mod Longer
 mod Readings
 mod Rereading
 mod Rules
@@ -16,3 +18,4 @@ pub mod Spelled
 mod Standing
 mod Tiling
 mod Views
+mod Waiting

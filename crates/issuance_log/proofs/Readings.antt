@@ -14,15 +14,14 @@ use Rattle.journal_core.specs.Readings.{HasFolded}
 use Rattle.journal_core.specs.declared.error.OpenError.{OpenError}
 use Rattle.journal_core.specs.declared.opening.Opening.{Opening}
 use Rattle.journal_core.proofs.FoldSteps.{cause_next, found_last, refused_first, refused_next}
-use Rattle.tile_store.specs.Store.{tiles_leaves}
 use Rattle.tree_core.specs.declared.hashing.TreeHash.{Ghosts as Hashes}
 use Rattle.issuance_log.specs.Faults.{log_refusal_at}
 use Rattle.issuance_log.specs.Folds.{LogState, LogView, begun_log, changed, log_fold, log_of}
 use Rattle.issuance_log.specs.Folds.{next_log, next_view, null_entry, one_item_more, one_mark_more}
 use Rattle.issuance_log.specs.Folds.{takes_entry, takes_landmark, takes_tiles, tiled_to, view_in}
 use Rattle.issuance_log.specs.Gathered.{HasGathered, HasGatheredAll}
-use Rattle.issuance_log.specs.Items.{AreBelow, AreKept, HasShortItem, HaveTaken, items_places}
-use Rattle.issuance_log.specs.Items.{items_tiles}
+use Rattle.issuance_log.specs.Items.{AreBelow, AreKept, HasShortItem, HaveTaken, items_leaves}
+use Rattle.issuance_log.specs.Items.{items_places}
 use Rattle.issuance_log.specs.Openings.{HasLogCause, log_read}
 use Rattle.issuance_log.specs.Records.{item_in, mark_in, tiled_in}
 use Rattle.issuance_log.specs.Results.{LogFinds, LogTakes}
@@ -133,7 +132,7 @@ module _ {H D T : Type 0} {hashes : Hashes H} {g : Ghosts D} {k : Ghosts T}
   has_folded v items was = record {
     unended = was.unended;
     unrefused = was.unrefused;
-    made = made_at hashes.hash v (items_places items) (tiles_leaves (items_tiles items))
+    made = made_at hashes.hash v (items_places items) (items_leaves items)
         (read_list old) was.kept;
   }
 
@@ -162,14 +161,14 @@ module _ {H D T : Type 0} {hashes : Hashes H} {g : Ghosts D} {k : Ghosts T}
               (next_place old + 1) (next_place new + 1) was.below (omega arith)
               (below_item item place (next_place new + 1) (omega arith)));
           kept = if_more
-              (AreKept hashes.hash v (items_places items) (tiles_leaves (items_tiles items)))
-              (AreKept hashes.hash w (items_places items') (tiles_leaves (items_tiles items')))
+              (AreKept hashes.hash v (items_places items) (items_leaves items))
+              (AreKept hashes.hash w (items_places items') (items_leaves items'))
               (read_list old) (read_list new) body (list_is old new body last read)
               (λ list is kept.
               let here : place + 1 ≡ end_behind list =
               at_list (λ l. place + 1 ≡ end_behind l) (read_list old) list is stands in
               kept_more hashes.hash v w (items_places items) (items_places items')
-              (tiles_leaves (items_tiles items)) (tiles_leaves (items_tiles items')) list body
+              (items_leaves items) (items_leaves items') list body
               kept next short
               (taken.places ∙ ap (λ (n : ℕ). items_places items
               ++ map (λ x. n) (option_to_list item)) (omega arith))
@@ -181,14 +180,14 @@ module _ {H D T : Type 0} {hashes : Hashes H} {g : Ghosts D} {k : Ghosts T}
     pub gathered_first : (v : LogView) (items items' : Items H T hashes k)
         → read_list old ≡ option_map (λ _. []) (g.told (opening_disk old)) → next_place old ≡ 16
         → option_map view_in (begun_log body) ≡ Some v → HasSoundNumbers v
-        → items_places items ≡ [] → IfSome (tiles_leaves (items_tiles items)) (λ l. l ≡ [])
+        → items_places items ≡ [] → IfSome (items_leaves items) (λ l. l ≡ [])
         → HaveTaken hashes.hash (Some (null_entry, [])) 0 items items' → HasGathered v items' new
     gathered_first v items items' none begin begun sound no_places no_leaves taken =
         let one : items_places items' ≡ 0 ∷ [] =
         taken.places ∙ ap (λ (l : List ℕ). l ++ 0 ∷ []) no_places in
         let far = place_is old new body last read in
         let kept = kept_first hashes.hash v body (items_places items')
-        (tiles_leaves (items_tiles items)) (tiles_leaves (items_tiles items')) begun sound one
+        (items_leaves items) (items_leaves items') begun sound one
         no_leaves taken.leaves in
         record {
           unended = read.goes_on.0;
@@ -197,10 +196,10 @@ module _ {H D T : Type 0} {hashes : Hashes H} {g : Ghosts D} {k : Ghosts T}
           below = subst (λ (l : List ℕ). AreBelow l (next_place new + 1)) (sym one)
               (below_item (Some (null_entry, [])) 0 (next_place new + 1) (omega arith));
           kept = if_more (λ list. list ≡ [])
-              (AreKept hashes.hash v (items_places items') (tiles_leaves (items_tiles items')))
+              (AreKept hashes.hash v (items_places items') (items_leaves items'))
               (read_list old) (read_list new) body (list_is old new body last read)
               (λ list is empty. subst (λ (l : List Text). AreKept hashes.hash v
-              (items_places items') (tiles_leaves (items_tiles items')) (l ++ body ∷ []))
+              (items_places items') (items_leaves items') (l ++ body ∷ []))
               (sym empty) kept.1)
               (all_empty (g.told (opening_disk old)) (read_list old) none);
         }
@@ -223,7 +222,7 @@ module _ {H D T : Type 0} {hashes : Hashes H} {g : Ghosts D} {k : Ghosts T}
           refused_next (log_fold hashes.hash) old new body last read looks
           (log_at v (read_list old)) number count (has_folded v items was)
           (not_taken hashes.hash v (log_at v (read_list old)) body
-          (shows_at hashes.hash v (items_places items) (tiles_leaves (items_tiles items))
+          (shows_at hashes.hash v (items_places items) (items_leaves items)
           (read_list old) was.kept) takes.0)
       cause_taken v w items number Memory count was takes = tt
 
@@ -241,7 +240,7 @@ module _ {H D T : Type 0} {hashes : Hashes H} {g : Ghosts D} {k : Ghosts T}
         below = subst (λ (n : ℕ). AreBelow (items_places items) (n + 1)) (sym ended.place)
             was.below;
         kept = subst (λ (o : Option (List Text)). IfSome o (AreKept hashes.hash v
-            (items_places items) (tiles_leaves (items_tiles items)))) (sym ended.list) was.kept;
+            (items_places items) (items_leaves items))) (sym ended.list) was.kept;
         found = read_so hashes.hash v (g.told (opening_disk new)) (read_list old) (read_list new)
             ended.list found.found;
         stands = found.stands;

@@ -13,13 +13,13 @@ use Rattle.journal_core.proofs.Records.{records_of-stands}
 use Rattle.journal_core.proofs.Told.{if_some}
 use Rattle.tile_store.specs.Contents.{HoldsTiles}
 use Rattle.tile_store.specs.Layout.{tiles_end}
-use Rattle.tile_store.specs.Store.{tiles_leaves, tiles_stored}
+use Rattle.tile_store.specs.Store.{tiles_stored}
 use Rattle.tile_store.specs.Writing.{IsImageBehind}
 use Rattle.tile_store.proofs.Fronts.{front-less}
 use Rattle.tile_store.proofs.Kept.{tiles-kept}
 use Rattle.tree_core.specs.declared.hashing.TreeHash.{Ghosts as Hashes}
 use Rattle.issuance_log.specs.Folds.{LogView}
-use Rattle.issuance_log.specs.Items.{AreHashed}
+use Rattle.issuance_log.specs.Items.{AreHashed, items_leaves}
 use Rattle.issuance_log.specs.Words.{log_broken, log_disk, log_end, log_leaves, log_records}
 use Rattle.issuance_log.specs.Words.{log_tiles, log_tiles_disk, view_of}
 use Rattle.issuance_log.specs.declared.log.Log.{Log}
@@ -124,7 +124,7 @@ module _ {H D T : Type 0} {hashes : Hashes H} {g : Ghosts D} {k : Ghosts T}
 
   -- and all of them are certain
   pub behind_stored : (Left : Text → Type 0) (Stands : List Text → Text → Type 0) (size : ℕ)
-      (disk : T) → IfSome (tiles_leaves (log_tiles log)) (λ leaves. (d : Text)
+      (disk : T) → IfSome (items_leaves log.items) (λ leaves. (d : Text)
       → k.may_leave disk d → HoldsTiles hashes.hash leaves size d)
       → IfSome (log_leaves log) (λ leaves. IfSome (log_records log) (λ list. (c : Text) → Left c
       → Stands list c → (d : Text) → k.may_leave disk d
@@ -135,5 +135,5 @@ module _ {H D T : Type 0} {hashes : Hashes H} {g : Ghosts D} {k : Ghosts T}
       → Stands list c → (d : Text) → k.may_leave disk d → HoldsTiles hashes.hash leaves size d))
       log.hashed
       (if_some (λ leaves. (d : Text) → k.may_leave disk d → HoldsTiles hashes.hash leaves size d)
-      _ (tiles_leaves (log_tiles log)) (λ leaves each. for_each _ (log_records log)
+      _ (items_leaves log.items) (λ leaves each. for_each _ (log_records log)
       (λ list c left stands. each)) holds)

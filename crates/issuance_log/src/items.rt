@@ -8,20 +8,21 @@ ghost use Rattle.disk_core.specs.Moments.{LeavesOnly, Looks};
 ghost use Rattle.frame_pool.specs.Frames.{HoldsKey};
 ghost use Rattle.frame_pool.specs.declared.key.TileKey.{TileKey as Key};
 ghost use Rattle.mtc_io.specs.Counts.{HasCause};
-ghost use Rattle.tile_store.specs.Causes.{HasCauseOf, IsNewTile, StandsIn};
+ghost use Rattle.tile_store.specs.Causes.{IsNewTile, StandsIn};
 ghost use Rattle.tile_store.specs.Contents.{HoldsTiles};
 ghost use Rattle.tile_store.specs.Layout.{tiles_end};
-ghost use Rattle.tile_store.specs.Store.{tiles_adopted, tiles_count, tiles_disk, tiles_leaves};
-ghost use Rattle.tile_store.specs.Store.{tiles_stored};
+ghost use Rattle.tile_store.specs.Store.{tiles_adopted, tiles_disk, tiles_stored};
 ghost use Rattle.tile_store.specs.Writing.{IsImageBehind};
 ghost use Rattle.tree_core.specs.Tree.{leaf_hash};
 ghost use Rattle.tree_proofs.specs.Told.{IsRootOf};
+ghost use Rattle.issuance_log.specs.Late.{HasLateCause, late_count};
 
+use crate::late::LateTiles;
 use disk_core::Disk;
 use frame_pool::Pool;
 use mtc_io::{Failed, Memory};
 use std::alloc::Global;
-use tile_store::{TileError, Tiles};
+use tile_store::TileError;
 use tree_core::{TreeHash, leaf};
 
 /// The null entry: the type 0, and no body.
@@ -31,12 +32,13 @@ pub(crate) const NULL_ENTRY: [u8; 2] = [0, 0];
 #[derive(Drop)]
 pub(crate) struct Items<H: TreeHash, T: Disk> {
     places: Vec<u64>,
-    tiles: Tiles<H, T>,
-    ghost even: { tiles_count tiles ≡ vec_len places },
+    nodes: LateTiles<H, T>,
+    ghost even: { late_count nodes ≡ vec_len places },
 }
 
 impl<H: TreeHash, T: Disk> Items<H, T> {
-    ghost use Rattle.issuance_log.specs.Items.{HasItemRoom, items_places, items_tiles};
+    ghost use Rattle.issuance_log.specs.Items.{HasItemRoom, items_leaves, items_nodes};
+    ghost use Rattle.issuance_log.specs.Items.{items_places, items_tiles};
 
     /// No items, over a disk and a pool whose frames hold no tile. It takes no memory.
     pub(crate) fn new(alloc: Global, disk: T, pool: Pool) -> Items<H, T>
@@ -44,11 +46,11 @@ impl<H: TreeHash, T: Disk> Items<H, T> {
         ensures places { items_places result ≡ [] }
         ensures disk { tiles_disk (items_tiles result) ≡ disk }
         ensures adopted { tiles_adopted (items_tiles result) ≡ 0 }
-        ensures leaves { IfSome (tiles_leaves (items_tiles result)) (λ leaves. leaves ≡ []) }
+        ensures leaves { IfSome (items_leaves result) (λ leaves. leaves ≡ []) }
     {
         Items {
             places: Vec::new(alloc),
-            tiles: Tiles::new(alloc, disk, pool),
+            nodes: LateTiles::new(alloc, disk, pool),
         }
     }
 
@@ -56,14 +58,14 @@ impl<H: TreeHash, T: Disk> Items<H, T> {
     pub(crate) fn reserve(&mut self) -> Result<(), Memory>
         ensures room { OnOk result (HasItemRoom self.new) }
         ensures places { items_places self.new ≡ items_places self.old }
-        ensures leaves { tiles_leaves (items_tiles self.new) ≡ tiles_leaves (items_tiles self.old) }
+        ensures leaves { items_leaves self.new ≡ items_leaves self.old }
         ensures disk { tiles_disk (items_tiles self.new) ≡ tiles_disk (items_tiles self.old) }
         ensures adopted { tiles_adopted (items_tiles self.new)
             ≡ tiles_adopted (items_tiles self.old) }
         ensures stored { tiles_stored (items_tiles self.new) ≡ tiles_stored (items_tiles self.old) }
     {
         self.places.reserve(1)?;
-        self.tiles.reserve(1)
+        self.nodes.reserve()
     }
 
     /// Puts the place of an item and the hash of its entry behind the others, in room that is
@@ -72,8 +74,8 @@ impl<H: TreeHash, T: Disk> Items<H, T> {
         requires room { HasItemRoom self.old }
         requires few { length (items_places self.old) + 1 < 2 ^ 32 }
         ensures places { items_places self.new ≡ items_places self.old ++ place ∷ [] }
-        ensures leaves { tiles_leaves (items_tiles self.new)
-            ≡ option_map (λ list. list ++ leaf.now ∷ []) (tiles_leaves (items_tiles self.old)) }
+        ensures leaves { items_leaves self.new
+            ≡ option_map (λ list. list ++ leaf.now ∷ []) (items_leaves self.old) }
         ensures disk { tiles_disk (items_tiles self.new) ≡ tiles_disk (items_tiles self.old) }
         ensures adopted { tiles_adopted (items_tiles self.new)
             ≡ tiles_adopted (items_tiles self.old) }
@@ -83,10 +85,7 @@ impl<H: TreeHash, T: Disk> Items<H, T> {
             Ok(()) => {}
             Err(_full) => unreachable!(),
         }
-        match self.tiles.push(leaf) {
-            Ok(()) => {}
-            Err(Memory) => unreachable!(),
-        }
+        self.nodes.push(leaf);
     }
 
     /// Puts the place of an item and the hash of its entry behind the others. Where memory is
@@ -95,12 +94,10 @@ impl<H: TreeHash, T: Disk> Items<H, T> {
         requires { length (items_places self.old) + 1 < 2 ^ 32 }
         ensures places { OnOk result
             (items_places self.new ≡ items_places self.old ++ place ∷ []) }
-        ensures leaves { OnOk result (tiles_leaves (items_tiles self.new) ≡ option_map
-            (λ list. list ++ leaf_hash H.hash entry.now ∷ [])
-            (tiles_leaves (items_tiles self.old))) }
+        ensures leaves { OnOk result (items_leaves self.new ≡ option_map
+            (λ list. list ++ leaf_hash H.hash entry.now ∷ []) (items_leaves self.old)) }
         ensures places_err { OnErr result (items_places self.new ≡ items_places self.old) }
-        ensures leaves_err { OnErr result (tiles_leaves (items_tiles self.new)
-            ≡ tiles_leaves (items_tiles self.old)) }
+        ensures leaves_err { OnErr result (items_leaves self.new ≡ items_leaves self.old) }
         ensures disk { tiles_disk (items_tiles self.new) ≡ tiles_disk (items_tiles self.old) }
         ensures adopted { tiles_adopted (items_tiles self.new)
             ≡ tiles_adopted (items_tiles self.old) }
@@ -118,34 +115,34 @@ impl<H: TreeHash, T: Disk> Items<H, T> {
         self.places[index as usize]
     }
 
-    /// A node of the tree, as [`Tiles::tile_node`].
+    /// A node of the tree, as [`LateTiles::node`].
     pub(crate) fn node(&mut self, level: u32, place: u64) -> Result<[u8; 32], Failed>
         requires { (place + 1) * 2 ^ level ≤ length (items_places self.old) }
-        ensures value { IfOk result (IsRootOf H.hash (tiles_leaves (items_tiles self.old))
-            (place * 2 ^ level) ((place + 1) * 2 ^ level)) }
+        ensures value { IfOk result (IsRootOf H.hash (items_leaves self.old) (place * 2 ^ level)
+            ((place + 1) * 2 ^ level)) }
         ensures places { items_places self.new ≡ items_places self.old }
-        ensures leaves { tiles_leaves (items_tiles self.new) ≡ tiles_leaves (items_tiles self.old) }
+        ensures leaves { items_leaves self.new ≡ items_leaves self.old }
         ensures stored { tiles_stored (items_tiles self.new) ≡ tiles_stored (items_tiles self.old) }
         ensures looks { Looks T.Disk (tiles_disk (items_tiles self.old))
             (tiles_disk (items_tiles self.new)) }
         ensures cause { HasCause (T.faults (tiles_disk (items_tiles self.old)))
             (T.faults (tiles_disk (items_tiles self.new))) result }
     {
-        self.tiles.tile_node(level, place)
+        self.nodes.node(level, place)
     }
 
-    /// Stores the tiles that the first `size` entries fill, as [`Tiles::store`].
+    /// Stores the tiles that the first `size` entries fill, as [`LateTiles::store`].
     pub(crate) fn store(&mut self, size: u64) -> Result<(), Failed>
         requires { size ≤ length (items_places self.old) }
         ensures places { items_places self.new ≡ items_places self.old }
-        ensures leaves { tiles_leaves (items_tiles self.new) ≡ tiles_leaves (items_tiles self.old) }
+        ensures leaves { items_leaves self.new ≡ items_leaves self.old }
         ensures adopted { tiles_adopted (items_tiles self.new)
             ≡ tiles_adopted (items_tiles self.old) }
         ensures stored { OnOk result (tiles_stored (items_tiles self.new)
             ≡ max size (tiles_stored (items_tiles self.old))) }
         ensures stored_err { OnErr result (tiles_stored (items_tiles self.new)
             ≡ tiles_stored (items_tiles self.old)) }
-        ensures holds { OnOk result (IfSome (tiles_leaves (items_tiles self.old)) (λ leaves.
+        ensures holds { OnOk result (IfSome (items_leaves self.old) (λ leaves.
             (c : Text) → T.may_leave (tiles_disk (items_tiles self.new)) c
             → HoldsTiles H.hash leaves size c)) }
         ensures any_moment { LeavesOnly T.Disk (tiles_disk (items_tiles self.old))
@@ -155,35 +152,35 @@ impl<H: TreeHash, T: Disk> Items<H, T> {
         ensures cause { HasCause (T.faults (tiles_disk (items_tiles self.old)))
             (T.faults (tiles_disk (items_tiles self.new))) result }
     {
-        self.tiles.store(size)
+        self.nodes.store(size)
     }
 
-    /// Adopts the tiles that the first `size` entries fill, as [`Tiles::adopt`].
+    /// Adopts the tiles that the first `size` entries fill, as [`LateTiles::adopt`].
     pub(crate) fn adopt(&mut self, size: u64) -> Result<(), TileError>
         requires multiple { size % 256 ≡ 0 }
         requires within { size ≤ length (items_places self.old) }
         ensures places { items_places self.new ≡ items_places self.old }
-        ensures leaves { tiles_leaves (items_tiles self.new) ≡ tiles_leaves (items_tiles self.old) }
+        ensures leaves { items_leaves self.new ≡ items_leaves self.old }
         ensures looks { Looks T.Disk (tiles_disk (items_tiles self.old))
             (tiles_disk (items_tiles self.new)) }
         ensures stored { OnOk result (tiles_stored (items_tiles self.new)
             ≡ max size (tiles_stored (items_tiles self.old))) }
         ensures stands { OnOk result (IfSome (T.told (tiles_disk (items_tiles self.old))) (λ bytes.
-            IfSome (tiles_leaves (items_tiles self.old)) (λ leaves. (level place : ℕ)
+            IfSome (items_leaves self.old) (λ leaves. (level place : ℕ)
             → IsNewTile (tiles_adopted (items_tiles self.old)) size level place
             → StandsIn H.hash leaves bytes level place))) }
         ensures fine { OnOk result (T.faults (tiles_disk (items_tiles self.new))
             ≡ T.faults (tiles_disk (items_tiles self.old))) }
-        ensures cause { IfErr result (HasCauseOf (items_tiles self.old)
+        ensures cause { IfErr result (HasLateCause (items_nodes self.old)
             (tiles_disk (items_tiles self.new)) size) }
     {
-        self.tiles.adopt(size)
+        self.nodes.adopt(size)
     }
 
     /// The disk of the tiles.
     pub(crate) fn into_disk(self) -> T
         ensures { result ≡ tiles_disk (items_tiles self) }
     {
-        self.tiles.into_disk()
+        self.nodes.into_disk()
     }
 }

@@ -20,6 +20,7 @@ mod entries;
 mod error;
 mod following;
 mod items;
+mod late;
 mod laws;
 mod log;
 mod nodes;

@@ -10,13 +10,13 @@ ghost use Rattle.journal_core.specs.Format.{StandsFor, end_behind};
 ghost use Rattle.journal_core.specs.Words.{end_of, is_broken, records, AllStandFor};
 ghost use Rattle.log_entry.specs.Matching.{matches};
 ghost use Rattle.mtc_io.specs.Counts.{HasCause};
-ghost use Rattle.tile_store.specs.Store.{tiles_leaves, tiles_stored};
+ghost use Rattle.tile_store.specs.Store.{tiles_stored};
 ghost use Rattle.tree_proofs.specs.Told.{IsRootOf};
 ghost use Rattle.issuance_log.specs.Entries.{LogCounts};
 ghost use Rattle.issuance_log.specs.Folds.{log_of, with_item, with_mark, with_tiles};
 ghost use Rattle.issuance_log.specs.Folds.{one_item_more, one_mark_more, tiled_to, view_in};
 ghost use Rattle.issuance_log.specs.Items.{AreBelow, AreHashed, StandAt, StandAt-prop};
-ghost use Rattle.issuance_log.specs.Items.{items_places, items_tiles};
+ghost use Rattle.issuance_log.specs.Items.{items_leaves, items_places, items_tiles};
 ghost use Rattle.issuance_log.specs.Marks.{AreRising};
 ghost use Rattle.issuance_log.specs.Openings.{HasItsTiles, HasOpenCause, LogCountsNoOther};
 ghost use Rattle.issuance_log.specs.Openings.{TilesCountNoOther, log_read};
@@ -51,9 +51,12 @@ const MAX_ITEM: usize = 65_535;
 /// key belongs to an entry.
 ///
 /// In memory are the settings, the place of each entry in the journal, the landmarks and the nodes
-/// that are in no adopted tile. So a log shows its numbers over every disk, and its entries where
-/// the disk of the journal tells its bytes. Unless an append has failed, they are what the records
-/// on the disk make.
+/// that are in no adopted tile. The hash of an entry is among these at once. The nodes above are
+/// made when a node is asked for, and before tiles over them are stored or adopted: an opening that
+/// adopts none hashes no pair.
+///
+/// So a log shows its numbers over every disk, and its entries where the disk of the journal tells
+/// its bytes. Unless an append has failed, they are what the records on the disk make.
 #[derive(Drop)]
 pub struct Log<H: TreeHash, D: Disk, T: Disk> {
     alloc: Global,
@@ -72,7 +75,7 @@ pub struct Log<H: TreeHash, D: Disk, T: Disk> {
           StandAt-prop,
         ) },
     ghost hashed: { IfSome (records journal) (AreHashed H.TreeHash.hash numbers.view
-        (tiles_leaves (items_tiles items))) } by { Prim.hlevel props },
+        (items_leaves items)) } by { Prim.hlevel props },
 }
 
 impl<H: TreeHash, D: Disk, T: Disk> Log<H, D, T> {

@@ -5,11 +5,12 @@ ghost use Rattle.std.specs.Prelude.{MatchBool, IfSome, IfOk, IfErr, OnOk};
 ghost use Rattle.disk_core.specs.Moments.{Looks};
 ghost use Rattle.journal_core.specs.Openings.{opening_disk, read_list, next_place, is_ended};
 ghost use Rattle.journal_core.specs.Openings.{bytes_left, refusal};
-ghost use Rattle.tile_store.specs.Store.{tiles_adopted, tiles_disk, tiles_leaves, tiles_stored};
+ghost use Rattle.tile_store.specs.Store.{tiles_adopted, tiles_disk, tiles_stored};
 ghost use Rattle.issuance_log.specs.Faults.{log_refusal_at};
 ghost use Rattle.issuance_log.specs.Folds.{begun_log, next_view, view_in, null_entry};
 ghost use Rattle.issuance_log.specs.Gathered.{HasGathered, HasGatheredAll};
-ghost use Rattle.issuance_log.specs.Items.{HasShortItem, HaveTaken, items_places, items_tiles};
+ghost use Rattle.issuance_log.specs.Items.{HasShortItem, HaveTaken, items_leaves, items_places};
+ghost use Rattle.issuance_log.specs.Items.{items_tiles};
 ghost use Rattle.issuance_log.specs.Openings.{HasLogCause, HasOpenCause, HasItsTiles};
 ghost use Rattle.issuance_log.specs.Openings.{LogCountsNoOther, TilesCountNoOther};
 ghost use Rattle.issuance_log.specs.Records.{item_in};
@@ -97,7 +98,7 @@ fn read_first<H: TreeHash, D: Disk, T: Disk>(
     requires place { next_place opening.old ≡ 16 }
     requires goes_on { (is_ended opening.old ≡ false) × (refusal opening.old ≡ None) }
     requires none { items_places items.old ≡ [] }
-    requires no_leaves { IfSome (tiles_leaves (items_tiles items.old)) (λ leaves. leaves ≡ []) }
+    requires no_leaves { IfSome (items_leaves items.old) (λ leaves. leaves ≡ []) }
     ensures gathered { IfOk result (λ n. HasGathered n.view items.new opening.new) }
     ensures disk { tiles_disk (items_tiles items.new) ≡ tiles_disk (items_tiles items.old) }
     ensures adopted { tiles_adopted (items_tiles items.new)
@@ -191,7 +192,7 @@ pub(crate) fn read_log<H: TreeHash, D: Disk, T: Disk>(
     requires place { next_place opening.old ≡ 16 }
     requires goes_on { (is_ended opening.old ≡ false) × (refusal opening.old ≡ None) }
     requires none { items_places items.old ≡ [] }
-    requires no_leaves { IfSome (tiles_leaves (items_tiles items.old)) (λ leaves. leaves ≡ []) }
+    requires no_leaves { IfSome (items_leaves items.old) (λ leaves. leaves ≡ []) }
     ensures found { IfOk result (λ n. HasGatheredAll n.view items.new opening.new) }
     ensures disk { tiles_disk (items_tiles items.new) ≡ tiles_disk (items_tiles items.old) }
     ensures adopted { tiles_adopted (items_tiles items.new)
@@ -220,7 +221,7 @@ pub(crate) fn read_tiled<H: TreeHash, D: Disk, T: Disk>(
     requires place { next_place opening.old ≡ 16 }
     requires goes_on { (is_ended opening.old ≡ false) × (refusal opening.old ≡ None) }
     requires none { items_places items.old ≡ [] }
-    requires no_leaves { IfSome (tiles_leaves (items_tiles items.old)) (λ leaves. leaves ≡ []) }
+    requires no_leaves { IfSome (items_leaves items.old) (λ leaves. leaves ≡ []) }
     requires unadopted { tiles_adopted (items_tiles items.old) ≡ 0 }
     ensures found { IfOk result (λ n. HasGatheredAll n.view items.new opening.new) }
     ensures stored { IfOk result (λ n. n.view.tiled ≤ tiles_stored (items_tiles items.new)) }

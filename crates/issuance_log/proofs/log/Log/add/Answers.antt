@@ -3,13 +3,13 @@ use Rattle.std.proofs.Common.{ℕ, List, length, option_map, arith, rules, Some,
 use Rattle.std.specs.Prelude.{is_ok, is_some}
 use Rattle.std.proofs.lemmas.List.{length-append}
 use Rattle.journal_core.specs.Words.{end_of, is_broken, records}
-use Rattle.tile_store.specs.Store.{tiles_leaves}
 use Rattle.issuance_log.specs.Folds.{LogView, one_item_more, with_item}
-use Rattle.issuance_log.specs.Items.{AreBelow, items_places, items_tiles}
+use Rattle.issuance_log.specs.Items.{AreBelow, items_leaves, items_places}
 use Rattle.issuance_log.specs.Records.{IsShort, entry_record}
 use Rattle.issuance_log.specs.Words.{log_broken, log_end, log_records, view_of}
 use Rattle.issuance_log.specs.declared.error.LogError.TheVariants.{Full, Memory, TooLarge}
 use Rattle.issuance_log.proofs.Adds.{added_unrefused, record_few, record_some, room_of}
+use Rattle.issuance_log.proofs.Answering.{added_answer}
 use Rattle.issuance_log.proofs.Appending.{adds, below_same, end_stays, grown_kept, item_leaves}
 use Rattle.issuance_log.proofs.Appending.{item_places, log_keeps, log_shows, told_behind, told_of}
 use Rattle.issuance_log.proofs.Appending.{told_same}
@@ -43,6 +43,14 @@ returns-clause-valid g c =
     let log = c.args.self.now in
     added_unrefused g.H.TreeHash.hash (view_of log) c.is_full.ensures.sound c.args.entry.now
     c.args.spki.now c.requires (log_records log) (log_broken log) (log_end log) (log_shows log)
+
+pub returns-clause-answer : goal.returns-clause-answer
+returns-clause-answer g c =
+    let log = c.args.self.now in
+    added_answer (view_of log) (log_broken log) (log_end log) c.args.entry.now c.args.spki.now
+    c.as_slice.result.now _ (room_of _ _ (sym c.if-is_full.ensures.full))
+    c.if-entry-spki-gt-MAX_ITEM.false (c.as_slice.ensures ∙ c.in_ok-record.ensures)
+    c.in_ok-append.ensures.leaves.was_sound c.in_ok-append.ensures.full
 
 pub append-requires-clause-some : goal.append-requires-clause-some
 append-requires-clause-some g c = record_some c.as_slice.result.now c.args.entry.now c.args.spki.now
@@ -94,7 +102,7 @@ returns-clause-appends g c =
     (c.as_slice.ensures ∙ c.in_ok-record.ensures) c.append.ensures.count
     c.append.ensures.any_moment c.append.ensures.afterwards c.size-index.result grown
     c.add_item.ensures.view (view_added h v entry key room short_entry short_key c.requires)
-    (adds h v (items_places log.items) (tiles_leaves (items_tiles log.items)) entry key room
+    (adds h v (items_places log.items) (items_leaves log.items) entry key room
     short_entry short_key c.requires (log_records log) (log_keeps log grown.was_sound))
 
 pub returns-in_err-append-clause-appends : goal.returns-in_err-append-clause-appends
@@ -137,7 +145,7 @@ invariant_of-self-2 g c =
     let body_is = c.as_slice.ensures ∙ c.in_ok-record.ensures in
     let place : ℕ = c.end-place.result - 1 in
     let old_places = items_places log.items in
-    let old_leaves = tiles_leaves (items_tiles log.items) in
+    let old_leaves = items_leaves log.items in
     let shows = view_added h v entry key room short_entry short_key c.requires
     ∙ ap Some (sym c.add_item.ensures.view) in
     let places_are = c.push.ensures.places
@@ -148,10 +156,10 @@ invariant_of-self-2 g c =
     ∙ ap (λ (x : List ℕ). option_map (λ (l : List (List ℕ)). l ++ x ∷ []) old_leaves)
     c.leaf.ensures in
     let told = told_of h c.add_item.new.self.view (items_places items)
-    (tiles_leaves (items_tiles items)) (is_broken journal) (records journal)
+    (items_leaves items) (is_broken journal) (records journal)
     (grown_kept h v c.add_item.new.self.view old_places old_leaves log.journal journal text
     (entry_record entry key) body_is grown shows (items_places items)
-    (tiles_leaves (items_tiles items)) place (log_keeps log grown.was_sound)
+    (items_leaves items) place (log_keeps log grown.was_sound)
     (short_item _ entry key (item_again entry key short_entry short_key) short_entry short_key)
     (ap (λ (n : ℕ). n - 1) c.end-place.ensures)
     (places_are ∙ item_places entry key short_entry short_key old_places place)
@@ -187,10 +195,10 @@ invariant_of-self-in-Break-branch-3 g c =
     let text = c.as_slice.result.now in
     let refused : is_ok c.append.result ≡ false = search rules in
     let told = told_same h v v (items_places log.items) (items_places items)
-    (tiles_leaves (items_tiles log.items)) (tiles_leaves (items_tiles items))
+    (items_leaves log.items) (items_leaves items)
     (is_broken c.append.new.self) (records c.append.new.self) refl c.reserve.ensures.places
     c.reserve.ensures.leaves
-    (told_behind h v (items_places log.items) (tiles_leaves (items_tiles log.items)) text
+    (told_behind h v (items_places log.items) (items_leaves log.items) text
     log.journal c.append.new.self c.append.result c.is_full.ensures.sound.some refused
     append.leaves append.broken append.told append.as_read
     (record { agrees = log.agrees; stand = log.stand; hashed = log.hashed })) in

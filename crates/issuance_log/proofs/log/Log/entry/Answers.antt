@@ -1,8 +1,7 @@
 use Rattle.std.proofs.Common.{◌≡◌, ℕ, [], IfSome, Ok, rules, refl, sym, subst, ◌∙◌, arith}
 use Rattle.disk_core.proofs.Moments.{no_look}
-use Rattle.tile_store.specs.Store.{tiles_leaves}
 use Rattle.issuance_log.specs.Folds.{log_of}
-use Rattle.issuance_log.specs.Items.{AreBelow, AreHashed, StandAt, items_places, items_tiles}
+use Rattle.issuance_log.specs.Items.{AreBelow, AreHashed, StandAt, items_leaves, items_places}
 use Rattle.issuance_log.specs.Shown.{shown_with}
 use Rattle.issuance_log.specs.Staying.{stays_alone}
 use Rattle.issuance_log.specs.Words.{log_records, log_tiles_disk, view_of}
@@ -73,7 +72,7 @@ invariant_of-self g c =
     let h = g.H.TreeHash.hash in
     let v = view_of log in
     let places = items_places log.items in
-    let leaves = tiles_leaves (items_tiles log.items) in
+    let leaves = items_leaves log.items in
     let same = sym c.read_entry.ensures.records in
     record {
       counted = log.counted;

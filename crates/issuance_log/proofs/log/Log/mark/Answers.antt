@@ -2,20 +2,21 @@ use Rattle.std.proofs.Common.{refl, ap, sym, subst, ◌≡◌, ◌<◌, ◌∙�
 use Rattle.std.proofs.Common.{rules, false, Some}
 use Rattle.std.specs.Prelude.{is_ok}
 use Rattle.journal_core.specs.Words.{end_of, is_broken, records}
-use Rattle.tile_store.specs.Store.{tiles_leaves}
 use Rattle.issuance_log.specs.Folds.{LogView, one_mark_more, with_mark}
-use Rattle.issuance_log.specs.Items.{items_places, items_tiles}
+use Rattle.issuance_log.specs.Items.{items_leaves, items_places}
 use Rattle.issuance_log.specs.Marks.{last_mark}
 use Rattle.issuance_log.specs.Records.{landmark_record}
+use Rattle.issuance_log.specs.Refusals.{MarkKeepsTo, mark_refusal}
 use Rattle.issuance_log.specs.Words.{log_broken, log_end, log_records, view_of}
-use Rattle.issuance_log.specs.declared.error.LogError.TheVariants.{Memory, NothingNew}
+use Rattle.issuance_log.specs.declared.error.LogError.TheVariants.{Append, Memory, NothingNew}
 use Rattle.issuance_log.proofs.Adds.{above_last, marked_unrefused}
+use Rattle.issuance_log.proofs.Answering.{marked_refused}
 use Rattle.issuance_log.proofs.Appending.{below_same, end_stays, grown_kept, log_keeps, log_shows}
 use Rattle.issuance_log.proofs.Appending.{marks_it, no_leaves, no_places, told_behind, told_of}
 use Rattle.issuance_log.proofs.Appending.{told_same}
 use Rattle.issuance_log.proofs.Growth.{size_fits}
 use Rattle.issuance_log.proofs.Keeping.{short_none}
-use Rattle.issuance_log.proofs.Leaving.{appends_err, appends_not, appends_ok, untouched}
+use Rattle.issuance_log.proofs.Leaving.{appends_err, appends_not, appends_ok, err_is, untouched}
 use Rattle.issuance_log.proofs.Spelled.{length-landmark, mark_alone}
 use Rattle.issuance_log.proofs.Standing.{below_on}
 use Rattle.issuance_log.proofs.Views.{view_marked}
@@ -44,6 +45,20 @@ returns-clause-valid g c =
     let log = c.args.self.now in
     marked_unrefused g.H.TreeHash.hash (view_of log) c.last_mark.ensures.sound (log_records log)
     (log_broken log) (log_end log) (log_shows log)
+
+pub returns-in_err-append-clause-answer : goal.returns-in_err-append-clause-answer
+returns-in_err-append-clause-answer g c =
+    let log = c.args.self.now in
+    let v = view_of log in
+    let why = c.in_err-append.field-0.0 in
+    let above = above_last v c.last_mark.result c.size-size.result c.last_mark.ensures.sound
+    c.last_mark.ensures.value c.size-size.ensures.value c.if-last_mark-size.false in
+    subst (MarkKeepsTo (mark_refusal v (log_broken log) (log_end log)))
+    (err_is c.from_residual-in_err-append.result (Append why)
+    c.from_residual-in_err-append.ensures.1)
+    (marked_refused v (log_broken log) (log_end log) c.as_slice.result.now why above
+    (c.as_slice.ensures ∙ c.in_ok-body.ensures ∙ ap landmark_record c.size-size.ensures.value)
+    c.in_err-append.ensures.broken c.in_err-append.ensures.full)
 
 pub append-requires-clause-some : goal.append-requires-clause-some
 append-requires-clause-some g c =
@@ -94,7 +109,7 @@ returns-clause-appends g c =
     c.append.ensures.count c.append.ensures.any_moment c.append.ensures.afterwards _ grown
     (c.push_mark.ensures ∙ ap one_mark_more c.prepare_mark.ensures.same)
     (view_marked h v fits above)
-    (marks_it h v (items_places log.items) (tiles_leaves (items_tiles log.items)) fits above
+    (marks_it h v (items_places log.items) (items_leaves log.items) fits above
     (log_records log) (log_keeps log grown.was_sound))
 
 pub returns-in_err-append-clause-appends : goal.returns-in_err-append-clause-appends
@@ -131,7 +146,7 @@ invariant_of-self-2 g c =
     let journal = c.append.new.self in
     let body = landmark_record v.size in
     let places = items_places log.items in
-    let leaves = tiles_leaves (items_tiles log.items) in
+    let leaves = items_leaves log.items in
     let w = c.push_mark.new.self.view in
     let view = c.push_mark.ensures ∙ ap one_mark_more c.prepare_mark.ensures.same in
     let none = mark_alone v.size in
@@ -163,7 +178,7 @@ invariant_of-self-in-Break-branch-3 g c =
     let append = c.append.ensures in
     let text = c.as_slice.result.now in
     let places = items_places log.items in
-    let leaves = tiles_leaves (items_tiles log.items) in
+    let leaves = items_leaves log.items in
     let same = c.prepare_mark.ensures.same in
     let refused : is_ok c.append.result ≡ false = search rules in
     let told = told_same h v c.prepare_mark.new.self.view places places leaves leaves

@@ -2,9 +2,8 @@ use Rattle.std.proofs.Common.{ℕ, IfSome, subst, sym}
 use Rattle.journal_core.proofs.FoldSteps.{cause_begin}
 use Rattle.journal_core.specs.Openings.{read_list}
 use Rattle.journal_core.specs.Words.{is_broken, records}
-use Rattle.tile_store.specs.Store.{tiles_leaves}
 use Rattle.issuance_log.specs.Folds.{log_fold}
-use Rattle.issuance_log.specs.Items.{AreBelow, AreKept, items_places, items_tiles}
+use Rattle.issuance_log.specs.Items.{AreBelow, AreKept, items_leaves, items_places}
 use Rattle.issuance_log.specs.Openings.{HasItsTiles}
 use Rattle.issuance_log.specs.Shown.{shown_with}
 use Rattle.issuance_log.proofs.Adopting.{if_shown}
@@ -22,7 +21,7 @@ invariant_of-result g c =
     let v = c.in-Ok-read_tiled.numbers.view in
     let items = c.read_tiled.new.items in
     let places = items_places items in
-    let leaves = tiles_leaves (items_tiles items) in
+    let leaves = items_leaves items in
     let found = c.in-Ok-read_tiled.ensures.found in
     let journal = c.ready.result in
     let told = told_of g.H.TreeHash.hash v places leaves (is_broken journal) (records journal)
@@ -42,7 +41,7 @@ returns-in-Ok-read_tiled-clause-valid g c =
     let v = c.in-Ok-read_tiled.numbers.view in
     let items = c.read_tiled.new.items in
     let places = items_places items in
-    let leaves = tiles_leaves (items_tiles items) in
+    let leaves = items_leaves items in
     made_of g.H.TreeHash.hash v places leaves (records c.ready.result)
     (subst (λ o. IfSome o (AreKept g.H.TreeHash.hash v places leaves)) (sym c.ready.ensures.list)
     c.in-Ok-read_tiled.ensures.found.kept)

@@ -4,10 +4,10 @@ use Rattle.std.specs.Prelude.{is_ok}
 use Rattle.byte_forms.specs.Types.{Text}
 use Rattle.journal_core.specs.Words.{end_of, is_broken, records}
 use Rattle.tile_store.specs.Contents.{HoldsTiles}
-use Rattle.tile_store.specs.Store.{tiles_disk, tiles_leaves}
+use Rattle.tile_store.specs.Store.{tiles_disk}
 use Rattle.issuance_log.specs.Entries.{LogCounts}
 use Rattle.issuance_log.specs.Folds.{LogView, tiled_to, with_tiles}
-use Rattle.issuance_log.specs.Items.{AreBelow, items_places, items_tiles}
+use Rattle.issuance_log.specs.Items.{AreBelow, items_leaves, items_places, items_tiles}
 use Rattle.issuance_log.specs.Records.{tiles_record}
 use Rattle.issuance_log.specs.Refusals.{full_size}
 use Rattle.issuance_log.specs.Words.{log_broken, log_end, log_records, log_tiles_disk, view_of}
@@ -108,7 +108,7 @@ returns-clause-appends g c =
     c.append.ensures.any_moment c.append.ensures.afterwards _ grown
     (c.set_tiled.ensures.view ∙ ap (λ (n : ℕ). tiled_to n v) size_is)
     (view_tiled h v (full_size v) fits multiple above within)
-    (tiles_it h v (items_places log.items) (tiles_leaves (items_tiles log.items)) (full_size v)
+    (tiles_it h v (items_places log.items) (items_leaves log.items) (full_size v)
     fits multiple above within (log_records log) (log_keeps log grown.was_sound))
 
 pub returns-in_err-append-clause-appends : goal.returns-in_err-append-clause-appends
@@ -187,7 +187,7 @@ returns-clause-behind g c = λ sound.
     let log = c.args.self.now in
     let size_is = ap (λ (n : ℕ). n / 256 * 256) c.size.ensures.value in
     behind_stored log _ _ (full_size (view_of log)) (tiles_disk (items_tiles c.store.new.self))
-    (subst (λ (n : ℕ). IfSome (tiles_leaves (items_tiles log.items)) (λ leaves. (d : Text)
+    (subst (λ (n : ℕ). IfSome (items_leaves log.items) (λ leaves. (d : Text)
     → g.T.Disk.may_leave (tiles_disk (items_tiles c.store.new.self)) d
     → HoldsTiles g.H.TreeHash.hash leaves n d)) size_is c.in_ok-store.ensures.holds)
 
@@ -196,7 +196,7 @@ returns-in_err-append-clause-behind g c = λ sound.
     let log = c.args.self.now in
     let size_is = ap (λ (n : ℕ). n / 256 * 256) c.size.ensures.value in
     behind_stored log _ _ (full_size (view_of log)) (tiles_disk (items_tiles c.store.new.self))
-    (subst (λ (n : ℕ). IfSome (tiles_leaves (items_tiles log.items)) (λ leaves. (d : Text)
+    (subst (λ (n : ℕ). IfSome (items_leaves log.items) (λ leaves. (d : Text)
     → g.T.Disk.may_leave (tiles_disk (items_tiles c.store.new.self)) d
     → HoldsTiles g.H.TreeHash.hash leaves n d)) size_is c.in_ok-store.ensures.holds)
 
@@ -222,16 +222,16 @@ invariant_of-self-2 g c =
     let items = c.store.new.self in
     let body = tiles_record (full_size v) in
     let places = items_places log.items in
-    let leaves = tiles_leaves (items_tiles log.items) in
+    let leaves = items_leaves log.items in
     let w = c.set_tiled.new.self.view in
     let view = c.set_tiled.ensures.view ∙ ap (λ (n : ℕ). tiled_to n v) size_is in
     let none = tiles_no_item (full_size v) in
-    let told = told_of h w (items_places items) (tiles_leaves (items_tiles items))
+    let told = told_of h w (items_places items) (items_leaves items)
     (is_broken journal) (records journal)
     (grown_kept h v w places leaves log.journal journal c.as_slice.result.now body
     (c.as_slice.ensures ∙ c.in_ok-body.ensures ∙ ap tiles_record size_is) grown
     (view_tiled h v (full_size v) fits multiple above within ∙ ap Some (sym view))
-    (items_places items) (tiles_leaves (items_tiles items)) _ (log_keeps log grown.was_sound)
+    (items_places items) (items_leaves items) _ (log_keeps log grown.was_sound)
     (short_none _ none) refl (c.store.ensures.places ∙ no_places body none places _)
     (c.store.ensures.leaves ∙ no_leaves h body none leaves)) in
     let ends = grown.end in
@@ -259,10 +259,10 @@ invariant_of-self-in-Break-branch-3 g c =
     let items = c.store.new.self in
     let text = c.as_slice.result.now in
     let places = items_places log.items in
-    let leaves = tiles_leaves (items_tiles log.items) in
+    let leaves = items_leaves log.items in
     let refused : is_ok c.append.result ≡ false = search rules in
     let told = told_same h v v places (items_places items) leaves
-    (tiles_leaves (items_tiles items)) (is_broken c.append.new.self) (records c.append.new.self)
+    (items_leaves items) (is_broken c.append.new.self) (records c.append.new.self)
     refl c.store.ensures.places c.store.ensures.leaves
     (told_behind h v places leaves text log.journal c.append.new.self c.append.result
     c.tiled.ensures.sound.some refused append.leaves append.broken append.told append.as_read
