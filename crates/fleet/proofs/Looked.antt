@@ -1,9 +1,9 @@
 -- What a log on devices in memory shows, behind calls that only look at them and behind one that
 -- adds a record.
-use Rattle.std.proofs.Common.{◌≡◌, ◌∙◌, List, [], ◌∷◌, ◌++◌, Option, Some, Ok, option_map, true}
+use Rattle.std.proofs.Common.{◌≡◌, ◌∙◌, List, [], ◌∷◌, ◌++◌, Some, Ok, true}
 use Rattle.std.proofs.Common.{sym, ap, subst, refl}
 use Rattle.byte_forms.specs.Types.{Text, HashFunction}
-use Rattle.disk_core.specs.Memory.{bytes_of, images_of}
+use Rattle.disk_core.specs.Memory.{bytes_of}
 use Rattle.disk_core.specs.Noted.{made_calls}
 use Rattle.disk_core.specs.ReplayLaws.{since_now}
 use Rattle.disk_core.specs.contracts.memory.mem_disk.MemDiskDisk.TheImpl.{ghosts as disks}
@@ -11,9 +11,8 @@ use Rattle.disk_core.specs.declared.memory.mem_disk.MemDisk.{MemDisk}
 use Rattle.tree_core.specs.declared.hashing.TreeHash.{Ghosts as Hashes}
 use Rattle.journal_core.specs.Format.{StandsFor, records_of}
 use Rattle.issuance_log.proofs.Asked.{asks_stays, told_stays}
-use Rattle.issuance_log.specs.Folds.{LogState, log_of}
-use Rattle.issuance_log.specs.Shown.{shown_with}
-use Rattle.issuance_log.specs.Words.{LogAsksTiles, LogStays, log_disk, log_tiles_disk, view_of}
+use Rattle.issuance_log.specs.Folds.{log_of}
+use Rattle.issuance_log.specs.Words.{LogAsksTiles, LogStays, log_disk, view_of}
 use Rattle.issuance_log.specs.declared.log.Log.{Log}
 use Rattle.fleet.specs.Calls.{HasCalledLog, log_called, record_of}
 use Rattle.fleet.specs.Nodes.{IsLogDisk, log_seen, records_on}

@@ -1,5 +1,5 @@
 -- Cosigners that show what they showed, and what a round has made of their records.
-use Rattle.std.proofs.Common.{◌≡◌, List, [], ◌∷◌, ◌++◌, sym, subst}
+use Rattle.std.proofs.Common.{◌≡◌, ℕ, List, [], ◌∷◌, ◌++◌, Option, sym, subst}
 use Rattle.byte_forms.specs.Types.{HashFunction, Text}
 use Rattle.tree_core.specs.declared.hashing.TreeHash.{Ghosts as Hashes}
 use Rattle.issuance_log.specs.Folds.{LogState}
@@ -9,9 +9,11 @@ use Rattle.fleet.specs.Audits.{StandsWith}
 use Rattle.fleet.specs.AuditViews.{AllStand, AreStill}
 use Rattle.fleet.specs.CosignerNodes.{HasMore}
 use Rattle.fleet.specs.CosignerViews.{IsStill, cosigner_shown, records_shown}
-use Rattle.fleet.specs.Trios.{HasRecordedAll, HaveMore, HaveRecorded}
+use Rattle.fleet.specs.Trios.{HasRecordedAll, HaveCertified, HaveMore, HaveRecorded, IsSigned}
 use Rattle.fleet.specs.declared.cosigner_node.CosignerNode.{CosignerNode}
 use Rattle.fleet.specs.declared.cosigner_trio.Trio.{Trio}
+use Rattle.fleet.specs.declared.turns.Stop.{Stop}
+use Rattle.fleet.specs.declared.turns.Three.{Three}
 use Rattle.fleet.proofs.CosignerStops.{more_twice}
 
 -- the last of two lists that are the same
@@ -74,3 +76,30 @@ module _ {H : Type 0} {hashes : Hashes H} (h : HashFunction) where
         third = more_recorded h log (records_shown old.third) (records_shown grown.third)
             (records_shown new.third) more.third there.third;
       }
+
+  signed_still : (log : LogState) (turn : Option Stop) (s : CosignerState)
+      (mid new : CosignerNode H hashes) (before after : Text) → IsStill mid new
+      → IsSigned h log turn s (cosigner_shown mid) before after
+      → IsSigned h log turn s (cosigner_shown new) before after
+  signed_still log turn s mid new before after still signed =
+      subst (λ (x : CosignerState). IsSigned h log turn s x before after) (sym still.state) signed
+
+  -- a certificate is that of the cosigners behind a look
+  pub certified_still : (index : ℕ) (log : LogState) (turns : Three) (old mid new : Trio H hashes)
+      (cert : Text) → AreStill mid new → HaveCertified h index log turns old mid cert
+      → HaveCertified h index log turns old new cert
+  certified_still index log turns old mid new cert still is = record {
+    signatures = is.signatures;
+    signed = record {
+      one = is.signed.one;
+      two = is.signed.two;
+      first = signed_still log turns.first (cosigner_shown old.first) mid.first new.first []
+          is.signed.one still.first is.signed.first;
+      second = signed_still log turns.second (cosigner_shown old.second) mid.second new.second
+          is.signed.one is.signed.two still.second is.signed.second;
+      third = signed_still log turns.third (cosigner_shown old.third) mid.third new.third
+          is.signed.two is.signatures still.third is.signed.third;
+    };
+    written = is.written;
+    accepts = is.accepts;
+  }

@@ -1,14 +1,16 @@
 -- What a round makes of the three cosigners.
-use Rattle.std.specs.Prelude.{◌≡◌, ◌+◌, ◌++◌, ℕ, List, Option, length}
+use Rattle.std.specs.Prelude.{◌≡◌, ◌+◌, ◌++◌, [], ℕ, List, Option, length}
 use Rattle.byte_forms.specs.Types.{HashFunction, Text}
 use Rattle.mtc_proof.specs.Proofs.{signature_text}
 use Rattle.tree_core.specs.Tree.{tree_hash}
 use Rattle.tree_core.specs.declared.hashing.TreeHash.{Ghosts as Hashes}
 use Rattle.issuance_log.specs.Folds.{LogState}
 use Rattle.cosigner_core.specs.Folds.{CosignerState, new_cosigner}
+use Rattle.authority_core.specs.Certificates.{IsWritten}
 use Rattle.fleet.specs.CosignerNodes.{HasMore, HasSign, cosigner_settings, secret_of}
 use Rattle.fleet.specs.CosignerViews.{cosigner_shown, cosigner_stops, records_shown}
 use Rattle.fleet.specs.Played.{HasSignedAll, holding_all}
+use Rattle.fleet.specs.Stores.{StoresAcceptNow}
 use Rattle.fleet.specs.declared.cosigner_trio.Trio.{Trio}
 use Rattle.fleet.specs.declared.turns.Stop.{Stop}
 use Rattle.fleet.specs.declared.turns.Three.{Three}
@@ -63,6 +65,14 @@ module _ {H : Type 0} {hashes : Hashes H} where
         (cosigner_shown new.second) one two
     pub third : IsSigned h log turns.third (cosigner_shown old.third) (cosigner_shown new.third)
         two after
+
+  -- each has signed all of the log, and this is the certificate of an entry with their signatures
+  pub record HaveCertified (h : HashFunction) (index : ℕ) (log : LogState) (turns : Three)
+      (old new : Trio H hashes) (cert : Text) : Type 0 where
+    pub signatures : Text
+    pub signed : HaveSigned h log turns old new [] signatures
+    pub written : IsWritten h log index 0 (length log.entries) signatures cert
+    pub accepts : StoresAcceptNow h log index signatures cert
 
   -- the records of each are those from before, and maybe more behind them
   pub record HaveMore (old new : Trio H hashes) : Type 0 where

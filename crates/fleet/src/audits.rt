@@ -12,7 +12,7 @@ ghost use Rattle.policy_core.specs.Judgement.{judgement};
 ghost use Rattle.world_core.specs.Audit.{WasJudged};
 ghost use Rattle.world_core.specs.Walk.{AreSteps};
 ghost use Rattle.fleet.specs.Audits.{AllByExport, StandsByExport};
-ghost use Rattle.fleet.specs.AuditViews.{AllStand, AreStill};
+ghost use Rattle.fleet.specs.AuditViews.{AllStand, AreFilesOf, AreStill, IsExportOf};
 ghost use Rattle.fleet.specs.LogNodes.{log_shown, log_stops};
 
 use crate::cosigner_trio::Trio;
@@ -29,6 +29,21 @@ use relying_party::judge;
 use std::alloc::Global;
 use tree_core::TreeHash;
 use world_core::{Audit, audit};
+
+// The exports of the three cosigners.
+#[derive(Drop)]
+struct Exports {
+    first: Bytes,
+    second: Bytes,
+    third: Bytes,
+}
+
+// The file of the log's items, and the exports.
+#[derive(Drop)]
+struct Files {
+    listed: Bytes,
+    exports: Exports,
+}
 
 // Judges a certificate of a drill, which is accepted.
 fn judged_in<'a, H: TreeHash>(bytes: &'a [u8], store: &Store) -> Result<JudgedCert<'a>, Memory>
@@ -103,24 +118,62 @@ fn standing<H: TreeHash>(
     alloc: Global,
     cert: &Bytes,
     store: &Store,
-    listed: &Bytes,
-    first: &Bytes,
-    second: &Bytes,
-    third: &Bytes,
+    files: &Files,
 ) -> Result<u64, Memory>
     ensures few { IfOk result (λ count. count ≤ 3) }
-    ensures all { IfOk result (λ count. (items : ItemLists) → items_in H.hash listed.now ≡ Ok items
-        → AllByExport H.hash store.now cert.now items first.now second.now third.now
-        ↔ (count ≡ 3)) }
+    ensures all { IfOk result (λ count. (items : ItemLists)
+        → items_in H.hash files.now.listed ≡ Ok items
+        → AllByExport H.hash store.now cert.now items files.now.exports.first
+        files.now.exports.second files.now.exports.third ↔ (count ≡ 3)) }
 {
     let judged = judged_in::<H>(cert.as_slice(), store)?;
-    let Ok(items) = read_items::<H>(alloc, listed.as_slice()) else {
+    let Ok(items) = read_items::<H>(alloc, files.listed.as_slice()) else {
         return Err(Memory);
     };
-    let first = stands(alloc, &judged, store, &items, first)?;
-    let second = stands(alloc, &judged, store, &items, second)?;
-    let third = stands(alloc, &judged, store, &items, third)?;
+    let first = stands(alloc, &judged, store, &items, &files.exports.first)?;
+    let second = stands(alloc, &judged, store, &items, &files.exports.second)?;
+    let third = stands(alloc, &judged, store, &items, &files.exports.third)?;
     Ok(first + second + third)
+}
+
+// The export of each cosigner.
+fn exported<H: TreeHash>(alloc: Global, trio: Trio<H>) -> Result<(Trio<H>, Exports), Memory>
+    ensures same { IfOk result (λ x. AreStill trio x.0) }
+    ensures first { IfOk result (λ x. IsExportOf H.hash trio.first x.1.first) }
+    ensures second { IfOk result (λ x. IsExportOf H.hash trio.second x.1.second) }
+    ensures third { IfOk result (λ x. IsExportOf H.hash trio.third x.1.third) }
+{
+    let (first, one) = trio.first.export(alloc)?;
+    let (second, two) = trio.second.export(alloc)?;
+    let (third, three) = trio.third.export(alloc)?;
+    let trio = Trio {
+        first,
+        second,
+        third,
+    };
+    let exports = Exports {
+        first: one,
+        second: two,
+        third: three,
+    };
+    Ok((trio, exports))
+}
+
+// The file of the log's items, and the export of each cosigner.
+fn told<H: TreeHash>(
+    alloc: Global,
+    log: LogNode<H>,
+    trio: Trio<H>,
+) -> Result<(LogNode<H>, Trio<H>, Files), Memory>
+    ensures log { IfOk result (λ x. log_shown x.0 ≡ log_shown log) }
+    ensures no_stop { IfOk result (λ x. log_stops x.0 ≡ log_stops log) }
+    ensures trio { IfOk result (λ x. AreStill trio x.1) }
+    ensures files { IfOk result (λ x. AreFilesOf H.hash (log_shown log) trio x.2.listed
+        x.2.exports.first x.2.exports.second x.2.exports.third) }
+{
+    let (log, listed) = log.listed(alloc)?;
+    let (trio, exports) = exported(alloc, trio)?;
+    Ok((log, trio, Files { listed, exports }))
 }
 
 /// Audits a certificate with the log's items and the export of each cosigner: how many of the three
@@ -139,15 +192,7 @@ pub(crate) fn audited<H: TreeHash>(
     ensures count { IfOk result (λ x. AllStand H.hash store.now cert.now (log_shown log) trio
         ↔ (x.2 ≡ 3)) }
 {
-    let (log, listed) = log.listed(alloc)?;
-    let (first, one) = trio.first.export(alloc)?;
-    let (second, two) = trio.second.export(alloc)?;
-    let (third, three) = trio.third.export(alloc)?;
-    let count = standing::<H>(alloc, cert, store, &listed, &one, &two, &three)?;
-    let trio = Trio {
-        first,
-        second,
-        third,
-    };
+    let (log, trio, files) = told(alloc, log, trio)?;
+    let count = standing::<H>(alloc, cert, store, &files)?;
     Ok((log, trio, count))
 }

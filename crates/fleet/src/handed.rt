@@ -12,6 +12,7 @@ ghost use Rattle.fleet.specs.Tallies.{all_stops};
 
 use crate::audits::kept_in;
 use crate::cosigner_node::CosignerNode;
+use crate::cosigner_trio::Trio;
 use crate::log_node::{LogNode, size_of};
 use crate::made::{Certs, Counts, Fleet};
 use crate::nodes::FleetNodes;
@@ -20,6 +21,25 @@ use disk_core::MemDisk;
 use mtc_io::Memory;
 use std::alloc::Global;
 use tree_core::TreeHash;
+
+// What the cosigners hand out: their devices, and how many of their records are Signs.
+#[derive(Drop)]
+struct TrioOut {
+    first: MemDisk,
+    second: MemDisk,
+    third: MemDisk,
+    signatures: u64,
+}
+
+// What all nodes hand out: the device of the log's journal, how many entries and landmarks it has,
+// and what the cosigners hand out.
+#[derive(Drop)]
+struct NodesOut {
+    log: MemDisk,
+    entries: u64,
+    landmarks: u64,
+    trio: TrioOut,
+}
 
 fn is_sign(step: &Step) -> bool
     ensures { result ≡ is_sign step.now }
@@ -79,6 +99,25 @@ fn sum(one: u64, two: u64, three: u64) -> u64
     one + two + three
 }
 
+// The devices of the cosigners, and how many of their records are Signs.
+fn trio_out<H: TreeHash>(alloc: Global, trio: Trio<H>) -> Result<TrioOut, Memory>
+    ensures first { IfOk result (λ x. IsDiskOf H.hash trio.first x.first) }
+    ensures second { IfOk result (λ x. IsDiskOf H.hash trio.second x.second) }
+    ensures third { IfOk result (λ x. IsDiskOf H.hash trio.third x.third) }
+    ensures count { IfOk result
+        (λ x. x.signatures ≡ signs_on x.first + signs_on x.second + signs_on x.third) }
+{
+    let (first, one) = cosigner_out(alloc, trio.first)?;
+    let (second, two) = cosigner_out(alloc, trio.second)?;
+    let (third, three) = cosigner_out(alloc, trio.third)?;
+    Ok(TrioOut {
+        first,
+        second,
+        third,
+        signatures: sum(one, two, three),
+    })
+}
+
 // The device of the log's journal, and how many entries and landmarks it has.
 fn log_out<H: TreeHash>(node: LogNode<H>) -> Result<(MemDisk, u64, u64), Memory>
     ensures disk { IfOk result (λ x. IsLogDisk H.hash (log_shown node) x.0) }
@@ -91,6 +130,28 @@ fn log_out<H: TreeHash>(node: LogNode<H>) -> Result<(MemDisk, u64, u64), Memory>
     let (journal, _tiles) = node.log.into_disks();
     let disk = whole(journal)?;
     Ok((disk, entries, landmarks))
+}
+
+// What the log and the cosigners hand out.
+fn nodes_out<H: TreeHash>(alloc: Global, log: LogNode<H>, trio: Trio<H>) -> Result<NodesOut, Memory>
+    ensures disk { IfOk result (λ x. IsLogDisk H.hash (log_shown log) x.log) }
+    ensures fails_none { IfOk result (λ x. FailsNone x.log) }
+    ensures entries { IfOk result (λ x. x.entries ≡ length (log_shown log).entries) }
+    ensures landmarks { IfOk result (λ x. x.landmarks ≡ length (log_shown log).marks) }
+    ensures first { IfOk result (λ x. IsDiskOf H.hash trio.first x.trio.first) }
+    ensures second { IfOk result (λ x. IsDiskOf H.hash trio.second x.trio.second) }
+    ensures third { IfOk result (λ x. IsDiskOf H.hash trio.third x.trio.third) }
+    ensures count { IfOk result (λ x. x.trio.signatures
+        ≡ signs_on x.trio.first + signs_on x.trio.second + signs_on x.trio.third) }
+{
+    let (disk, entries, landmarks) = log_out(log)?;
+    let trio = trio_out(alloc, trio)?;
+    Ok(NodesOut {
+        log: disk,
+        entries,
+        landmarks,
+        trio,
+    })
 }
 
 impl<H: TreeHash> FleetNodes<H> {
@@ -112,25 +173,21 @@ impl<H: TreeHash> FleetNodes<H> {
         ensures { IfOk result (IsHandedOut H.hash self) }
     {
         let stops = self.stops();
-        let (log, entries, landmarks) = log_out(self.log)?;
-        let trio = self.trio;
-        let (first, one) = cosigner_out(alloc, trio.first)?;
-        let (second, two) = cosigner_out(alloc, trio.second)?;
-        let (third, three) = cosigner_out(alloc, trio.third)?;
+        let out = nodes_out(alloc, self.log, self.trio)?;
         let counts = Counts {
-            entries,
-            landmarks,
-            signatures: sum(one, two, three),
+            entries: out.entries,
+            landmarks: out.landmarks,
+            signatures: out.trio.signatures,
             stops,
             verified: self.verified,
             stands: self.stands,
             light: self.light,
         };
         Ok(Fleet {
-            log,
-            first,
-            second,
-            third,
+            log: out.log,
+            first: out.trio.first,
+            second: out.trio.second,
+            third: out.trio.third,
             certs: Certs::from_vec(self.certs),
             counts,
         })

@@ -3,7 +3,9 @@
 ghost use Rattle.std.specs.Prelude.{◌≡◌, ◌≤◌, ◌+◌, [], ◌∷◌, ◌++◌, length, IfOk};
 ghost use Rattle.byte_forms.specs.Types.{Text};
 ghost use Rattle.authority_core.specs.Certificates.{IsWritten};
+ghost use Rattle.issuance_log.specs.Folds.{with_mark};
 ghost use Rattle.fleet.specs.AuditViews.{AllStand};
+ghost use Rattle.fleet.specs.CosignerViews.{cosigner_shown};
 ghost use Rattle.fleet.specs.LightStores.{IsDue};
 ghost use Rattle.fleet.specs.LogNodes.{log_shown, log_stops};
 ghost use Rattle.fleet.specs.Played.{HasCertified, HasPlayed, IsAfter, all_holding, issued_to};
@@ -11,7 +13,8 @@ ghost use Rattle.fleet.specs.Played.{mark_shown};
 ghost use Rattle.fleet.specs.Rounds.{begun, landmark_turns, stops_in, three_turns};
 ghost use Rattle.fleet.specs.Stores.{StoresAcceptNow};
 ghost use Rattle.fleet.specs.Tallies.{AddTo, AddUp, all_stops};
-ghost use Rattle.fleet.specs.Trios.{HaveMore, HaveRecorded};
+ghost use Rattle.fleet.specs.Trios.{HaveAdvanced, HaveCertified, HaveMore, HaveRecorded};
+ghost use Rattle.fleet.specs.Trios.{trio_stops};
 ghost use Rattle.fleet.specs.Views.{shown};
 
 use crate::audits::audited;
@@ -25,6 +28,7 @@ use crate::turns::{Three, Turn, Turns};
 use authority_core::{cert, entries_say_what_was_asked};
 use mtc_io::{Bytes, Memory};
 use mtc_proof::check_signatures;
+use policy_core::Store;
 use std::alloc::Global;
 use tree_core::TreeHash;
 
@@ -75,6 +79,96 @@ fn certificate<H: TreeHash>(
     Ok((looked_at(inner, log.stops), bytes))
 }
 
+// The log issues an entry for each turn, and each cosigner holds its root.
+fn grown<H: TreeHash>(
+    alloc: Global,
+    log: LogNode<H>,
+    trio: Trio<H>,
+    entries: &Turns,
+    turns: &Three,
+) -> Result<(LogNode<H>, Trio<H>), Memory>
+    requires some { 1 ≤ length entries.now }
+    requires first { (cosigner_shown trio.first).held.size ≤ length (log_shown log).entries }
+    requires second { (cosigner_shown trio.second).held.size ≤ length (log_shown log).entries }
+    requires third { (cosigner_shown trio.third).held.size ≤ length (log_shown log).entries }
+    ensures state { IfOk result (λ x. log_shown x.0
+        ≡ issued_to H.hash (length entries.now) (log_shown log)) }
+    ensures held { IfOk result (λ x. HaveAdvanced H.hash (log_shown x.0) trio x.1) }
+    ensures grows { IfOk result (λ x. HaveMore trio x.1) }
+    ensures stops { IfOk result (λ x. log_stops x.0 + trio_stops x.1 ≡ log_stops log
+        + trio_stops trio + stops_in entries.now + stops_in (three_turns turns.now)) }
+{
+    let issued = log.issue_all(alloc, entries)?;
+    let (trio, log) = trio.advance(alloc, issued, turns)?;
+    Ok((log, trio))
+}
+
+// A landmark is set, and the certificate of the newest entry without signatures judged: 1 where it
+// is accepted.
+fn marked<H: TreeHash>(
+    alloc: Global,
+    log: LogNode<H>,
+    turn: Turn,
+) -> Result<(LogNode<H>, u64), Memory>
+    ensures state { IfOk result (λ x. log_shown x.0 ≡ with_mark (log_shown log)) }
+    ensures stops { IfOk result (λ x. log_stops x.0 ≡ log_stops log + stops_in (turn ∷ [])) }
+    ensures few { IfOk result (λ x. x.1 ≤ 1) }
+    ensures light { IfOk result (λ x. IsDue H.hash (log_shown x.0) → x.1 ≡ 1) }
+{
+    let set = log.mark(alloc, turn)?;
+    let (judged, light) = judged_light(alloc, set)?;
+    Ok((judged, light))
+}
+
+// Each cosigner signs all of the log, and the certificate of an entry is written with the
+// signatures.
+fn signed_cert<H: TreeHash>(
+    alloc: Global,
+    log: LogNode<H>,
+    trio: Trio<H>,
+    index: u64,
+    turns: &Three,
+) -> Result<(LogNode<H>, Trio<H>, Bytes), Memory>
+    ensures same { IfOk result (λ x. log_shown x.0 ≡ log_shown log) }
+    ensures no_stop { IfOk result (λ x. log_stops x.0 ≡ log_stops log) }
+    ensures signed { IfOk result
+        (λ x. HaveCertified H.hash index (log_shown log) turns.now trio x.1 x.2) }
+    ensures recorded { IfOk result (λ x. HaveRecorded H.hash (log_shown log) trio x.1) }
+    ensures stops { IfOk result
+        (λ x. trio_stops x.1 ≡ trio_stops trio + stops_in (three_turns turns.now)) }
+{
+    let mut signatures = Bytes::new(alloc);
+    let (signed, held) = trio.cosign(alloc, log, turns, &mut signatures)?;
+    let (log, cert) = certificate(alloc, held, index, &signatures)?;
+    Ok((log, signed, cert))
+}
+
+// The same, and the certificate is audited with what each cosigner has recorded: how many of the
+// audits stand.
+fn audited_cert<H: TreeHash>(
+    alloc: Global,
+    log: LogNode<H>,
+    trio: Trio<H>,
+    store: &Store,
+    index: u64,
+    turns: &Three,
+) -> Result<(LogNode<H>, Trio<H>, Bytes, u64), Memory>
+    ensures same { IfOk result (λ x. log_shown x.0 ≡ log_shown log) }
+    ensures no_stop { IfOk result (λ x. log_stops x.0 ≡ log_stops log) }
+    ensures signed { IfOk result
+        (λ x. HaveCertified H.hash index (log_shown log) turns.now trio x.1 x.2) }
+    ensures recorded { IfOk result (λ x. HaveRecorded H.hash (log_shown log) trio x.1) }
+    ensures stops { IfOk result
+        (λ x. trio_stops x.1 ≡ trio_stops trio + stops_in (three_turns turns.now)) }
+    ensures few { IfOk result (λ x. x.3 ≤ 3) }
+    ensures stands { IfOk result
+        (λ x. AllStand H.hash store.now x.2 (log_shown log) x.1 → x.3 ≡ 3) }
+{
+    let (held, signed, bytes) = signed_cert(alloc, log, trio, index, turns)?;
+    let (log, trio, stands) = audited(alloc, held, signed, store, &bytes)?;
+    Ok((log, trio, bytes, stands))
+}
+
 impl<H: TreeHash> FleetNodes<H> {
     /// New nodes.
     pub(crate) fn begin(alloc: Global, number: u64) -> Result<FleetNodes<H>, Memory>
@@ -108,8 +202,7 @@ impl<H: TreeHash> FleetNodes<H> {
         ensures stands { IfOk result (λ it. it.stands ≡ self.stands) }
         ensures light { IfOk result (λ it. it.light ≡ self.light) }
     {
-        let log = self.log.issue_all(alloc, entries)?;
-        let (trio, log) = self.trio.advance(alloc, log, turns)?;
+        let (log, trio) = grown(alloc, self.log, self.trio, entries, turns)?;
         Ok(FleetNodes {
             log,
             trio,
@@ -131,10 +224,9 @@ impl<H: TreeHash> FleetNodes<H> {
         ensures light { IfOk result (λ it. IsDue H.hash (log_shown it.log)
             → it.light ≡ self.light + 1) }
     {
-        let log = self.log.mark(alloc, turn)?;
-        let (judged, light) = judged_light(alloc, log)?;
+        let (log, light) = marked(alloc, self.log, turn)?;
         Ok(FleetNodes {
-            log: judged,
+            log,
             trio: self.trio,
             store: self.store,
             certs: self.certs,
@@ -178,11 +270,15 @@ impl<H: TreeHash> FleetNodes<H> {
             → it.stands ≡ self.stands + 3) }
         ensures light { IfOk result (λ it. it.light ≡ self.light) }
     {
-        let mut signatures = Bytes::new(alloc);
-        let (trio, log) = self.trio.cosign(alloc, self.log, turns, &mut signatures)?;
-        let (log, bytes) = certificate(alloc, log, index, &signatures)?;
+        let (log, trio, bytes, stands) = audited_cert(
+            alloc,
+            self.log,
+            self.trio,
+            &self.store,
+            index,
+            turns,
+        )?;
         let verified = self.verified + one_accepted::<H>(&bytes, &self.store);
-        let (log, trio, stands) = audited(alloc, log, trio, &self.store, &bytes)?;
         let certs = with_cert(self.certs, bytes)?;
         Ok(FleetNodes {
             log,

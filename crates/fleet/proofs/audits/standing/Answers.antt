@@ -14,6 +14,7 @@ pub returns-clause-all : goal.returns-clause-all
 returns-clause-all g c = λ items listed.
     let h = g.H.TreeHash.hash in
     let a = c.args in
+    let e = a.files.now.exports in
     let cert : Text = a.cert.now in
     let j = c.in_ok-judged.ensures in
     let judged : judgement h cert a.store.now (pos 1767225600) ≡ Ok c.in_ok-judged.judged.accepted =
@@ -28,7 +29,7 @@ returns-clause-all g c = λ items listed.
     let two = c.in_ok-second.ensures.stands cert judged read in
     let three = c.in_ok-third.ensures.stands cert judged read in
     subst (λ (x : ItemLists).
-    AllByExport h a.store.now cert x a.first.now a.second.now a.third.now
+    AllByExport h a.store.now cert x e.first e.second e.third
     ↔ (c.in_ok-first.first + c.in_ok-second.second + c.in_ok-third.third ≡ 3)) (sym same) (
       λ all.
           let first = one.0 all.first in

@@ -1,7 +1,6 @@
-use Rattle.std.proofs.Common.{◌≡◌, ◌∙◌, ◌≤◌, ℕ, length, ap, subst, sym, refl, arith}
+use Rattle.std.proofs.Common.{◌≡◌, ◌≤◌, ℕ, length, ap, subst, sym, refl, arith}
 use Rattle.issuance_log.specs.Folds.{LogState}
 use Rattle.fleet.specs.CosignerViews.{cosigner_shown}
-use Rattle.fleet.specs.LightStores.{IsDue}
 use Rattle.fleet.specs.LogNodes.{log_shown}
 use Rattle.fleet.specs.Views.{shown}
 use Rattle.fleet.proofs.nodes.FleetNodes.mark.Goals as goal
@@ -9,10 +8,10 @@ use Rattle.fleet.proofs.nodes.FleetNodes.mark.Goals as goal
 pub invariant_of-result : goal.invariant_of-result
 invariant_of-result g c =
     let trio = c.args.self.trio in
-    let same : length (log_shown c.in_ok-judged.judged).entries
+    let same : length (log_shown c.in_ok-log.log).entries
     ≡ length (log_shown c.args.self.log).entries =
     ap (λ (l : LogState). length l.entries)
-    (c.in_ok-judged.ensures.same ∙ c.in_ok-log.ensures.state) in
+    c.in_ok-log.ensures.state in
     record {
       first_holds = subst (λ (n : ℕ). (cosigner_shown trio.first).held.size ≤ n) (sym same)
           c.args.self.first_holds;
@@ -33,7 +32,7 @@ returns-clause-state g c =
       store = p.store;
       certs = p.certs;
       verified = p.verified;
-    }) (c.in_ok-judged.ensures.same ∙ c.in_ok-log.ensures.state)
+    }) c.in_ok-log.ensures.state
 
 pub returns-clause-trio : goal.returns-clause-trio
 returns-clause-trio g c = refl
@@ -41,14 +40,10 @@ returns-clause-trio g c = refl
 pub returns-clause-stops : goal.returns-clause-stops
 returns-clause-stops g c =
     let marked = c.in_ok-log.ensures.stops in
-    let looked = c.in_ok-judged.ensures.no_stop in
-    omega (arith, marked, looked)
+    omega (arith, marked)
 
 pub returns-clause-stands : goal.returns-clause-stands
 returns-clause-stands g c = refl
 
 pub returns-clause-light : goal.returns-clause-light
-returns-clause-light g c = λ due.
-    let one = c.in_ok-judged.ensures.accepted
-    (subst (λ (l : LogState). IsDue g.H.TreeHash.hash l) c.in_ok-judged.ensures.same due) in
-    omega (arith, one)
+returns-clause-light g c = λ due. let one = c.in_ok-log.ensures.light due in omega (arith, one)
