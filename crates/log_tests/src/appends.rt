@@ -1,11 +1,11 @@
 //! Entries that are added, or refused.
 
 use crate::journals::{
-    ENTRY, KEY, MemLog, NEW_LOG, add, add_entry, begin, changed, disk, disk_of, entry_for, log_in,
-    open, size_of, with_entry,
+    ENTRY, KEY, MemLog, MemRefused, NEW_LOG, add, add_entry, begin, changed, disk, disk_of,
+    entry_for, holds, left, let_go, log_in, no_bytes, open, opened, size, size_of, with_entry,
 };
 use disk_core::MemDisk;
-use issuance_log::{LogError, LogOpenError, LogRefused};
+use issuance_log::{LogError, LogOpenError};
 use journal_core::{AppendError, OpenError};
 use mtc_io::{Bytes, Memory};
 use std::alloc::Global;
@@ -17,16 +17,21 @@ const LONG_KEY: [u8; 16] = [
     0x30, 0x82, 0x00, 0x00, 0x30, 0x05, 0x06, 0x03, 0x2B, 0x65, 0x70, 0x03, 0x82, 0x00, 0x00, 0x00,
 ];
 
+// Whether a log takes the entry, and not a second time.
+fn takes_one(log: &mut MemLog) -> bool {
+    add(log, &ENTRY, &KEY) == Ok(1)
+        && add(log, &ENTRY, &KEY) == Err(LogError::Full)
+        && size(log) == 2
+}
+
 // Whether a log of two entries at most takes one, and no second one.
 fn is_filled(alloc: Global) -> Result<bool, Memory> {
-    let (made, _) = begin(alloc, MemDisk::new(alloc, Vec::new(alloc)), 2)?;
-    let Ok(mut log) = open(alloc, made) else {
+    let (made, _) = begin(alloc, no_bytes(alloc), 2)?;
+    let Some(mut log) = opened(alloc, made) else {
         return Ok(false);
     };
-    let first = add(&mut log, &ENTRY, &KEY);
-    let second = add(&mut log, &ENTRY, &KEY);
-    let answers = first == Ok(1) && second == Err(LogError::Full) && log.size() == 2;
-    Ok(answers && disk_of(log).bytes().len() == 221)
+    let taken = takes_one(&mut log);
+    Ok(disk_of(log).bytes().len() == 221 && taken)
 }
 
 // The journal of the same log with a second entry.
@@ -64,13 +69,15 @@ fn long_key(alloc: Global, size: usize) -> Result<Bytes, Memory> {
 fn add_long(alloc: Global, size: usize) -> Result<Option<Result<u64, LogError>>, Memory> {
     let key = long_key(alloc, size)?;
     let entry = entry_for(alloc, key.as_slice())?;
-    let Some(mut log) = log_in(alloc, &NEW_LOG)? else {
-        return Ok(None);
-    };
     if key.len() != size {
         return Ok(None);
     }
-    Ok(Some(add(&mut log, entry.as_slice(), key.as_slice())))
+    let Some(mut log) = log_in(alloc, &NEW_LOG)? else {
+        return Ok(None);
+    };
+    let answer = add(&mut log, entry.as_slice(), key.as_slice());
+    let_go(log);
+    Ok(Some(answer))
 }
 
 // The entry and its key have 131 bytes more than the key.
@@ -86,33 +93,47 @@ fn an_item_has_65535_bytes_at_most(rt: HostRuntime) -> Result<(), Fail> {
     Ok(())
 }
 
-// The log shows its old items, and a crash leaves these, or these and the entry.
-fn shows_the_old_log(alloc: Global, mut log: MemLog) -> Result<bool, Memory> {
-    let broken = Err(LogError::Append(AppendError::Broken));
-    let kept = log.size() == 1 && add(&mut log, &ENTRY, &KEY) == broken && log.size() == 1;
-    let left = disk_of(log);
+// Whether each of sixteen images that a crash leaves has the null entry alone, or the entry too.
+fn leaves_one_more_at_most(alloc: Global, journal: &MemDisk) -> Result<bool, Memory> {
     for pick in 0..16 {
-        let image = left.lend()?.crash(pick)?;
+        let image = left(journal, pick)?;
         if !matches!(size_of(alloc, image.bytes())?, Ok(1 | 2)) {
             return Ok(false);
         }
     }
-    Ok(kept)
+    Ok(true)
+}
+
+// Whether a log shows its old items and takes none more.
+fn is_broken(log: &mut MemLog) -> bool {
+    size(log) == 1
+        && add(log, &ENTRY, &KEY) == Err(LogError::Append(AppendError::Broken))
+        && size(log) == 1
+}
+
+// The log shows its old items, and a crash leaves these, or these and the entry.
+fn shows_the_old_log(alloc: Global, mut log: MemLog) -> Result<bool, Memory> {
+    let kept = is_broken(&mut log);
+    Ok(leaves_one_more_at_most(alloc, &disk_of(log))? && kept)
+}
+
+// Whether a log does not take the entry, and stays as it was.
+fn fails_to_add(alloc: Global, mut log: MemLog) -> Result<bool, Memory> {
+    let told = add(&mut log, &ENTRY, &KEY) == Err(LogError::Append(AppendError::Failed));
+    Ok(shows_the_old_log(alloc, log)? && told)
+}
+
+// Whether a disk that failed is handed back as it was.
+fn is_handed_back(refused: MemRefused) -> bool {
+    refused.why == LogOpenError::Open(OpenError::Failed) && holds(&refused.disk, &NEW_LOG)
 }
 
 // Whether a log of which this call of the disk fails answers that, and stays as it was. Four calls
 // open the log, and the next four add the entry.
 fn fails_soundly(alloc: Global, call: u64) -> Result<bool, Memory> {
     match open(alloc, disk(alloc, &NEW_LOG, &[call])?) {
-        Ok(mut log) => {
-            let failed = Err(LogError::Append(AppendError::Failed));
-            let told = call >= 4 && add(&mut log, &ENTRY, &KEY) == failed;
-            Ok(shows_the_old_log(alloc, log)? && told)
-        }
-        Err(LogRefused { disk, why, .. }) => {
-            let told = call < 4 && why == LogOpenError::Open(OpenError::Failed);
-            Ok(told && disk.bytes() == NEW_LOG.as_slice())
-        }
+        Ok(log) => Ok(call >= 4 && fails_to_add(alloc, log)?),
+        Err(refused) => Ok(call < 4 && is_handed_back(refused)),
     }
 }
 

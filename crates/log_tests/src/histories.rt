@@ -69,16 +69,30 @@ fn cosigner(alloc: Global) -> Result<NodeStart, Fail> {
     })
 }
 
+fn steps_of(alloc: Global, turns: &[(u32, Turn)]) -> Result<Vec<NodeStep>, Memory> {
+    let mut steps = Vec::new(alloc);
+    for (node, turn) in turns {
+        steps.push(step_of(alloc, *node, *turn)?)?;
+    }
+    Ok(steps)
+}
+
+// What a history of these steps answers.
+fn told(
+    alloc: Global,
+    starts: &[NodeStart],
+    steps: &[NodeStep],
+) -> Result<Vec<NodeState>, HistoryError> {
+    history::<Sha>(alloc, starts, steps)
+}
+
 fn states(
     alloc: Global,
     starts: &[NodeStart],
     turns: &[(u32, Turn)],
 ) -> Result<Result<Vec<NodeState>, HistoryError>, Fail> {
-    let mut steps = Vec::new(alloc);
-    for (node, turn) in turns {
-        steps.push(step_of(alloc, *node, *turn)?)?;
-    }
-    Ok(history::<Sha>(alloc, starts, steps.as_slice()))
+    let steps = steps_of(alloc, turns)?;
+    Ok(told(alloc, starts, steps.as_slice()))
 }
 
 // Of each node, how many records are settled, how many were handed out, and the number of the last

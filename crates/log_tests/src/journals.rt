@@ -42,7 +42,13 @@ pub(crate) const KEY: [u8; 44] = [
     0x00, 0x00, 0x00, 0x00, 0x00, 0x00, 0x00, 0x00, 0x00, 0x00, 0x00, 0x00,
 ];
 
-pub(crate) type MemLog = Log<Sha, MemDisk, MemDisk>;
+/// A log over disks in memory. It is let go by [`let_go`], which costs less proof than a drop.
+#[derive(Drop)]
+pub(crate) struct MemLog {
+    pub log: Log<Sha, MemDisk, MemDisk>,
+}
+
+pub(crate) type MemRefused = LogRefused<MemDisk, MemDisk>;
 
 pub(crate) fn disk(alloc: Global, bytes: &[u8], failing: &[u64]) -> Result<MemDisk, Memory> {
     let bytes = Bytes::copy_of(alloc, bytes)?;
@@ -50,8 +56,8 @@ pub(crate) fn disk(alloc: Global, bytes: &[u8], failing: &[u64]) -> Result<MemDi
 }
 
 /// Opens the log on a disk, with an empty one for its tiles.
-pub(crate) fn open(alloc: Global, disk: MemDisk) -> Result<MemLog, LogRefused<MemDisk, MemDisk>> {
-    open_over(alloc, disk, MemDisk::new(alloc, Vec::new(alloc)))
+pub(crate) fn open(alloc: Global, disk: MemDisk) -> Result<MemLog, MemRefused> {
+    open_over(alloc, disk, no_bytes(alloc))
 }
 
 /// Opens the log on a disk, with its tiles on another one and a pool of one frame.
@@ -59,9 +65,12 @@ pub(crate) fn open_over(
     alloc: Global,
     disk: MemDisk,
     tiles: MemDisk,
-) -> Result<MemLog, LogRefused<MemDisk, MemDisk>> {
+) -> Result<MemLog, MemRefused> {
     match Pool::new(alloc, 1) {
-        Ok(pool) => MemLog::open(alloc, disk, tiles, pool),
+        Ok(pool) => match Log::open(alloc, disk, tiles, pool) {
+            Ok(log) => Ok(MemLog { log }),
+            Err(refused) => Err(refused),
+        },
         Err(Memory) => Err(LogRefused {
             disk,
             tiles,
@@ -70,23 +79,94 @@ pub(crate) fn open_over(
     }
 }
 
+/// The log on a disk, where there is one, with an empty one for its tiles.
+pub(crate) fn opened(alloc: Global, disk: MemDisk) -> Option<MemLog> {
+    open(alloc, disk).ok()
+}
+
+/// The log over these disks, where there is one.
+pub(crate) fn opened_over(alloc: Global, disk: MemDisk, tiles: MemDisk) -> Option<MemLog> {
+    open_over(alloc, disk, tiles).ok()
+}
+
+/// A disk without bytes.
+pub(crate) fn no_bytes(alloc: Global) -> MemDisk {
+    MemDisk::new(alloc, Vec::new(alloc))
+}
+
+/// Whether a disk holds these bytes.
+pub(crate) fn holds(disk: &MemDisk, bytes: &[u8]) -> bool {
+    disk.bytes() == bytes
+}
+
+/// What a crash leaves of a disk by this pick.
+pub(crate) fn left(disk: &MemDisk, pick: u64) -> Result<MemDisk, Memory> {
+    disk.lend()?.crash(pick)
+}
+
+/// The disks of a log's journal and of its tiles.
+pub(crate) fn disks_of(log: MemLog) -> (MemDisk, MemDisk) {
+    log.log.into_disks()
+}
+
 /// The disk of a log's journal.
 pub(crate) fn disk_of(log: MemLog) -> MemDisk {
-    let (disk, _tiles) = log.into_disks();
-    disk
+    disks_of(log).0
+}
+
+/// Lets a log go.
+pub(crate) fn let_go(log: MemLog) {
+    let _disks = disks_of(log);
+}
+
+/// How many entries a log has.
+pub(crate) fn size(log: &MemLog) -> u64 {
+    log.log.size()
+}
+
+/// Whether these are the sizes at a log's landmarks.
+pub(crate) fn has_marks(log: &MemLog, sizes: &[u64]) -> bool {
+    log.log.marks() == sizes
+}
+
+/// Sets a landmark.
+pub(crate) fn mark(log: &mut MemLog) -> Result<(u64, u64), LogError> {
+    log.log.mark()
+}
+
+/// Stores the tiles.
+pub(crate) fn tile(log: &mut MemLog) -> Result<u64, LogError> {
+    log.log.tile()
 }
 
 /// The log in these bytes, where there is one.
 pub(crate) fn log_in(alloc: Global, bytes: &[u8]) -> Result<Option<MemLog>, Memory> {
-    Ok(open(alloc, disk(alloc, bytes, &[])?).ok())
+    Ok(opened(alloc, disk(alloc, bytes, &[])?))
+}
+
+// How many entries a log has that is let go.
+fn last_size(log: MemLog) -> u64 {
+    let size = size(&log);
+    let_go(log);
+    size
+}
+
+/// Why there is no log.
+pub(crate) fn reason(refused: MemRefused) -> LogOpenError {
+    refused.why
+}
+
+/// The size of the log that was opened, or why there is none.
+pub(crate) fn size_or_reason(answer: Result<MemLog, MemRefused>) -> Result<u64, LogOpenError> {
+    match answer {
+        Ok(log) => Ok(last_size(log)),
+        Err(refused) => Err(reason(refused)),
+    }
 }
 
 /// The size of the log in these bytes.
 pub(crate) fn size_of(alloc: Global, bytes: &[u8]) -> Result<Result<u64, LogOpenError>, Memory> {
-    match open(alloc, disk(alloc, bytes, &[])?) {
-        Ok(log) => Ok(Ok(log.size())),
-        Err(LogRefused { why, .. }) => Ok(Err(why)),
-    }
+    Ok(size_or_reason(open(alloc, disk(alloc, bytes, &[])?)))
 }
 
 /// Begins the journal of a log with id 32473.1, 2 active landmarks and this limit.
@@ -115,7 +195,7 @@ pub(crate) fn begin(
 /// Adds an entry whose key matches.
 pub(crate) fn add(log: &mut MemLog, entry: &[u8], key: &[u8]) -> Result<u64, LogError> {
     if key_matches::<Sha>(entry, key) {
-        log.add(entry, key)
+        log.log.add(entry, key)
     } else {
         Err(LogError::NoSuchEntry)
     }
@@ -172,6 +252,6 @@ pub(crate) fn item_at(
 ) -> Result<(Bytes, Bytes, Result<(), LogError>), Memory> {
     let mut entry = Bytes::copy_of(alloc, b"old")?;
     let mut key = Bytes::copy_of(alloc, b"old")?;
-    let answer = log.entry(index, &mut entry, &mut key);
+    let answer = log.log.entry(index, &mut entry, &mut key);
     Ok((entry, key, answer))
 }

@@ -1,9 +1,11 @@
 //! Landmarks that are set, read and refused.
 
 use crate::journals::{
-    ENTRY, KEY, MemLog, NEW_LOG, add, disk, disk_of, log_in, open, size_of, with_entry,
+    ENTRY, KEY, MemLog, NEW_LOG, add, disk, disk_of, has_marks, holds, left, let_go, log_in, mark,
+    opened, size, size_of, with_entry,
 };
-use issuance_log::{LogError, LogOpenError, LogRefused};
+use disk_core::MemDisk;
+use issuance_log::{LogError, LogOpenError};
 use journal_core::AppendError;
 use mtc_io::{Bytes, Memory};
 use std::alloc::Global;
@@ -30,27 +32,45 @@ fn with_landmarks(alloc: Global) -> Result<Bytes, Memory> {
     Ok(wanted)
 }
 
+// Whether this landmark is set, and no second one at its size; and the sizes at all then.
+fn sets(log: &mut MemLog, landmark: (u64, u64), sizes: &[u64]) -> bool {
+    mark(log) == Ok(landmark) && mark(log) == Err(LogError::NothingNew) && has_marks(log, sizes)
+}
+
 // Whether the calls of a new log answer so, in this order.
 fn answers(log: &mut MemLog) -> bool {
-    log.marks().is_empty()
-        && log.mark() == Ok((1, 1))
-        && log.mark() == Err(LogError::NothingNew)
+    has_marks(log, &[])
+        && sets(log, (1, 1), &[1])
         && add(log, &ENTRY, &KEY) == Ok(1)
-        && log.marks() == [1].as_slice()
-        && log.mark() == Ok((2, 2))
-        && log.mark() == Err(LogError::NothingNew)
-        && log.marks() == [1, 2].as_slice()
+        && has_marks(log, &[1])
+        && sets(log, (2, 2), &[1, 2])
+}
+
+// The journal behind these calls.
+fn marked(alloc: Global) -> Result<Option<MemDisk>, Memory> {
+    let Some(mut log) = log_in(alloc, &NEW_LOG)? else {
+        return Ok(None);
+    };
+    let told = answers(&mut log);
+    let journal = disk_of(log);
+    Ok(if told { Some(journal) } else { None })
+}
+
+// Whether a journal is opened as that of two entries and both landmarks.
+fn is_found_again(alloc: Global, journal: MemDisk) -> bool {
+    let Some(log) = opened(alloc, journal) else {
+        return false;
+    };
+    let found = size(&log) == 2 && has_marks(&log, &[1, 2]);
+    let_go(log);
+    found
 }
 
 #[test]
 fn landmarks_are_set_and_found_again(rt: HostRuntime) -> Result<(), Fail> {
-    let mut log = log_in(rt.alloc(), &NEW_LOG)?.ok_or("refused")?;
-    assert!(rt; answers(&mut log));
-    let wanted = with_landmarks(rt.alloc())?;
-    let disk = disk_of(log);
-    assert!(rt; disk.bytes() == wanted.as_slice());
-    let again = open(rt.alloc(), disk).ok().ok_or("refused")?;
-    assert!(rt; again.size() == 2 && again.marks() == [1, 2].as_slice());
+    let journal = marked(rt.alloc())?.ok_or("other answers")?;
+    assert!(rt; holds(&journal, with_landmarks(rt.alloc())?.as_slice()));
+    assert!(rt; is_found_again(rt.alloc(), journal));
     Ok(())
 }
 
@@ -116,35 +136,52 @@ fn a_landmark_has_eight_bytes(rt: HostRuntime) -> Result<(), Fail> {
     Ok(())
 }
 
-// The landmarks of what a crash leaves, none where it is no log.
-fn count_left(alloc: Global, bytes: &[u8]) -> Result<Option<usize>, Memory> {
-    Ok(log_in(alloc, bytes)?.map(|log| log.marks().len()))
+fn count_marks(log: &MemLog) -> usize {
+    log.log.marks().len()
 }
 
-// The log shows no landmark and takes none more, and a crash leaves none, or the one.
-fn shows_the_old_log(alloc: Global, mut log: MemLog) -> Result<bool, Memory> {
-    let broken = Err(LogError::Append(AppendError::Broken));
-    let kept = log.marks().is_empty() && log.mark() == broken && log.marks().is_empty();
-    let left = disk_of(log);
+// The landmarks of what a crash leaves, none where it is no log.
+fn count_left(alloc: Global, bytes: &[u8]) -> Result<Option<usize>, Memory> {
+    let Some(log) = log_in(alloc, bytes)? else {
+        return Ok(None);
+    };
+    let count = count_marks(&log);
+    let_go(log);
+    Ok(Some(count))
+}
+
+// Whether each of sixteen images that a crash leaves has no landmark, or the one.
+fn leaves_one_at_most(alloc: Global, journal: &MemDisk) -> Result<bool, Memory> {
     for pick in 0..16 {
-        let image = left.lend()?.crash(pick)?;
+        let image = left(journal, pick)?;
         if !matches!(count_left(alloc, image.bytes())?, Some(0 | 1)) {
             return Ok(false);
         }
     }
-    Ok(kept)
+    Ok(true)
+}
+
+// Whether a log shows no landmark and takes none more.
+fn is_broken(log: &mut MemLog) -> bool {
+    has_marks(log, &[])
+        && mark(log) == Err(LogError::Append(AppendError::Broken))
+        && has_marks(log, &[])
+}
+
+// The log shows no landmark and takes none more, and a crash leaves none, or the one.
+fn shows_the_old_log(alloc: Global, mut log: MemLog) -> Result<bool, Memory> {
+    let kept = is_broken(&mut log);
+    Ok(leaves_one_at_most(alloc, &disk_of(log))? && kept)
 }
 
 // Whether a log of which this call of the disk fails answers that, and stays as it was. Four calls
 // open the log, and the next four set the landmark.
 fn fails_soundly(alloc: Global, call: u64) -> Result<bool, Memory> {
-    match open(alloc, disk(alloc, &NEW_LOG, &[call])?) {
-        Ok(mut log) => {
-            let failed = log.mark() == Err(LogError::Append(AppendError::Failed));
-            Ok(failed && shows_the_old_log(alloc, log)?)
-        }
-        Err(LogRefused { .. }) => Ok(false),
-    }
+    let Some(mut log) = opened(alloc, disk(alloc, &NEW_LOG, &[call])?) else {
+        return Ok(false);
+    };
+    let failed = mark(&mut log) == Err(LogError::Append(AppendError::Failed));
+    Ok(shows_the_old_log(alloc, log)? && failed)
 }
 
 #[test]
