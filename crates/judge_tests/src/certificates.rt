@@ -1,8 +1,11 @@
 //! Certificates of the entries of a small log.
 
-use crate::issuing::{DATES, DNS, KEY, MemLog, disk_over, issued, new_log, open, open_over};
-use crate::texts::joined;
-use authority_core::{WriteError, cert, issue, read_request};
+use crate::entries::request_of;
+use crate::issuing::{
+    DATES, DNS, KEY, MemLog, add, disk_over, disks_of, issued, let_go, new_log, open, open_over,
+};
+use authority_core::{WriteError, cert};
+use disk_core::MemDisk;
 use mtc_io::Bytes;
 use mtc_proof::check_signatures;
 use std::alloc::Global;
@@ -35,10 +38,16 @@ fn add_entry(alloc: Global, log: &mut MemLog) -> Result<bool, Fail> {
 // The log with the null entry and the one entry.
 fn log_of_two(alloc: Global) -> Result<MemLog, Fail> {
     let mut log = open(alloc, new_log(alloc, 64)?)?;
-    if add_entry(alloc, &mut log)? {
-        Ok(log)
-    } else {
-        Err(Fail::from("not issued"))
+    match add_entry(alloc, &mut log) {
+        Ok(true) => Ok(log),
+        Ok(false) => {
+            let_go(log);
+            Err(Fail::from("not issued"))
+        }
+        Err(why) => {
+            let_go(log);
+            Err(why)
+        }
     }
 }
 
@@ -70,7 +79,7 @@ fn written(
     if check_signatures(signed).is_err() {
         return Err(Fail::from("no signatures"));
     }
-    match cert(alloc, log, index, interval.0, interval.1, signed) {
+    match cert(alloc, &mut log.log, index, interval.0, interval.1, signed) {
         Ok(bytes) => Ok(Ok(leaf::<Sha>(bytes.as_slice()))),
         Err(why) => Ok(Err(why)),
     }
@@ -83,9 +92,11 @@ fn answer(
     interval: (u64, u64),
     size: Option<u16>,
 ) -> Result<Result<[u8; 32], WriteError>, Fail> {
-    let mut log = log_of_two(alloc)?;
     let signed = signatures(alloc, size)?;
-    written(alloc, &mut log, index, interval, signed.as_slice())
+    let mut log = log_of_two(alloc)?;
+    let answer = written(alloc, &mut log, index, interval, signed.as_slice());
+    let_go(log);
+    answer
 }
 
 #[test]
@@ -138,23 +149,32 @@ fn a_certificate_is_refused(rt: HostRuntime) -> Result<(), Fail> {
     Ok(())
 }
 
-// The bytes of the journal and of the tiles of a log of so many entries, tiled.
-fn files(alloc: Global, size: u64) -> Result<(Bytes, Bytes), Fail> {
-    let mut log = open(alloc, new_log(alloc, 1024)?)?;
-    let asked = read_request(alloc, joined(alloc, &[DATES, DNS, KEY])?.as_bytes())?;
+// Whether so many entries are added to a new log.
+fn is_filled(alloc: Global, log: &mut MemLog, size: u64) -> Result<bool, Fail> {
+    let asked = request_of(alloc, &[DATES, DNS, KEY])?;
     for index in 1..size {
-        if issue(alloc, &mut log, &asked) != Ok(index) {
-            return Err(Fail::from("not issued"));
+        if add(alloc, log, &asked) != Ok(index) {
+            return Ok(false);
         }
     }
-    if log.tile().is_err() {
-        return Err(Fail::from("not tiled"));
+    Ok(true)
+}
+
+fn is_tiled(log: &mut MemLog) -> bool {
+    log.log.tile().is_ok()
+}
+
+// The journal and the tiles of a log of so many entries, tiled.
+fn disks(alloc: Global, size: u64) -> Result<(MemDisk, MemDisk), Fail> {
+    let mut log = open(alloc, new_log(alloc, 1024)?)?;
+    let filled = is_filled(alloc, &mut log, size);
+    let tiled = is_tiled(&mut log);
+    let disks = disks_of(log);
+    if filled? && tiled {
+        Ok(disks)
+    } else {
+        Err(Fail::from("not issued, or not tiled"))
     }
-    let (journal, tiles) = log.into_disks();
-    Ok((
-        Bytes::copy_of(alloc, journal.bytes())?,
-        Bytes::copy_of(alloc, tiles.bytes())?,
-    ))
 }
 
 // What the log over these bytes answers of its first entry, where these calls of the journal and of
@@ -168,9 +188,25 @@ fn answer_over(
         disk_over(alloc, files.0, calls.0)?,
         disk_over(alloc, files.1, calls.1)?,
     );
-    match open_over(alloc, journal, tiles)? {
-        Some(mut log) => Ok(Some(written(alloc, &mut log, 1, (0, 512), &[])?)),
-        None => Ok(None),
+    let Some(mut log) = open_over(alloc, journal, tiles)? else {
+        return Ok(None);
+    };
+    let answer = written(alloc, &mut log, 1, (0, 512), &[]);
+    let_go(log);
+    Ok(Some(answer?))
+}
+
+// The same where this call of one of both disks fails, for which a certificate is refused so.
+fn answer_failing(
+    alloc: Global,
+    files: (&[u8], &[u8]),
+    why: WriteError,
+    call: u64,
+) -> Result<Option<Result<[u8; 32], WriteError>>, Fail> {
+    if why == WriteError::TilesFailed {
+        answer_over(alloc, files, (&[], &[call]))
+    } else {
+        answer_over(alloc, files, (&[call], &[]))
     }
 }
 
@@ -183,13 +219,7 @@ fn failures(
 ) -> Result<u64, Fail> {
     let mut failed = 0u64;
     for call in 0..100 {
-        let one = [call];
-        let calls: (&[u64], &[u64]) = if why == WriteError::TilesFailed {
-            (&[], &one)
-        } else {
-            (&one, &[])
-        };
-        match answer_over(alloc, files, calls)? {
+        match answer_failing(alloc, files, why, call)? {
             None if failed == 0 => {}
             Some(Err(found)) if found == why => failed = failed.saturating_add(1),
             Some(Ok(found)) if found == wanted => return Ok(failed),
@@ -204,8 +234,8 @@ fn failures(
 #[test]
 fn a_disk_may_fail_a_certificate(rt: HostRuntime) -> Result<(), Fail> {
     let alloc = rt.alloc();
-    let (journal, tiles) = files(alloc, 512)?;
-    let both = (journal.as_slice(), tiles.as_slice());
+    let (journal, tiles) = disks(alloc, 512)?;
+    let both = (journal.bytes(), tiles.bytes());
     let Some(Ok(wanted)) = answer_over(alloc, both, (&[], &[]))? else {
         return Err("refused".into());
     };

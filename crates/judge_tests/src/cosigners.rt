@@ -1,14 +1,13 @@
 //! The judgement of the certificate of [`judgements`](crate::judgements) by its cosigners.
 
-use crate::judgements::{CERTIFICATE, FIRST, TRUSTED, store_of, trusted_in};
+use crate::judgements::{CERTIFICATE, FIRST, TRUSTED, anchor, answer, piece, store_of, trusted_in};
+use crate::texts::joined_bytes;
 use hss_core::{Key, LmsType, OtsType, SigBuf};
 use mtc_proof::{InputBuf, signature_input};
 use policy_core::{By, Cosigners, Known, Places, Rule, Rules, Store};
-use relying_party::judge;
 use std::alloc::Global;
 use std::test::Fail;
 use tls_wire::AnchorId;
-use tree_core::Sha;
 
 // The keys of the cosigners with the numbers 2 to 4, each of a secret that is made of its number.
 fn keys_of(alloc: Global) -> Result<Vec<Key>, Fail> {
@@ -35,8 +34,7 @@ fn sign(keys: &mut Vec<Key>, number: u8, text: &[u8], out: &mut SigBuf) {
 
 // The id of the cosigner with this number.
 fn id_of(alloc: Global, number: u8) -> Result<AnchorId, Fail> {
-    let text = format!(in alloc; "32473.{number}")?;
-    Ok(AnchorId::from_text(alloc, text.as_str())?)
+    anchor(alloc, format!(in alloc; "32473.{number}")?.as_str())
 }
 
 // What a signature of a case differs in: the numbers of the key, of the id, and of the cosigner and
@@ -84,20 +82,30 @@ fn mark_of(letter: u8) -> Mark {
     }
 }
 
-// What is signed with this mark.
-fn signed_text(alloc: Global, mark: &Mark, text: &mut InputBuf) -> Result<(), Fail> {
-    let cosigner = id_of(alloc, mark.cosigner)?;
-    let log = id_of(alloc, mark.log)?;
+// The hash that is signed with this mark.
+fn signed_hash(mark: &Mark) -> [u8; 32] {
     let mut hash = TRUSTED;
     hash[0] ^= mark.change;
+    hash
+}
+
+// What is signed by this cosigner for this log.
+fn put_text(cosigner: &AnchorId, log: &AnchorId, mark: &Mark, text: &mut InputBuf) {
     signature_input(
         cosigner.as_bytes(),
         log.as_bytes(),
         mark.start,
         mark.end,
-        &hash,
+        &signed_hash(mark),
         text,
     );
+}
+
+// What is signed with this mark.
+fn signed_text(alloc: Global, mark: &Mark, text: &mut InputBuf) -> Result<(), Fail> {
+    let cosigner = id_of(alloc, mark.cosigner)?;
+    let log = id_of(alloc, mark.log)?;
+    put_text(&cosigner, &log, mark, text);
     Ok(())
 }
 
@@ -117,29 +125,33 @@ fn shortened(letter: u8, whole: &[u8]) -> &[u8] {
     }
 }
 
-// Puts a signature behind the bytes, with its cosigner's id and its length before it.
-fn append(bytes: &mut Vec<u8>, id: &[u8], signature: &[u8]) -> Result<(), Fail> {
-    bytes.push(u8::try_from(id.len()).unwrap_or(0))?;
-    bytes.extend_from_slice(id)?;
-    bytes.extend_from_slice(&two_bytes(signature.len())?)?;
-    bytes.extend_from_slice(signature)?;
+// A signature with its cosigner's id and its length before it.
+fn spelled(alloc: Global, id: &[u8], signature: &[u8]) -> Result<Vec<u8>, Fail> {
+    let length = two_bytes(signature.len())?;
+    let size = [u8::try_from(id.len()).unwrap_or(0)];
+    joined_bytes(alloc, &[&size, id, &length, signature])
+}
+
+// Signs with this mark.
+fn sign_with(
+    alloc: Global,
+    keys: &mut Vec<Key>,
+    mark: &Mark,
+    out: &mut SigBuf,
+) -> Result<(), Fail> {
+    let mut text = InputBuf::new();
+    signed_text(alloc, mark, &mut text)?;
+    sign(keys, mark.key, text.as_slice(), out);
     Ok(())
 }
 
-// Puts the signature of this letter behind the bytes.
-fn put_signature(
-    alloc: Global,
-    keys: &mut Vec<Key>,
-    bytes: &mut Vec<u8>,
-    letter: u8,
-) -> Result<(), Fail> {
+// The signature of this letter.
+fn signature_of(alloc: Global, keys: &mut Vec<Key>, letter: u8) -> Result<Vec<u8>, Fail> {
     let mark = mark_of(letter);
-    let mut text = InputBuf::new();
-    signed_text(alloc, &mark, &mut text)?;
     let mut whole = SigBuf::new();
-    sign(keys, mark.key, text.as_slice(), &mut whole);
+    sign_with(alloc, keys, &mark, &mut whole)?;
     let id = id_of(alloc, mark.id)?;
-    append(bytes, id.as_bytes(), shortened(letter, whole.as_slice()))
+    spelled(alloc, id.as_bytes(), shortened(letter, whole.as_slice()))
 }
 
 // The signatures of these letters.
@@ -147,7 +159,7 @@ fn signatures_of(alloc: Global, keys: &mut Vec<Key>, letters: &str) -> Result<Ve
     let mut bytes = Vec::new(alloc);
     for letter in letters.as_bytes() {
         if *letter != b'-' {
-            put_signature(alloc, keys, &mut bytes, *letter)?;
+            bytes.extend_from_slice(signature_of(alloc, keys, *letter)?.as_slice())?;
         }
     }
     Ok(bytes)
@@ -161,10 +173,10 @@ fn with_signatures(alloc: Global, signatures: &[u8]) -> Result<Vec<u8>, Fail> {
     let list = two_bytes(size)?;
     let mut bytes = Vec::from_slice(alloc, &[0x30, 0x82])?;
     bytes.extend_from_slice(&whole)?;
-    bytes.extend_from_slice(&CERTIFICATE[3..176])?;
+    bytes.extend_from_slice(piece(3, 176))?;
     bytes.extend_from_slice(&[0x03, 0x82])?;
     bytes.extend_from_slice(&proof)?;
-    bytes.extend_from_slice(&CERTIFICATE[178..229])?;
+    bytes.extend_from_slice(piece(178, 229))?;
     bytes.extend_from_slice(&list)?;
     bytes.extend_from_slice(signatures)?;
     Ok(bytes)
@@ -187,17 +199,22 @@ fn known(alloc: Global, number: u8, key: &Key) -> Result<Known, Fail> {
     })
 }
 
-// The cosigners with these three keys.
+// The cosigners with these keys, from the number 2 on.
+fn all_known(alloc: Global, keys: &[Key]) -> Result<Vec<Known>, Fail> {
+    let mut all = Vec::new(alloc);
+    for (key, number) in keys.iter().zip(2..5u8) {
+        all.push(known(alloc, number, key)?)?;
+    }
+    Ok(all)
+}
+
+// The same, where they are not too many.
 fn cosigners_of(alloc: Global, keys: &[Key]) -> Result<Cosigners, Fail> {
-    let [first, second, third] = keys else {
-        return Err(Fail::from("no keys"));
-    };
-    let cosigners = vec![in alloc;
-        known(alloc, 2, first)?,
-        known(alloc, 3, second)?,
-        known(alloc, 4, third)?,
-    ]?;
-    Ok(Cosigners::from_vec(cosigners))
+    let all = all_known(alloc, keys)?;
+    if all.len() > 64 {
+        return Err(Fail::from("too many"));
+    }
+    Ok(Cosigners::from_vec(all))
 }
 
 // A rule, as `COUNT:NUMBERS`, where the cosigners have the numbers 2 to 4.
@@ -265,7 +282,7 @@ s 1:23 246 Landmark
 
 // The judgement as the cases say it.
 fn judged(alloc: Global, certificate: &[u8], store: &Store) -> Result<String, Fail> {
-    match judge::<Sha>(certificate, store, FIRST) {
+    match answer(certificate, store, FIRST) {
         Ok(accepted) => match accepted.by {
             By::Cosigners(set) => Ok(format!(in alloc; "{set}")?),
             By::Landmark => Ok(format!(in alloc; "Landmark")?),

@@ -1,7 +1,8 @@
 //! The entries of requests, field by field.
 
-use crate::texts::joined;
-use authority_core::{entry_of_request, read_request};
+use crate::judgements::anchor;
+use crate::texts::{joined, joined_bytes};
+use authority_core::{Request, entry_of_request, read_request};
 use mtc_io::Bytes;
 use std::alloc::Global;
 use std::test::Fail;
@@ -107,26 +108,26 @@ const CASES: [Case; 4] = [
     },
 ];
 
-// The entry of the request of these lines in the log 32473.1.
-pub(crate) fn entry_in_log(alloc: Global, lines: &[&str]) -> Result<Bytes, Fail> {
-    let id = AnchorId::from_text(alloc, "32473.1")?;
-    let request = read_request(alloc, joined(alloc, lines)?.as_bytes())?;
-    Ok(entry_of_request::<Sha>(alloc, &id, &request)?)
+// The request of these lines.
+pub(crate) fn request_of(alloc: Global, lines: &[&str]) -> Result<Request, Fail> {
+    Ok(read_request(alloc, joined(alloc, lines)?.as_bytes())?)
 }
 
-// The fields, one behind the other.
-fn fields_of(alloc: Global, fields: &[&[u8]]) -> Result<Vec<u8>, Fail> {
-    let mut bytes = Vec::new(alloc);
-    for field in fields {
-        bytes.extend_from_slice(field)?;
-    }
-    Ok(bytes)
+// The entry of a request in the log with this id.
+fn entry_of(alloc: Global, id: &AnchorId, request: &Request) -> Result<Bytes, Fail> {
+    Ok(entry_of_request::<Sha>(alloc, id, request)?)
+}
+
+// The entry of the request of these lines in the log 32473.1.
+pub(crate) fn entry_in_log(alloc: Global, lines: &[&str]) -> Result<Bytes, Fail> {
+    let id = anchor(alloc, "32473.1")?;
+    entry_of(alloc, &id, &request_of(alloc, lines)?)
 }
 
 // The entry of the case's request has its length and is its fields.
 fn has_its_fields(alloc: Global, case: &Case) -> Result<bool, Fail> {
     let entry = entry_in_log(alloc, case.request)?;
-    let wanted = fields_of(alloc, case.fields)?;
+    let wanted = joined_bytes(alloc, case.fields)?;
     Ok(entry.len() == case.length && entry.as_slice() == wanted.as_slice())
 }
 

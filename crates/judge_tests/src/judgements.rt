@@ -1,7 +1,9 @@
 //! The judgement of the certificate of one name that a log with id 32473.1 issues as its entry 1,
 //! and of changes to it.
 
+use crate::texts::joined_bytes;
 use cert_names::log_name;
+use mtc_io::Bytes;
 use policy_core::{Accepted, By, Cosigners, Refusal, Revoked, Rules, Store, Subtrees, Trusted};
 use relying_party::judge;
 use std::alloc::Global;
@@ -42,6 +44,32 @@ pub const FIRST: i64 = 1_767_225_600;
 // 2026-01-08T00:00:00Z, the last one.
 const LAST: i64 = 1_767_830_400;
 
+// The id of this text.
+pub fn anchor(alloc: Global, text: &str) -> Result<AnchorId, Fail> {
+    Ok(AnchorId::from_text(alloc, text)?)
+}
+
+// The name of the log with this id.
+fn name_of(alloc: Global, id: &AnchorId) -> Result<Bytes, Fail> {
+    Ok(log_name(alloc, id)?)
+}
+
+fn no_cosigners(alloc: Global) -> Cosigners {
+    Cosigners::from_vec(Vec::new(alloc))
+}
+
+fn no_rules(alloc: Global) -> Rules {
+    Rules::from_vec(Vec::new(alloc))
+}
+
+fn subtrees_of(alloc: Global, subtrees: &[Trusted]) -> Result<Subtrees, Fail> {
+    Ok(Subtrees::from_vec(Vec::from_slice(alloc, subtrees)?))
+}
+
+fn revoked_of(alloc: Global, revoked: &[Span]) -> Result<Revoked, Fail> {
+    Ok(Revoked::from_vec(Vec::from_slice(alloc, revoked)?))
+}
+
 // A store for the log with this id.
 pub fn store_of(
     alloc: Global,
@@ -49,37 +77,40 @@ pub fn store_of(
     subtrees: &[Trusted],
     revoked: &[Span],
 ) -> Result<Store, Fail> {
-    let log = AnchorId::from_text(alloc, id)?;
-    let name = log_name(alloc, &log)?;
+    let log = anchor(alloc, id)?;
+    let name = name_of(alloc, &log)?;
     Ok(Store {
         log,
         name,
-        cosigners: Cosigners::from_vec(Vec::new(alloc)),
-        rules: Rules::from_vec(Vec::new(alloc)),
-        subtrees: Subtrees::from_vec(Vec::from_slice(alloc, subtrees)?),
-        revoked: Revoked::from_vec(Vec::from_slice(alloc, revoked)?),
+        cosigners: no_cosigners(alloc),
+        rules: no_rules(alloc),
+        subtrees: subtrees_of(alloc, subtrees)?,
+        revoked: revoked_of(alloc, revoked)?,
     })
+}
+
+// The bytes of the certificate from a place up to another one; no bytes where it has them not.
+pub fn piece(from: usize, to: usize) -> &'static [u8] {
+    CERTIFICATE.get(from..to).unwrap_or(&[])
 }
 
 // The certificate with parameters of NULL in both algorithms.
 fn with_parameters(alloc: Global) -> Result<Vec<u8>, Fail> {
-    let pieces: [&[u8]; 8] = [
-        &[0x30, 0x81, 0xE8, 0x30, 0x81, 0x9E],
-        &CERTIFICATE[6..14],
-        &[0x30, 0x0E],
-        &CERTIFICATE[16..28],
-        &[0x05, 0x00],
-        &CERTIFICATE[28..162],
-        &[0x30, 0x0E],
-        &CERTIFICATE[164..176],
-    ];
-    let mut bytes = Vec::new(alloc);
-    for piece in pieces {
-        bytes.extend_from_slice(piece)?;
-    }
-    bytes.extend_from_slice(&[0x05, 0x00])?;
-    bytes.extend_from_slice(&CERTIFICATE[176..])?;
-    Ok(bytes)
+    joined_bytes(
+        alloc,
+        &[
+            &[0x30, 0x81, 0xE8, 0x30, 0x81, 0x9E],
+            piece(6, 14),
+            &[0x30, 0x0E],
+            piece(16, 28),
+            &[0x05, 0x00],
+            piece(28, 162),
+            &[0x30, 0x0E],
+            piece(164, 176),
+            &[0x05, 0x00],
+            piece(176, 231),
+        ],
+    )
 }
 
 // The interval 0 to 2 with this hash.
@@ -100,7 +131,7 @@ const ACCEPTED: Accepted = Accepted {
 };
 
 // The judgement at a moment.
-fn answer(certificate: &[u8], store: &Store, now: i64) -> Result<Accepted, Refusal> {
+pub fn answer(certificate: &[u8], store: &Store, now: i64) -> Result<Accepted, Refusal> {
     judge::<Sha>(certificate, store, now)
 }
 

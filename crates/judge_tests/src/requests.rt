@@ -11,9 +11,13 @@ const DNS: &str = "dns = [\"a.example\"]\n";
 
 const KEY: &str = "key = \"MCowBQYDK2VwAyEAAAAAAAAAAAAAAAAAAAAAAAAAAAAAAAAAAAAAAAAAAAA=\"\n";
 
-// Reads these pieces, one behind the other.
-fn read(alloc: Global, pieces: &[&str]) -> Result<Result<Request, RequestError>, Fail> {
-    Ok(read_request(alloc, joined(alloc, pieces)?.as_bytes()))
+fn read(alloc: Global, text: &str) -> Result<Request, RequestError> {
+    read_request(alloc, text.as_bytes())
+}
+
+// Why a text is no request.
+fn refusal(alloc: Global, text: &str) -> Option<RequestError> {
+    read(alloc, text).err()
 }
 
 // Requests that are refused: behind `== ` why, and a remark; then the request.
@@ -102,9 +106,9 @@ other = 1
 // Whether the request of this block is refused as its first line says.
 fn is_refused(alloc: Global, block: &str) -> Result<bool, Fail> {
     let (why, text) = headed(block);
-    match read_request(alloc, text.as_bytes()) {
-        Ok(_) => Ok(false),
-        Err(found) => Ok(format!(in alloc; "{found:?}")?.as_str() == why),
+    match refusal(alloc, text) {
+        Some(found) => Ok(format!(in alloc; "{found:?}")?.as_str() == why),
+        None => Ok(false),
     }
 }
 
@@ -147,16 +151,19 @@ fn has_common_name(request: &Request, wanted: Option<&[u8]>) -> bool {
     }
 }
 
+// A request says what is wanted.
+fn is_wanted(request: &Request, wanted: &Wanted) -> bool {
+    request.validity.not_before == wanted.not_before
+        && request.validity.not_after == wanted.not_after
+        && are_named(request, wanted.names)
+        && has_common_name(request, wanted.common_name)
+        && request.key.as_slice() == wanted.key
+}
+
 // The request of these pieces says what is wanted.
 fn says(alloc: Global, pieces: &[&str], wanted: &Wanted) -> Result<bool, Fail> {
-    let request = read(alloc, pieces)??;
-    Ok(
-        request.validity.not_before == wanted.not_before
-            && request.validity.not_after == wanted.not_after
-            && are_named(&request, wanted.names)
-            && has_common_name(&request, wanted.common_name)
-            && request.key.as_slice() == wanted.key,
-    )
+    let text = joined(alloc, pieces)?;
+    Ok(is_wanted(&read(alloc, text.as_str())?, wanted))
 }
 
 // An Ed25519 key of zeros.
@@ -230,38 +237,55 @@ fn host_names_are_labels_with_dots_between_them(rt: HostRuntime) -> Result<(), F
     Ok(())
 }
 
+// So many bytes, `a` and dots at these places alone.
+fn long_name(alloc: Global, size: u64, dots: &[u64]) -> Result<Vec<u8>, Fail> {
+    let mut name = Vec::new(alloc);
+    for place in 0..size {
+        name.push(if dots.contains(&place) { b'.' } else { b'a' })?;
+    }
+    Ok(name)
+}
+
+// Whether such a text is a host name.
+fn is_long_name(alloc: Global, size: u64, dots: &[u64]) -> Result<bool, Fail> {
+    Ok(is_name(long_name(alloc, size, dots)?.as_slice()))
+}
+
+// Labels of 63 bytes, and the last one of 61 or 62; and labels of 64 and 100 bytes.
 #[test]
 fn labels_and_host_names_have_a_longest(rt: HostRuntime) -> Result<(), Fail> {
-    let mut long = [b'a'; 254];
-    long[63] = b'.';
-    long[127] = b'.';
-    long[191] = b'.';
-    // Labels of 63 bytes, and the last one of 61 or 62.
-    assert!(rt; is_name(&long[..63]));
-    assert!(rt; is_name(&long[..253]));
-    assert!(rt; !is_name(&long));
-    long[63] = b'a';
-    assert!(rt; !is_name(&long[..64]));
-    assert!(rt; !is_name(&long[..100]));
+    let cases: [(u64, &[u64], bool); 5] = [
+        (63, &[], true),
+        (253, &[63, 127, 191], true),
+        (254, &[63, 127, 191], false),
+        (64, &[], false),
+        (100, &[], false),
+    ];
+    for (size, dots, wanted) in cases {
+        assert!(rt; is_long_name(rt.alloc(), size, dots)? == wanted, "{size}");
+    }
     Ok(())
 }
 
 // So many names and the rest of a request.
-fn read_many(alloc: Global, count: usize) -> Result<Result<Request, RequestError>, Fail> {
+fn many(alloc: Global, count: usize) -> Result<String, Fail> {
     let mut text = joined(alloc, &[DATES, KEY, "dns = ["])?;
     for _ in 0..count {
         text.push_str("\"a\", ")?;
     }
     text.push_str("]\n")?;
-    Ok(read_request(alloc, text.as_bytes()))
+    Ok(text)
+}
+
+// How many names the request of a text has.
+fn count_of(alloc: Global, text: &str) -> Result<usize, RequestError> {
+    Ok(read(alloc, text)?.names.into_vec().len())
 }
 
 // How many names a request of so many has, or why it is refused.
 fn counted(alloc: Global, count: usize) -> Result<Result<usize, RequestError>, Fail> {
-    match read_many(alloc, count)? {
-        Ok(request) => Ok(Ok(request.names.into_vec().len())),
-        Err(why) => Ok(Err(why)),
-    }
+    let text = many(alloc, count)?;
+    Ok(count_of(alloc, text.as_str()))
 }
 
 #[test]

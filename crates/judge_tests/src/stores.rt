@@ -1,7 +1,7 @@
 //! Store files: what is wrong with them, and two that are whole.
 
 use crate::texts::{headed, joined};
-use policy_core::{Store, StoreError, Trusted};
+use policy_core::{Known, Rule, Store, StoreError, Trusted};
 use std::alloc::Global;
 use std::test::Fail;
 use tree_core::Span;
@@ -16,9 +16,13 @@ const DIGEST: [u8; 32] = [
     0x78, 0x90, 0x1D, 0x3F, 0xB3, 0x37, 0x38, 0x76, 0x85, 0x11, 0xA3, 0x06, 0x17, 0xAF, 0xA0, 0x1D,
 ];
 
-// Reads these pieces, one behind the other.
-fn read(alloc: Global, pieces: &[&str]) -> Result<Result<Store, StoreError>, Fail> {
-    Ok(Store::read(alloc, joined(alloc, pieces)?.as_bytes()))
+fn read(alloc: Global, text: &str) -> Result<Store, StoreError> {
+    Store::read(alloc, text.as_bytes())
+}
+
+// Why a text is no store.
+fn refusal(alloc: Global, text: &str) -> Option<StoreError> {
+    read(alloc, text).err()
 }
 
 // Store files that are refused: behind `== ` why, and a remark; then the file.
@@ -294,9 +298,9 @@ hash = "0000000000000000000000000000000000000000000000000000000000000000"
 // Whether the store of this block is refused as its first line says.
 fn is_refused(alloc: Global, block: &str) -> Result<bool, Fail> {
     let (why, text) = headed(block);
-    match Store::read(alloc, text.as_bytes()) {
-        Ok(_) => Ok(false),
-        Err(found) => Ok(format!(in alloc; "{found:?}")?.as_str() == why),
+    match refusal(alloc, text) {
+        Some(found) => Ok(format!(in alloc; "{found:?}")?.as_str() == why),
+        None => Ok(false),
     }
 }
 
@@ -311,6 +315,18 @@ fn the_first_fault_is_told(rt: HostRuntime) -> Result<(), Fail> {
     Ok(())
 }
 
+// The log and the name of a store are those of 32473.1.
+fn is_named(store: &Store) -> bool {
+    store.log.as_bytes() == [0x81, 0xFD, 0x59, 0x01].as_slice()
+        && store.name.len() == 27
+        && store.name.as_slice().get(20..) == Some(b"32473.1".as_slice())
+}
+
+// The lists of a store are these.
+fn is_of(store: &Store, subtrees: &[Trusted], revoked: &[Span]) -> bool {
+    store.subtrees.as_slice() == subtrees && store.revoked.as_slice() == revoked
+}
+
 // The log and the name of the store of these pieces are those of 32473.1, and its lists are these.
 fn has_lists(
     alloc: Global,
@@ -318,14 +334,9 @@ fn has_lists(
     subtrees: &[Trusted],
     revoked: &[Span],
 ) -> Result<bool, Fail> {
-    let store = read(alloc, pieces)??;
-    Ok(
-        store.log.as_bytes() == [0x81, 0xFD, 0x59, 0x01].as_slice()
-            && store.name.len() == 27
-            && store.name.as_slice().get(20..) == Some(b"32473.1".as_slice())
-            && store.subtrees.as_slice() == subtrees
-            && store.revoked.as_slice() == revoked,
-    )
+    let text = joined(alloc, pieces)?;
+    let store = read(alloc, text.as_str())?;
+    Ok(is_named(&store) && is_of(&store, subtrees, revoked))
 }
 
 #[test]
@@ -355,34 +366,26 @@ fn a_store_keeps_its_lists_in_their_order(rt: HostRuntime) -> Result<(), Fail> {
     Ok(())
 }
 
-// The store of these pieces has a log of this id, and no items.
-fn has_log_alone(alloc: Global, pieces: &[&str], id: &[u8]) -> Result<bool, Fail> {
-    let Store {
-        log,
-        name: _,
-        cosigners,
-        rules,
-        subtrees,
-        revoked,
-    } = read(alloc, pieces)??;
-    Ok(
-        log.as_bytes() == id
-            && cosigners.into_vec().is_empty()
-            && rules.into_vec().is_empty()
-            && subtrees.into_vec().is_empty()
-            && revoked.into_vec().is_empty(),
-    )
+// How many items the lists of a store have: cosigners, rules, subtrees and ranges.
+fn lengths(store: Store) -> [usize; 4] {
+    [
+        store.cosigners.into_vec().len(),
+        store.rules.into_vec().len(),
+        store.subtrees.into_vec().len(),
+        store.revoked.into_vec().len(),
+    ]
+}
+
+// The store of a text has a log of this id, and no items.
+fn has_log_alone(alloc: Global, text: &str, id: &[u8]) -> Result<bool, Fail> {
+    let store = read(alloc, text)?;
+    Ok(store.log.as_bytes() == id && lengths(store) == [0; 4])
 }
 
 #[test]
 fn a_store_may_have_no_lists(rt: HostRuntime) -> Result<(), Fail> {
-    assert!(rt;
-        has_log_alone(
-            rt.alloc(),
-            &["log = {id = \"1\"}\nrule = []\nsubtree = []\n"],
-            &[1]
-        )?
-    );
+    let text = "log = {id = \"1\"}\nrule = []\nsubtree = []\n";
+    assert!(rt; has_log_alone(rt.alloc(), text, &[1])?);
     Ok(())
 }
 
@@ -390,10 +393,15 @@ fn a_store_may_have_no_lists(rt: HostRuntime) -> Result<(), Fail> {
 const KEY: &str =
     "AAAAAQAAAAUAAAADAAAAAAAAAAAAAAAAAAAAAH4U7Q2LRLYZGKVkewVnpJ6WngRUyw8U3ypiscp4ftyw";
 
+// How many cosigners the store of a text has.
+fn count_of(alloc: Global, text: &str) -> Result<usize, StoreError> {
+    Ok(read(alloc, text)?.cosigners.as_slice().len())
+}
+
 // How many cosigners the store of this text has, or why it is none.
 fn told(alloc: Global, text: &str) -> Result<String, Fail> {
-    match Store::read(alloc, text.as_bytes()) {
-        Ok(store) => Ok(format!(in alloc; "{}", store.cosigners.as_slice().len())?),
+    match count_of(alloc, text) {
+        Ok(count) => Ok(format!(in alloc; "{count}")?),
         Err(found) => Ok(format!(in alloc; "{found:?}")?),
     }
 }
@@ -429,20 +437,26 @@ fn a_store_has_64_cosigners_at_most(rt: HostRuntime) -> Result<(), Fail> {
     Ok(())
 }
 
-// The cosigners by their ids and the last bytes of their keys, and the rules by their counts and
-// places.
+// A cosigner by its id and the last byte of its key.
+fn cosigner_told(alloc: Global, known: &Known) -> Result<String, Fail> {
+    let (id, last) = (known.id.as_bytes(), known.key[59]);
+    Ok(format!(in alloc; "{id:?} {last}, ")?)
+}
+
+// A rule by its count and places.
+fn rule_told(alloc: Global, rule: &Rule) -> Result<String, Fail> {
+    let (count, places) = (rule.count, rule.cosigners.as_slice());
+    Ok(format!(in alloc; "{count} of {places:?}, ")?)
+}
+
+// The cosigners, and then the rules.
 fn policy_told(alloc: Global, store: &Store) -> Result<String, Fail> {
     let mut text = String::new(alloc);
     for known in store.cosigners.as_slice() {
-        text.push_str(format!(in alloc;
-            "{:?} {}, ",
-            known.id.as_bytes(),
-            known.key[59]
-        )?.as_str())?;
+        text.push_str(cosigner_told(alloc, known)?.as_str())?;
     }
     for rule in store.rules.as_slice() {
-        let places = rule.cosigners.as_slice();
-        text.push_str(format!(in alloc; "{} of {places:?}, ", rule.count)?.as_str())?;
+        text.push_str(rule_told(alloc, rule)?.as_str())?;
     }
     Ok(text)
 }
@@ -465,8 +479,7 @@ count = 1
 
 #[test]
 fn a_store_keeps_its_cosigners_and_rules(rt: HostRuntime) -> Result<(), Fail> {
-    let store = Store::read(rt.alloc(), POLICY.as_bytes())?;
-    let found = policy_told(rt.alloc(), &store)?;
+    let found = policy_told(rt.alloc(), &read(rt.alloc(), POLICY)?)?;
     assert!(rt;
         found.as_str() == "[1] 176, [2] 172, 2 of [1, 0], 1 of [0], ",
         "{found}"

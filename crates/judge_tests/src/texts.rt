@@ -1,4 +1,4 @@
-//! Texts of pieces, and texts of cases.
+//! Texts and bytes of pieces, and texts of cases.
 
 use std::alloc::Global;
 use std::test::Fail;
@@ -10,6 +10,15 @@ pub fn joined(alloc: Global, pieces: &[&str]) -> Result<String, Fail> {
         text.push_str(piece)?;
     }
     Ok(text)
+}
+
+/// The same of bytes.
+pub fn joined_bytes(alloc: Global, pieces: &[&[u8]]) -> Result<Vec<u8>, Fail> {
+    let mut bytes = Vec::new(alloc);
+    for piece in pieces {
+        bytes.extend_from_slice(piece)?;
+    }
+    Ok(bytes)
 }
 
 /// What a block begins with, up to a colon or the end of its first line, and its other lines;
