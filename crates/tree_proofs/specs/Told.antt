@@ -1,5 +1,5 @@
 -- What a call over nodes gives, where they tell their leaf hashes.
-use Rattle.std.specs.Prelude.{◌≡◌, ℕ, ◌-◌, Bool, true, List, take, Option, IfSome}
+use Rattle.std.specs.Prelude.{◌≡◌, ℕ, ◌-◌, Bool, true, List, [], ◌∷◌, ◌++◌, take, Option, IfSome}
 use Rattle.byte_forms.specs.Types.{Hash, HashFunction}
 use Rattle.tree_core.specs.Path.{part_of, path_of}
 use Rattle.tree_core.specs.Tree.{root_of}
@@ -26,3 +26,10 @@ IsProofIn h told low high start end known proof =
 abbrev pub IsProofOf : HashFunction → Option (List Hash) → ℕ → ℕ → ℕ → List Hash → Type 0
 IsProofOf h told start end size proof =
     IfSome told (λ leaves. proof ≡ proof_of h start end true (take size leaves))
+
+-- The hashes after are those before, and the hash of the leaves from start up to end behind them.
+pub record HasRootBehind (h : HashFunction) (told : Option (List Hash)) (start end : ℕ)
+    (before after : List Hash) : Type 0 where
+  pub node : Hash
+  pub root : IsRootOf h told start end node
+  pub text : after ≡ before ++ node ∷ []

@@ -5,8 +5,9 @@ ghost use Rattle.mtc_io.specs.Counts.{HasCause};
 ghost use Rattle.tree_core.specs.Subtree.{is_subtree};
 ghost use Rattle.tree_proofs.specs.Told.{IsProofIn, IsProofOf};
 
+use crate::nodes::push_node;
 use crate::tree::split_between;
-use crate::{Nodes, Path, node_of};
+use crate::{Nodes, Path};
 use mtc_io::Failed;
 
 // Puts into `out` the proof of the part `[start, end)` in the leaves from `low` up to `high`. The
@@ -39,21 +40,19 @@ fn consist_in<N: Nodes>(
         if known {
             return Ok(());
         }
-        out.push(&node_of(nodes, low, high)?);
-        return Ok(());
+        return push_node(nodes, low, high, out);
     }
     let middle = split_between(low, high);
     if end <= middle {
         consist_in(nodes, low, middle, start, end, known, out)?;
-        out.push(&node_of(nodes, middle, high)?);
+        push_node(nodes, middle, high, out)
     } else if middle <= start {
         consist_in(nodes, middle, high, start, end, known, out)?;
-        out.push(&node_of(nodes, low, middle)?);
+        push_node(nodes, low, middle, out)
     } else {
         consist_in(nodes, middle, high, middle, end, false, out)?;
-        out.push(&node_of(nodes, low, middle)?);
+        push_node(nodes, low, middle, out)
     }
-    Ok(())
 }
 
 /// Puts into `out`, in place of what it held, the consistency proof of the subtree `[start, end)`

@@ -5,8 +5,9 @@ ghost use Rattle.mtc_io.specs.Counts.{HasCause};
 ghost use Rattle.tree_core.specs.Subtree.{is_subtree};
 ghost use Rattle.tree_proofs.specs.Told.{IsPathOf};
 
+use crate::nodes::push_node;
 use crate::tree::split_between;
-use crate::{Nodes, Path, node_of};
+use crate::{Nodes, Path};
 use mtc_io::Failed;
 
 /// Puts into `out`, in place of what it held, the inclusion path of the entry at `index` in the
@@ -39,10 +40,9 @@ pub fn include<N: Nodes>(
     let middle = split_between(start, end);
     if index < middle {
         include(nodes, index, start, middle, out)?;
-        out.push(&node_of(nodes, middle, end)?);
+        push_node(nodes, middle, end, out)
     } else {
         include(nodes, index, middle, end, out)?;
-        out.push(&node_of(nodes, start, middle)?);
+        push_node(nodes, start, middle, out)
     }
-    Ok(())
 }

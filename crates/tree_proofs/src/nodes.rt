@@ -1,13 +1,14 @@
 //! Nodes of a tree as they are asked for.
 
-ghost use Rattle.std.specs.Prelude.{◌≡◌, ℕ, ◌+◌, ◌*◌, ◌^◌, ◌≤◌, true, List, length, Option, IfSome};
-ghost use Rattle.std.specs.Prelude.{IfOk};
+ghost use Rattle.std.specs.Prelude.{◌≡◌, ℕ, ◌+◌, ◌*◌, ◌^◌, ◌<◌, ◌≤◌, true, List, length, Option};
+ghost use Rattle.std.specs.Prelude.{IfSome, IfOk, OnOk};
 ghost use Rattle.byte_forms.specs.Types.{Hash};
 ghost use Rattle.mtc_io.specs.Counts.{HasCause};
 ghost use Rattle.tree_core.specs.Subtree.{is_subtree};
 ghost use Rattle.tree_proofs.specs.Full.{BeginsFull};
-ghost use Rattle.tree_proofs.specs.Told.{IsRootOf};
+ghost use Rattle.tree_proofs.specs.Told.{HasRootBehind, IsRootOf};
 
+use crate::Path;
 use mtc_io::Failed;
 use tree_core::{TreeHash, pair};
 
@@ -79,4 +80,25 @@ pub fn node_of<N: Nodes>(nodes: &mut N, start: u64, end: u64) -> Result<[u8; 32]
     }
     let rest = node_of(nodes, middle, end)?;
     Ok(pair::<N::H>(&node, &rest))
+}
+
+// Puts the hash of the subtree `[start, end)` behind the others.
+pub(crate) fn push_node<N: Nodes>(
+    nodes: &mut N,
+    start: u64,
+    end: u64,
+    out: &mut Path,
+) -> Result<(), Failed>
+    requires valid { is_subtree start end ≡ true }
+    requires within { end ≤ N.count nodes.old }
+    requires room { length out.old < 128 }
+    ensures pushed { OnOk result
+        (HasRootBehind N.H.hash (N.leaves nodes.old) start end out.old out.new) }
+    ensures list { N.leaves nodes.new ≡ N.leaves nodes.old }
+    ensures count { N.count nodes.new ≡ N.count nodes.old }
+    ensures stays { N.stays nodes.old nodes.new }
+    ensures cause { HasCause (N.faults nodes.old) (N.faults nodes.new) result }
+{
+    out.push(&node_of(nodes, start, end)?);
+    Ok(())
 }
