@@ -2,3 +2,4 @@ pub mod Calls
 pub mod Moments
 pub mod Replay
 pub mod Torn
+pub mod Turns

@@ -1,6 +1,6 @@
 -- Runs of calls of a disk, and what a crash leaves at their moments.
-use Rattle.std.proofs.Common.{◌⊎◌, inl, inr, ℕ, ◌≤◌, List, refl, ◌∙◌, arith}
-use Rattle.disk_core.specs.Disk.{Elapses}
+use Rattle.std.proofs.Common.{◌≡◌, ◌⊎◌, inl, inr, ℕ, ◌≤◌, List, refl, ◌∙◌, arith}
+use Rattle.disk_core.specs.Disk.{Elapses, NoNew}
 use Rattle.disk_core.specs.Moments.{LeavesOnly, Looks}
 use Rattle.disk_core.specs.declared.disk.Disk.{Ghosts}
 
@@ -76,6 +76,23 @@ module _ {D : Type 0} (g : Ghosts D) where
         (g.may_leave old) first.crash second.moments);
     known = let a = first.known in let b = second.known in omega arith;
     faults = let a = first.faults in let b = second.faults in omega arith;
+  }
+
+  -- one call that looks
+  pub one_look : (old new : D) → g.told new ≡ g.told old
+      → NoNew (g.may_leave old) (g.may_leave new)
+      → Elapses (g.moment old) (g.moment new) (g.left_since old) (g.left_since new)
+      (g.may_leave new)
+      → g.known old ≤ g.known new → g.faults old ≤ g.faults new
+      → ((c : List ℕ) → g.left_since old (g.moment old) c → g.may_leave old c)
+      → Looks g old new
+  one_look old new told crash time known faults only_now = record {
+    told = told;
+    crash = crash;
+    moments = goes_on old old new (g.may_leave old)
+        (started old (g.may_leave old) only_now (λ c left. left)) time crash;
+    known = known;
+    faults = faults;
   }
 
   -- no look

@@ -67,7 +67,6 @@ impl Calls {
     }
 
     // A call that only looks. It is refused where no number is left for it.
-    #[tactic(auto, using(crate::proofs::Calls::look_more, crate::proofs::Calls::looks_few))]
     pub(crate) fn look(&mut self) -> Result<(), Memory>
         ensures calls { made_calls self.new
             ≡ noted (is_ok result) Call.Len true (made_calls self.old) }

@@ -7,3 +7,11 @@ returns-in_err-write_at-clause-any_moment g c =
     goes_on g.D.Disk _ _ _ _
     (started g.D.Disk _ _ (g.met.D.Disk.only_now _) (λ i is. (i, is, torn_none _ _ i)))
     c.write_at.ensures.time c.write_at.ensures.crash
+
+pub returns-clause-any_moment : goal.returns-clause-any_moment
+returns-clause-any_moment g c =
+    goes_on g.D.Disk _ _ _ _
+    (goes_on g.D.Disk _ _ _ _
+    (started g.D.Disk _ _ (g.met.D.Disk.only_now _) (λ i is. (i, is, torn_none _ _ i)))
+    c.write_at.ensures.time c.write_at.ensures.crash)
+    c.sync.ensures.time (λ i left. c.write_at.ensures.crash i (c.sync.ensures.crash i left))

@@ -1,7 +1,7 @@
 use Rattle.std.proofs.Common.{ap, arith, length}
 use Rattle.std.proofs.lemmas.List.{length_push}
 use Rattle.disk_core.specs.Calls.{calls_in, looked}
-use Rattle.disk_core.proofs.Calls.{look_more}
+use Rattle.disk_core.proofs.Calls.{look_more, looks_few}
 use Rattle.disk_core.proofs.memory.calls.Calls.look.Goals as goal
 
 pub invariant_of-self : goal.invariant_of-self
@@ -10,3 +10,12 @@ invariant_of-self c =
     let more = ap length (look_more it.changes.items it.looks) in
     let longer = length_push (calls_in it.changes.items it.looks) looked in
     record { counted = omega (arith, more, longer, it.counted); kept = it.kept }
+
+pub overflow_add-self : goal.overflow_add-self
+overflow_add-self c =
+    let it = c.args.self.now in
+    let few = looks_few it.changes.items it.looks in
+    omega (arith, few, it.counted)
+
+pub returns-clause-calls : goal.returns-clause-calls
+returns-clause-calls c = look_more c.args.self.now.changes.items c.args.self.now.looks

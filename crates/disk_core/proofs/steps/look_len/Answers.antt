@@ -1,0 +1,15 @@
+use Rattle.std.proofs.Common.{◌≡◌, ℕ, ◌≤◌, max, Result, Ok, Err, MatchResult, arith}
+use Rattle.disk_core.proofs.Moments.{one_look}
+use Rattle.disk_core.proofs.steps.look_len.Goals as goal
+
+-- the known length never falls
+no_shorter : {E : Type 0} (result : Result ℕ E) (old new : ℕ)
+    → MatchResult result (λ n. new ≡ max n old) (λ _. new ≡ old) → old ≤ new
+no_shorter (Ok n) old new is = omega arith
+no_shorter (Err e) old new is = omega arith
+
+pub returns-clause-looks : goal.returns-clause-looks
+returns-clause-looks g c =
+    one_look g.D.Disk _ _ c.len.ensures.told c.len.ensures.crash c.len.ensures.time
+    (no_shorter _ _ _ c.len.ensures.known) c.len.ensures.cause.later
+    (g.met.D.Disk.only_now _)
