@@ -1,5 +1,7 @@
+use Rattle.std.proofs.Common.{◌∙◌}
 use Rattle.std.specs.Io.KnownBytes.{Appends}
 use Rattle.mtc_io.specs.Streams.{AppendsPrefix}
+use Rattle.disk_core.proofs.Moments.{looked_on}
 use Rattle.journal_core.specs.Words.{disk_of, end_of}
 use Rattle.journal_core.proofs.Copies.{record_none, record_of_part}
 use Rattle.journal_core.proofs.copying.copy_record.Goals as goal
@@ -29,3 +31,19 @@ returns-clause-prefix g c =
     (g.D.Disk.told (disk_of c.args.journal.now)) (g.D.Disk.told (disk_of c.body_size.new.journal))
     c.body_size.ensures.kept.looks.told c.args.gate (end_of c.args.journal.now) c.in-Ok.size
     c.in-Ok.ensures.size c.copy.ensures.prefix
+
+pub returns-in_err-copy-clause-kept : goal.returns-in_err-copy-clause-kept
+returns-in_err-copy-clause-kept g c = record {
+  list = c.copy.ensures.kept.list ∙ c.body_size.ensures.kept.list;
+  end = c.copy.ensures.kept.end ∙ c.body_size.ensures.kept.end;
+  broken = c.copy.ensures.kept.broken ∙ c.body_size.ensures.kept.broken;
+  looks = looked_on g.D.Disk _ _ _ c.body_size.ensures.kept.looks c.copy.ensures.kept.looks;
+}
+
+pub returns-clause-kept : goal.returns-clause-kept
+returns-clause-kept g c = record {
+  list = c.copy.ensures.kept.list ∙ c.body_size.ensures.kept.list;
+  end = c.copy.ensures.kept.end ∙ c.body_size.ensures.kept.end;
+  broken = c.copy.ensures.kept.broken ∙ c.body_size.ensures.kept.broken;
+  looks = looked_on g.D.Disk _ _ _ c.body_size.ensures.kept.looks c.copy.ensures.kept.looks;
+}

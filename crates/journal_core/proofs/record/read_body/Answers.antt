@@ -1,6 +1,7 @@
 use Rattle.std.proofs.Common.{◌≡◌, ◌≢◌, ◌+◌, ℕ, List, length, drop, slice_index, arith, ◌∙◌}
 use Rattle.std.specs.Int.{w32, to_be_bytes}
 use Rattle.disk_core.specs.Disk.{part}
+use Rattle.disk_core.proofs.Moments.{looked_on, no_look}
 use Rattle.journal_core.specs.Format.{IsRecordAt}
 use Rattle.journal_core.specs.Windows.{Holds}
 use Rattle.journal_core.proofs.Told.{if_told, at_told}
@@ -29,3 +30,14 @@ returns-clause-body g c =
     c.in_ok-length.ensures.size)
     (held_part window b (gate + 5) (place + 5) count holds (omega arith) (omega arith))
     (omega arith) (omega arith) (omega arith))
+
+pub returns-then-size-place-lt5-clause-looks : goal.returns-then-size-place-lt5-clause-looks
+returns-then-size-place-lt5-clause-looks g c = no_look g.D.Disk _ (g.met.D.Disk.only_now _)
+
+pub returns-in_err-gate-clause-looks : goal.returns-in_err-gate-clause-looks
+returns-in_err-gate-clause-looks g c =
+    looked_on g.D.Disk _ _ _ c.read_size.ensures.looks c.hold.ensures.looks
+
+pub returns-clause-looks : goal.returns-clause-looks
+returns-clause-looks g c =
+    looked_on g.D.Disk _ _ _ c.read_size.ensures.looks c.hold.ensures.looks

@@ -1,6 +1,6 @@
-use Rattle.std.proofs.Common.{◌≡◌, ◌+◌, ℕ, List, length, take, ap, ◌∙◌, add_comm, true, false}
-use Rattle.std.proofs.Common.{arith, rules, refl}
-use Rattle.journal_core.specs.Format.{tail_of}
+use Rattle.std.proofs.Common.{◌≡◌, ◌+◌, ℕ, List, length, take, ap, ◌∙◌, add_comm, true≢false}
+use Rattle.std.proofs.Common.{arith, rules, refl, le_trans, Option, Some, None, is_some, option_map}
+use Rattle.journal_core.specs.Format.{tail_of, records_of}
 use Rattle.journal_core.proofs.Steps.{done_settled, done_all, done_records, done_written}
 use Rattle.journal_core.proofs.Steps.{one_step, both_steps, still_stands}
 use Rattle.journal_core.proofs.Appends.{untouched_moment}
@@ -16,8 +16,7 @@ piece_is buffer room body same is =
 pub invariant_of-self : goal.invariant_of-self
 invariant_of-self g c = record {
   room = search rules;
-  there = let kept = c.write_synced.ensures.known_kept in let was =
-      c.args.self.now.there in omega arith;
+  there = le_trans c.args.self.now.there c.write_synced.ensures.known_kept;
   begun = c.args.self.now.begun;
   stands =
       still_stands g.D.Disk c.args.self.now.disk c.write_synced.new.disk c.args.body.now
@@ -30,14 +29,14 @@ invariant_of-self g c = record {
       (piece_is _ _ _ c.deref.ensures.value c.pack.ensures.tail) c.requires.some c.requires.few
       (length (take (length c.args.body.now + 5) c.deref.result.now))
       c.write_synced.ensures.any_moment);
-  settled = λ sound. let wrong : true ≡ false = sound in cc;
+  settled = λ sound. absurd (true≢false sound);
 }
 
 pub invariant_of-self-in-Break-branch-2 : goal.invariant_of-self-in-Break-branch-2
 invariant_of-self-in-Break-branch-2 g c = record {
   room = search rules;
-  there = let kept = c.write_synced.ensures.known_kept in let later =
-      c.write_synced-2.ensures.known_kept in let was = c.args.self.now.there in omega arith;
+  there = le_trans (le_trans c.args.self.now.there c.write_synced.ensures.known_kept)
+      c.write_synced-2.ensures.known_kept;
   begun = c.args.self.now.begun;
   stands =
       still_stands g.D.Disk c.args.self.now.disk c.write_synced-2.new.disk c.args.body.now
@@ -52,7 +51,7 @@ invariant_of-self-in-Break-branch-2 g c = record {
       c.write_synced.ensures.any_moment
       c.in_ok-write_synced.ensures.written c.in_ok-write_synced.ensures.durable
       c.write_synced-2.ensures.any_moment);
-  settled = λ sound. let wrong : true ≡ false = sound in cc;
+  settled = λ sound. absurd (true≢false sound);
 }
 
 pub invariant_of-self-2-clause-stands : goal.invariant_of-self-2-clause-stands
@@ -144,3 +143,30 @@ returns-clause-any_moment g c = λ sound.
     c.write_synced.ensures.any_moment
     c.in_ok-write_synced.ensures.written c.in_ok-write_synced.ensures.durable
     c.write_synced-2.ensures.any_moment
+
+-- whether records are told
+some_records : (old new : Option (List ℕ)) → is_some new ≡ is_some old
+    → is_some (option_map records_of new) ≡ is_some (option_map records_of old)
+some_records None None is = is
+some_records None (Some new) is = is
+some_records (Some old) None is = is
+some_records (Some old) (Some new) is = is
+
+pub returns-in_err-write_synced-clause-told : goal.returns-in_err-write_synced-clause-told
+returns-in_err-write_synced-clause-told g c = some_records _ _ c.write_synced.ensures.told
+
+pub returns-in_err-write_synced-2-clause-told : goal.returns-in_err-write_synced-2-clause-told
+returns-in_err-write_synced-2-clause-told g c =
+    some_records _ _ (c.write_synced-2.ensures.told ∙ c.write_synced.ensures.told)
+
+pub returns-clause-told : goal.returns-clause-told
+returns-clause-told g c =
+    some_records _ _ (c.write_synced-2.ensures.told ∙ c.write_synced.ensures.told)
+
+pub returns-in_err-write_synced-2-clause-count : goal.returns-in_err-write_synced-2-clause-count
+returns-in_err-write_synced-2-clause-count g c =
+    le_trans c.write_synced.ensures.cause.later c.write_synced-2.ensures.cause.later
+
+pub returns-clause-count : goal.returns-clause-count
+returns-clause-count g c =
+    le_trans c.write_synced.ensures.cause.later c.write_synced-2.ensures.cause.later
