@@ -1,16 +1,19 @@
 -- Why a record is not taken into a cosigner.
-use Rattle.std.proofs.Common.{◌≡◌, ℕ, [], length, IfSome, option_map, Err}
+use Rattle.std.proofs.Common.{◌≡◌, ℕ, [], length, IfSome, IsErrAnd, IfErr, option_map, Ok, Err}
+use Rattle.std.proofs.Common.{Result, subst, sym, ◌∙◌}
 use Rattle.byte_forms.specs.Types.{Text, HashFunction}
 use Rattle.disk_core.specs.Moments.{Looks}
 use Rattle.disk_core.specs.declared.disk.Disk.{Ghosts}
 use Rattle.journal_core.specs.Openings.{opening_disk, read_list, last_body, HasRead}
 use Rattle.journal_core.specs.Readings.{HasFolded}
 use Rattle.journal_core.specs.declared.opening.Opening.{Opening}
-use Rattle.journal_core.proofs.FoldSteps.{refused_first, refused_next}
+use Rattle.journal_core.proofs.FoldSteps.{cause_later, refused_first, refused_later, refused_next}
 use Rattle.cosigner_core.specs.Faults.{cosigner_refusal_at}
 use Rattle.cosigner_core.specs.Folds.{CosignerState, begun_cosigner, next_state, cosigner_fold}
-use Rattle.cosigner_core.specs.Openings.{HasCosignerCause}
+use Rattle.cosigner_core.specs.Openings.{CosignerCountsNoOther, HasCosignerCause}
 use Rattle.cosigner_core.specs.Results.{CosignerFinds, CosignerTakes}
+use Rattle.cosigner_core.specs.declared.error.CosignerOpenError.{CosignerOpenError}
+use Rattle.cosigner_core.specs.declared.error.CosignerOpenError.TheVariants.{BadRecord, Open}
 use Rattle.cosigner_core.specs.declared.error.RecordError.{RecordError}
 use Rattle.cosigner_core.specs.declared.error.RecordError.TheVariants.{Unfit, Memory}
 
@@ -34,3 +37,23 @@ module _ {D : Type 0} {g : Ghosts D} (h : HashFunction) (old new : Opening D g) 
   cause_begun Unfit none finds = refused_first (cosigner_fold h) old new body last read
       looks none finds
   cause_begun Memory none finds = tt
+
+-- what holds of the error that is handed on
+pub of_error : {S E : Type 0} (P : E → Type 0) (result : Result S E) (why : E)
+    → IsErrAnd result (λ e. e ≡ why) → P why → IfErr result P
+of_error P (Ok s) why is holds = absurd is
+of_error P (Err e) why is holds = subst P (sym is) holds
+
+module _ {D : Type 0} (g : Ghosts D) (old mid new : D) where
+  -- the cause of a refusal behind calls that only look
+  pub cause_behind : (h : HashFunction) (why : CosignerOpenError) → Looks g old mid
+      → HasCosignerCause g h mid new why → HasCosignerCause g h old new why
+  cause_behind h (BadRecord k) looks cause =
+      refused_later g (cosigner_fold h) old mid (BadRecord k) looks cause
+  cause_behind h (Open why) looks cause =
+      cause_later g (cosigner_fold h) old mid new why looks cause
+
+  -- and that no other fault was counted
+  pub counts_behind : (why : CosignerOpenError) → g.faults mid ≡ g.faults old
+      → CosignerCountsNoOther g mid new why → CosignerCountsNoOther g old new why
+  counts_behind why same counts = λ other. counts other ∙ same

@@ -75,7 +75,7 @@ pub enum ReadExportError {
 }
 
 /// Why a record is not taken.
-#[derive(Clone, Copy, Debug, PartialEq, Eq)]
+#[derive(Clone, Copy)]
 pub(crate) enum RecordError {
     /// It breaks the rules.
     Unfit,

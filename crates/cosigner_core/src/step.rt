@@ -24,7 +24,7 @@ pub enum Step {
 }
 
 /// A step as it is read. The hashes of the proof lie in the record.
-#[derive(Clone, Copy, Debug)]
+#[derive(Clone, Copy)]
 pub(crate) enum StepRef<'a> {
     /// A larger log is held.
     Advance {

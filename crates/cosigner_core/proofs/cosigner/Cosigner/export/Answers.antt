@@ -1,4 +1,5 @@
 use Rattle.std.proofs.Common.{◌∙◌, sym}
+use Rattle.disk_core.proofs.Moments.{no_look}
 use Rattle.journal_core.proofs.Copies.{when_ok}
 use Rattle.cosigner_core.specs.Words.{cosigner_disk, cosigner_end, cosigner_records, cosigner_state}
 use Rattle.cosigner_core.proofs.Exported.{export_begun, export_prefix, export_whole}
@@ -31,3 +32,6 @@ returns-clause-prefix g c =
     (g.D.Disk.told (cosigner_disk it)) (g.O.Sink.taken c.args.out.now)
     (g.O.Sink.taken c.write_front.new.out) (g.O.Sink.taken c.write_rest.new.out) it.settled
     (g.met.D.Disk.told_bytes (cosigner_disk it)) c.in-Ok.ensures.ok c.write_rest.ensures.prefix
+
+pub returns-in-Err-clause-looks : goal.returns-in-Err-clause-looks
+returns-in-Err-clause-looks g c = no_look g.D.Disk _ (g.met.D.Disk.only_now _)

@@ -3,12 +3,14 @@ use Rattle.byte_forms.specs.Types.{Text}
 use Rattle.disk_core.specs.Moments.{Looks}
 use Rattle.disk_core.proofs.Moments.{looked_on}
 use Rattle.journal_core.specs.Ends.{settled_records}
-use Rattle.journal_core.specs.Format.{StandsFor}
+use Rattle.journal_core.specs.Format.{StandsFor, end_behind}
 use Rattle.journal_core.specs.Openings.{opening_disk, read_list}
-use Rattle.journal_core.specs.Words.{AllStandFor, disk_of}
+use Rattle.journal_core.specs.Words.{AllStandFor, disk_of, end_of}
 use Rattle.journal_core.proofs.FoldSteps.{cause_begin}
 use Rattle.cosigner_core.specs.Folds.{cosigner_fold, cosigner_of}
 use Rattle.cosigner_core.specs.Openings.{cosigner_read}
+use Rattle.cosigner_core.specs.declared.error.CosignerOpenError.TheVariants.{Open}
+use Rattle.cosigner_core.proofs.Readings.{cause_behind, counts_behind}
 use Rattle.cosigner_core.proofs.Keeps.{both_told, keeps_sound, of_sound, sound_records}
 use Rattle.cosigner_core.proofs.cosigner.Cosigner.open.Goals as goal
 
@@ -62,3 +64,56 @@ pub returns-in-Ok-read_signer-clause-all : goal.returns-in-Ok-read_signer-clause
 returns-in-Ok-read_signer-clause-all g c =
     of_sound c.ready.result (AllStandFor g.D.Disk (disk_of c.ready.result))
     c.ready.ensures.sound c.ready.ensures.all
+
+pub returns-in-Ok-read_signer-clause-fine : goal.returns-in-Ok-read_signer-clause-fine
+returns-in-Ok-read_signer-clause-fine g c =
+    ap g.D.Disk.faults c.ready.ensures.disk ∙ c.in-Ok-read_signer.ensures.fine
+    ∙ c.in-Ok.ensures.ok.fine
+
+pub returns-in-Ok-read_signer-clause-valid : goal.returns-in-Ok-read_signer-clause-valid
+returns-in-Ok-read_signer-clause-valid g c =
+    let signer = c.in-Ok-read_signer.signer in
+    subst (λ (o : Option (List Text)). IfSome o (λ list.
+    cosigner_of g.H.TreeHash.hash list ≡ Ok signer))
+    (sym (sound_records c.ready.result c.ready.ensures.sound ∙ c.ready.ensures.list))
+    c.in-Ok-read_signer.ensures.found.made
+
+pub returns-in-Ok-read_signer-clause-end : goal.returns-in-Ok-read_signer-clause-end
+returns-in-Ok-read_signer-clause-end g c =
+    of_sound c.ready.result (λ list. end_of c.ready.result ≡ end_behind list)
+    c.ready.ensures.sound c.ready.ensures.end
+
+pub returns-in-Err-clause-err : goal.returns-in-Err-clause-err
+returns-in-Err-clause-err g c = rw c.hand_back.ensures.disk c.in-Err.ensures.looks
+
+pub returns-in-Err-clause-fine_err : goal.returns-in-Err-clause-fine_err
+returns-in-Err-clause-fine_err g c =
+    rw (c.hand_back.ensures.disk, c.hand_back.ensures.why)
+    (λ other. c.in-Err.ensures.fine (λ is. other (ap Open is)))
+
+pub returns-in-Err-read_signer-clause-err : goal.returns-in-Err-read_signer-clause-err
+returns-in-Err-read_signer-clause-err g c =
+    rw (c.hand_back-in-Err-read_signer.ensures.disk, c.into_disk.ensures)
+    (looked_on g.D.Disk _ _ _ c.in-Ok.ensures.ok.looks c.read_signer.ensures.looks)
+
+pub returns-in-Err-read_signer-clause-cause : goal.returns-in-Err-read_signer-clause-cause
+returns-in-Err-read_signer-clause-cause g c =
+    rw (
+      c.hand_back-in-Err-read_signer.ensures.disk,
+      c.hand_back-in-Err-read_signer.ensures.why,
+      c.into_disk.ensures,
+    )
+    (cause_behind g.D.Disk c.args.disk (opening_disk c.in-Ok.opening)
+    (opening_disk c.read_signer.new.opening) g.H.TreeHash.hash c.in-Err-read_signer.why
+    c.in-Ok.ensures.ok.looks c.in-Err-read_signer.ensures.err)
+
+pub returns-in-Err-read_signer-clause-fine_err : goal.returns-in-Err-read_signer-clause-fine_err
+returns-in-Err-read_signer-clause-fine_err g c =
+    rw (
+      c.hand_back-in-Err-read_signer.ensures.disk,
+      c.hand_back-in-Err-read_signer.ensures.why,
+      c.into_disk.ensures,
+    )
+    (counts_behind g.D.Disk c.args.disk (opening_disk c.in-Ok.opening)
+    (opening_disk c.read_signer.new.opening) c.in-Err-read_signer.why c.in-Ok.ensures.ok.fine
+    c.in-Err-read_signer.ensures.fine_err)
