@@ -4,5 +4,7 @@ mod Repeats
 mod Asked
 mod TrustedHash
 mod Policies
+mod Chains
+mod Items
 pub mod Sets
 pub mod Judgements

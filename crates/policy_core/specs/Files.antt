@@ -18,6 +18,7 @@ use Rattle.policy_core.specs.declared.error.StoreError.TheVariants.{NotToml, Unk
 use Rattle.policy_core.specs.declared.error.StoreError.TheVariants.{RepeatedId, RepeatedSubtree}
 use Rattle.policy_core.specs.declared.error.StoreError.TheVariants.{BadRange}
 use Rattle.policy_core.specs.declared.lists.Trusted.{Trusted}
+use Rattle.policy_core.specs.declared.rules.Rule.{Rule}
 use Rattle.policy_core.specs.declared.store.Store.{Store}
 use Rattle.policy_core.specs.Stores.{has_repeat, has_same_id, has_same_interval}
 use Rattle.policy_core.specs.Fields.{table_with, store_field, id_data, list_at}
@@ -72,6 +73,17 @@ checked_store s =
     if has_repeat has_same_id s.cosigners then Err RepeatedId
     else (if has_repeat has_same_interval s.subtrees then Err RepeatedSubtree
     else (if are_subtrees s.subtrees && are_inhabited s.revoked then Ok s else Err BadRange))
+
+-- The rules, behind the cosigners that they are over; the revoked ranges, behind the subtrees.
+abbrev pub rules_in : Members → Result (List Rule) StoreError
+rules_in ms =
+    cosigners_at (get_member (codes "cosigner") ms) >>= λ known.
+    rules_at known (get_member (codes "rule") ms)
+
+abbrev pub revoked_in : Members → Result (List Span) StoreError
+revoked_in ms =
+    list_at subtree_data (get_member (codes "subtree") ms) >>= λ subtrees.
+    list_at range_data (get_member (codes "revoked") ms)
 
 -- The store that the members of the root say.
 unfoldable pub store_in : Members → Result Store StoreError

@@ -1,8 +1,9 @@
 //! What a store has to be as a whole.
 
-ghost use Rattle.std.specs.Prelude.{◌≡◌, length, IfOk};
+ghost use Rattle.std.specs.Prelude.{◌≡◌, ◌≢◌, length, Ok, Err, IfOk, IfErr};
 ghost use Rattle.byte_forms.specs.Readings.{Answers};
 ghost use Rattle.std.specs.List.{AllByRecursion, list_any};
+ghost use Rattle.policy_core.specs.declared.error.StoreError.{StoreError};
 ghost use Rattle.policy_core.specs.Files.{are_inhabited, are_subtrees, checked_store};
 ghost use Rattle.policy_core.specs.Stores.{has_repeat, has_same_id, has_same_interval, IsRule};
 ghost use Rattle.policy_core.specs.Stores.{IsValid};
@@ -69,13 +70,15 @@ fn all_inhabited(ranges: &[Span]) -> bool
     ranges.iter().all(|range| range.start < range.end)
 }
 
-/// The store, where it is one as a whole: no two cosigners have one id, no interval is trusted
-/// twice, each is that of a subtree, and each range holds a number.
+// No fault is found in the store: no two cosigners have one id, no interval is trusted twice, each
+// is that of a subtree, and each range holds a number.
 #[tactic(auto, unfolding(crate::specs::Files::checked_store))]
-pub fn check(alloc: Global, store: Store) -> Result<Store, StoreError>
-    ensures exact { Answers StoreError.Memory (checked_store store) result }
-    ensures valid { store.name ≡ name_with (text_of store.log)
-        → AllByRecursion (IsRule (length store.cosigners)) store.rules → IfOk result IsValid }
+fn look_through(alloc: Global, store: &Store) -> Result<(), StoreError>
+    ensures ok { IfOk result (λ _. checked_store store.now ≡ Ok store.now) }
+    ensures err { IfErr result (λ e. e ≢ StoreError.Memory → checked_store store.now ≡ Err e) }
+    ensures valid { store.now.name ≡ name_with (text_of store.now.log)
+        → AllByRecursion (IsRule (length store.now.cosigners)) store.now.rules
+        → IfOk result (λ _. IsValid store.now) }
 {
     if ids_repeat(store.cosigners.as_slice()) {
         return Err(StoreError::RepeatedId);
@@ -89,5 +92,16 @@ pub fn check(alloc: Global, store: Store) -> Result<Store, StoreError>
     if !all_inhabited(store.revoked.as_slice()) {
         return Err(StoreError::BadRange);
     }
+    Ok(())
+}
+
+/// The store, where it is one as a whole: no two cosigners have one id, no interval is trusted
+/// twice, each is that of a subtree, and each range holds a number.
+pub fn check(alloc: Global, store: Store) -> Result<Store, StoreError>
+    ensures exact { Answers StoreError.Memory (checked_store store) result }
+    ensures valid { store.name ≡ name_with (text_of store.log)
+        → AllByRecursion (IsRule (length store.cosigners)) store.rules → IfOk result IsValid }
+{
+    look_through(alloc, &store)?;
     Ok(store)
 }
