@@ -20,7 +20,7 @@ use der_core::tags::{INTEGER, SEQUENCE};
 use der_core::{CertError, Reader, unsigned};
 
 /// The fields behind the serial number.
-#[derive(Clone, Copy, Debug)]
+#[derive(Clone, Copy)]
 pub struct Fields<'a> {
     pub algorithm: &'a [u8],
     pub issuer: &'a [u8],

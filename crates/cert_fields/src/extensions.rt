@@ -25,7 +25,7 @@ use der_core::{CertError, DerError, Reader, boolean, oid};
 const FEW: usize = 64;
 
 /// One extension.
-#[derive(Clone, Copy, Debug)]
+#[derive(Clone, Copy)]
 pub struct Extension<'a> {
     pub identifier: &'a [u8],
     pub critical: bool,
