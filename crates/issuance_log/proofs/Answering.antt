@@ -1,5 +1,6 @@
 -- The answers of the calls of a log that append a record.
 use Rattle.std.proofs.Common.{◌≡◌, ℕ, ◌+◌, ◌<◌, ◌≤◌, ◌==◌, nat_lt, if◌then◌else◌, Bool, true, false}
+use Rattle.std.specs.Prelude.{nat_le}
 use Rattle.std.proofs.Common.{length, Option, Some, None, option_map, Result, Ok, Err, refl}
 use Rattle.std.proofs.Common.{sym, ◌∙◌, ap, subst, ⊎_elim, arith}
 use Rattle.std.specs.Prelude.{◌↔◌, IsErrOf, IsTrue}
@@ -11,11 +12,13 @@ use Rattle.journal_core.specs.declared.error.AppendError.{AppendError}
 use Rattle.journal_core.specs.declared.error.AppendError.TheVariants.{Broken, Failed, Full}
 use Rattle.issuance_log.specs.Folds.{LogView}
 use Rattle.issuance_log.specs.Marks.{last_mark}
-use Rattle.issuance_log.specs.Records.{entry_record, landmark_record}
-use Rattle.issuance_log.specs.Refusals.{MarkKeepsTo, add_refusal, append_refusal, mark_refusal}
+use Rattle.issuance_log.specs.Records.{entry_record, landmark_record, tiles_record}
+use Rattle.issuance_log.specs.Refusals.{MarkKeepsTo, TilesKeepTo, add_refusal, append_refusal}
+use Rattle.issuance_log.specs.Refusals.{full_size, mark_refusal, tile_refusal}
 use Rattle.issuance_log.specs.Settings.{most_item}
 use Rattle.issuance_log.specs.declared.error.LogError.{LogError}
-use Rattle.issuance_log.specs.declared.error.LogError.TheVariants.{Append}
+use Rattle.issuance_log.specs.declared.error.LogError.TheVariants.{Append, Memory, NothingNew}
+use Rattle.issuance_log.specs.declared.error.LogError.TheVariants.{Failed as TilesFailed}
 
 -- a journal that answers so is broken, and so is too full
 abbrev TellsBroken : Result (Unit {0}) AppendError → Bool → Type 0
@@ -110,5 +113,70 @@ marked_refused v broken end text why above is tells full =
     subst (λ (o : Option LogError). MarkKeepsTo o (Err (Append why)))
     (sym (else_is (last_mark v.marks == v.size) _ _ (apart_test (last_mark v.marks) v.size above)))
     (mark_keeps (append_refusal broken end (landmark_record v.size)) why
+    (subst (λ (t : Text). AppendKeepsTo (append_refusal broken end t) why) is
+    (refused_keeps broken end text why tells full)))
+
+-- ---- tiles
+
+tiled_test : (a b : ℕ) → b < a → nat_le a b ≡ false
+tiled_test a b less = grind (arith, nat_tests)
+
+stored_test : (a b : ℕ) → a ≤ b → nat_le a b ≡ true
+stored_test a b le = grind (arith, nat_tests)
+
+-- there are no new ones
+pub tiles_old : (v : LogView) (broken : Bool) (end : ℕ) → full_size v ≤ v.tiled
+    → tile_refusal v broken end ≡ Some NothingNew
+unfolding tile_refusal
+tiles_old v broken end le =
+    ap (λ (b : Bool). if b then Some NothingNew
+    else option_map Append (append_refusal broken end (tiles_record (full_size v))))
+    (stored_test (full_size v) v.tiled le)
+
+-- there are, so the journal alone refuses
+tiles_new : (v : LogView) (broken : Bool) (end : ℕ) → v.tiled < full_size v
+    → tile_refusal v broken end
+    ≡ option_map Append (append_refusal broken end (tiles_record (full_size v)))
+unfolding tile_refusal
+tiles_new v broken end less =
+    else_is (nat_le (full_size v) v.tiled) _ _ (tiled_test (full_size v) v.tiled less)
+
+by_journal : (o : Option AppendError) → option_map Append o ≡ Some NothingNew → ⊥
+by_journal None is = absurd cc
+by_journal (Some why) is = absurd cc
+
+pub tiles_starved : (v : LogView) (broken : Bool) (end : ℕ) → v.tiled < full_size v
+    → TilesKeepTo (tile_refusal v broken end) (Err Memory)
+tiles_starved v broken end less =
+    λ is. by_journal (append_refusal broken end (tiles_record (full_size v)))
+    (sym (tiles_new v broken end less) ∙ is)
+
+pub tiles_failed : (v : LogView) (broken : Bool) (end : ℕ) → v.tiled < full_size v
+    → TilesKeepTo (tile_refusal v broken end) (Err TilesFailed)
+tiles_failed v broken end less =
+    λ is. by_journal (append_refusal broken end (tiles_record (full_size v)))
+    (sym (tiles_new v broken end less) ∙ is)
+
+pub tiled_answer : (v : LogView) (broken : Bool) (end : ℕ) (text : Text) (done : Unit {0})
+    → v.tiled < full_size v → text ≡ tiles_record (full_size v) → broken ≡ false
+    → TellsFull (Ok done) broken end text → tile_refusal v broken end ≡ None
+tiled_answer v broken end text done less is sound full =
+    tiles_new v broken end less ∙ ap (λ o. option_map Append o)
+    (appended_none broken end text (tiles_record (full_size v)) done is sound full)
+
+tiles_keep : (wanted : Option AppendError) (why : AppendError) → AppendKeepsTo wanted why
+    → TilesKeepTo (option_map Append wanted) (Err (Append why))
+tiles_keep wanted Failed is = ap (λ o. option_map Append o) is
+tiles_keep wanted Broken is = ap (λ o. option_map Append o) is
+tiles_keep wanted Full is = ap (λ o. option_map Append o) is
+
+pub tiled_refused : (v : LogView) (broken : Bool) (end : ℕ) (text : Text) (why : AppendError)
+    → v.tiled < full_size v → text ≡ tiles_record (full_size v) → TellsBroken (Err why) broken
+    → TellsFull (Err why) broken end text
+    → TilesKeepTo (tile_refusal v broken end) (Err (Append why))
+tiled_refused v broken end text why less is tells full =
+    subst (λ (o : Option LogError). TilesKeepTo o (Err (Append why)))
+    (sym (tiles_new v broken end less))
+    (tiles_keep (append_refusal broken end (tiles_record (full_size v))) why
     (subst (λ (t : Text). AppendKeepsTo (append_refusal broken end t) why) is
     (refused_keeps broken end text why tells full)))

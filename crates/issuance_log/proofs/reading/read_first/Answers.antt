@@ -74,3 +74,34 @@ returns-in-Err-clause-fine_err g c =
     let new = c.next.follows.lender-at-none in
     let refused = subst (Nexts old new) c.in-Err.is c.next.follows.holds-at-none in
     λ other. refused.1.fine (λ is. other (ap Open is))
+
+pub returns-in-Ok-clause-looks : goal.returns-in-Ok-clause-looks
+returns-in-Ok-clause-looks g c =
+    let old = c.args.opening.now in
+    let new = c.next.follows.lender-at-none in
+    let read = subst (Nexts old new) (c.in-Ok-Some.is
+    ∙ ap Ok c.in-Ok-Some.field-0-is) c.next.follows.holds-at-none in
+    read.2.looks
+
+pub returns-in-Err-begin-clause-looks : goal.returns-in-Err-begin-clause-looks
+returns-in-Err-begin-clause-looks g c =
+    let old = c.args.opening.now in
+    let new = c.next.follows.lender-at-none in
+    let read = subst (Nexts old new) (c.in-Ok-Some.is
+    ∙ ap Ok c.in-Ok-Some.field-0-is) c.next.follows.holds-at-none in
+    read.2.looks
+
+pub returns-in-Ok-None-clause-looks : goal.returns-in-Ok-None-clause-looks
+returns-in-Ok-None-clause-looks g c =
+    let old = c.args.opening.now in
+    let new = c.next.follows.lender-at-none in
+    let ended = subst (Nexts old new) (c.in-Ok-None.is
+    ∙ ap Ok c.in-Ok-None.field-0-is) c.next.follows.holds-at-none in
+    ended.1.looks
+
+pub returns-in-Err-clause-looks : goal.returns-in-Err-clause-looks
+returns-in-Err-clause-looks g c =
+    let old = c.args.opening.now in
+    let new = c.next.follows.lender-at-none in
+    let refused = subst (Nexts old new) c.in-Err.is c.next.follows.holds-at-none in
+    refused.1.looks

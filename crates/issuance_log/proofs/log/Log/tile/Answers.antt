@@ -9,11 +9,13 @@ use Rattle.issuance_log.specs.Entries.{LogCounts}
 use Rattle.issuance_log.specs.Folds.{LogView, tiled_to, with_tiles}
 use Rattle.issuance_log.specs.Items.{AreBelow, items_leaves, items_places, items_tiles}
 use Rattle.issuance_log.specs.Records.{tiles_record}
-use Rattle.issuance_log.specs.Refusals.{full_size}
+use Rattle.issuance_log.specs.Refusals.{TilesKeepTo, full_size, tile_refusal}
 use Rattle.issuance_log.specs.Words.{log_broken, log_end, log_records, log_tiles_disk, view_of}
 use Rattle.issuance_log.specs.declared.error.LogError.TheVariants.{Append, Failed, Memory}
 use Rattle.issuance_log.specs.declared.error.LogError.TheVariants.{NothingNew}
 use Rattle.issuance_log.proofs.Adds.{tiled_unrefused}
+use Rattle.issuance_log.proofs.Answering.{tiled_answer, tiled_refused, tiles_failed, tiles_old}
+use Rattle.issuance_log.proofs.Answering.{tiles_starved}
 use Rattle.issuance_log.proofs.Appending.{below_same, end_stays, grown_kept, log_keeps, log_shows}
 use Rattle.issuance_log.proofs.Appending.{no_leaves, no_places, some_told, tiles_it, told_behind}
 use Rattle.issuance_log.proofs.Appending.{told_of, told_same}
@@ -49,6 +51,64 @@ returns-clause-valid g c =
     let log = c.args.self.now in
     tiled_unrefused g.H.TreeHash.hash (view_of log) c.tiled.ensures.sound (log_records log)
     (log_broken log) (log_end log) (log_shows log)
+
+pub returns-then-size-tiled-clause-valid : goal.returns-then-size-tiled-clause-valid
+returns-then-size-tiled-clause-valid g c =
+    let log = c.args.self.now in
+    tiled_unrefused g.H.TreeHash.hash (view_of log) c.tiled.ensures.sound (log_records log)
+    (log_broken log) (log_end log) (log_shows log)
+
+pub returns-then-size-tiled-clause-answer : goal.returns-then-size-tiled-clause-answer
+returns-then-size-tiled-clause-answer g c =
+    let log = c.args.self.now in
+    let v = view_of log in
+    let old : full_size v ≤ v.tiled = omega arith in
+    tiles_old v (log_broken log) (log_end log) old
+
+pub returns-in_err-body-clause-answer : goal.returns-in_err-body-clause-answer
+returns-in_err-body-clause-answer g c =
+    let log = c.args.self.now in
+    let v = view_of log in
+    let above : v.tiled < full_size v = omega arith in
+    subst (TilesKeepTo (tile_refusal v (log_broken log) (log_end log)))
+    (err_is c.from_residual.result Memory c.from_residual.ensures.1)
+    (tiles_starved v (log_broken log) (log_end log) above)
+
+pub returns-in_err-store-clause-answer : goal.returns-in_err-store-clause-answer
+returns-in_err-store-clause-answer g c =
+    let log = c.args.self.now in
+    let v = view_of log in
+    let above : v.tiled < full_size v = omega arith in
+    subst (TilesKeepTo (tile_refusal v (log_broken log) (log_end log)))
+    (err_is c.from_residual-in_err-store.result Failed c.from_residual-in_err-store.ensures.1)
+    (tiles_failed v (log_broken log) (log_end log) above)
+
+pub returns-in_err-append-clause-answer : goal.returns-in_err-append-clause-answer
+returns-in_err-append-clause-answer g c =
+    let log = c.args.self.now in
+    let v = view_of log in
+    let why = c.in_err-append.field-0.0 in
+    let size_is = ap (λ (n : ℕ). n / 256 * 256) c.size.ensures.value in
+    let above : v.tiled < full_size v = omega arith in
+    subst (TilesKeepTo (tile_refusal v (log_broken log) (log_end log)))
+    (err_is c.from_residual-in_err-append.result (Append why)
+    c.from_residual-in_err-append.ensures.1)
+    (tiled_refused v (log_broken log) (log_end log) c.as_slice.result.now why above
+    (c.as_slice.ensures ∙ c.in_ok-body.ensures ∙ ap tiles_record size_is)
+    c.in_err-append.ensures.broken c.in_err-append.ensures.full)
+
+pub returns-clause-answer : goal.returns-clause-answer
+returns-clause-answer g c =
+    let log = c.args.self.now in
+    let v = view_of log in
+    let size_is = ap (λ (n : ℕ). n / 256 * 256) c.size.ensures.value in
+    let above : v.tiled < full_size v = omega arith in
+    tiled_answer v (log_broken log) (log_end log) c.as_slice.result.now _ above
+    (c.as_slice.ensures ∙ c.in_ok-body.ensures ∙ ap tiles_record size_is)
+    c.in_ok-append.ensures.leaves.was_sound c.in_ok-append.ensures.full
+
+pub returns-clause-size : goal.returns-clause-size
+returns-clause-size g c = ap (λ (n : ℕ). n / 256 * 256) c.size.ensures.value
 
 pub store-requires : goal.store-requires
 store-requires g c =
