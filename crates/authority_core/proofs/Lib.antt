@@ -7,3 +7,4 @@ mod Sizes
 mod Issued
 mod Accepted
 mod Told
+mod Answered

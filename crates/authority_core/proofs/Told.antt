@@ -8,11 +8,16 @@ use Rattle.byte_forms.specs.Types.{Text, Hash, HashFunction}
 use Rattle.tree_core.specs.Path.{part_of, path_of}
 use Rattle.tree_core.specs.Subtree.{is_subtree}
 use Rattle.tree_core.specs.Tree.{leaf_hash}
+use Rattle.tree_core.specs.declared.hashing.TreeHash.{Ghosts as Hashes}
 use Rattle.tree_core.specs.declared.spans.Span.{Span}
+use Rattle.disk_core.specs.Moments.{Looks}
+use Rattle.disk_core.specs.declared.disk.Disk.{Ghosts}
 use Rattle.mtc_proof.specs.Proofs.{IsProof, proof_text}
 use Rattle.issuance_log.specs.Folds.{LogState, LogView, view_in, with_item}
 use Rattle.issuance_log.specs.Refusals.{item_at}
 use Rattle.issuance_log.specs.Shown.{shown_with}
+use Rattle.issuance_log.specs.Words.{LogAsksTiles, LogStays, log_disk, log_tiles_disk}
+use Rattle.issuance_log.specs.declared.log.Log.{Log}
 use Rattle.authority_core.specs.Acceptance.{AcceptsIn, IsOwnEntry, StoresAccept}
 use Rattle.authority_core.specs.Acceptance.{StoresAcceptLightly}
 use Rattle.authority_core.specs.Certificates.{IsCertificateOf, IsLightlyWritten, IsWritten}
@@ -20,6 +25,19 @@ use Rattle.authority_core.specs.Certificates.{covering_in, proof_for}
 use Rattle.authority_core.proofs.Accepted.{accepts}
 use Rattle.authority_core.proofs.Certificates.{item_is, written_of}
 use Rattle.authority_core.proofs.Issued.{own_added}
+
+-- ---- a log that was asked for nodes, and then for an item
+
+module _ {H D T : Type 0} {hashes : Hashes H} {g : Ghosts D} {k : Ghosts T} where
+  pub asks_then : (old mid new : Log H D T hashes g k) → LogAsksTiles old mid → LogStays mid new
+      → log_tiles_disk new ≡ log_tiles_disk mid → LogStays old new
+  asks_then old mid new asks stays same = record {
+    looks = subst (λ (d : D). Looks g d (log_disk new)) asks.disk stays.looks;
+    tiles = subst (λ (d : T). Looks k (log_tiles_disk old) d) (sym same) asks.tiles;
+    view = stays.view ∙ asks.view;
+    end = stays.end ∙ asks.end;
+    broken = stays.broken ∙ asks.broken;
+  }
 
 -- ---- an entry that was issued
 

@@ -1,16 +1,21 @@
-use Rattle.std.proofs.Common.{◌≡◌, ◌++◌, ◌∷◌, [], IfSome, None, Ok, ap, subst, sym, ◌∙◌}
+use Rattle.std.proofs.Common.{◌≡◌, ℕ, ◌++◌, ◌∷◌, [], IfSome, None, Result, Ok, Err, ap, subst}
+use Rattle.std.proofs.Common.{sym, ◌∙◌}
+use Rattle.std.proofs.lemmas.Result.{err_from_is_err_and}
 use Rattle.byte_forms.specs.Types.{Text}
 use Rattle.issuance_log.specs.Folds.{log_of, one_item_more, with_item}
 use Rattle.issuance_log.specs.Records.{entry_record}
 use Rattle.issuance_log.specs.Shown.{shown_with}
 use Rattle.issuance_log.specs.Words.{log_broken, log_end, log_records, told_state, view_of}
 use Rattle.issuance_log.specs.Words.{LogAppends}
-use Rattle.issuance_log.specs.Refusals.{add_refusal}
+use Rattle.issuance_log.specs.Refusals.{ItemKeepsTo, add_refusal}
 use Rattle.issuance_log.specs.Settings.{Settings}
+use Rattle.issuance_log.specs.declared.error.LogError.{LogError}
+use Rattle.issuance_log.specs.declared.error.LogError.TheVariants.{Memory}
 use Rattle.authority_core.specs.Acceptance.{IsOwnEntry}
 use Rattle.authority_core.specs.Issuing.{entry_for}
-use Rattle.authority_core.specs.Issues.{issued_entry}
+use Rattle.authority_core.specs.Issues.{KeepsToOrMemory, issued_entry, issued_log, issued_record}
 use Rattle.authority_core.specs.Requests.{RequestParts}
+use Rattle.authority_core.proofs.Answered.{not_touched, of_refusal, or_memory}
 use Rattle.authority_core.proofs.Told.{own_told}
 use Rattle.authority_core.proofs.issuing.adding.issue.Goals as goal
 
@@ -58,3 +63,87 @@ returns-clause-valid g c = λ made.
     ∙ c.settings-settings.ensures.value))
     (c.as_slice-2.ensures ∙ ap (λ (q : RequestParts). q.key) c.request.view_is)
     c.in_ok-index.ensures.valid
+
+pub returns-clause-answer : goal.returns-clause-answer
+returns-clause-answer g c =
+    let log = c.args.log.now in
+    let h = g.H.TreeHash.hash in
+    let r = c.args.request.now in
+    of_same (λ (entry key : Text). add_refusal (view_of log) (log_broken log) (log_end log) entry
+    key ≡ None) _ _
+    (issued_entry h (view_of log).settings r) r.key
+    (c.as_slice.ensures ∙ c.in_ok-entry.ensures.bytes
+    ∙ ap (λ (s : Settings). entry_for h s.id r) (c.settings.view_is
+    ∙ c.settings-settings.ensures.value))
+    (c.as_slice-2.ensures ∙ ap (λ (q : RequestParts). q.key) c.request.view_is)
+    c.in_ok-index.ensures.answer
+
+pub returns-in_err-entry-clause-appends : goal.returns-in_err-entry-clause-appends
+returns-in_err-entry-clause-appends g c =
+    let log = c.args.log.now in
+    let h = g.H.TreeHash.hash in
+    let r = c.args.request.now in
+    let body = issued_record h (view_of log).settings r in
+    let next = issued_log h (view_of log).settings r in
+    of_refusal (λ (o : Result ℕ LogError). LogAppends body one_item_more next log log o)
+    c.from_residual.result Memory c.from_residual.ensures.1
+    (not_touched log body one_item_more next (g.met.D.Disk.only_now _))
+
+pub returns-in_err-entry-clause-answer : goal.returns-in_err-entry-clause-answer
+returns-in_err-entry-clause-answer g c =
+    of_refusal (KeepsToOrMemory _) c.from_residual.result Memory c.from_residual.ensures.1 tt
+
+pub returns-in_err-entry-clause-valid : goal.returns-in_err-entry-clause-valid
+returns-in_err-entry-clause-valid g c = λ made.
+    let p = err_from_is_err_and c.from_residual.result c.from_residual.ensures.1 in
+    absurd (made (p.1 ∙ ap Err p.2))
+
+pub returns-in_err-index-clause-appends : goal.returns-in_err-index-clause-appends
+returns-in_err-index-clause-appends g c =
+    let log = c.args.log.now in
+    let h = g.H.TreeHash.hash in
+    let r = c.args.request.now in
+    of_refusal (λ (o : Result ℕ LogError). LogAppends (issued_record h (view_of log).settings r)
+    one_item_more (issued_log h (view_of log).settings r) log c.add.new.self o)
+    c.from_residual-in_err-index.result c.in_err-index.field-0.0
+    c.from_residual-in_err-index.ensures.1
+    (of_same (λ (entry key : Text). LogAppends (entry_record entry key) one_item_more
+    (with_item entry key) log c.add.new.self (Err c.in_err-index.field-0.0)) _ _
+    (issued_entry h (view_of log).settings r) r.key
+    (c.as_slice.ensures ∙ c.in_ok-entry.ensures.bytes
+    ∙ ap (λ (s : Settings). entry_for h s.id r) (c.settings.view_is
+    ∙ c.settings-settings.ensures.value))
+    (c.as_slice-2.ensures ∙ ap (λ (q : RequestParts). q.key) c.request.view_is)
+    c.in_err-index.ensures.appends)
+
+pub returns-in_err-index-clause-answer : goal.returns-in_err-index-clause-answer
+returns-in_err-index-clause-answer g c =
+    let log = c.args.log.now in
+    let h = g.H.TreeHash.hash in
+    let r = c.args.request.now in
+    let why = c.in_err-index.field-0.0 in
+    of_refusal (KeepsToOrMemory _) c.from_residual-in_err-index.result why
+    c.from_residual-in_err-index.ensures.1
+    (or_memory _ why (of_same (λ (entry key : Text). ItemKeepsTo (add_refusal (view_of log)
+    (log_broken log) (log_end log) entry key) (Err why)) _ _
+    (issued_entry h (view_of log).settings r) r.key
+    (c.as_slice.ensures ∙ c.in_ok-entry.ensures.bytes
+    ∙ ap (λ (s : Settings). entry_for h s.id r) (c.settings.view_is
+    ∙ c.settings-settings.ensures.value))
+    (c.as_slice-2.ensures ∙ ap (λ (q : RequestParts). q.key) c.request.view_is)
+    c.in_err-index.ensures.answer))
+
+pub returns-in_err-index-clause-valid : goal.returns-in_err-index-clause-valid
+returns-in_err-index-clause-valid g c = λ made.
+    let log = c.args.log.now in
+    let h = g.H.TreeHash.hash in
+    let r = c.args.request.now in
+    of_same (λ (entry key : Text). add_refusal (view_of log) (log_broken log) (log_end log) entry
+    key ≡ None → IfSome (log_records log) (λ list. log_of h (list ++ entry_record entry key ∷ [])
+    ≡ Ok (with_item entry key (shown_with (view_of log) list)))) _ _
+    (issued_entry h (view_of log).settings r) r.key
+    (c.as_slice.ensures ∙ c.in_ok-entry.ensures.bytes
+    ∙ ap (λ (s : Settings). entry_for h s.id r) (c.settings.view_is
+    ∙ c.settings-settings.ensures.value))
+    (c.as_slice-2.ensures ∙ ap (λ (q : RequestParts). q.key) c.request.view_is)
+    c.in_err-index.ensures.valid

@@ -2,9 +2,9 @@ use Rattle.std.proofs.Common.{◌≡◌, IfSome, Ok, subst, arith}
 use Rattle.byte_forms.specs.Types.{Text}
 use Rattle.issuance_log.specs.Refusals.{item_at}
 use Rattle.issuance_log.specs.Words.{log_records, log_tiles_disk, view_of}
-use Rattle.issuance_log.proofs.Asked.{asks_told}
+use Rattle.issuance_log.proofs.Asked.{asks_stays, asks_told}
 use Rattle.authority_core.specs.Certificates.{IsCertificateOf}
-use Rattle.authority_core.proofs.Told.{accepts_told, written_told}
+use Rattle.authority_core.proofs.Told.{accepts_told, asks_then, written_told}
 use Rattle.authority_core.proofs.writing.item.written.Goals as goal
 
 pub returns-in-Ok-clause-written : goal.returns-in-Ok-clause-written
@@ -44,3 +44,23 @@ returns-in-Ok-clause-accepted g c =
     (subst (λ (k : Text). IsCertificateOf h c.args.index c.as_slice.result.now k
     c.in_ok-proof.proof made.certificate) c.as_slice-in-Ok.ensures made.ensures))
     c.in_ok-proof.ensures.proof item c.sound.ensures.view)
+
+pub returns-in_err-proof-clause-stays : goal.returns-in_err-proof-clause-stays
+returns-in_err-proof-clause-stays g c =
+    asks_stays c.args.log.now c.proof_of.new.log (g.met.D.Disk.only_now _) c.proof_of.ensures.asks
+
+pub returns-in_err-certificate-in-Ok-clause-stays :
+    goal.returns-in_err-certificate-in-Ok-clause-stays
+returns-in_err-certificate-in-Ok-clause-stays g c =
+    asks_then c.args.log.now c.proof_of.new.log c.entry.new.self c.proof_of.ensures.asks
+    c.entry.ensures.stays c.entry.ensures.tiles
+
+pub returns-in-Ok-clause-stays : goal.returns-in-Ok-clause-stays
+returns-in-Ok-clause-stays g c =
+    asks_then c.args.log.now c.proof_of.new.log c.entry.new.self c.proof_of.ensures.asks
+    c.entry.ensures.stays c.entry.ensures.tiles
+
+pub returns-in-Err-Failed-clause-stays : goal.returns-in-Err-Failed-clause-stays
+returns-in-Err-Failed-clause-stays g c =
+    asks_then c.args.log.now c.proof_of.new.log c.entry.new.self c.proof_of.ensures.asks
+    c.entry.ensures.stays c.entry.ensures.tiles

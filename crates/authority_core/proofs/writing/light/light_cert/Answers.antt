@@ -1,5 +1,8 @@
-use Rattle.std.proofs.Common.{sym, ◌∙◌}
+use Rattle.std.proofs.Common.{rules, sym, ◌∙◌}
+use Rattle.issuance_log.specs.Staying.{stays_alone}
 use Rattle.issuance_log.specs.Words.{log_records, log_tiles_disk, told_by_both, view_of}
+use Rattle.authority_core.specs.Certificates.{light_refusal}
+use Rattle.authority_core.proofs.Answered.{lightly_behind}
 use Rattle.authority_core.proofs.Told.{accepted_lightly, both_of, lightly_told}
 use Rattle.authority_core.proofs.writing.light.light_cert.Goals as goal
 
@@ -18,3 +21,27 @@ returns-in-Some-clause-accepted g c =
     (sym c.in_ok-span.ensures.exact ∙ c.in-Some.is) c.written.result (told_by_both log)
     (both_of _ (view_of log) (g.T.Disk.told (log_tiles_disk log)) (log_records log)
     c.sound.ensures.view) c.written.ensures.accepted
+
+pub returns-then-size-index-clause-stays : goal.returns-then-size-index-clause-stays
+returns-then-size-index-clause-stays g c =
+    stays_alone c.args.log.now (g.met.D.Disk.only_now _) (g.met.T.Disk.only_now _)
+
+pub returns-then-index-eq0-clause-stays : goal.returns-then-index-eq0-clause-stays
+returns-then-index-eq0-clause-stays g c =
+    stays_alone c.args.log.now (g.met.D.Disk.only_now _) (g.met.T.Disk.only_now _)
+
+pub returns-in_err-span-clause-stays : goal.returns-in_err-span-clause-stays
+returns-in_err-span-clause-stays g c =
+    stays_alone c.args.log.now (g.met.D.Disk.only_now _) (g.met.T.Disk.only_now _)
+
+pub returns-in-None-clause-stays : goal.returns-in-None-clause-stays
+returns-in-None-clause-stays g c =
+    stays_alone c.args.log.now (g.met.D.Disk.only_now _) (g.met.T.Disk.only_now _)
+
+pub returns-in-Some-clause-answer : goal.returns-in-Some-clause-answer
+unfolding light_refusal
+returns-in-Some-clause-answer g c =
+    lightly_behind _ c.written.result (search rules) c.written.ensures.why
+
+pub returns-in-Some-clause-stays : goal.returns-in-Some-clause-stays
+returns-in-Some-clause-stays g c = c.written.ensures.stays
