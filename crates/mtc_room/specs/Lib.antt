@@ -1,3 +1,4 @@
 pub mod Memory
 pub mod Room
 pub mod MemoryLaws
+pub mod Lent

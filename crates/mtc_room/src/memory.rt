@@ -46,6 +46,7 @@ fn source_of(alloc: Global, disk: &MemDisk) -> Result<MemSource, Memory>
 
 impl MemRoom {
     ghost use Rattle.mtc_room.specs.Memory.{state, bytes_in, disk_in, count_after};
+    ghost use Rattle.mtc_room.specs.Lent.{IsLentAs, IsFreshWith};
     ghost use Rattle.mtc_room.specs.Room.{Lending};
 
     /// A room without a file. It takes no memory.
@@ -158,6 +159,29 @@ impl MemRoom {
         let lent = disk.lend()?;
         self.files.insert(name, disk)?;
         Ok(lent)
+    }
+
+    // A copy of the file's device to lend, or of that of an empty file, which is made.
+    fn find_or_make(&mut self, name: &str) -> Result<MemDisk, Memory>
+        ensures others { (other : Text) → other ≢ name.now
+            → disk_in self.new other ≡ disk_in self.old other }
+        ensures err { OnErr result (disk_in self.new name.now ≡ disk_in self.old name.now) }
+        ensures kept { IsSome (disk_in self.old name.now)
+            → disk_in self.new name.now ≡ disk_in self.old name.now }
+        ensures found { IfOk result (λ d. IsSomeAnd (disk_in self.new name.now) (IsLentAs d)) }
+        ensures made { OnOk result (disk_in self.old name.now ≡ None
+            → IsSomeAnd (disk_in self.new name.now)
+            (IsFreshWith self.old.fresh_failing.items)) }
+        ensures first { IfOk result (λ d. faults_of d ≡ 0) }
+        ensures fresh_failing { self.new.fresh_failing ≡ self.old.fresh_failing }
+        ensures lent { self.new.lent ≡ self.old.lent }
+        ensures faults { self.new.faults ≡ self.old.faults }
+        ensures starved { self.new.starved ≡ self.old.starved }
+    {
+        match self.files.get(name) {
+            Some(disk) => disk.lend(),
+            None => self.make(name),
+        }
     }
 }
 
@@ -306,15 +330,8 @@ impl Room for MemRoom {
         ensures starved_err { OnErr result ((state self.new).starved
             ≡ with_count (state self.old).starved 1) }
     {
-        let Some(disk) = self.files.get(name) else {
-            let made = self.make(name);
-            return match self.lend_out(made) {
-                Ok(disk) => Ok(disk),
-                Err(_) => Err(Failed),
-            };
-        };
-        let copy = disk.lend();
-        match self.lend_out(copy) {
+        let made = self.find_or_make(name);
+        match self.lend_out(made) {
             Ok(disk) => Ok(disk),
             Err(_) => Err(Failed),
         }
