@@ -13,6 +13,29 @@ use Rattle.mtc_words.specs.declared.name.Name.TheVariants.{Landmark, Landmarks, 
 use Rattle.mtc_words.specs.declared.name.Name.TheVariants.{TrustLandmarks, Cert, Audit, Drill}
 use Rattle.mtc_words.specs.declared.name.Name.TheVariants.{Tile}
 
+-- The command that a word names which names none of those before the commands of landmarks.
+abbrev pub named_from_landmark : Text → Option Name
+named_from_landmark word =
+    if bytes_eq word (codes "landmark") then Some Landmark
+    else (if bytes_eq word (codes "landmarks") then Some Landmarks
+    else (if bytes_eq word (codes "light-cert") then Some LightCert
+    else (if bytes_eq word (codes "trust-landmarks") then Some TrustLandmarks
+    else (if bytes_eq word (codes "cert") then Some Cert
+    else (if bytes_eq word (codes "audit") then Some Audit
+    else (if bytes_eq word (codes "drill") then Some Drill
+    else (if bytes_eq word (codes "tile") then Some Tile
+    else None)))))))
+
+-- The same for a word that names none of those before the commands of a cosigner.
+abbrev pub named_from_cosigner : Text → Option Name
+named_from_cosigner word =
+    if bytes_eq word (codes "keygen") then Some Keygen
+    else (if bytes_eq word (codes "init-cosigner") then Some InitCosigner
+    else (if bytes_eq word (codes "advance") then Some Advance
+    else (if bytes_eq word (codes "cosign") then Some Cosign
+    else (if bytes_eq word (codes "export") then Some Export
+    else named_from_landmark word))))
+
 -- The command that a word names.
 unfoldable pub named_command : Text → Option Name
 named_command word =
@@ -25,20 +48,7 @@ named_command word =
     else (if bytes_eq word (codes "entries") then Some Entries
     else (if bytes_eq word (codes "consist") then Some Consist
     else (if bytes_eq word (codes "subtree") then Some Subtree
-    else (if bytes_eq word (codes "keygen") then Some Keygen
-    else (if bytes_eq word (codes "init-cosigner") then Some InitCosigner
-    else (if bytes_eq word (codes "advance") then Some Advance
-    else (if bytes_eq word (codes "cosign") then Some Cosign
-    else (if bytes_eq word (codes "export") then Some Export
-    else (if bytes_eq word (codes "landmark") then Some Landmark
-    else (if bytes_eq word (codes "landmarks") then Some Landmarks
-    else (if bytes_eq word (codes "light-cert") then Some LightCert
-    else (if bytes_eq word (codes "trust-landmarks") then Some TrustLandmarks
-    else (if bytes_eq word (codes "cert") then Some Cert
-    else (if bytes_eq word (codes "audit") then Some Audit
-    else (if bytes_eq word (codes "drill") then Some Drill
-    else (if bytes_eq word (codes "tile") then Some Tile
-    else None)))))))))))))))))))))
+    else named_from_cosigner word))))))))
 
 -- How many words stand behind a command.
 abbrev pub word_count : Name → ℕ

@@ -1,11 +1,12 @@
 //! The command of a name, from the words behind it.
 
-ghost use Rattle.std.specs.Prelude.{◌≡◌, length, map, string_bytes, IfOk};
+ghost use Rattle.std.specs.Prelude.{◌≡◌, ◌<◌, ◌+◌, length, map, string_bytes, IfOk};
 ghost use Rattle.byte_forms.specs.Readings.{Answers};
+ghost use Rattle.tls_wire.specs.Decimal.{number_of};
 ghost use Rattle.mtc_words.specs.Commands.{command_value, said, is_height, is_width, is_time};
 ghost use Rattle.mtc_words.specs.Commands.{is_active, is_limit, is_any, IsInRange};
 ghost use Rattle.mtc_words.specs.Names.{word_count};
-ghost use Rattle.mtc_words.specs.Words.{command_from, number_word, id_word};
+ghost use Rattle.mtc_words.specs.Words.{command_from, number_word, id_word, word};
 
 use crate::command::Command;
 use crate::error::WordError;
@@ -17,73 +18,97 @@ use tls_wire::{AnchorError, AnchorId, read_number};
 // The last second of the year 9999.
 const LAST_MOMENT: u64 = 253_402_300_799;
 
-// A height of keys that are made.
-fn height(place: usize, word: &str) -> Result<u64, WordError>
-    ensures { result ≡ number_word place is_height word.now }
+// The word at a place, counted from 0.
+fn text(words: &[String], at: usize) -> &str
+    requires { at < length words.now }
+    ensures { result.now ≡ word (map string_bytes words.now) at }
 {
-    match read_number(word.as_bytes()) {
+    words[at].as_str()
+}
+
+// The number that this word is, if it is one.
+fn number_at(words: &[String], at: usize) -> Option<u64>
+    requires { at < length words.now }
+    ensures { result ≡ number_of (word (map string_bytes words.now) at) }
+{
+    read_number(text(words, at).as_bytes())
+}
+
+// A height of keys that are made.
+fn height(words: &[String], at: usize) -> Result<u64, WordError>
+    requires { at < length words.now }
+    ensures { result ≡ number_word (at + 1) is_height (word (map string_bytes words.now) at) }
+{
+    match number_at(words, at) {
         Some(height) if height == 5 || height == 10 => Ok(height),
-        _ => Err(WordError::BadNumber(place)),
+        _ => Err(WordError::BadNumber(at + 1)),
     }
 }
 
 // A width of keys that are made.
-fn width(place: usize, word: &str) -> Result<u64, WordError>
-    ensures { result ≡ number_word place is_width word.now }
+fn width(words: &[String], at: usize) -> Result<u64, WordError>
+    requires { at < length words.now }
+    ensures { result ≡ number_word (at + 1) is_width (word (map string_bytes words.now) at) }
 {
-    match read_number(word.as_bytes()) {
+    match number_at(words, at) {
         Some(width) if width == 1 || width == 2 || width == 4 || width == 8 => Ok(width),
-        _ => Err(WordError::BadNumber(place)),
+        _ => Err(WordError::BadNumber(at + 1)),
     }
 }
 
 // A moment, up to the end of the year 9999.
-fn time(place: usize, word: &str) -> Result<u64, WordError>
-    ensures { result ≡ number_word place is_time word.now }
+fn time(words: &[String], at: usize) -> Result<u64, WordError>
+    requires { at < length words.now }
+    ensures { result ≡ number_word (at + 1) is_time (word (map string_bytes words.now) at) }
 {
-    match read_number(word.as_bytes()) {
+    match number_at(words, at) {
         Some(seconds) if seconds <= LAST_MOMENT => Ok(seconds),
-        _ => Err(WordError::BadNumber(place)),
+        _ => Err(WordError::BadNumber(at + 1)),
     }
 }
 
 // A number of active landmarks.
-fn active(place: usize, word: &str) -> Result<u64, WordError>
-    ensures { result ≡ number_word place is_active word.now }
+fn active(words: &[String], at: usize) -> Result<u64, WordError>
+    requires { at < length words.now }
+    ensures { result ≡ number_word (at + 1) is_active (word (map string_bytes words.now) at) }
 {
-    match read_number(word.as_bytes()) {
+    match number_at(words, at) {
         Some(count) if 1 <= count && count <= MOST_ACTIVE as u64 => Ok(count),
-        _ => Err(WordError::BadNumber(place)),
+        _ => Err(WordError::BadNumber(at + 1)),
     }
 }
 
 // The most entries of a log.
-fn limit(place: usize, word: &str) -> Result<u64, WordError>
-    ensures { result ≡ number_word place is_limit word.now }
+fn limit(words: &[String], at: usize) -> Result<u64, WordError>
+    requires { at < length words.now }
+    ensures { result ≡ number_word (at + 1) is_limit (word (map string_bytes words.now) at) }
 {
-    match read_number(word.as_bytes()) {
+    match number_at(words, at) {
         Some(count) if 2 <= count && count <= MOST_ENTRIES as u64 => Ok(count),
-        _ => Err(WordError::BadNumber(place)),
+        _ => Err(WordError::BadNumber(at + 1)),
     }
 }
 
 // Any number.
-fn number(place: usize, word: &str) -> Result<u64, WordError>
-    ensures { result ≡ number_word place is_any word.now }
+fn number(words: &[String], at: usize) -> Result<u64, WordError>
+    requires { at < length words.now }
+    ensures { result ≡ number_word (at + 1) is_any (word (map string_bytes words.now) at) }
 {
-    match read_number(word.as_bytes()) {
+    match number_at(words, at) {
         Some(number) => Ok(number),
-        None => Err(WordError::BadNumber(place)),
+        None => Err(WordError::BadNumber(at + 1)),
     }
 }
 
-fn id(alloc: Global, place: usize, word: &str) -> Result<AnchorId, WordError>
-    ensures { Answers WordError.Memory (id_word place word.now) result }
+fn id(alloc: Global, words: &[String], at: usize) -> Result<AnchorId, WordError>
+    requires { at < length words.now }
+    ensures { Answers WordError.Memory
+        (id_word (at + 1) (word (map string_bytes words.now) at)) result }
 {
-    match AnchorId::from_text(alloc, word) {
+    match AnchorId::from_text(alloc, text(words, at)) {
         Ok(id) => Ok(id),
         Err(AnchorError::Memory) => Err(WordError::Memory),
-        Err(_) => Err(WordError::BadId(place)),
+        Err(_) => Err(WordError::BadId(at + 1)),
     }
 }
 
@@ -94,10 +119,10 @@ fn init_log<'a>(alloc: Global, words: &'a [String]) -> Result<Command<'a>, WordE
         (command_from Name.InitLog (map string_bytes words.now)) (said result) }
     ensures range { IfOk result (λ command. IsInRange (command_value command)) }
 {
-    let active = active(3, words[2].as_str())?;
-    let limit = limit(4, words[3].as_str())?;
-    let id = id(alloc, 2, words[1].as_str())?;
-    Ok(Command::InitLog(words[0].as_str(), id, active, limit))
+    let active = active(words, 2)?;
+    let limit = limit(words, 3)?;
+    let id = id(alloc, words, 1)?;
+    Ok(Command::InitLog(text(words, 0), id, active, limit))
 }
 
 // The words of the commands that ask for proofs.
@@ -106,9 +131,9 @@ fn consist<'a>(words: &'a [String]) -> Result<Command<'a>, WordError>
     ensures exact { said result ≡ command_from Name.Consist (map string_bytes words.now) }
     ensures range { IfOk result (λ command. IsInRange (command_value command)) }
 {
-    let old = number(2, words[1].as_str())?;
-    let new = number(3, words[2].as_str())?;
-    Ok(Command::Consist(words[0].as_str(), old, new))
+    let old = number(words, 1)?;
+    let new = number(words, 2)?;
+    Ok(Command::Consist(text(words, 0), old, new))
 }
 
 fn subtree<'a>(words: &'a [String]) -> Result<Command<'a>, WordError>
@@ -116,10 +141,10 @@ fn subtree<'a>(words: &'a [String]) -> Result<Command<'a>, WordError>
     ensures exact { said result ≡ command_from Name.Subtree (map string_bytes words.now) }
     ensures range { IfOk result (λ command. IsInRange (command_value command)) }
 {
-    let start = number(2, words[1].as_str())?;
-    let end = number(3, words[2].as_str())?;
-    let size = number(4, words[3].as_str())?;
-    Ok(Command::Subtree(words[0].as_str(), start, end, size))
+    let start = number(words, 1)?;
+    let end = number(words, 2)?;
+    let size = number(words, 3)?;
+    Ok(Command::Subtree(text(words, 0), start, end, size))
 }
 
 fn keygen<'a>(words: &'a [String]) -> Result<Command<'a>, WordError>
@@ -127,9 +152,9 @@ fn keygen<'a>(words: &'a [String]) -> Result<Command<'a>, WordError>
     ensures exact { said result ≡ command_from Name.Keygen (map string_bytes words.now) }
     ensures range { IfOk result (λ command. IsInRange (command_value command)) }
 {
-    let height = height(1, words[0].as_str())?;
-    let width = width(2, words[1].as_str())?;
-    Ok(Command::Keygen(height, width, words[2].as_str()))
+    let height = height(words, 0)?;
+    let width = width(words, 1)?;
+    Ok(Command::Keygen(height, width, text(words, 2)))
 }
 
 fn verify<'a>(words: &'a [String]) -> Result<Command<'a>, WordError>
@@ -137,8 +162,8 @@ fn verify<'a>(words: &'a [String]) -> Result<Command<'a>, WordError>
     ensures exact { said result ≡ command_from Name.Verify (map string_bytes words.now) }
     ensures range { IfOk result (λ command. IsInRange (command_value command)) }
 {
-    let now = time(3, words[2].as_str())?;
-    Ok(Command::Verify(words[0].as_str(), words[1].as_str(), now))
+    let now = time(words, 2)?;
+    Ok(Command::Verify(text(words, 0), text(words, 1), now))
 }
 
 fn entries<'a>(words: &'a [String]) -> Result<Command<'a>, WordError>
@@ -146,8 +171,8 @@ fn entries<'a>(words: &'a [String]) -> Result<Command<'a>, WordError>
     ensures exact { said result ≡ command_from Name.Entries (map string_bytes words.now) }
     ensures range { IfOk result (λ command. IsInRange (command_value command)) }
 {
-    let size = number(2, words[1].as_str())?;
-    Ok(Command::Entries(words[0].as_str(), size))
+    let size = number(words, 1)?;
+    Ok(Command::Entries(text(words, 0), size))
 }
 
 fn light_cert<'a>(words: &'a [String]) -> Result<Command<'a>, WordError>
@@ -155,8 +180,8 @@ fn light_cert<'a>(words: &'a [String]) -> Result<Command<'a>, WordError>
     ensures exact { said result ≡ command_from Name.LightCert (map string_bytes words.now) }
     ensures range { IfOk result (λ command. IsInRange (command_value command)) }
 {
-    let index = number(2, words[1].as_str())?;
-    Ok(Command::LightCert(words[0].as_str(), index))
+    let index = number(words, 1)?;
+    Ok(Command::LightCert(text(words, 0), index))
 }
 
 // The words of `init-cosigner`.
@@ -166,18 +191,11 @@ fn init_cosigner<'a>(alloc: Global, words: &'a [String]) -> Result<Command<'a>, 
         (command_from Name.InitCosigner (map string_bytes words.now)) (said result) }
     ensures range { IfOk result (λ command. IsInRange (command_value command)) }
 {
-    let height = height(4, words[3].as_str())?;
-    let width = width(5, words[4].as_str())?;
-    let own = id(alloc, 2, words[1].as_str())?;
-    let log = id(alloc, 3, words[2].as_str())?;
-    Ok(Command::InitCosigner(
-        words[0].as_str(),
-        own,
-        log,
-        height,
-        width,
-        words[5].as_str(),
-    ))
+    let height = height(words, 3)?;
+    let width = width(words, 4)?;
+    let own = id(alloc, words, 1)?;
+    let log = id(alloc, words, 2)?;
+    Ok(Command::InitCosigner(text(words, 0), own, log, height, width, text(words, 5)))
 }
 
 fn trust_landmarks<'a>(words: &'a [String]) -> Result<Command<'a>, WordError>
@@ -185,8 +203,8 @@ fn trust_landmarks<'a>(words: &'a [String]) -> Result<Command<'a>, WordError>
     ensures exact { said result ≡ command_from Name.TrustLandmarks (map string_bytes words.now) }
     ensures range { IfOk result (λ command. IsInRange (command_value command)) }
 {
-    let active = active(2, words[1].as_str())?;
-    Ok(Command::TrustLandmarks(words[0].as_str(), active, words[2].as_str()))
+    let active = active(words, 1)?;
+    Ok(Command::TrustLandmarks(text(words, 0), active, text(words, 2)))
 }
 
 fn cert<'a>(words: &'a [String]) -> Result<Command<'a>, WordError>
@@ -194,10 +212,10 @@ fn cert<'a>(words: &'a [String]) -> Result<Command<'a>, WordError>
     ensures exact { said result ≡ command_from Name.Cert (map string_bytes words.now) }
     ensures range { IfOk result (λ command. IsInRange (command_value command)) }
 {
-    let index = number(2, words[1].as_str())?;
-    let start = number(3, words[2].as_str())?;
-    let end = number(4, words[3].as_str())?;
-    Ok(Command::Cert(words[0].as_str(), index, start, end, words[4].as_str()))
+    let index = number(words, 1)?;
+    let start = number(words, 2)?;
+    let end = number(words, 3)?;
+    Ok(Command::Cert(text(words, 0), index, start, end, text(words, 4)))
 }
 
 fn audit<'a>(words: &'a [String]) -> Result<Command<'a>, WordError>
@@ -205,13 +223,13 @@ fn audit<'a>(words: &'a [String]) -> Result<Command<'a>, WordError>
     ensures exact { said result ≡ command_from Name.Audit (map string_bytes words.now) }
     ensures range { IfOk result (λ command. IsInRange (command_value command)) }
 {
-    let now = time(3, words[2].as_str())?;
+    let now = time(words, 2)?;
     Ok(Command::Audit(
-        words[0].as_str(),
-        words[1].as_str(),
+        text(words, 0),
+        text(words, 1),
         now,
-        words[3].as_str(),
-        words[4].as_str(),
+        text(words, 3),
+        text(words, 4),
     ))
 }
 
@@ -220,7 +238,7 @@ fn drill<'a>(words: &'a [String]) -> Result<Command<'a>, WordError>
     ensures exact { said result ≡ command_from Name.Drill (map string_bytes words.now) }
     ensures range { IfOk result (λ command. IsInRange (command_value command)) }
 {
-    let number = number(1, words[0].as_str())?;
+    let number = number(words, 0)?;
     Ok(Command::Drill(number))
 }
 
@@ -232,27 +250,27 @@ pub fn build<'a>(alloc: Global, name: Name, words: &'a [String]) -> Result<Comma
     ensures range { IfOk result (λ command. IsInRange (command_value command)) }
 {
     match name {
-        Name::Member => Ok(Command::Member(words[0].as_str())),
-        Name::Show => Ok(Command::Show(words[0].as_str())),
+        Name::Member => Ok(Command::Member(text(words, 0))),
+        Name::Show => Ok(Command::Show(text(words, 0))),
         Name::Verify => verify(words),
         Name::InitLog => init_log(alloc, words),
-        Name::Issue => Ok(Command::Issue(words[0].as_str(), words[1].as_str())),
-        Name::Checkpoint => Ok(Command::Checkpoint(words[0].as_str())),
+        Name::Issue => Ok(Command::Issue(text(words, 0), text(words, 1))),
+        Name::Checkpoint => Ok(Command::Checkpoint(text(words, 0))),
         Name::Entries => entries(words),
         Name::Consist => consist(words),
         Name::Subtree => subtree(words),
         Name::Keygen => keygen(words),
         Name::InitCosigner => init_cosigner(alloc, words),
-        Name::Advance => Ok(Command::Advance(words[0].as_str(), words[1].as_str())),
-        Name::Cosign => Ok(Command::Cosign(words[0].as_str(), words[1].as_str())),
-        Name::Export => Ok(Command::Export(words[0].as_str())),
-        Name::Landmark => Ok(Command::Landmark(words[0].as_str())),
-        Name::Landmarks => Ok(Command::Landmarks(words[0].as_str())),
+        Name::Advance => Ok(Command::Advance(text(words, 0), text(words, 1))),
+        Name::Cosign => Ok(Command::Cosign(text(words, 0), text(words, 1))),
+        Name::Export => Ok(Command::Export(text(words, 0))),
+        Name::Landmark => Ok(Command::Landmark(text(words, 0))),
+        Name::Landmarks => Ok(Command::Landmarks(text(words, 0))),
         Name::LightCert => light_cert(words),
         Name::TrustLandmarks => trust_landmarks(words),
         Name::Cert => cert(words),
         Name::Audit => audit(words),
         Name::Drill => drill(words),
-        Name::Tile => Ok(Command::Tile(words[0].as_str())),
+        Name::Tile => Ok(Command::Tile(text(words, 0))),
     }
 }

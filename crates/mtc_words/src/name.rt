@@ -1,10 +1,11 @@
 //! The names of the commands.
 
 ghost use Rattle.std.specs.Prelude.{◌≡◌};
-ghost use Rattle.mtc_words.specs.Names.{named_command, takes_journal, word_count};
+ghost use Rattle.mtc_words.specs.Names.{named_command, named_from_cosigner, named_from_landmark};
+ghost use Rattle.mtc_words.specs.Names.{takes_journal, word_count};
 
 /// The name of a command.
-#[derive(Clone, Copy, Debug, PartialEq, Eq)]
+#[derive(Clone, Copy)]
 pub enum Name {
     Member,
     Show,
@@ -45,11 +46,29 @@ pub fn read_name(word: &str) -> Option<Name>
         "entries" => Some(Name::Entries),
         "consist" => Some(Name::Consist),
         "subtree" => Some(Name::Subtree),
+        _ => read_cosigner_name(word),
+    }
+}
+
+// The same from the commands of a cosigner on.
+fn read_cosigner_name(word: &str) -> Option<Name>
+    ensures { result ≡ named_from_cosigner word.now }
+{
+    match word {
         "keygen" => Some(Name::Keygen),
         "init-cosigner" => Some(Name::InitCosigner),
         "advance" => Some(Name::Advance),
         "cosign" => Some(Name::Cosign),
         "export" => Some(Name::Export),
+        _ => read_landmark_name(word),
+    }
+}
+
+// The same from the commands of landmarks on.
+fn read_landmark_name(word: &str) -> Option<Name>
+    ensures { result ≡ named_from_landmark word.now }
+{
+    match word {
         "landmark" => Some(Name::Landmark),
         "landmarks" => Some(Name::Landmarks),
         "light-cert" => Some(Name::LightCert),
