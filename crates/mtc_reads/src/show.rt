@@ -157,21 +157,10 @@ fn put_signatures(alloc: Global, out: &mut Bytes, signatures: Signatures) -> Res
 fn put_interval(alloc: Global, out: &mut Bytes, proof: &Proof) -> Result<(), Memory>
     ensures { OnOk result (out.new ≡ out.old ++ interval_text (proof_parts proof.now)) }
 {
-    let start = format!(in alloc; "{}", proof.start)?;
-    let end = format!(in alloc; "{}", proof.end)?;
-    let count = format!(in alloc; "{}", proof.path.len())?;
-    append_all(
-        out,
-        &[
-            b"interval ",
-            start.as_bytes(),
-            b" ",
-            end.as_bytes(),
-            b"\npath ",
-            count.as_bytes(),
-            b"\n",
-        ],
-    )
+    let (start, end) = (proof.start, proof.end);
+    let count = proof.path.len();
+    let text = format!(in alloc; "interval {start} {end}\npath {count}\n")?;
+    out.append(text.as_bytes())
 }
 
 // The lines of the proof.

@@ -6,7 +6,7 @@ ghost use Rattle.mtc_reads.specs.Member.{member_file, member_view};
 use tls_wire::{Cursor, HashesError};
 
 /// A member file, cut into its parts.
-#[derive(Clone, Copy, Debug)]
+#[derive(Clone, Copy)]
 pub struct MemberFile<'a> {
     /// The entry's index in its log.
     pub index: u64,
