@@ -2,8 +2,9 @@
 use Rattle.std.proofs.Common.{◌≡◌, ℕ, zero, suc, ◌+◌, ◌<◌, ◌++◌, [], ◌∷◌, length, slice_index_or}
 use Rattle.std.proofs.Common.{Option, Some, None, IfSome, Result, Ok, Err, true, refl, ap, sym}
 use Rattle.std.proofs.Common.{◌∙◌, ◌≤◌}
-use Rattle.std.proofs.Common.{arith}
+use Rattle.std.proofs.Common.{append_assoc, arith}
 use Rattle.std.specs.Prelude.{map, ◌&&◌}
+use Rattle.std.specs.Int.{w16}
 use Rattle.std.specs.List.{concat, range_with_len}
 use Rattle.std.proofs.lemmas.Grind.{common_steps}
 use Rattle.std.proofs.lemmas.List.{append-nil}
@@ -11,6 +12,7 @@ use Rattle.std.proofs.lemmas.List.Folds.{concat-append}
 use Rattle.std.proofs.lemmas.List.FromFn.{map-range_with_len_more}
 use Rattle.byte_forms.specs.Types.{Hash, HashFunction, Text}
 use Rattle.cert_fields.specs.Keys.{is_public_key}
+use Rattle.tls_wire.specs.Spelling.{vector}
 use Rattle.log_entry.specs.Entries.{TbsParts}
 use Rattle.log_entry.specs.Matching.{holds, matches}
 use Rattle.log_entry.specs.Reading.{entry_in}
@@ -105,3 +107,17 @@ printed_again h s count sound le =
       keys = λ i below. (short h s i sound below).1;
     })
     le
+
+-- an item behind the bytes
+pub item_behind : (told : Option LogState) (index : ℕ) (entry key out mid new : Text)
+    → IfSome told (λ s. IsItemAt s index entry key) → mid ≡ out ++ vector w16 entry
+    → new ≡ mid ++ vector w16 key
+    → IfSome told (λ s. new ≡ out ++ listed_text (items_of s) index)
+item_behind None index entry key out mid new item first second = tt
+item_behind (Some s) index entry key out mid new item first second =
+    second
+    ∙ ap (λ (t : Text). t ++ vector w16 key) first
+    ∙ append_assoc out (vector w16 entry) (vector w16 key)
+    ∙ ap (λ (e : Text). out ++ (vector w16 e ++ vector w16 key)) item.entry_is
+    ∙ ap (λ (k : Text). out ++ (vector w16 (slice_index_or s.entries index []) ++ vector w16 k))
+    item.key_is

@@ -11,3 +11,4 @@ pub mod Replied
 pub mod Reading
 pub mod Certified
 pub mod Looked
+pub mod Requested

@@ -21,7 +21,8 @@ use Rattle.issuance_log.specs.declared.error.LogError.TheVariants.{Full, TooLarg
 use Rattle.issuance_log.specs.declared.error.LogError.TheVariants.{NothingNew, Append, Memory}
 use Rattle.issuance_log.specs.declared.error.LogError.TheVariants.{Failed as DiskFailed}
 use Rattle.issuance_log.specs.declared.log.Log.{Log as OpenLog}
-use Rattle.mtc_answers.specs.Answers.{replied, room_failed, said, status_of, tiles_name}
+use Rattle.mtc_answers.specs.Answers.{no_memory, replied, room_failed, said, status_of}
+use Rattle.mtc_answers.specs.Answers.{tiles_name}
 use Rattle.mtc_answers.specs.Made.{IsOpen, MayAdd}
 use Rattle.mtc_answers.specs.Steps.{Outcome}
 use Rattle.mtc_answers.specs.Valid.{AddsValid}
@@ -107,6 +108,10 @@ module _ {H D : Type 0} {hashes : Hashes H} {g : Ghosts D} (name : Text)
   refused_so only_now Memory may run is counts =
       starved_so outcome_by refusal_by name old new ready run.journal.leaves.disk
   refused_so only_now other may run is counts = absurd may
+
+  -- memory was refused before
+  pub unstored : log_disk new ≡ log_disk old → HasWorkedOnLog name tile_says old new no_memory
+  unstored same = starved_so outcome_by refusal_by name old new ready same
 
   -- a log that no append has broken doesn't refuse tiles as a broken one
   first : (nothing over : Bool)

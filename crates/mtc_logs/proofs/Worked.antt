@@ -1,19 +1,24 @@
 -- The work on a log that only looks at it.
-use Rattle.std.proofs.Common.{◌≡◌, inr}
+use Rattle.std.proofs.Common.{◌≡◌, ◌∙◌, IfSome, ap, inr, sym}
+use Rattle.std.proofs.lemmas.Option.{IfSome_then}
 use Rattle.byte_forms.specs.Types.{Text}
 use Rattle.disk_core.specs.declared.disk.Disk.{Ghosts}
 use Rattle.tree_core.specs.declared.hashing.TreeHash.{Ghosts as Hashes}
-use Rattle.issuance_log.specs.Folds.{LogState}
+use Rattle.issuance_log.specs.Folds.{LogState, view_in}
 use Rattle.issuance_log.specs.Shown.{shown_with}
-use Rattle.issuance_log.specs.Words.{both_records, log_disk, log_tiles_disk}
-use Rattle.issuance_log.specs.Words.{view_of}
+use Rattle.issuance_log.specs.Words.{LogStays, both_records, log_disk, log_tiles_disk}
+use Rattle.issuance_log.specs.Words.{told_by_both, told_state, view_of}
 use Rattle.issuance_log.specs.declared.log.Log.{Log as OpenLog}
-use Rattle.mtc_answers.specs.Answers.{Ending, Reply}
+use Rattle.mtc_answers.specs.Answers.{Ending, Reply, no_memory, replied, room_failed}
+use Rattle.mtc_answers.specs.Endings.{Replies}
 use Rattle.mtc_answers.specs.Steps.{answers_on}
+use Rattle.mtc_answers.specs.Wanted.{exactly}
 use Rattle.mtc_answers.proofs.Served.{reply_so}
 use Rattle.mtc_answers.proofs.Tiled.{read_tiled}
+use Rattle.mtc_logs.specs.LandmarkOutcomes.{landmarks_reply}
 use Rattle.mtc_logs.specs.Works.{HasWorkedOnLog, RepliesOnLog}
 use Rattle.mtc_logs.proofs.Appends.{mapped_some}
+use Rattle.mtc_logs.proofs.Replied.{told_both}
 
 module _ {H D : Type 0} {hashes : Hashes H} {g : Ghosts D} (name : Text)
     (old new : OpenLog H D D hashes g g) (ending : Ending) where
@@ -26,3 +31,22 @@ module _ {H D : Type 0} {hashes : Hashes H} {g : Ghosts D} (name : Text)
       (record { plain = is.plain; later = is.stays.looks.faults; fault = is.fault })
       (reply_so ending _ _ (λ reply told. mapped_some (shown_with (view_of old))
       (both_records old) (λ s. reply ≡ wanted s) told) is.reply)
+
+module _ {H D : Type 0} {hashes : Hashes H} {g : Ghosts D} (name : Text)
+    (old new : OpenLog H D D hashes g g) where
+  -- it tells the landmarks that the log shows
+  pub landmarks_so : (ending : Ending) → LogStays old new
+      → IfSome (told_state old) (λ s. view_in s ≡ view_of old)
+      → Replies (exactly (landmarks_reply (view_of old))) ending
+      → RepliesOnLog name (λ s. landmarks_reply (view_in s)) old new ending
+  landmarks_so (replied reply) stays shows is = record {
+    plain = is.1;
+    fault = tt;
+    reply = IfSome_then (told_by_both old)
+        (told_both (λ s. view_in s ≡ view_of old) old shows)
+        (λ s same. is.0 ∙ ap landmarks_reply (sym same));
+    stays = stays;
+  }
+  landmarks_so (room_failed at) stays shows is = absurd is
+  landmarks_so no_memory stays shows is =
+      record { plain = tt; fault = tt; reply = tt; stays = stays }

@@ -1,11 +1,13 @@
 use Rattle.std.proofs.Common.{[], ◌∷◌, IsOk, inl, refl, subst, sym}
+use Rattle.std.proofs.lemmas.Result.{err_from_is_err_and}
 use Rattle.byte_forms.specs.Types.{Text}
 use Rattle.issuance_log.specs.Records.{settings_record}
-use Rattle.mtc_answers.specs.Answers.{ending_of}
+use Rattle.mtc_answers.specs.Answers.{ending_of, no_memory}
 use Rattle.mtc_answers.specs.Served.{HasServed}
 use Rattle.mtc_answers.specs.Steps.{starts, with_fresh}
 use Rattle.mtc_answers.proofs.Begins.{begins_of}
-use Rattle.mtc_answers.proofs.Valid.{new_valid, same_valid}
+use Rattle.mtc_answers.proofs.Served.{stopped}
+use Rattle.mtc_answers.proofs.Valid.{gives_same, new_valid, same_valid}
 use Rattle.mtc_logs.specs.LogOutcomes.{init_log_outcome, log_line, log_settings_of}
 use Rattle.mtc_logs.specs.Works.{IsLog}
 use Rattle.mtc_logs.proofs.init_log.init_log.Goals as goal
@@ -45,3 +47,23 @@ returns-clause-valid g c = λ h.
 pub returns-clause-begins : goal.returns-clause-begins
 returns-clause-begins g c = begins_of g.R.Room g.R.Dsk.Disk _ _ _ _ _ _
     c.make_journal.ensures.begins
+
+pub returns-in_err-text-clause-serves : goal.returns-in_err-text-clause-serves
+returns-in_err-text-clause-serves g c =
+    let name = c.args.journal.now in
+    let old = c.args.room.now in
+    let refused = err_from_is_err_and c.from_residual.result
+    c.from_residual.ensures.1 in
+    rw (refused.1, refused.2) (stopped g.R.Room g.R.Dsk.Disk (name ∷ []) (name ∷ []) []
+    (init_log_outcome name c.args.id c.args.max_active c.args.limit (g.R.Room.file old)) old old
+    (gives_same g.R.Room old) g.met.R.Dsk.Disk.only_now no_memory tt tt)
+
+pub returns-in_err-first-clause-serves : goal.returns-in_err-first-clause-serves
+returns-in_err-first-clause-serves g c =
+    let name = c.args.journal.now in
+    let old = c.args.room.now in
+    let refused = err_from_is_err_and c.from_residual-in_err-first.result
+    c.from_residual-in_err-first.ensures.1 in
+    rw (refused.1, refused.2) (stopped g.R.Room g.R.Dsk.Disk (name ∷ []) (name ∷ []) []
+    (init_log_outcome name c.args.id c.args.max_active c.args.limit (g.R.Room.file old)) old old
+    (gives_same g.R.Room old) g.met.R.Dsk.Disk.only_now no_memory tt tt)

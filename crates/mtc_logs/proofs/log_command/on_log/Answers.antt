@@ -1,9 +1,10 @@
-use Rattle.std.proofs.Common.{[], ◌∷◌}
+use Rattle.std.proofs.Common.{[], ◌∷◌, ◌∙◌, ◌≡◌, None, Some, sym}
 use Rattle.std.proofs.lemmas.Result.{err_from_is_err_and}
 use Rattle.mtc_answers.specs.Answers.{no_memory, tiles_name}
 use Rattle.mtc_answers.proofs.Served.{stopped}
-use Rattle.mtc_answers.proofs.Valid.{gives_same}
-use Rattle.mtc_logs.specs.Works.{log_outcome}
+use Rattle.mtc_answers.proofs.Valid.{gives_same, same_valid}
+use Rattle.mtc_logs.specs.Works.{IsLog, log_outcome}
+use Rattle.mtc_logs.proofs.Looked.{looked_kept}
 use Rattle.mtc_logs.proofs.log_command.on_log.Goals as goal
 
 pub returns-in_err-name-clause-serves : goal.returns-in_err-name-clause-serves
@@ -26,3 +27,47 @@ returns-in_err-pool-clause-serves g c =
     (log_outcome g.H.TreeHash.hash name (g.R.Room.file c.args.room.now name)
     (g.R.Room.file c.args.room.now (tiles_name name)) c.args.work) c.args.room.now
     c.args.room.now (gives_same g.R.Room c.args.room.now) g.met.R.Dsk.Disk.only_now no_memory tt tt)
+
+pub returns-in_err-name-clause-valid : goal.returns-in_err-name-clause-valid
+returns-in_err-name-clause-valid g c =
+    let name = c.args.journal.now in
+    same_valid g.R.Room g.R.Dsk.Disk (IsLog g.H.TreeHash.hash) (name ∷ [])
+    (log_outcome g.H.TreeHash.hash name (g.R.Room.file c.args.room.now name)
+    (g.R.Room.file c.args.room.now (tiles_name name)) c.args.work) c.args.room.now
+    g.met.R.Dsk.Disk.only_now
+
+pub returns-in_err-name-clause-looked : goal.returns-in_err-name-clause-looked
+returns-in_err-name-clause-looked g c = λ other.
+    looked_kept g.R.Room g.R.Dsk.Disk (tiles_name c.args.journal.now) c.args.room.now
+    c.args.room.now (gives_same g.R.Room c.args.room.now) g.met.R.Dsk.Disk.only_now
+
+pub returns-in_err-pool-clause-valid : goal.returns-in_err-pool-clause-valid
+returns-in_err-pool-clause-valid g c =
+    let name = c.args.journal.now in
+    same_valid g.R.Room g.R.Dsk.Disk (IsLog g.H.TreeHash.hash) (name ∷ [])
+    (log_outcome g.H.TreeHash.hash name (g.R.Room.file c.args.room.now name)
+    (g.R.Room.file c.args.room.now (tiles_name name)) c.args.work) c.args.room.now
+    g.met.R.Dsk.Disk.only_now
+
+pub returns-in_err-pool-clause-looked : goal.returns-in_err-pool-clause-looked
+returns-in_err-pool-clause-looked g c = λ other.
+    looked_kept g.R.Room g.R.Dsk.Disk (tiles_name c.args.journal.now) c.args.room.now
+    c.args.room.now (gives_same g.R.Room c.args.room.now) g.met.R.Dsk.Disk.only_now
+
+pub on_journal-requires : goal.on_journal-requires
+on_journal-requires g c = record {
+  lent = c.requires;
+  named = c.deref.ensures ∙ c.in_ok-name.ensures;
+  empty = λ slot key holds.
+      let none : None ≡ Some key = sym (c.in_ok-pool.ensures.empty slot) ∙ holds.held in
+      absurd cc;
+}
+
+pub returns-clause-serves : goal.returns-clause-serves
+returns-clause-serves g c = c.on_journal.ensures.serves
+
+pub returns-clause-valid : goal.returns-clause-valid
+returns-clause-valid g c = c.on_journal.ensures.valid
+
+pub returns-clause-looked : goal.returns-clause-looked
+returns-clause-looked g c = c.on_journal.ensures.looked

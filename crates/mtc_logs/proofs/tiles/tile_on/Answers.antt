@@ -1,4 +1,5 @@
-use Rattle.std.proofs.Common.{◌≡◌, ◌∙◌, ◌/◌, ◌*◌, ap, subst, sym}
+use Rattle.std.proofs.Common.{◌≡◌, ◌∙◌, ◌/◌, ◌*◌, ap, inl, refl, subst, sym}
+use Rattle.std.proofs.lemmas.Result.{err_from_is_err_and}
 use Rattle.byte_forms.specs.Types.{Text}
 use Rattle.issuance_log.specs.Refusals.{full_size}
 use Rattle.issuance_log.specs.Words.{view_of}
@@ -6,7 +7,7 @@ use Rattle.mtc_answers.specs.Answers.{Ending, replied, said}
 use Rattle.mtc_answers.specs.declared.answer.Said.TheVariants.{Done}
 use Rattle.mtc_logs.specs.TileOutcome.{tile_says, tiled_line}
 use Rattle.mtc_logs.specs.Works.{HasWorkedOnLog}
-use Rattle.mtc_logs.proofs.Stored.{may_refuse, refused_so, tiled_so}
+use Rattle.mtc_logs.proofs.Stored.{may_refuse, refused_so, tiled_so, tiled_valid, unstored}
 use Rattle.mtc_logs.proofs.tiles.tile_on.Goals as goal
 
 pub refuse_tiles-requires : goal.refuse_tiles-requires
@@ -35,3 +36,22 @@ returns-in-Err-clause-works g c =
     (refused_so name old new c.requires g.met.D.Disk.only_now c.in-Err.why
     (may_refuse name old new c.requires c.in-Err.why c.in-Err.ensures.answer)
     c.in-Err.ensures.appends c.in-Err.ensures.answer c.in-Err.ensures.cause)
+
+pub returns-in_err-text-clause-works : goal.returns-in_err-text-clause-works
+returns-in_err-text-clause-works g c =
+    let log = c.args.log.now in
+    let refused = err_from_is_err_and c.from_residual.result c.from_residual.ensures.1 in
+    rw (refused.1, refused.2) (unstored c.args.journal.now log log c.requires refl)
+
+pub returns-in_err-text-clause-valid : goal.returns-in_err-text-clause-valid
+returns-in_err-text-clause-valid g c = inl (inl refl)
+
+pub returns-in-Ok-clause-valid : goal.returns-in-Ok-clause-valid
+returns-in-Ok-clause-valid g c =
+    tiled_valid c.args.journal.now c.args.log.now c.tile.new.self c.requires g.H.TreeHash.hash
+    c.in-Ok.ensures.valid
+
+pub returns-in-Err-clause-valid : goal.returns-in-Err-clause-valid
+returns-in-Err-clause-valid g c =
+    tiled_valid c.args.journal.now c.args.log.now c.tile.new.self c.requires g.H.TreeHash.hash
+    c.in-Err.ensures.valid

@@ -1,12 +1,13 @@
-use Rattle.std.proofs.Common.{subst, sym}
-use Rattle.issuance_log.specs.Folds.{LogState}
+use Rattle.std.proofs.Common.{inl, inr, subst, sym}
+use Rattle.issuance_log.specs.Folds.{LogState, view_in}
 use Rattle.mtc_answers.specs.Answers.{ending_of}
 use Rattle.mtc_logs.specs.CertOutcome.{cert_reply, light_reply}
+use Rattle.mtc_logs.specs.LandmarkOutcomes.{landmarks_reply}
 use Rattle.mtc_logs.specs.LogOutcomes.{checkpoint_reply, entries_reply}
 use Rattle.mtc_logs.specs.RequestOutcomes.{consist_reply, subtree_reply}
-use Rattle.mtc_logs.specs.Works.{HasWorkedOnLog, log_says}
+use Rattle.mtc_logs.specs.Works.{HasWorkedOnLog, StaysLog, log_says}
 use Rattle.mtc_logs.specs.declared.work.Work.{Work}
-use Rattle.mtc_logs.proofs.Worked.{worked_by}
+use Rattle.mtc_logs.proofs.Worked.{landmarks_so, worked_by}
 use Rattle.mtc_logs.proofs.work.carry_out.Goals as goal
 
 pub returns-in-Checkpoint-clause-works : goal.returns-in-Checkpoint-clause-works
@@ -75,3 +76,83 @@ returns-in-Tile-clause-works g c = subst
     (λ (w : Work). HasWorkedOnLog c.args.journal.now (log_says g.H.TreeHash.hash w)
     c.args.log.now c.tile_on.new.log (ending_of c.tile_on.result)) (sym c.in-Tile.is)
     c.tile_on.ensures.works
+
+pub returns-in-Landmarks-clause-works : goal.returns-in-Landmarks-clause-works
+unfolding Rattle.mtc_logs.specs.Works.log_says
+returns-in-Landmarks-clause-works g c =
+    let log = c.args.log.now in
+    let ending = ending_of c.list_landmarks.result in
+    subst (λ (w : Work). HasWorkedOnLog c.args.journal.now (log_says g.H.TreeHash.hash w)
+    log c.list_landmarks.new.log ending) (sym c.in-Landmarks.is)
+    (worked_by _ _ _ _ (λ (s : LogState). landmarks_reply (view_in s))
+    (landmarks_so c.args.journal.now log c.list_landmarks.new.log ending
+    c.list_landmarks.ensures.stays c.requires.view c.list_landmarks.ensures.reply))
+
+pub returns-in-Checkpoint-clause-valid : goal.returns-in-Checkpoint-clause-valid
+returns-in-Checkpoint-clause-valid g c = inl (inr c.checkpoint.ensures.stays.looks)
+
+pub returns-in-Entries-clause-valid : goal.returns-in-Entries-clause-valid
+returns-in-Entries-clause-valid g c = inl (inr c.entries.ensures.stays.looks)
+
+pub returns-in-Consist-clause-valid : goal.returns-in-Consist-clause-valid
+returns-in-Consist-clause-valid g c = inl (inr c.consist.ensures.stays.looks)
+
+pub returns-in-Subtree-clause-valid : goal.returns-in-Subtree-clause-valid
+returns-in-Subtree-clause-valid g c = inl (inr c.subtree.ensures.stays.looks)
+
+pub returns-in-Landmarks-clause-valid : goal.returns-in-Landmarks-clause-valid
+returns-in-Landmarks-clause-valid g c = inl (inr c.list_landmarks.ensures.stays.looks)
+
+pub returns-in-LightCert-clause-valid : goal.returns-in-LightCert-clause-valid
+returns-in-LightCert-clause-valid g c = inl (inr c.light_certificate.ensures.stays.looks)
+
+pub returns-in-Cert-clause-valid : goal.returns-in-Cert-clause-valid
+returns-in-Cert-clause-valid g c = inl (inr c.certificate.ensures.stays.looks)
+
+pub returns-in-Issue-clause-valid : goal.returns-in-Issue-clause-valid
+unfolding Rattle.mtc_logs.specs.Works.log_says
+returns-in-Issue-clause-valid g c = subst
+    (λ (w : Work). StaysLog g.H.TreeHash.hash (log_says g.H.TreeHash.hash w) c.args.log.now
+    c.issue_on.new.log) (sym c.in-Issue.is) c.issue_on.ensures.valid
+
+pub returns-in-Landmark-clause-valid : goal.returns-in-Landmark-clause-valid
+unfolding Rattle.mtc_logs.specs.Works.log_says
+returns-in-Landmark-clause-valid g c = subst
+    (λ (w : Work). StaysLog g.H.TreeHash.hash (log_says g.H.TreeHash.hash w) c.args.log.now
+    c.set_landmark.new.log) (sym c.in-Landmark.is) c.set_landmark.ensures.valid
+
+pub returns-in-Tile-clause-valid : goal.returns-in-Tile-clause-valid
+unfolding Rattle.mtc_logs.specs.Works.log_says
+returns-in-Tile-clause-valid g c = subst
+    (λ (w : Work). StaysLog g.H.TreeHash.hash (log_says g.H.TreeHash.hash w) c.args.log.now
+    c.tile_on.new.log) (sym c.in-Tile.is) c.tile_on.ensures.valid
+
+pub returns-in-Checkpoint-clause-looked : goal.returns-in-Checkpoint-clause-looked
+returns-in-Checkpoint-clause-looked g c = λ other. inr c.checkpoint.ensures.stays.tiles
+
+pub returns-in-Entries-clause-looked : goal.returns-in-Entries-clause-looked
+returns-in-Entries-clause-looked g c = λ other. inr c.entries.ensures.stays.tiles
+
+pub returns-in-Consist-clause-looked : goal.returns-in-Consist-clause-looked
+returns-in-Consist-clause-looked g c = λ other. inr c.consist.ensures.stays.tiles
+
+pub returns-in-Subtree-clause-looked : goal.returns-in-Subtree-clause-looked
+returns-in-Subtree-clause-looked g c = λ other. inr c.subtree.ensures.stays.tiles
+
+pub returns-in-Landmarks-clause-looked : goal.returns-in-Landmarks-clause-looked
+returns-in-Landmarks-clause-looked g c = λ other. inr c.list_landmarks.ensures.stays.tiles
+
+pub returns-in-LightCert-clause-looked : goal.returns-in-LightCert-clause-looked
+returns-in-LightCert-clause-looked g c = λ other. inr c.light_certificate.ensures.stays.tiles
+
+pub returns-in-Cert-clause-looked : goal.returns-in-Cert-clause-looked
+returns-in-Cert-clause-looked g c = λ other. inr c.certificate.ensures.stays.tiles
+
+pub returns-in-Issue-clause-looked : goal.returns-in-Issue-clause-looked
+returns-in-Issue-clause-looked g c = λ other. inl c.issue_on.ensures.tiles
+
+pub returns-in-Landmark-clause-looked : goal.returns-in-Landmark-clause-looked
+returns-in-Landmark-clause-looked g c = λ other. inl c.set_landmark.ensures.tiles
+
+pub returns-in-Tile-clause-looked : goal.returns-in-Tile-clause-looked
+returns-in-Tile-clause-looked g c = λ other. absurd (other c.in-Tile.is)
