@@ -15,6 +15,8 @@ use der_core::{CertError, DerError};
 use std::alloc::Global;
 use std::io::{BufRead, BufReader};
 
+type Answer = std::result::Result<Summary, CertError>;
+
 // A fault of an element, and its offset.
 fn named(fault: DerError) -> (&'static str, usize) {
     match fault {
@@ -55,7 +57,7 @@ fn number_of(names: DnsNames) -> usize {
 }
 
 // What is answered to these bytes.
-fn answer(bytes: &[u8]) -> std::result::Result<Summary, CertError> {
+fn answer(bytes: &[u8]) -> Answer {
     let cert = parse(bytes)?;
     Ok(Summary {
         serial: cert.serial,
@@ -90,47 +92,74 @@ fn refused(alloc: Global, fault: CertError) -> Result<String> {
     Ok(format!(in alloc; "{name}")?)
 }
 
+// The text of what was read.
+fn text_of_read(alloc: Global, read: Summary) -> Result<String> {
+    let moments = format!(in alloc; "{} {}", read.not_before, read.not_after)?;
+    let names = format!(in alloc; "{} {}", read.issuer, read.subject)?;
+    let others = format!(in alloc; "{} {} {}", read.spki, read.extensions, read.proof)?;
+    let found = format!(in alloc; "{} {}", read.names, read.has_unknown as u8)?;
+    Ok(format!(in alloc; "Ok {} {moments} {names} {others} {found}", read.serial)?)
+}
+
 // The text of an answer.
-fn text_of(alloc: Global, answer: std::result::Result<Summary, CertError>) -> Result<String> {
+fn text_of(alloc: Global, answer: Answer) -> Result<String> {
     match answer {
-        Ok(read) => {
-            let moments = format!(in alloc; "{} {}", read.not_before, read.not_after)?;
-            let names = format!(in alloc; "{} {}", read.issuer, read.subject)?;
-            let others = format!(in alloc; "{} {} {}", read.spki, read.extensions, read.proof)?;
-            let found = format!(in alloc; "{} {}", read.names, read.has_unknown as u8)?;
-            Ok(format!(in alloc; "Ok {} {moments} {names} {others} {found}", read.serial)?)
-        }
+        Ok(read) => text_of_read(alloc, read),
         Err(fault) => refused(alloc, fault),
     }
 }
 
-// The answers to all values of the byte at an offset, as runs.
-fn row(alloc: Global, certificate: &[u8], place: usize) -> Result<String> {
-    let mut changed = Vec::from_slice(alloc, certificate)?;
-    let mut text = format!(in alloc; "{place}")?;
+// Writes the run of values that have one answer behind those before it.
+fn add_run(alloc: Global, text: &mut String, from: u8, to: u8, answer: Answer) -> Result<()> {
+    let answer = text_of(alloc, answer)?;
+    let run = format!(in alloc; ", {from}-{to} {answer}")?;
+    text.push_str(run.as_str())?;
+    Ok(())
+}
+
+// Writes the answers to all values of the byte at an offset, as runs.
+fn add_runs(alloc: Global, text: &mut String, changed: &mut [u8], place: usize) -> Result<()> {
     let mut from = 0;
     let mut before = None;
     for value in 0..=255u8 {
         if let Some(byte) = changed.get_mut(place) {
             *byte = value;
         }
-        let next = answer(changed.as_slice());
+        let next = answer(changed);
         match before {
             Some(last) if last == next => {}
             Some(last) => {
-                let last = text_of(alloc, last)?;
-                let run = format!(in alloc; ", {from}-{} {last}", value.saturating_sub(1))?;
-                text.push_str(run.as_str())?;
+                add_run(alloc, text, from, value.saturating_sub(1), last)?;
                 from = value;
             }
             None => {}
         }
         before = Some(next);
     }
-    if let Some(last) = before {
-        let last = text_of(alloc, last)?;
-        let run = format!(in alloc; ", {from}-255 {last}")?;
-        text.push_str(run.as_str())?;
+    match before {
+        Some(last) => add_run(alloc, text, from, 255, last),
+        None => Ok(()),
+    }
+}
+
+// Writes the line of an offset.
+fn add_row(alloc: Global, text: &mut String, certificate: &[u8], place: usize) -> Result<()> {
+    let mut changed = Vec::from_slice(alloc, certificate)?;
+    let offset = format!(in alloc; "{place}")?;
+    text.push_str(offset.as_str())?;
+    add_runs(alloc, text, changed.as_mut_slice(), place)?;
+    text.push_str("\n")?;
+    Ok(())
+}
+
+// The lines that answer a line of the input.
+fn table(alloc: Global, line: &str) -> Result<String> {
+    let (label, digits) = line.split_once(' ').context("no certificate")?;
+    let certificate = hex::decode(alloc, digits)?;
+    let itself = text_of(alloc, answer(certificate.as_slice()))?;
+    let mut text = format!(in alloc; "{label} {} {itself}\n", certificate.len())?;
+    for place in 0..certificate.len() {
+        add_row(alloc, &mut text, certificate.as_slice(), place)?;
     }
     Ok(text)
 }
@@ -138,15 +167,8 @@ fn row(alloc: Global, certificate: &[u8], place: usize) -> Result<String> {
 fn main(rt: HostRuntime) -> Result<()> {
     let input = BufReader::new(rt.alloc(), rt.reader())?;
     for line in input.lines(rt.alloc()) {
-        let line = line?;
-        let (label, digits) = line.as_str().split_once(' ').context("no certificate")?;
-        let certificate = hex::decode(rt.alloc(), digits)?;
-        let itself = text_of(rt.alloc(), answer(certificate.as_slice()))?;
-        println!(rt; "{label} {} {itself}", certificate.len())?;
-        for place in 0..certificate.len() {
-            let text = row(rt.alloc(), certificate.as_slice(), place)?;
-            println!(rt; "{text}")?;
-        }
+        let text = table(rt.alloc(), line?.as_str())?;
+        print!(rt; "{text}")?;
     }
     Ok(())
 }

@@ -82,6 +82,14 @@ fn signed(alloc: Global, key: &mut Key, message: &[u8]) -> Result<String> {
     Ok(format!(in alloc; "{used} {length} {digest} {name}\n")?)
 }
 
+// Writes what signing the message of a word answers behind what stands there.
+fn add_signed(alloc: Global, text: &mut String, key: &mut Key, word: &str) -> Result<()> {
+    let message = bytes_of(alloc, word)?;
+    let line = signed(alloc, key, &message)?;
+    text.push_str(line.as_str())?;
+    Ok(())
+}
+
 // The public key and each signature in turn, for `HEIGHT WIDTH SECRET NEXT MESSAGE ..`.
 pub fn key_answer(alloc: Global, rest: &str) -> Result<String> {
     let mut words = rest.split(' ');
@@ -93,8 +101,7 @@ pub fn key_answer(alloc: Global, rest: &str) -> Result<String> {
     let public = hex::encode(alloc, key.public())?;
     let mut text = format!(in alloc; "{height} {width} {public}\n")?;
     for word in words {
-        let message = bytes_of(alloc, word)?;
-        text.push_str(signed(alloc, &mut key, &message)?.as_str())?;
+        add_signed(alloc, &mut text, &mut key, word)?;
     }
     Ok(text)
 }

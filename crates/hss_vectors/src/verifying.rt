@@ -24,18 +24,24 @@ pub fn name_of(answer: std::result::Result<(), SigError>) -> &'static str {
     }
 }
 
-// `LABEL NAME` for the rest of a line, `LABEL KEY MESSAGE SIGNATURE`.
-pub fn answer(alloc: Global, rest: &str, one_tree: bool) -> Result<String> {
-    let mut words = rest.split(' ');
-    let label = words.next().context("no label")?;
-    let key = bytes_of(alloc, words.next().context("no key")?)?;
-    let message = bytes_of(alloc, words.next().context("no message")?)?;
-    let signature = bytes_of(alloc, words.next().context("no signature")?)?;
+// What `verify` answers to `KEY MESSAGE SIGNATURE`.
+fn verified(alloc: Global, words: &str, one_tree: bool) -> Result<&'static str> {
+    let (key, rest) = words.split_once(' ').context("no message")?;
+    let (message, signature) = rest.split_once(' ').context("no signature")?;
+    let key = bytes_of(alloc, key)?;
+    let message = bytes_of(alloc, message)?;
+    let signature = bytes_of(alloc, signature)?;
     let given = if one_tree {
         lms_core::verify(&key, &message, &signature)
     } else {
         hss_core::verify(&key, &message, &signature)
     };
-    let name = name_of(given);
+    Ok(name_of(given))
+}
+
+// `LABEL NAME` for the rest of a line, `LABEL KEY MESSAGE SIGNATURE`.
+pub fn answer(alloc: Global, rest: &str, one_tree: bool) -> Result<String> {
+    let (label, words) = rest.split_once(' ').context("no key")?;
+    let name = verified(alloc, words, one_tree)?;
     Ok(format!(in alloc; "{label} {name}\n")?)
 }

@@ -31,35 +31,61 @@ fn text_of(alloc: Global, answer: Answer) -> Result<String> {
     }
 }
 
-// The answers to all values of the byte at an offset, as runs.
-fn row(alloc: Global, certificate: &[u8], place: usize, store: &Store, now: i64) -> Result<String> {
-    let mut changed = Vec::from_slice(alloc, certificate)?;
-    let mut text = format!(in alloc; "{place}")?;
+// Writes the run of values that have one answer behind those before it.
+fn add_run(alloc: Global, text: &mut String, from: u8, to: u8, answer: Answer) -> Result<()> {
+    let answer = text_of(alloc, answer)?;
+    let run = format!(in alloc; ", {from}-{to} {answer}")?;
+    text.push_str(run.as_str())?;
+    Ok(())
+}
+
+// Writes the answers to all values of the byte at an offset, as runs.
+fn add_runs(
+    alloc: Global,
+    text: &mut String,
+    changed: &mut [u8],
+    place: usize,
+    store: &Store,
+    now: i64,
+) -> Result<()> {
     let mut from = 0;
     let mut before = None;
     for value in 0..=255u8 {
         if let Some(byte) = changed.get_mut(place) {
             *byte = value;
         }
-        let next = judge::<Sha>(changed.as_slice(), store, now);
+        let next = judge::<Sha>(changed, store, now);
         match before {
             Some(last) if last == next => {}
             Some(last) => {
-                let last = text_of(alloc, last)?;
-                let run = format!(in alloc; ", {from}-{} {last}", value.saturating_sub(1))?;
-                text.push_str(run.as_str())?;
+                add_run(alloc, text, from, value.saturating_sub(1), last)?;
                 from = value;
             }
             None => {}
         }
         before = Some(next);
     }
-    if let Some(last) = before {
-        let last = text_of(alloc, last)?;
-        let run = format!(in alloc; ", {from}-255 {last}")?;
-        text.push_str(run.as_str())?;
+    match before {
+        Some(last) => add_run(alloc, text, from, 255, last),
+        None => Ok(()),
     }
-    Ok(text)
+}
+
+// Writes the line of an offset.
+fn add_row(
+    alloc: Global,
+    text: &mut String,
+    certificate: &[u8],
+    place: usize,
+    store: &Store,
+    now: i64,
+) -> Result<()> {
+    let mut changed = Vec::from_slice(alloc, certificate)?;
+    let offset = format!(in alloc; "{place}")?;
+    text.push_str(offset.as_str())?;
+    add_runs(alloc, text, changed.as_mut_slice(), place, store, now)?;
+    text.push_str("\n")?;
+    Ok(())
 }
 
 // The word at this place of a line, counted from 0.
@@ -110,23 +136,29 @@ fn store(alloc: Global, line: &str) -> Result<Store> {
     })
 }
 
+// The lines that answer a line of the input, by the store that it describes.
+fn judged(alloc: Global, line: &str, store: &Store) -> Result<String> {
+    let label = word(line, 0)?;
+    let now: i64 = word(line, 1)?.parse()?;
+    let certificate = hex::decode(alloc, word(line, 8)?)?;
+    let itself = text_of(alloc, judge::<Sha>(certificate.as_slice(), store, now))?;
+    let mut text = format!(in alloc; "{label} {} {itself}\n", certificate.len())?;
+    for place in 0..certificate.len() {
+        add_row(alloc, &mut text, certificate.as_slice(), place, store, now)?;
+    }
+    Ok(text)
+}
+
+fn table(alloc: Global, line: &str) -> Result<String> {
+    let store = store(alloc, line)?;
+    judged(alloc, line, &store)
+}
+
 fn main(rt: HostRuntime) -> Result<()> {
     let input = BufReader::new(rt.alloc(), rt.reader())?;
     for line in input.lines(rt.alloc()) {
-        let line = line?;
-        let label = word(line.as_str(), 0)?;
-        let now: i64 = word(line.as_str(), 1)?.parse()?;
-        let store = store(rt.alloc(), line.as_str())?;
-        let certificate = hex::decode(rt.alloc(), word(line.as_str(), 8)?)?;
-        let itself = text_of(
-            rt.alloc(),
-            judge::<Sha>(certificate.as_slice(), &store, now),
-        )?;
-        println!(rt; "{label} {} {itself}", certificate.len())?;
-        for place in 0..certificate.len() {
-            let text = row(rt.alloc(), certificate.as_slice(), place, &store, now)?;
-            println!(rt; "{text}")?;
-        }
+        let text = table(rt.alloc(), line?.as_str())?;
+        print!(rt; "{text}")?;
     }
     Ok(())
 }

@@ -60,7 +60,7 @@ fn subtree_line(alloc: Global, nodes: &mut Listed<Sha>, start: u64, end: u64) ->
     };
     let hash = hex::encode(alloc, &subtree)?;
     let paths = hex::encode(alloc, &digest.end())?;
-    Ok(format!(in alloc; "{start} {end} {hash} {paths}")?)
+    Ok(format!(in alloc; "{start} {end} {hash} {paths}\n")?)
 }
 
 // Makes the consistency proof of a subtree at a size, and checks it.
@@ -100,7 +100,55 @@ fn proof_line(
     add_all(&mut digest, proof.as_slice());
     let hash = digest.end();
     let digits = hex::encode(alloc, &hash[..8])?;
-    Ok(format!(in alloc; "{start} {end} {size} {} {digits}", proof.as_slice().len())?)
+    Ok(format!(in alloc;
+        "{start} {end} {size} {} {digits}\n",
+        proof.as_slice().len()
+    )?)
+}
+
+// Adds an entry, given in hexadecimal, to the list.
+fn add_entry(alloc: Global, nodes: &mut Listed<Sha>, digits: &str) -> Result<()> {
+    let entry = hex::decode(alloc, digits)?;
+    if nodes.push(&leaf::<Sha>(entry.as_slice())).is_err() {
+        bail!("out of memory");
+    }
+    Ok(())
+}
+
+// Writes the lines of all subtrees of the list.
+fn add_subtrees(alloc: Global, text: &mut String, nodes: &mut Listed<Sha>) -> Result<()> {
+    for start in 0..nodes.size() {
+        for end in start..nodes.size().saturating_add(1) {
+            if subtree_ok(start, end) {
+                let line = subtree_line(alloc, nodes, start, end)?;
+                text.push_str(line.as_str())?;
+            }
+        }
+    }
+    Ok(())
+}
+
+// Writes the lines of all subtrees at a size.
+fn add_proofs(alloc: Global, text: &mut String, nodes: &mut Listed<Sha>, size: u64) -> Result<()> {
+    for start in 0..size {
+        for end in start..size.saturating_add(1) {
+            if subtree_ok(start, end) {
+                let line = proof_line(alloc, nodes, start, end, size)?;
+                text.push_str(line.as_str())?;
+            }
+        }
+    }
+    Ok(())
+}
+
+// All lines of the list.
+fn table(alloc: Global, nodes: &mut Listed<Sha>) -> Result<String> {
+    let mut text = String::new(alloc);
+    add_subtrees(alloc, &mut text, nodes)?;
+    for size in 1..nodes.size().saturating_add(1) {
+        add_proofs(alloc, &mut text, nodes, size)?;
+    }
+    Ok(text)
 }
 
 fn main(rt: HostRuntime) -> Result<()> {
@@ -108,28 +156,9 @@ fn main(rt: HostRuntime) -> Result<()> {
     let mut nodes: Listed<Sha> = Listed::new(alloc);
     let input = BufReader::new(alloc, rt.reader())?;
     for line in input.lines(alloc) {
-        let entry = hex::decode(alloc, line?.as_str())?;
-        if nodes.push(&leaf::<Sha>(entry.as_slice())).is_err() {
-            bail!("out of memory");
-        }
+        add_entry(alloc, &mut nodes, line?.as_str())?;
     }
-    for start in 0..nodes.size() {
-        for end in start..nodes.size().saturating_add(1) {
-            if subtree_ok(start, end) {
-                let text = subtree_line(alloc, &mut nodes, start, end)?;
-                println!(rt; "{text}")?;
-            }
-        }
-    }
-    for size in 1..nodes.size().saturating_add(1) {
-        for start in 0..size {
-            for end in start..size.saturating_add(1) {
-                if subtree_ok(start, end) {
-                    let text = proof_line(alloc, &mut nodes, start, end, size)?;
-                    println!(rt; "{text}")?;
-                }
-            }
-        }
-    }
+    let text = table(alloc, &mut nodes)?;
+    print!(rt; "{text}")?;
     Ok(())
 }
