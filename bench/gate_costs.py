@@ -5,7 +5,8 @@ Usage: bench/gate_costs.py [--write] [COMMAND WORD..]
 The command is rt ci where there is none; rt ci --anew proves all, also what is kept.
 
 What the command writes goes to standard error. The table goes to standard output, and with --write into docs/GATE.md, and its
-sums into README, if the command passed. Every half second the script looks at the provers that the command has started; what a
+sums into README, if the command passed. The check of a crate of one function, before the command and behind it, tells how fast
+the machine is: where the two differ, or those of two runs, their seconds are no measure. Every half second the script looks at the provers that the command has started; what a
 prover used in its last half second is in no row, and only in the sum by the system's count.
 """
 import glob
@@ -13,6 +14,7 @@ import os
 import resource
 import subprocess
 import sys
+import tempfile
 import time
 
 ROOT = os.path.dirname(os.path.dirname(os.path.abspath(__file__)))
@@ -104,19 +106,34 @@ def minutes_of(costs):
     return sum(sum(by.values()) for by in costs.values()) / 60
 
 
-def whole_minutes():
-    """The processor minutes of all processes of the command, by the system's count."""
+def seconds_used():
+    """The processor seconds of all processes that have ended, by the system's count."""
     used = resource.getrusage(resource.RUSAGE_CHILDREN)
-    return (used.ru_utime + used.ru_stime) / 60
+    return used.ru_utime + used.ru_stime
 
 
-def summary(costs, seconds):
+def one_check():
+    """The processor seconds that the check of a crate of one function takes now."""
+    files = {"HANDLES": "Handles allowed: none.\n", "crates.txt": "one:\n"}
+    files["crates/one/src/lib.rt"] = "//! One.\n#![tactic(auto)]\n\n/// One.\npub fn one() -> u8 {\n    1\n}\n"
+    with tempfile.TemporaryDirectory() as room:
+        os.makedirs(f"{room}/crates/one/src")
+        for path, text in files.items():
+            with open(f"{room}/{path}", "w", encoding="utf-8") as it:
+                it.write(text)
+        before = seconds_used()
+        subprocess.run(["rt", "check"], cwd=f"{room}/crates/one", stdout=subprocess.DEVNULL, check=True)
+        return seconds_used() - before
+
+
+def summary(costs, minutes, seconds, checks):
     """The sentences below the table."""
     lines = sum(map(lines_of, costs))
     return (
-        f"{whole_minutes():.0f} processor minutes by the system's count, of which the table has {minutes_of(costs):.0f}, "
+        f"{minutes:.0f} processor minutes by the system's count, of which the table has {minutes_of(costs):.0f}, "
         f"and {by_clock(seconds)}. "
-        f"The budget for these {lines:,} lines is {BUDGET * lines / 1000:.0f} processor minutes."
+        f"The budget for these {lines:,} lines is {BUDGET * lines / 1000:.0f} processor minutes. "
+        f"The check of a crate of one function took {checks[0]:.1f} processor seconds before it, and {checks[1]:.1f} behind it."
     )
 
 
@@ -140,7 +157,7 @@ def program_seconds(costs):
     return sum(proofs[crate] for crate in chain), chain["mtc_main"]
 
 
-def sentence(costs, seconds):
+def sentence(costs, minutes, seconds):
     """What README says of the times of its two commands."""
     first, chain = program_seconds(costs)
     return (
@@ -148,7 +165,7 @@ def sentence(costs, seconds):
         f"That is done once, and the proofs add up to {first / 60:.0f} processor minutes. "
         f"By the clock it takes no less than {chain / 60:.0f} minutes, those of the longest chain of crates, "
         "where no check on that machine has kept anything. "
-        f"The second took {whole_minutes():.0f} processor minutes, and {by_clock(seconds)} ([GATE](docs/GATE.md))."
+        f"The second took {minutes:.0f} processor minutes, and {by_clock(seconds)} ([GATE](docs/GATE.md))."
     )
 
 
@@ -162,7 +179,8 @@ def write(path, told):
 
 
 def main(command, writes):
-    began, seen = time.time(), {}
+    before, seen = one_check(), {}
+    began, used = time.time(), seconds_used()
     ran = subprocess.Popen(command, cwd=ROOT, stdout=sys.stderr)
     while ran.poll() is None:
         look(ran.pid, seen)
@@ -171,12 +189,12 @@ def main(command, writes):
     for (crate, kind), ticks in seen.values():
         by = costs.setdefault(crate, {})
         by[kind] = by.get(kind, 0) + ticks / TICK
-    seconds = time.time() - began
-    told = "\n".join([*table(costs), "", summary(costs, seconds)])
+    seconds, minutes = time.time() - began, (seconds_used() - used) / 60
+    told = "\n".join([*table(costs), "", summary(costs, minutes, seconds, (before, one_check()))])
     print(told)
     if writes and ran.returncode == 0:
         write(f"{ROOT}/docs/GATE.md", told)
-        write(f"{ROOT}/README.md", sentence(costs, seconds))
+        write(f"{ROOT}/README.md", sentence(costs, minutes, seconds))
     return ran.returncode
 
 
