@@ -4,10 +4,12 @@
 Usage: bench/gate_costs.py [--write] [COMMAND WORD..]
 The command is rt ci where there is none; rt ci --anew proves all, also what is kept.
 
-What the command writes goes to standard error. The table goes to standard output, and with --write into docs/GATE.md, and its
-sums into README, if the command passed. The check of a crate of one function, before the command and behind it, tells how fast
-the machine is: where the two differ, or those of two runs, their seconds are no measure. Every half second the script looks at the provers that the command has started; what a
-prover used in its last half second is in no row, and only in the sum by the system's count.
+What the command writes goes to standard error. The table goes to standard output, and with --write
+into docs/GATE.md, and its sums into README, if the command passed. The check of a crate of one
+function, before the command and behind it, tells how fast the machine is: where the two differ, or
+those of two runs, their seconds are no measure. Every half second the script looks at the provers
+that the command has started; what a prover used in its last half second is in no row, and only in
+the sum by the system's count.
 """
 import glob
 import os

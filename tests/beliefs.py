@@ -304,7 +304,8 @@ def table():
     words = sum(map(len, kit.values()))
     rows += ["", f"Modules of the kit: {len(kit)}, with {words} words.", "", "| Module | Words |", "|---|---|"]
     for dotted in sorted(kit):
-        rows.append(f"| `{dotted}` | {', '.join(f'`{name}`' for name in sorted(kit[dotted]))} |")
+        names = written(kit[dotted]).replace("|", "\\|")
+        rows.append(f"| `{dotted}` | {names} |")
     return "\n".join(rows)
 
 
