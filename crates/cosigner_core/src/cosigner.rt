@@ -38,13 +38,23 @@ use tree_core::TreeHash;
 /// A cosigner over the journal of its records: what it holds of its log, and its key, which counts.
 /// They are what its records on the disk make. Where an append has failed, the disk may hold one
 /// record more. `H` is the hash function of the log's tree.
-#[derive(Drop)]
 pub struct Cosigner<H: TreeHash, D: Disk> {
     journal: Journal<D>,
     signer: Signer,
     hash: PhantomData<H>,
     ghost settled: { (b : List ℕ) → D.Disk.told (disk_of journal) ≡ Some b → IsSettledAs
         H.TreeHash.hash signer (end_of journal) b } by { Prim.hlevel (props, IsSettledAs-prop) },
+}
+
+// Written out, so that one call drops it: a derived drop is spelled out at each place of one.
+impl<H: TreeHash, D: Disk + Drop> Drop for Cosigner<H, D> {
+    fn drop(self) {
+        let Cosigner {
+            journal: _,
+            signer: _,
+            hash: _,
+        } = self;
+    }
 }
 
 impl<H: TreeHash, D: Disk> Cosigner<H, D> {
@@ -230,6 +240,11 @@ impl<H: TreeHash, D: Disk> Cosigner<H, D> {
     pub fn into_disk(self) -> D
         ensures { result ≡ cosigner_disk self }
     {
-        self.journal.into_disk()
+        let Cosigner {
+            journal,
+            signer: _,
+            hash: _,
+        } = self;
+        journal.into_disk()
     }
 }

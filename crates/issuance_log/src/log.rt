@@ -57,7 +57,6 @@ const MAX_ITEM: usize = 65_535;
 ///
 /// So a log shows its numbers over every disk, and its entries where the disk of the journal tells
 /// its bytes. Unless an append has failed, they are what the records on the disk make.
-#[derive(Drop)]
 pub struct Log<H: TreeHash, D: Disk, T: Disk> {
     alloc: Global,
     journal: Journal<D>,
@@ -76,6 +75,18 @@ pub struct Log<H: TreeHash, D: Disk, T: Disk> {
         ) },
     ghost hashed: { IfSome (records journal) (AreHashed H.TreeHash.hash numbers.view
         (items_leaves items)) } by { Prim.hlevel props },
+}
+
+// Written out, so that one call drops it: a derived drop is spelled out at each place of one.
+impl<H: TreeHash, D: Disk + Drop, T: Disk + Drop> Drop for Log<H, D, T> {
+    fn drop(self) {
+        let Log {
+            alloc: _,
+            journal: _,
+            numbers: _,
+            items: _,
+        } = self;
+    }
 }
 
 impl<H: TreeHash, D: Disk, T: Disk> Log<H, D, T> {
@@ -354,6 +365,12 @@ impl<H: TreeHash, D: Disk, T: Disk> Log<H, D, T> {
         ensures journal { result.0 ≡ log_disk self }
         ensures tiles { result.1 ≡ log_tiles_disk self }
     {
-        (self.journal.into_disk(), self.items.into_disk())
+        let Log {
+            alloc: _,
+            journal,
+            numbers: _,
+            items,
+        } = self;
+        (journal.into_disk(), items.into_disk())
     }
 }

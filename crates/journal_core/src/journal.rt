@@ -21,7 +21,6 @@ use mtc_io::Failed;
 const LIMIT: u64 = 1 << 31;
 
 /// A journal on a disk: all its records are on the disk, unless an append has failed.
-#[derive(Drop)]
 pub struct Journal<D: Disk> {
     pub(crate) disk: D,
     pub(crate) end: u64,
@@ -34,6 +33,18 @@ pub struct Journal<D: Disk> {
         → StandsFor b (records_of b) } by { Prim.hlevel (props, StandsFor-records-prop) },
     ghost settled: { broken ≡ false → (b : Text) → D.Disk.told disk ≡ Some b
         → IsSettled b (D.Disk.may_leave disk) end } by { Prim.hlevel (props, IsSettled-prop) },
+}
+
+// Written out, so that one call drops it: a derived drop is spelled out at each place of one.
+impl<D: Disk + Drop> Drop for Journal<D> {
+    fn drop(self) {
+        let Journal {
+            disk: _,
+            end: _,
+            broken: _,
+            buffer: _,
+        } = self;
+    }
 }
 
 impl<D: Disk> Journal<D> {
@@ -131,7 +142,13 @@ impl<D: Disk> Journal<D> {
     pub fn into_disk(self) -> D
         ensures { result ≡ disk_of self }
     {
-        self.disk
+        let Journal {
+            disk,
+            end: _,
+            broken: _,
+            buffer: _,
+        } = self;
+        disk
     }
 
     fn put(&mut self, body: &[u8]) -> Result<(), AppendError>

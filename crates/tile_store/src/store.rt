@@ -36,7 +36,6 @@ use tree_proofs::Nodes;
 /// Where the device tells its bytes, contracts see the leaf hashes. They always see how many there
 /// are, how many more need no memory, and the sizes of the lists whose full tiles are stored and
 /// adopted.
-#[derive(Drop)]
 pub struct Tiles<H: TreeHash, T: Disk> {
     pub(crate) disk: T,
     pub(crate) pool: Pool,
@@ -58,6 +57,21 @@ pub struct Tiles<H: TreeHash, T: Disk> {
         → IsFull adopted key.level key.place },
     ghost told: { (b : Text) → T.Disk.told disk ≡ Some b → IsSoundOver H.TreeHash.hash adopted
         stored rows pool b } by { Prim.hlevel (props, IsSoundOver-prop) },
+}
+
+// Written out, so that one call drops it: a derived drop is spelled out at each place of one.
+impl<H: TreeHash, T: Disk + Drop> Drop for Tiles<H, T> {
+    fn drop(self) {
+        let Tiles {
+            disk: _,
+            pool: _,
+            rows: _,
+            inside: _,
+            adopted: _,
+            stored: _,
+            function: _,
+        } = self;
+    }
 }
 
 impl<H: TreeHash, T: Disk> Tiles<H, T> {
@@ -302,7 +316,16 @@ impl<H: TreeHash, T: Disk> Tiles<H, T> {
     pub fn into_disk(self) -> T
         ensures { result ≡ tiles_disk self }
     {
-        self.disk
+        let Tiles {
+            disk,
+            pool: _,
+            rows: _,
+            inside: _,
+            adopted: _,
+            stored: _,
+            function: _,
+        } = self;
+        disk
     }
 }
 
