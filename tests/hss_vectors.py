@@ -1,17 +1,22 @@
 #!/usr/bin/env python3
-"""Makes the answers of crates/hss_vectors anew, from RFC 8554 alone: `tests/hss_vectors.py > crates/hss_vectors/stdout`.
+"""Makes the answers about signatures of crates/reference_tables anew, from RFC 8554 alone, and prints them.
 
-It reads crates/hss_vectors/stdin and uses nothing of the crates. So what it prints is what the program must print: the
-names of the refusals, the public keys, and the signatures by their lengths and SHA-256. It takes about half a minute.
-Sections and names are those of RFC 8554.
+With --compare it prints nothing, and fails where crates/reference_tables/stdout doesn't begin with them. What it
+prints takes the place of as many lines there. It reads the lines of crates/reference_tables/stdin that ask for
+signatures, and uses nothing of the crates. So what it prints is what the program must print: the names of the
+refusals, the public keys, and the signatures by their lengths and SHA-256. It takes about half a minute. Sections and
+names are those of RFC 8554.
 """
 import pathlib
+import sys
 from hashlib import sha256
 
 # Section 4.1: typecode, w, p, ls; the hash has 32 bytes.
 LMOTS = {1: (1, 265, 7), 2: (2, 133, 6), 3: (4, 67, 4), 4: (8, 34, 0)}
 # Section 5.1: typecode, h.
 LMS = {5: 5, 6: 10, 7: 15, 8: 20, 9: 25}
+# The lines about signatures and keys; they come first.
+KINDS = ("hss", "lms", "tree", "sign")
 D_PBLC, D_MESG, D_LEAF, D_INTR = b"\x80\x80", b"\x81\x81", b"\x82\x82", b"\x83\x83"
 
 
@@ -175,7 +180,15 @@ def answers(line):
 
 
 if __name__ == "__main__":
-    folder = pathlib.Path(__file__).resolve().parent.parent / "crates" / "hss_vectors"
-    for asked in (folder / "stdin").read_text().splitlines():
-        for answer in answers(asked):
-            print(answer)
+    folder = pathlib.Path(__file__).resolve().parent.parent / "crates" / "reference_tables"
+    asked = [line for line in (folder / "stdin").read_text().splitlines() if line.split(" ")[0] in KINDS]
+    made = [answer for line in asked for answer in answers(line)]
+    if sys.argv[1:] == ["--compare"]:
+        found = (folder / "stdout").read_text().splitlines()
+        first = next((at for at, line in enumerate(made, 1) if found[at - 1:at] != [line]), None)
+        if first or not made:
+            sys.exit(f"line {first or 1} of crates/reference_tables/stdout is not what RFC 8554 gives")
+    elif sys.argv[1:]:
+        sys.exit("usage: tests/hss_vectors.py [--compare]")
+    else:
+        print("\n".join(made))

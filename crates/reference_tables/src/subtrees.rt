@@ -1,17 +1,15 @@
 //! The proofs of every subtree of a list and of its beginnings, to be compared with those of
 //! another implementation of the same definitions.
 //!
-//! The lines of the input are the entries of the list, in hexadecimal. For each subtree of the list
-//! a line `START END HASH PATHS` is written: its hash, and the SHA-256 of the inclusion paths of
-//! its entries one behind the other. For each size from 1 to the list's and each subtree within it
-//! a line `START END SIZE COUNT PROOF` is written: the number of hashes of its consistency proof,
-//! and the first 16 digits of their SHA-256. Each path is evaluated and each proof checked here;
-//! one that fails ends the program.
-#![tactic(auto)]
+//! For each subtree of the list a line `START END HASH PATHS` is written: its hash, and the SHA-256
+//! of the inclusion paths of its entries one behind the other. For each size from 1 to the list's
+//! and each subtree within it a line `START END SIZE COUNT PROOF` is written: the number of hashes
+//! of its consistency proof, and the first 16 digits of their SHA-256. Each path is evaluated and
+//! each proof checked here; one that fails ends the program.
 
+use crate::words::bytes_of;
 use anyhow::{Result, bail};
 use std::alloc::Global;
-use std::io::{BufRead, BufReader};
 use tree_core::{Sha, TreeHash, evaluate, leaf, subtree_ok};
 use tree_proofs::{Listed, Nodes, Path, check, consist, include, node_of};
 
@@ -106,9 +104,9 @@ fn proof_line(
     )?)
 }
 
-// Adds an entry, given in hexadecimal, to the list.
-fn add_entry(alloc: Global, nodes: &mut Listed<Sha>, digits: &str) -> Result<()> {
-    let entry = hex::decode(alloc, digits)?;
+// Adds the entry that a word stands for to the list.
+fn add_entry(alloc: Global, nodes: &mut Listed<Sha>, word: &str) -> Result<()> {
+    let entry = bytes_of(alloc, word)?;
     if nodes.push(&leaf::<Sha>(entry.as_slice())).is_err() {
         bail!("out of memory");
     }
@@ -142,7 +140,7 @@ fn add_proofs(alloc: Global, text: &mut String, nodes: &mut Listed<Sha>, size: u
 }
 
 // All lines of the list.
-fn table(alloc: Global, nodes: &mut Listed<Sha>) -> Result<String> {
+fn lines(alloc: Global, nodes: &mut Listed<Sha>) -> Result<String> {
     let mut text = String::new(alloc);
     add_subtrees(alloc, &mut text, nodes)?;
     for size in 1..nodes.size().saturating_add(1) {
@@ -151,14 +149,11 @@ fn table(alloc: Global, nodes: &mut Listed<Sha>) -> Result<String> {
     Ok(text)
 }
 
-fn main(rt: HostRuntime) -> Result<()> {
-    let alloc = rt.alloc();
+/// The lines for `ENTRY ..`.
+pub(crate) fn table(alloc: Global, rest: &str) -> Result<String> {
     let mut nodes: Listed<Sha> = Listed::new(alloc);
-    let input = BufReader::new(alloc, rt.reader())?;
-    for line in input.lines(alloc) {
-        add_entry(alloc, &mut nodes, line?.as_str())?;
+    for word in rest.split(' ') {
+        add_entry(alloc, &mut nodes, word)?;
     }
-    let text = table(alloc, &mut nodes)?;
-    print!(rt; "{text}")?;
-    Ok(())
+    lines(alloc, &mut nodes)
 }

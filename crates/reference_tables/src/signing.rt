@@ -3,7 +3,8 @@
 ghost use Rattle.std.specs.Prelude.{◌≤◌, IfSome, length};
 ghost use Rattle.lms_core.specs.Heights.{height};
 
-use crate::verifying::{bytes_of, name_of};
+use crate::verifying::name_of;
+use crate::words::bytes_of;
 use anyhow::{Context, Result, bail, ensure};
 use hss_core::{Key, LmsType, OtsType, SigBuf, verify};
 use lms_core::Tree;
@@ -53,12 +54,13 @@ fn key_of(alloc: Global, height: &str, width: &str, secret: &str, next: &str) ->
     }
 }
 
-// The public key of the tree, for `HEIGHT WIDTH SECRET`.
-pub fn tree_answer(alloc: Global, rest: &str) -> Result<String> {
+/// The public key of the tree, for `HEIGHT WIDTH SECRET`.
+pub(crate) fn tree_answer(alloc: Global, rest: &str) -> Result<String> {
     let mut words = rest.split(' ');
     let lms = height_of(words.next().context("no height")?).context("no height of trees")?;
     let ots = width_of(words.next().context("no width")?).context("no width")?;
     let secret = secret_of(alloc, words.next().context("no secret")?)?;
+    ensure!(words.next().is_none(), "too many words");
     match Tree::make(alloc, lms, ots, &secret) {
         Ok(tree) => {
             let public = hex::encode(alloc, tree.public())?;
@@ -90,8 +92,8 @@ fn add_signed(alloc: Global, text: &mut String, key: &mut Key, word: &str) -> Re
     Ok(())
 }
 
-// The public key and each signature in turn, for `HEIGHT WIDTH SECRET NEXT MESSAGE ..`.
-pub fn key_answer(alloc: Global, rest: &str) -> Result<String> {
+/// The public key and each signature in turn, for `HEIGHT WIDTH SECRET NEXT MESSAGE ..`.
+pub(crate) fn key_answer(alloc: Global, rest: &str) -> Result<String> {
     let mut words = rest.split(' ');
     let height = words.next().context("no height")?;
     let width = words.next().context("no width")?;

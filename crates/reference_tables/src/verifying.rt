@@ -1,19 +1,12 @@
-//! The words of a line as bytes, and what `verify` answers.
+//! What `verify` answers.
 
+use crate::words::bytes_of;
 use anyhow::{Context, Result};
 use hss_core::SigError;
 use std::alloc::Global;
 
-// The bytes that a word stands for.
-pub fn bytes_of(alloc: Global, word: &str) -> Result<Vec<u8>> {
-    if word == "-" {
-        return Ok(Vec::new(alloc));
-    }
-    Ok(hex::decode(alloc, word)?)
-}
-
-// The name of an answer.
-pub fn name_of(answer: std::result::Result<(), SigError>) -> &'static str {
+/// The name of an answer.
+pub(crate) fn name_of(answer: std::result::Result<(), SigError>) -> &'static str {
     match answer {
         Ok(()) => "Ok",
         Err(SigError::BadKey) => "BadKey",
@@ -39,8 +32,8 @@ fn verified(alloc: Global, words: &str, one_tree: bool) -> Result<&'static str> 
     Ok(name_of(given))
 }
 
-// `LABEL NAME` for the rest of a line, `LABEL KEY MESSAGE SIGNATURE`.
-pub fn answer(alloc: Global, rest: &str, one_tree: bool) -> Result<String> {
+/// `LABEL NAME` for the rest of a line, `LABEL KEY MESSAGE SIGNATURE`.
+pub(crate) fn answer(alloc: Global, rest: &str, one_tree: bool) -> Result<String> {
     let (label, words) = rest.split_once(' ').context("no key")?;
     let name = verified(alloc, words, one_tree)?;
     Ok(format!(in alloc; "{label} {name}\n")?)

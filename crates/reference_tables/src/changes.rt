@@ -1,0 +1,131 @@
+//! What is answered to every change of one byte of a certificate.
+//!
+//! A certificate is answered by a line `LABEL SIZE ANSWER` for itself, and a line for each offset:
+//! the offset, and `FROM-TO ANSWER` for each run of values of the byte there that have one answer.
+
+use crate::certificates::{Parsed, parsed, text_of_parsed};
+use crate::judgements::{CERTIFICATE, Judged, MOMENT, store_of, text_of_judged};
+use crate::words::{bytes_of, word};
+use anyhow::{Context, Result};
+use policy_core::Store;
+use relying_party::judge;
+use std::alloc::Global;
+use tree_core::Sha;
+
+// Who is asked: the reader of certificates, or the judge, with a store and at a moment in seconds.
+#[derive(Clone, Copy)]
+enum Asked<'a> {
+    Reader,
+    Judge(&'a Store, i64),
+}
+
+#[derive(Clone, Copy, PartialEq, Eq)]
+enum Answer {
+    Parsed(Parsed),
+    Judged(Judged),
+}
+
+fn ask(asked: Asked, certificate: &[u8]) -> Answer {
+    match asked {
+        Asked::Reader => Answer::Parsed(parsed(certificate)),
+        Asked::Judge(store, now) => Answer::Judged(judge::<Sha>(certificate, store, now)),
+    }
+}
+
+// The text of an answer.
+fn text_of(alloc: Global, answer: Answer) -> Result<String> {
+    match answer {
+        Answer::Parsed(parsed) => text_of_parsed(alloc, parsed),
+        Answer::Judged(judged) => text_of_judged(alloc, judged),
+    }
+}
+
+// Writes the run of values that have one answer behind those before it.
+fn add_run(alloc: Global, text: &mut String, from: u8, to: u8, answer: Answer) -> Result<()> {
+    let answer = text_of(alloc, answer)?;
+    let run = format!(in alloc; ", {from}-{to} {answer}")?;
+    text.push_str(run.as_str())?;
+    Ok(())
+}
+
+// Writes the answers to all values of the byte at an offset, as runs.
+fn add_runs(
+    alloc: Global,
+    text: &mut String,
+    asked: Asked,
+    changed: &mut [u8],
+    place: usize,
+) -> Result<()> {
+    let mut from = 0;
+    let mut before = None;
+    for value in 0..=255u8 {
+        if let Some(byte) = changed.get_mut(place) {
+            *byte = value;
+        }
+        let next = ask(asked, changed);
+        match before {
+            Some(last) if last == next => {}
+            Some(last) => {
+                add_run(alloc, text, from, value.saturating_sub(1), last)?;
+                from = value;
+            }
+            None => {}
+        }
+        before = Some(next);
+    }
+    match before {
+        Some(last) => add_run(alloc, text, from, 255, last),
+        None => Ok(()),
+    }
+}
+
+// Writes the line of an offset.
+fn add_row(
+    alloc: Global,
+    text: &mut String,
+    asked: Asked,
+    certificate: &[u8],
+    place: usize,
+) -> Result<()> {
+    let mut changed = Vec::from_slice(alloc, certificate)?;
+    let offset = format!(in alloc; "{place}")?;
+    text.push_str(offset.as_str())?;
+    add_runs(alloc, text, asked, changed.as_mut_slice(), place)?;
+    text.push_str("\n")?;
+    Ok(())
+}
+
+// The lines that answer a certificate.
+fn table(alloc: Global, label: &str, asked: Asked, certificate: &[u8]) -> Result<String> {
+    let itself = text_of(alloc, ask(asked, certificate))?;
+    let mut text = format!(in alloc; "{label} {} {itself}\n", certificate.len())?;
+    for place in 0..certificate.len() {
+        add_row(alloc, &mut text, asked, certificate, place)?;
+    }
+    Ok(text)
+}
+
+/// The lines for `LABEL CERTIFICATE`.
+pub(crate) fn of_certificate(alloc: Global, line: &str) -> Result<String> {
+    let (label, digits) = line.split_once(' ').context("no certificate")?;
+    let certificate = bytes_of(alloc, digits)?;
+    table(alloc, label, Asked::Reader, certificate.as_slice())
+}
+
+// The lines for a judgement, by its store.
+fn by_store(alloc: Global, line: &str, store: &Store) -> Result<String> {
+    let now = word(line, MOMENT)?.parse::<i64>().context("no moment")?;
+    let certificate = bytes_of(alloc, word(line, CERTIFICATE)?)?;
+    table(
+        alloc,
+        word(line, 0)?,
+        Asked::Judge(store, now),
+        certificate.as_slice(),
+    )
+}
+
+/// The lines for `LABEL MOMENT LOG START END HASH FROM TO CERTIFICATE`.
+pub(crate) fn of_judgement(alloc: Global, line: &str) -> Result<String> {
+    let store = store_of(alloc, line)?;
+    by_store(alloc, line, &store)
+}

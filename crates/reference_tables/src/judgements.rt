@@ -1,0 +1,77 @@
+//! What a relying party answers to every change of one byte of a certificate, to be compared with
+//! the answers of another implementation.
+//!
+//! A line is `LABEL MOMENT LOG START END HASH FROM TO CERTIFICATE`: the moment in seconds since
+//! 1970-01-01T00:00:00Z, and a store for the log with the id LOG, which trusts the interval from
+//! START to END with HASH, and has revoked the serial numbers from FROM to TO, without TO. An
+//! answer is `Accepted` with index, start and end, or the refusal.
+
+use crate::words::{bytes_of, number, word};
+use anyhow::{Context, Result, ensure};
+use cert_names::log_name;
+use policy_core::{Accepted, Cosigners, Refusal, Revoked, Rules, Store, Subtrees, Trusted};
+use std::alloc::Global;
+use tls_wire::AnchorId;
+use tree_core::Span;
+
+/// The place of the moment in a line.
+pub(crate) const MOMENT: usize = 1;
+
+/// The place of the certificate in a line, its last word.
+pub(crate) const CERTIFICATE: usize = 8;
+
+/// What the relying party knows of a certificate, or why it refuses it.
+pub(crate) type Judged = std::result::Result<Accepted, Refusal>;
+
+/// The text of an answer.
+pub(crate) fn text_of_judged(alloc: Global, answer: Judged) -> Result<String> {
+    match answer {
+        Ok(known) => {
+            Ok(format!(in alloc; "Accepted {} {} {}", known.index, known.start, known.end)?)
+        }
+        Err(refusal) => Ok(format!(in alloc; "{refusal:?}")?),
+    }
+}
+
+// The interval that is trusted, with its hash.
+fn subtree(alloc: Global, line: &str) -> Result<Trusted> {
+    let bytes = bytes_of(alloc, word(line, 5)?)?;
+    ensure!(bytes.len() == 32, "no hash of 32 bytes");
+    let mut hash = [0; 32];
+    hash.copy_from_slice(&bytes);
+    Ok(Trusted {
+        start: number(line, 3)?,
+        end: number(line, 4)?,
+        hash,
+    })
+}
+
+fn subtrees(alloc: Global, line: &str) -> Result<Subtrees> {
+    let one = subtree(alloc, line)?;
+    Ok(Subtrees::from_vec(Vec::from_slice(alloc, &[one])?))
+}
+
+fn revoked(alloc: Global, line: &str) -> Result<Revoked> {
+    let start = number(line, 6)?;
+    let end = number(line, 7)?;
+    let range = Span { start, end };
+    Ok(Revoked::from_vec(Vec::from_slice(alloc, &[range])?))
+}
+
+/// The store that a line describes.
+pub(crate) fn store_of(alloc: Global, line: &str) -> Result<Store> {
+    ensure!(line.split(' ').count() == CERTIFICATE + 1, "not nine words");
+    let log = AnchorId::from_text(alloc, word(line, 2)?).ok();
+    let log = log.context("no id")?;
+    let name = log_name(alloc, &log).ok().context("no memory")?;
+    let subtrees = subtrees(alloc, line)?;
+    let revoked = revoked(alloc, line)?;
+    Ok(Store {
+        log,
+        name,
+        cosigners: Cosigners::from_vec(Vec::new(alloc)),
+        rules: Rules::from_vec(Vec::new(alloc)),
+        subtrees,
+        revoked,
+    })
+}
