@@ -22,8 +22,8 @@ fn end_of_field(alloc: Global, last: &[u8; 9]) -> Result<Result<usize, CertError
 }
 
 // An extension whose identifier is this number in base 128.
-fn extension(number: u16) -> [u8; 9] {
-    let high = (number / 16384) as u8;
+fn extension(number: u32) -> [u8; 9] {
+    let high = (number / 16384 % 128) as u8;
     let middle = (number / 128 % 128) as u8;
     let low = (number % 128) as u8;
     [0x30, 0x07, 0x06, 0x03, high, middle, low, 0x04, 0x00]
@@ -31,25 +31,25 @@ fn extension(number: u16) -> [u8; 9] {
 
 // The extensions field with the extensions of the numbers below 32,769, and that of this number
 // behind them, up to offset 294,940.
-fn long_field(alloc: Global, last: u16) -> Result<Bytes, Memory> {
+fn long_field(alloc: Global, last: u32) -> Result<Bytes, Memory> {
     let mut out = Bytes::copy_of(
         alloc,
         &[0xA3, 0x83, 0x04, 0x80, 0x17, 0x30, 0x83, 0x04, 0x80, 0x12],
     )?;
-    for number in 0..32_769u16 {
+    for number in 0..32_769 {
         out.append(&extension(number))?;
     }
     out.append(&extension(last))?;
     Ok(out)
 }
 
-fn end_of_long_field(alloc: Global, last: u16) -> Result<Result<usize, CertError>, Memory> {
+fn end_of_long_field(alloc: Global, last: u32) -> Result<Result<usize, CertError>, Memory> {
     Ok(check_extensions(long_field(alloc, last)?.as_slice(), 0))
 }
 
 #[test]
 fn a_repetition_is_told_over_more_than_a_block(rt: HostRuntime) -> Result<(), Fail> {
-    let cases: [(u16, Result<usize, CertError>); 4] = [
+    let cases: [(u32, Result<usize, CertError>); 4] = [
         (32_769, Ok(294_940)),
         (0, Err(CertError::RepeatedExtension)),
         (32_767, Err(CertError::RepeatedExtension)),
@@ -61,6 +61,25 @@ fn a_repetition_is_told_over_more_than_a_block(rt: HostRuntime) -> Result<(), Fa
             "behind {last}"
         );
     }
+    Ok(())
+}
+
+// The end of the extensions field with three hundred thousand extensions. Were each compared with
+// all before it, that would take some 45,000 million steps, and more than a test's minute.
+fn end_of_three_hundred_thousand(alloc: Global) -> Result<Result<usize, CertError>, Memory> {
+    let mut out = Bytes::copy_of(
+        alloc,
+        &[0xA3, 0x83, 0x29, 0x32, 0xE5, 0x30, 0x83, 0x29, 0x32, 0xE0],
+    )?;
+    for number in 0..300_000 {
+        out.append(&extension(number))?;
+    }
+    Ok(check_extensions(out.as_slice(), 0))
+}
+
+#[test]
+fn three_hundred_thousand_extensions_are_read_in_time(rt: HostRuntime) -> Result<(), Fail> {
+    assert!(rt; end_of_three_hundred_thousand(rt.alloc())? == Ok(2_700_010));
     Ok(())
 }
 

@@ -26,10 +26,10 @@ fn the_first_fault_of_a_text_is_answered(rt: HostRuntime) {
     }
 }
 
-// Two hundred and fifty-six numbers, and this behind them.
-fn long_text(alloc: Global, behind: &str) -> Result<String, Fail> {
+// A number, so many others, and this behind them.
+fn long_text(alloc: Global, others: u32, behind: &str) -> Result<String, Fail> {
     let mut text = String::from_str(alloc, "1")?;
-    for _ in 0..255 {
+    for _ in 0..others {
         text.push_str(".1")?;
     }
     text.push_str(behind)?;
@@ -38,10 +38,12 @@ fn long_text(alloc: Global, behind: &str) -> Result<String, Fail> {
 
 #[test]
 fn a_text_is_too_long_only_where_it_has_no_other_fault(rt: HostRuntime) -> Result<(), Fail> {
-    let long = long_text(rt.alloc(), "")?;
+    let long = long_text(rt.alloc(), 255, "")?;
     assert!(rt; refused_text(rt.alloc(), long.as_str()) == Some(AnchorError::TooLong));
-    let wrong = long_text(rt.alloc(), "x")?;
+    let wrong = long_text(rt.alloc(), 255, "x")?;
     assert!(rt; refused_text(rt.alloc(), wrong.as_str()) == Some(AnchorError::NotDecimal(511)));
+    let longer = long_text(rt.alloc(), 2_678, "x")?;
+    assert!(rt; refused_text(rt.alloc(), longer.as_str()) == Some(AnchorError::NotDecimal(5_357)));
     Ok(())
 }
 

@@ -107,11 +107,12 @@ fn identifier_of(input: &[u8]) -> Result<&[u8], DerError> {
 
 #[test]
 fn identifiers_have_their_rules(rt: HostRuntime) {
-    let identifiers: [(&[u8], Result<&[u8], DerError>); 5] = [
+    let identifiers: [(&[u8], Result<&[u8], DerError>); 6] = [
         (&[6, 0], Err(DerError::BadOid(0))),
         (&[6, 1, 0x80], Err(DerError::BadOid(0))),
         (&[6, 2, 0x80, 1], Err(DerError::BadOid(0))),
         (&[6, 1, 0x81], Err(DerError::BadOid(0))),
+        (&[6, 2, 0x81, 0x80], Err(DerError::BadOid(0))),
         (&[6, 3, 0x55, 4, 3], Ok(&[0x55, 4, 3])),
     ];
     for (input, wanted) in identifiers {

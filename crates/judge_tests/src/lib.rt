@@ -1,4 +1,4 @@
-//! Tests of store files, judgements, request files, issuing and certificates.
+//! Tests of store files, judgements, request files, issuing, certificates and one-time keys.
 #![tactic(auto)]
 
 #[cfg(test)]
@@ -13,6 +13,8 @@ mod fields;
 mod issuing;
 #[cfg(test)]
 mod judgements;
+#[cfg(test)]
+mod one_time_keys;
 #[cfg(test)]
 mod requests;
 #[cfg(test)]

@@ -59,6 +59,12 @@ not_after = "2026-01-08T00:00:00Z"
 dns = ["a.example"]
 common_name = ""
 key = "MCowBQYDK2VwAyEAAAAAAAAAAAAAAAAAAAAAAAAAAAAAAAAAAAAAAAAAAAA="
+== BadValue(CommonName): 65 bytes
+not_before = "2026-01-01T00:00:00Z"
+not_after = "2026-01-08T00:00:00Z"
+dns = ["a.example"]
+common_name = "aaaaaaaaaaaaaaaaaaaaaaaaaaaaaaaaaaaaaaaaaaaaaaaaaaaaaaaaaaaaaaaaa"
+key = "MCowBQYDK2VwAyEAAAAAAAAAAAAAAAAAAAAAAAAAAAAAAAAAAAAAAAAAAAA="
 == BadValue(CommonName)
 not_before = "2026-01-01T00:00:00Z"
 not_after = "2026-01-08T00:00:00Z"
@@ -119,7 +125,7 @@ fn the_first_fault_is_told(rt: HostRuntime) -> Result<(), Fail> {
         assert!(rt; is_refused(rt.alloc(), block)?, "{block}");
         count = count.saturating_add(1);
     }
-    assert!(rt; count == 20);
+    assert!(rt; count == 21);
     Ok(())
 }
 

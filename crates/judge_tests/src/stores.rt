@@ -53,6 +53,8 @@ log = 1
 cosigners = []
 == UnknownKey
 rules = []
+== UnknownKey
+subtrees = []
 == BadValue(Table)
 subtree = 1
 [log]
@@ -311,7 +313,7 @@ fn the_first_fault_is_told(rt: HostRuntime) -> Result<(), Fail> {
         assert!(rt; is_refused(rt.alloc(), block)?, "{block}");
         count = count.saturating_add(1);
     }
-    assert!(rt; count == 45);
+    assert!(rt; count == 46);
     Ok(())
 }
 

@@ -65,6 +65,20 @@ $ show f
 | name a.example
 | proof none
 
+case an interval that ends before it starts
+file f CERT
+byte 186 05
+$ show f
+| serial 1
+| issuer 32473.1
+| not_before 2026-01-01T00:00:00Z
+| not_after 2026-01-08T00:00:00Z
+| subject empty
+| key 302a300506032b65700321000000000000000000000000000000000000000000000000000000000000000000
+| name a.example
+| interval 5 2
+| path 1
+
 case a path of 31 bytes
 file f CERT
 byte 196 1f
@@ -151,7 +165,7 @@ $ cert j 1 0 2 two
 #[test]
 fn shows_and_writes_certificates(rt: HostRuntime) -> Result<(), Fail> {
     let outcome = outcome_of(rt.alloc(), SHOWN)?;
-    assert!(rt; outcome == Outcome::Passed(18), "{outcome:?}");
+    assert!(rt; outcome == Outcome::Passed(19), "{outcome:?}");
     Ok(())
 }
 

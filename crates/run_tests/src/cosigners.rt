@@ -101,6 +101,10 @@ file t 0481fd590100000000000000000000000000000002 ROOT
 $ cosign s t
 status 2
 ! mtc: cosign: t: Short 53
+file t ALL 00
+$ cosign s t
+status 2
+! mtc: cosign: t: Trailing
 left s ADVANCED 00
 
 case a journal of a log is no cosigner's
@@ -118,7 +122,7 @@ status 7
 fn commands_of_a_cosigner(rt: HostRuntime) -> Result<(), Fail> {
     let script = format!(in rt.alloc(); "{NAMES}{CASES}")?;
     let outcome = outcome_of(rt.alloc(), script.as_str())?;
-    assert!(rt; outcome == Outcome::Passed(17), "{outcome:?}");
+    assert!(rt; outcome == Outcome::Passed(18), "{outcome:?}");
     Ok(())
 }
 

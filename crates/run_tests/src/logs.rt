@@ -128,8 +128,24 @@ $ entries k 3
 status 4
 ! mtc: entries: Beyond 2
 
+case an entry that is too large, by a key of 65,406 bytes
+file j NEW
+file r
+| not_before = "2026-01-01T00:00:00Z"
+| not_after = "2026-01-08T00:00:00Z"
+| dns = ["a.example"]
+|= key = "MIL/ejAFBgMrZXADgv9vAAAA
+times 21796 41414141
+| "
+$ issue j r
+status 9
+! mtc: issue: TooLarge
+left j NEW
+
 case requests to a cosigner
 file j ISSUED
+$ consist j 0 1
+  0481fd5901 0000000000000001 NULL_LEAF 0000
 $ consist j 0 2
   0481fd5901 0000000000000002 ROOT 0000
 $ consist j 1 2
@@ -277,6 +293,6 @@ status 2
 #[test]
 fn commands_on_a_log(rt: HostRuntime) -> Result<(), Fail> {
     let outcome = outcome_of(rt.alloc(), SCRIPT)?;
-    assert!(rt; outcome == Outcome::Passed(51), "{outcome:?}");
+    assert!(rt; outcome == Outcome::Passed(53), "{outcome:?}");
     Ok(())
 }

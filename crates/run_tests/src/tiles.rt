@@ -135,13 +135,21 @@ length l.tiles 0
 $ member j.tiles
 status 2
 ! mtc: member: j.tiles: Short 0
+
+# What stands behind the last full tile isn't stored.
+file n SETTINGS
+times 256 ITEM
+ 00
+$ tile n
+| tiled 256
+length n.tiles 8192
 "#;
 
 #[test]
 fn tiles_are_stored_beside_a_log(rt: HostRuntime) -> Result<(), Fail> {
     let script = format!(in rt.alloc(); "{NAMES}{STORED}")?;
     let outcome = outcome_of(rt.alloc(), script.as_str())?;
-    assert!(rt; outcome == Outcome::Passed(24), "{outcome:?}");
+    assert!(rt; outcome == Outcome::Passed(25), "{outcome:?}");
     Ok(())
 }
 

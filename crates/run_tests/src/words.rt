@@ -55,6 +55,7 @@ tile j.tiles => TilesName 1
 tile .tiles => TilesName 1
 init-log j.tiles 01 2 1 => TilesName 1
 entries j.tiles x => TilesName 1
+entries jtiles x => BadNumber 2
 export s.tiles => TilesName 1
 cosign s.tiles r => TilesName 1
 issue j.tiles => WrongCount 1 2
@@ -112,7 +113,7 @@ fn words_are_refused_by_their_first_fault(rt: HostRuntime) -> Result<(), Fail> {
         assert!(rt; is_refused(rt.alloc(), line)?, "{line}");
         count = count.saturating_add(1);
     }
-    assert!(rt; count == 52);
+    assert!(rt; count == 53);
     Ok(())
 }
 

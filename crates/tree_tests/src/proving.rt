@@ -24,6 +24,7 @@ fn entries(alloc: Global) -> Result<Vec<Bytes>, Memory> {
 fn nodes(alloc: Global) -> Result<Listed<Sha>, Memory> {
     let mut nodes = Listed::new(alloc);
     nodes.reserve(4)?;
+    nodes.reserve(1)?;
     for text in ENTRIES {
         nodes.push(&leaf::<Sha>(text))?;
     }
