@@ -2,7 +2,7 @@
 
 use crate::entries::request_of;
 use crate::issuing::{
-    DATES, DNS, KEY, MemLog, add, disk_over, disks_of, issued, let_go, new_log, open, open_over,
+    DATES, DNS, KEY, MemLog, add, disk_over, disks_of, issued, new_log, open, open_over,
 };
 use authority_core::{WriteError, cert};
 use disk_core::MemDisk;
@@ -38,16 +38,9 @@ fn add_entry(alloc: Global, log: &mut MemLog) -> Result<bool, Fail> {
 // The log with the null entry and the one entry.
 fn log_of_two(alloc: Global) -> Result<MemLog, Fail> {
     let mut log = open(alloc, new_log(alloc, 64)?)?;
-    match add_entry(alloc, &mut log) {
-        Ok(true) => Ok(log),
-        Ok(false) => {
-            let_go(log);
-            Err(Fail::from("not issued"))
-        }
-        Err(why) => {
-            let_go(log);
-            Err(why)
-        }
+    match add_entry(alloc, &mut log)? {
+        true => Ok(log),
+        false => Err(Fail::from("not issued")),
     }
 }
 
@@ -79,7 +72,7 @@ fn written(
     if check_signatures(signed).is_err() {
         return Err(Fail::from("no signatures"));
     }
-    match cert(alloc, &mut log.log, index, interval.0, interval.1, signed) {
+    match cert(alloc, log, index, interval.0, interval.1, signed) {
         Ok(bytes) => Ok(Ok(leaf::<Sha>(bytes.as_slice()))),
         Err(why) => Ok(Err(why)),
     }
@@ -95,7 +88,6 @@ fn answer(
     let signed = signatures(alloc, size)?;
     let mut log = log_of_two(alloc)?;
     let answer = written(alloc, &mut log, index, interval, signed.as_slice());
-    let_go(log);
     answer
 }
 
@@ -161,7 +153,7 @@ fn is_filled(alloc: Global, log: &mut MemLog, size: u64) -> Result<bool, Fail> {
 }
 
 fn is_tiled(log: &mut MemLog) -> bool {
-    log.log.tile().is_ok()
+    log.tile().is_ok()
 }
 
 // The journal and the tiles of a log of so many entries, tiled.
@@ -192,7 +184,6 @@ fn answer_over(
         return Ok(None);
     };
     let answer = written(alloc, &mut log, 1, (0, 512), &[]);
-    let_go(log);
     Ok(Some(answer?))
 }
 

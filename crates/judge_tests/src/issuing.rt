@@ -43,12 +43,8 @@ pub(crate) fn new_log(alloc: Global, limit: u32) -> Result<MemDisk, Fail> {
     }
 }
 
-/// A log over two disks in memory, that of its journal and that of its tiles. It is let go as one
-/// value, by a function of its own.
-#[derive(Drop)]
-pub(crate) struct MemLog {
-    pub log: Log<Sha, MemDisk, MemDisk>,
-}
+/// A log over two disks in memory, that of its journal and that of its tiles.
+pub(crate) type MemLog = Log<Sha, MemDisk, MemDisk>;
 
 /// The log over these disks, with one frame for its tiles; none where it isn't opened.
 pub(crate) fn open_over(
@@ -58,7 +54,7 @@ pub(crate) fn open_over(
 ) -> Result<Option<MemLog>, Fail> {
     let pool = Pool::new(alloc, 1)?;
     match Log::open(alloc, disk, tiles, pool) {
-        Ok(log) => Ok(Some(MemLog { log })),
+        Ok(log) => Ok(Some(log)),
         Err(_) => Ok(None),
     }
 }
@@ -81,28 +77,23 @@ pub(crate) fn issued(
 
 /// What a log answers to a request.
 pub(crate) fn add(alloc: Global, log: &mut MemLog, asked: &Request) -> Result<u64, IssueError> {
-    issue(alloc, &mut log.log, asked)
+    issue(alloc, log, asked)
 }
 
 /// The disks of a log's journal and of its tiles.
 pub(crate) fn disks_of(log: MemLog) -> (MemDisk, MemDisk) {
-    log.log.into_disks()
-}
-
-/// Lets a log go.
-pub(crate) fn let_go(log: MemLog) {
-    let _disks = disks_of(log);
+    log.into_disks()
 }
 
 fn size(log: &MemLog) -> u64 {
-    log.log.size()
+    log.size()
 }
 
 // The entry at index 1 of the log, where it has one.
 fn first_entry(alloc: Global, log: &mut MemLog) -> Option<Bytes> {
     let mut entry = Bytes::new(alloc);
     let mut key = Bytes::new(alloc);
-    match log.log.entry(1, &mut entry, &mut key) {
+    match log.entry(1, &mut entry, &mut key) {
         Ok(()) => Some(entry),
         Err(_) => None,
     }
@@ -121,7 +112,6 @@ fn has_one(alloc: Global, log: &mut MemLog, wanted: &[u8]) -> bool {
 fn holds(alloc: Global, disk: MemDisk, wanted: &[u8]) -> Result<bool, Fail> {
     let mut log = open(alloc, disk)?;
     let held = has_one(alloc, &mut log, wanted);
-    let_go(log);
     Ok(held)
 }
 
@@ -177,7 +167,6 @@ fn issued_at_failure(
     let failed = Err(IssueError::Log(LogError::Append(AppendError::Failed)));
     let answer = issued(alloc, &mut log, lines);
     let size = size(&log);
-    let_go(log);
     Ok(Some((answer? == failed, size)))
 }
 

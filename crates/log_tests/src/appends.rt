@@ -2,7 +2,7 @@
 
 use crate::journals::{
     ENTRY, KEY, MemLog, MemRefused, NEW_LOG, add, add_entry, begin, changed, disk, disk_of,
-    entry_for, holds, left, let_go, log_in, no_bytes, open, opened, size, size_of, with_entry,
+    entry_for, holds, left, log_in, no_bytes, open, opened, size, size_of, with_entry,
 };
 use disk_core::MemDisk;
 use issuance_log::{LogError, LogOpenError};
@@ -76,7 +76,6 @@ fn add_long(alloc: Global, size: usize) -> Result<Option<Result<u64, LogError>>,
         return Ok(None);
     };
     let answer = add(&mut log, entry.as_slice(), key.as_slice());
-    let_go(log);
     Ok(Some(answer))
 }
 

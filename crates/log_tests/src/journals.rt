@@ -42,11 +42,8 @@ pub(crate) const KEY: [u8; 44] = [
     0x00, 0x00, 0x00, 0x00, 0x00, 0x00, 0x00, 0x00, 0x00, 0x00, 0x00, 0x00,
 ];
 
-/// A log over disks in memory. It is let go by [`let_go`], which costs less proof than a drop.
-#[derive(Drop)]
-pub(crate) struct MemLog {
-    pub log: Log<Sha, MemDisk, MemDisk>,
-}
+/// A log over two disks in memory, that of its journal and that of its tiles.
+pub(crate) type MemLog = Log<Sha, MemDisk, MemDisk>;
 
 pub(crate) type MemRefused = LogRefused<MemDisk, MemDisk>;
 
@@ -67,10 +64,7 @@ pub(crate) fn open_over(
     tiles: MemDisk,
 ) -> Result<MemLog, MemRefused> {
     match Pool::new(alloc, 1) {
-        Ok(pool) => match Log::open(alloc, disk, tiles, pool) {
-            Ok(log) => Ok(MemLog { log }),
-            Err(refused) => Err(refused),
-        },
+        Ok(pool) => Log::open(alloc, disk, tiles, pool),
         Err(Memory) => Err(LogRefused {
             disk,
             tiles,
@@ -106,7 +100,7 @@ pub(crate) fn left(disk: &MemDisk, pick: u64) -> Result<MemDisk, Memory> {
 
 /// The disks of a log's journal and of its tiles.
 pub(crate) fn disks_of(log: MemLog) -> (MemDisk, MemDisk) {
-    log.log.into_disks()
+    log.into_disks()
 }
 
 /// The disk of a log's journal.
@@ -114,29 +108,24 @@ pub(crate) fn disk_of(log: MemLog) -> MemDisk {
     disks_of(log).0
 }
 
-/// Lets a log go.
-pub(crate) fn let_go(log: MemLog) {
-    let _disks = disks_of(log);
-}
-
 /// How many entries a log has.
 pub(crate) fn size(log: &MemLog) -> u64 {
-    log.log.size()
+    log.size()
 }
 
 /// Whether these are the sizes at a log's landmarks.
 pub(crate) fn has_marks(log: &MemLog, sizes: &[u64]) -> bool {
-    log.log.marks() == sizes
+    log.marks() == sizes
 }
 
 /// Sets a landmark.
 pub(crate) fn mark(log: &mut MemLog) -> Result<(u64, u64), LogError> {
-    log.log.mark()
+    log.mark()
 }
 
 /// Stores the tiles.
 pub(crate) fn tile(log: &mut MemLog) -> Result<u64, LogError> {
-    log.log.tile()
+    log.tile()
 }
 
 /// The log in these bytes, where there is one.
@@ -146,9 +135,7 @@ pub(crate) fn log_in(alloc: Global, bytes: &[u8]) -> Result<Option<MemLog>, Memo
 
 // How many entries a log has that is let go.
 fn last_size(log: MemLog) -> u64 {
-    let size = size(&log);
-    let_go(log);
-    size
+    size(&log)
 }
 
 /// Why there is no log.
@@ -195,7 +182,7 @@ pub(crate) fn begin(
 /// Adds an entry whose key matches.
 pub(crate) fn add(log: &mut MemLog, entry: &[u8], key: &[u8]) -> Result<u64, LogError> {
     if key_matches::<Sha>(entry, key) {
-        log.log.add(entry, key)
+        log.add(entry, key)
     } else {
         Err(LogError::NoSuchEntry)
     }
@@ -252,6 +239,6 @@ pub(crate) fn item_at(
 ) -> Result<(Bytes, Bytes, Result<(), LogError>), Memory> {
     let mut entry = Bytes::copy_of(alloc, b"old")?;
     let mut key = Bytes::copy_of(alloc, b"old")?;
-    let answer = log.log.entry(index, &mut entry, &mut key);
+    let answer = log.entry(index, &mut entry, &mut key);
     Ok((entry, key, answer))
 }

@@ -1,8 +1,8 @@
 //! Landmarks that are set, read and refused.
 
 use crate::journals::{
-    ENTRY, KEY, MemLog, NEW_LOG, add, disk, disk_of, has_marks, holds, left, let_go, log_in, mark,
-    opened, size, size_of, with_entry,
+    ENTRY, KEY, MemLog, NEW_LOG, add, disk, disk_of, has_marks, holds, left, log_in, mark, opened,
+    size, size_of, with_entry,
 };
 use disk_core::MemDisk;
 use issuance_log::{LogError, LogOpenError};
@@ -62,7 +62,6 @@ fn is_found_again(alloc: Global, journal: MemDisk) -> bool {
         return false;
     };
     let found = size(&log) == 2 && has_marks(&log, &[1, 2]);
-    let_go(log);
     found
 }
 
@@ -137,7 +136,7 @@ fn a_landmark_has_eight_bytes(rt: HostRuntime) -> Result<(), Fail> {
 }
 
 fn count_marks(log: &MemLog) -> usize {
-    log.log.marks().len()
+    log.marks().len()
 }
 
 // The landmarks of what a crash leaves, none where it is no log.
@@ -146,7 +145,6 @@ fn count_left(alloc: Global, bytes: &[u8]) -> Result<Option<usize>, Memory> {
         return Ok(None);
     };
     let count = count_marks(&log);
-    let_go(log);
     Ok(Some(count))
 }
 

@@ -1,8 +1,8 @@
 //! Logs that are begun, read and added to.
 
 use crate::journals::{
-    ENTRY, KEY, MemLog, NEW_LOG, add, begin, disk_of, holds, item_at, let_go, log_in, no_bytes,
-    opened, size, with_entry,
+    ENTRY, KEY, MemLog, NEW_LOG, add, begin, disk_of, holds, item_at, log_in, no_bytes, opened,
+    size, with_entry,
 };
 use disk_core::MemDisk;
 use issuance_log::LogError;
@@ -48,7 +48,7 @@ fn gives_one(
 
 // Whether the settings are those of the new log.
 fn settings_are_kept(log: &MemLog) -> bool {
-    let settings = log.log.settings();
+    let settings = log.settings();
     settings.id.as_bytes() == [0x81, 0xFD, 0x59, 0x01].as_slice()
         && settings.max_active == 2
         && settings.limit == 64
@@ -107,10 +107,10 @@ fn written(alloc: Global) -> Result<Option<MemDisk>, Memory> {
 
 // The tree hash of the two entries of a log.
 fn node_of_all(log: &mut MemLog) -> Result<[u8; 32], Failed> {
-    if log.log.size() != 2 || !subtree_ok(0, 2) {
+    if log.size() != 2 || !subtree_ok(0, 2) {
         return Err(Failed);
     }
-    node_of(&mut log.log, 0, 2)
+    node_of(log, 0, 2)
 }
 
 // Whether the log on a disk has the null entry and that one alone.
@@ -120,7 +120,6 @@ fn has_the_entry(alloc: Global, journal: MemDisk) -> Result<bool, Memory> {
     };
     let is_second = size(&log) == 2;
     let given = gives_one(alloc, &mut log, 1, (&ENTRY, &KEY));
-    let_go(log);
     Ok(given? && is_second)
 }
 
@@ -134,10 +133,10 @@ fn an_entry_is_added_and_found_again(rt: HostRuntime) -> Result<(), Fail> {
 }
 
 fn node_of_last(log: &mut MemLog) -> Result<[u8; 32], Failed> {
-    if log.log.size() != 2 || !subtree_ok(1, 2) {
+    if log.size() != 2 || !subtree_ok(1, 2) {
         return Err(Failed);
     }
-    node_of(&mut log.log, 1, 2)
+    node_of(log, 1, 2)
 }
 
 type Node = Result<[u8; 32], Failed>;
@@ -148,7 +147,6 @@ fn nodes_of(alloc: Global, bytes: &[u8]) -> Result<Option<(Node, Node)>, Memory>
         return Ok(None);
     };
     let nodes = (node_of_last(&mut log), node_of_all(&mut log));
-    let_go(log);
     Ok(Some(nodes))
 }
 

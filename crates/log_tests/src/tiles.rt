@@ -1,8 +1,8 @@
 //! Logs whose tiles are stored, and that are opened again.
 
 use crate::journals::{
-    KEY, MemLog, add, begin, changed, disk, disk_of, disks_of, entry_for, item_at, left, let_go,
-    log_in, no_bytes, open_over, opened, opened_over, reason, size, size_or_reason, tile,
+    KEY, MemLog, add, begin, changed, disk, disk_of, disks_of, entry_for, item_at, left, log_in,
+    no_bytes, open_over, opened, opened_over, reason, size, size_or_reason, tile,
 };
 use disk_core::MemDisk;
 use issuance_log::{LogError, LogOpenError};
@@ -63,16 +63,9 @@ fn grown(alloc: Global, size: u64) -> Result<Option<(MemLog, Listed<Sha>)>, Memo
     let Some(mut log) = new_log(alloc)? else {
         return Ok(None);
     };
-    match fill(alloc, &mut log, &mut leaves, size) {
-        Ok(true) => Ok(Some((log, leaves))),
-        Ok(false) => {
-            let_go(log);
-            Ok(None)
-        }
-        Err(Memory) => {
-            let_go(log);
-            Err(Memory)
-        }
+    match fill(alloc, &mut log, &mut leaves, size)? {
+        true => Ok(Some((log, leaves))),
+        false => Ok(None),
     }
 }
 
@@ -121,7 +114,7 @@ fn node<N: Nodes>(nodes: &mut N, level: u32, place: u64) -> Option<Result<[u8; 3
 
 // Whether a log gives a node as the list does.
 fn agree_on_node(log: &mut MemLog, leaves: &mut Listed<Sha>, level: u32, place: u64) -> bool {
-    let found = node(&mut log.log, level, place);
+    let found = node(log, level, place);
     found.is_some() && found == node(leaves, level, place)
 }
 
@@ -139,8 +132,8 @@ fn agree_on_nodes(log: &mut MemLog, leaves: &mut Listed<Sha>, size: u64) -> bool
 
 // Whether a log gives the path and the proof of an entry as the list does.
 fn agree_on_proofs(log: &mut MemLog, leaves: &mut Listed<Sha>, index: u64) -> bool {
-    are_same(path_of(&mut log.log, index), path_of(leaves, index))
-        && are_same(proof_of(&mut log.log, index), proof_of(leaves, index))
+    are_same(path_of(log, index), path_of(leaves, index))
+        && are_same(proof_of(log, index), proof_of(leaves, index))
 }
 
 // Whether a log has as many leaves as the list, and gives each node as the list does; and each path
@@ -177,7 +170,6 @@ fn differ_at(
 fn a_log_grows_as_its_list_of_leaves(rt: HostRuntime) -> Result<(), Fail> {
     let (mut log, mut leaves) = grown(rt.alloc(), 1)?.ok_or("refused")?;
     let found = differ_at(rt.alloc(), &mut log, &mut leaves);
-    let_go(log);
     assert!(rt; found == Ok(None), "{found:?}");
     Ok(())
 }
@@ -237,7 +229,6 @@ fn tiled(
         return Ok(None);
     };
     let same = is_tiled(alloc, &mut again, leaves);
-    let_go(again);
     Ok(if same? { Some((answer, length)) } else { None })
 }
 
@@ -370,9 +361,7 @@ fn calls_from(alloc: Global, call: u64, count: u64) -> Result<Vec<u64>, Memory> 
 
 // Whether a log's first leaf can't be read.
 fn loses_the_first_leaf(mut log: MemLog) -> bool {
-    let first = node(&mut log.log, 0, 0);
-    let_go(log);
-    first == Some(Err(Failed))
+    node(&mut log, 0, 0) == Some(Err(Failed))
 }
 
 // The log over a file of tiles on which each call from this number on fails, and whether its first
