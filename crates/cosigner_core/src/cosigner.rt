@@ -46,7 +46,7 @@ pub struct Cosigner<H: TreeHash, D: Disk> {
         H.TreeHash.hash signer (end_of journal) b } by { Prim.hlevel (props, IsSettledAs-prop) },
 }
 
-// Written out, so that one call drops it: a derived drop is spelled out at each place of one.
+// A drop in one step: a derived one is proved field by field wherever a value is let go.
 impl<H: TreeHash, D: Disk + Drop> Drop for Cosigner<H, D> {
     fn drop(self) {
         let Cosigner {

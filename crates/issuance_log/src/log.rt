@@ -77,7 +77,7 @@ pub struct Log<H: TreeHash, D: Disk, T: Disk> {
         (items_leaves items)) } by { Prim.hlevel props },
 }
 
-// Written out, so that one call drops it: a derived drop is spelled out at each place of one.
+// A drop in one step: a derived one is proved field by field wherever a value is let go.
 impl<H: TreeHash, D: Disk + Drop, T: Disk + Drop> Drop for Log<H, D, T> {
     fn drop(self) {
         let Log {

@@ -35,7 +35,7 @@ pub struct Journal<D: Disk> {
         → IsSettled b (D.Disk.may_leave disk) end } by { Prim.hlevel (props, IsSettled-prop) },
 }
 
-// Written out, so that one call drops it: a derived drop is spelled out at each place of one.
+// A drop in one step: a derived one is proved field by field wherever a value is let go.
 impl<D: Disk + Drop> Drop for Journal<D> {
     fn drop(self) {
         let Journal {

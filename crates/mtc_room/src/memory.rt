@@ -30,7 +30,7 @@ pub struct MemRoom {
     starved: u64,
 }
 
-// Written out, so that one call drops it: a derived drop is spelled out at each place of one.
+// A drop in one step: a derived one is proved field by field wherever a value is let go.
 impl Drop for MemRoom {
     fn drop(self) {
         let MemRoom {

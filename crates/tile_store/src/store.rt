@@ -59,7 +59,7 @@ pub struct Tiles<H: TreeHash, T: Disk> {
         stored rows pool b } by { Prim.hlevel (props, IsSoundOver-prop) },
 }
 
-// Written out, so that one call drops it: a derived drop is spelled out at each place of one.
+// A drop in one step: a derived one is proved field by field wherever a value is let go.
 impl<H: TreeHash, T: Disk + Drop> Drop for Tiles<H, T> {
     fn drop(self) {
         let Tiles {

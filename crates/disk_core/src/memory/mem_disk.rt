@@ -34,7 +34,7 @@ pub struct MemDisk {
     ghost there: { known ≤ length (seen_of past) },
 }
 
-// Written out, so that one call drops it: a derived drop is spelled out at each place of one.
+// A drop in one step: a derived one is proved field by field wherever a value is let go.
 impl Drop for MemDisk {
     fn drop(self) {
         let MemDisk {
