@@ -1,4 +1,4 @@
-"""Checks of the sources: lengths, columns, heads of files, names that are imported and not used."""
+"""Checks of the sources: lengths, columns, heads of files, names that are imported and not used, edits."""
 
 import re
 
@@ -53,6 +53,16 @@ def check_errors():
                     places = [variants.index(one) for one in named if one in variants]
                     if places != sorted(places):
                         yield f"{crate.name}: {lines[0].strip()[:50]} lists {', '.join(named)}; {enum} has another order"
+
+
+def check_edits():
+    """each change of an edit of tests/edits applies: what it takes away stands once in its file"""
+    for edit in sorted((ROOT / "tests" / "edits").glob("*/*.edit")):
+        parts = [line.partition(":")[2].strip() for line in edit.read_text().splitlines()]
+        for file, old in zip(parts[0::3], parts[1::3]):
+            path = ROOT / "crates" / edit.parent.name / file
+            if not path.is_file() or path.read_text().count(old) != 1:
+                yield f"{edit.relative_to(ROOT)}: an old text of it doesn't stand once in {file}"
 
 
 # ---- what is let through as yet: its numbers may not grow
