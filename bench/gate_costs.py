@@ -164,9 +164,9 @@ def sentence(costs, minutes, seconds):
     first, chain = program_seconds(costs)
     return (
         "The first shows each crate as it is proved, as many side by side as there are processors and memory. "
-        f"That is done once, and the proofs add up to {first / 60:.0f} processor minutes. "
-        f"By the clock it takes no less than {chain / 60:.0f} minutes, those of the longest chain of crates, "
-        "where no check on that machine has kept anything. "
+        f"That is done once. On the machine of the last whole run the proofs add up to {first / 60:.0f} processor minutes, "
+        f"and by the clock they take no less than {chain / 60:.0f}, those of the longest chain of crates, "
+        "where no check has kept anything there. "
         f"The second took {minutes:.0f} processor minutes, and {by_clock(seconds)} ([GATE](docs/GATE.md))."
     )
 
