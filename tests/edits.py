@@ -8,6 +8,7 @@ those below it, where `rt check` has kept none, and each edit some 20 to 50 seco
 """
 import pathlib
 import shutil
+import signal
 import subprocess
 import sys
 
@@ -38,6 +39,7 @@ def tried(crate):
 
 
 if __name__ == "__main__":
+    signal.signal(signal.SIGTERM, lambda *_: sys.exit("stopped"))
     known = sorted(it.name for it in TOLD.iterdir())
     crates = sys.argv[1:] or known
     unknown = [crate for crate in crates if crate not in known]
