@@ -87,8 +87,7 @@ fn answer(
 ) -> Result<Result<[u8; 32], WriteError>, Fail> {
     let signed = signatures(alloc, size)?;
     let mut log = log_of_two(alloc)?;
-    let answer = written(alloc, &mut log, index, interval, signed.as_slice());
-    answer
+    written(alloc, &mut log, index, interval, signed.as_slice())
 }
 
 #[test]

@@ -111,8 +111,7 @@ fn has_one(alloc: Global, log: &mut MemLog, wanted: &[u8]) -> bool {
 // The same of the log that is opened from a disk.
 fn holds(alloc: Global, disk: MemDisk, wanted: &[u8]) -> Result<bool, Fail> {
     let mut log = open(alloc, disk)?;
-    let held = has_one(alloc, &mut log, wanted);
-    Ok(held)
+    Ok(has_one(alloc, &mut log, wanted))
 }
 
 // Whether a log of two entries at most issues the request of these lines once.

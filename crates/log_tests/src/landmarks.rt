@@ -61,8 +61,7 @@ fn is_found_again(alloc: Global, journal: MemDisk) -> bool {
     let Some(log) = opened(alloc, journal) else {
         return false;
     };
-    let found = size(&log) == 2 && has_marks(&log, &[1, 2]);
-    found
+    size(&log) == 2 && has_marks(&log, &[1, 2])
 }
 
 #[test]
