@@ -4,8 +4,10 @@ use std::alloc::Global;
 use std::test::Fail;
 use tls_wire::{AnchorBytesError, AnchorError, AnchorId};
 
+// Why a text is refused, or `None` where it isn't, or where `is_text` says otherwise.
 fn refused_text(alloc: Global, text: &str) -> Option<AnchorError> {
-    AnchorId::from_text(alloc, text).err()
+    let refused = AnchorId::from_text(alloc, text).err();
+    refused.filter(|_| !AnchorId::is_text(text.as_bytes()))
 }
 
 #[test]
@@ -49,7 +51,7 @@ fn a_text_is_too_long_only_where_it_has_no_other_fault(rt: HostRuntime) -> Resul
 
 fn is_its_own_text(alloc: Global, text: &str) -> Result<bool, Fail> {
     let id = AnchorId::from_text(alloc, text)?;
-    Ok(id.to_text()?.as_slice() == text.as_bytes())
+    Ok(AnchorId::is_text(text.as_bytes()) && id.to_text()?.as_slice() == text.as_bytes())
 }
 
 #[test]
@@ -106,5 +108,16 @@ fn length_of_text(alloc: Global, bytes: &[u8]) -> Result<usize, Fail> {
 #[test]
 fn the_longest_anchor_id_is_read(rt: HostRuntime) -> Result<(), Fail> {
     assert!(rt; length_of_text(rt.alloc(), &[1; 255])? == 509);
+    Ok(())
+}
+
+fn is_text_of(alloc: Global, bytes: &[u8], text: &str) -> Result<bool, Fail> {
+    Ok(AnchorId::from_bytes(alloc, bytes)?.to_text()?.as_slice() == text.as_bytes())
+}
+
+#[test]
+fn the_largest_arc_is_read(rt: HostRuntime) -> Result<(), Fail> {
+    let bytes = [0x81, 0xFF, 0xFF, 0xFF, 0xFF, 0xFF, 0xFF, 0xFF, 0xFF, 0x7F];
+    assert!(rt; is_text_of(rt.alloc(), &bytes, "18446744073709551615")?);
     Ok(())
 }

@@ -120,7 +120,8 @@ fn failed_reads_are_counted() -> bool {
 fn full_writer_fails() -> bool {
     let mut room = [0; 2];
     let mut full = StdSink::new(room.as_mut_slice());
-    write_all(&mut full, b"root") == Err(Failed) && full.write(b"") == Ok(0)
+    let first = full.write(b"root") == Ok(2);
+    first && full.write(b"ot") == Err(Failed) && full.write(b"") == Ok(0)
 }
 
 #[test]

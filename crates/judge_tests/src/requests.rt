@@ -107,6 +107,8 @@ key = "MCowBQYDK2VwAyEAAAAAAAAAAAAAAAAAAAAAAAAAAAAAAAAAAAAAAAAAAAA="
 other = 1
 == UnknownKey
 other = 1
+== UnknownKey
+email = 1
 "#;
 
 // Whether the request of this block is refused as its first line says.
@@ -125,7 +127,7 @@ fn the_first_fault_is_told(rt: HostRuntime) -> Result<(), Fail> {
         assert!(rt; is_refused(rt.alloc(), block)?, "{block}");
         count = count.saturating_add(1);
     }
-    assert!(rt; count == 21);
+    assert!(rt; count == 22);
     Ok(())
 }
 

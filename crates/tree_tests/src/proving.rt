@@ -195,7 +195,7 @@ fn answered(case: &Case) -> Result<(), ConsistError> {
 fn proofs_pass_or_are_refused(rt: HostRuntime) {
     let proof = &[N6_8, N0_4][..];
     let inner = &[N4_6, N6_8, N0_4][..];
-    let cases: [Case; 11] = [
+    let cases: [Case; 12] = [
         (4, 6, 8, N4_6, N0_8, proof, Ok(())),
         (0, 8, 8, N0_8, N0_8, &[], Ok(())),
         (0, 6, 8, N0_6, N0_8, inner, Ok(())),
@@ -210,6 +210,15 @@ fn proofs_pass_or_are_refused(rt: HostRuntime) {
             Err(ConsistError::WrongLength),
         ),
         (4, 6, 8, N4_6, N0_8, inner, Err(ConsistError::WrongLength)),
+        (
+            0,
+            6,
+            8,
+            N0_6,
+            N0_8,
+            &inner[1..],
+            Err(ConsistError::WrongLength),
+        ),
         (0, 6, 8, N0_4, N0_8, inner, Err(ConsistError::WrongNode)),
         (0, 6, 8, N0_6, N0_4, inner, Err(ConsistError::WrongRoot)),
         (4, 6, 8, N2_4, N0_8, proof, Err(ConsistError::WrongRoot)),
