@@ -12,6 +12,7 @@ use Rattle.tls_wire.specs.Reading.{number_at}
 use Rattle.tls_wire.specs.Spelling.{number, vector}
 use Rattle.tls_wire.specs.declared.fault.AnchorBytesError.{AnchorBytesError}
 use Rattle.tls_wire.proofs.AnchorForm.{anchor_takes}
+use Rattle.landmarks.specs.Limits.{most_active, most_entries}
 use Rattle.log_entry.specs.Matching.{matches}
 use Rattle.issuance_log.specs.Folds.{LogState, new_log, with_item, with_mark, with_tiles, view_in}
 use Rattle.issuance_log.specs.Folds.{begun_log, next_log, takes_entry, takes_landmark, takes_tiles}
@@ -20,8 +21,7 @@ use Rattle.issuance_log.specs.Records.{log_tag, settings_at, with_id, log_settin
 use Rattle.issuance_log.specs.Records.{settings_in, item_in, mark_in, tiled_in, settings_record}
 use Rattle.issuance_log.specs.Records.{landmark_record}
 use Rattle.issuance_log.specs.Rules.{IsFirst, IsNext}
-use Rattle.issuance_log.specs.Settings.{Settings, most_active, most_entries, are_allowed}
-use Rattle.issuance_log.specs.Settings.{AreAllowed}
+use Rattle.issuance_log.specs.Settings.{Settings, are_allowed, AreAllowed}
 use Rattle.issuance_log.proofs.Spelled.{some_value, FitSettings, settings_text, settings_form}
 use Rattle.issuance_log.proofs.Spelled.{settings_again, item_takes, mark_takes, tagged_takes}
 use Rattle.issuance_log.proofs.Spelled.{changed_log, next_added, next_marked, next_tiled}

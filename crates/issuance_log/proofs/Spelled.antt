@@ -20,6 +20,7 @@ use Rattle.tls_wire.specs.declared.cursor.Short.{Short}
 use Rattle.tls_wire.proofs.Numbers.{wide8, wide16, wide32, wide64, number_form}
 use Rattle.tls_wire.proofs.Vectors.{vector_form}
 use Rattle.tls_wire.proofs.AnchorForm.{anchor_again}
+use Rattle.landmarks.specs.Limits.{most_active, most_entries}
 use Rattle.issuance_log.specs.Folds.{LogState, new_log, with_item, with_mark, with_tiles, view_in}
 use Rattle.issuance_log.specs.Folds.{changed, begun_log, next_log, log_fold, log_of, takes_entry}
 use Rattle.issuance_log.specs.Folds.{takes_landmark, takes_tiles}
@@ -33,8 +34,7 @@ use Rattle.issuance_log.specs.Records.{landmark_record}
 use Rattle.issuance_log.specs.Results.{LogFinds}
 use Rattle.issuance_log.specs.declared.error.RecordError.{RecordError}
 use Rattle.issuance_log.specs.declared.error.RecordError.TheVariants.{Unfit, Memory}
-use Rattle.issuance_log.specs.Settings.{Settings, most_active, most_entries, most_item}
-use Rattle.issuance_log.specs.Settings.{are_allowed, AreAllowed}
+use Rattle.issuance_log.specs.Settings.{Settings, most_item, are_allowed, AreAllowed}
 use Rattle.journal_core.proofs.Folds.{state_begins, state_next}
 
 pub length-settings : (s : Settings) → length (settings_record s) ≡ 10 + length s.id

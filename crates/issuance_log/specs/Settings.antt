@@ -1,6 +1,7 @@
 -- The settings of a log, and the limits that they keep.
 use Rattle.std.specs.Prelude.{ℕ, ◌≤◌, ◌&&◌, nat_le, Bool}
 use Rattle.byte_forms.specs.Types.{Text}
+use Rattle.landmarks.specs.Limits.{most_active, most_entries}
 
 -- the id as its bytes, how many landmarks are active at most, and how many entries there are at
 -- most
@@ -8,13 +9,6 @@ pub record Settings : Type 0 where
   pub id : Text
   pub max_active : ℕ
   pub limit : ℕ
-
--- the most that a log may allow
-abbrev pub most_active : ℕ
-most_active = 10000
-
-abbrev pub most_entries : ℕ
-most_entries = 1048576
 
 -- an entry and its key have at most so many bytes together
 abbrev pub most_item : ℕ

@@ -38,4 +38,4 @@ pub use laws::{
     tiles_are_read_as_spelled, views_follow_the_records,
 };
 pub use log::Log;
-pub use settings::{LogSettings, MOST_ACTIVE, MOST_ENTRIES};
+pub use settings::LogSettings;

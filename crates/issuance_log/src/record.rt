@@ -10,7 +10,8 @@ ghost use Rattle.issuance_log.specs.Settings.{most_item, are_allowed, AreAllowed
 ghost use Rattle.tls_wire.specs.Arcs.{IsAnchorId};
 
 use crate::error::RecordError;
-use crate::settings::{LogSettings, MOST_ACTIVE, MOST_ENTRIES};
+use crate::settings::LogSettings;
+use landmarks::{MOST_ACTIVE, MOST_ENTRIES};
 use mtc_io::{Bytes, Memory};
 use std::alloc::Global;
 use tls_wire::{AnchorId, Cursor, Short, put_u8, put_u32, put_u64, put_vec8, put_vec16};

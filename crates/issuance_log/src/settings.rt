@@ -7,20 +7,15 @@ use std::alloc::Global;
 use std::marker::Model;
 use tls_wire::AnchorId;
 
-/// The most landmarks that a log may have active.
-pub const MOST_ACTIVE: u32 = 10_000;
-
-/// The most entries that a log may have.
-pub const MOST_ENTRIES: u32 = 1_048_576;
-
 /// The settings of a log, which never change. Contracts see them as they are, within their ranges.
 #[derive(Debug, Drop)]
 pub struct LogSettings {
     /// The name of the log.
     pub id: AnchorId,
-    /// How many landmarks are active at most, from 1 to [`MOST_ACTIVE`].
+    /// How many landmarks are active at most, from 1 to [`MOST_ACTIVE`](landmarks::MOST_ACTIVE).
     pub max_active: u32,
-    /// How many entries the log has at most, from 2 to [`MOST_ENTRIES`]. The null entry counts.
+    /// How many entries the log has at most, from 2 to
+    /// [`MOST_ENTRIES`](landmarks::MOST_ENTRIES). The null entry counts.
     pub limit: u32,
 }
 

@@ -1,3 +1,4 @@
 pub mod Landmarks
+pub mod Limits
 pub mod Texts
 pub mod Views

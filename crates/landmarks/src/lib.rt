@@ -1,11 +1,13 @@
 //! The landmarks of a log, by which a certificate needs no signature (the draft on Merkle Tree
 //! Certificates, where it defines landmarks): which of them are active, which subtrees they stand
-//! for, and the text in which they are handed out, both ways.
+//! for, and the text in which they are handed out, both ways. [`MOST_ACTIVE`] and [`MOST_ENTRIES`]
+//! are the most of them, and of entries, that a log may allow.
 #![tactic(auto)]
 
 mod covers;
 mod error;
 mod laws;
+mod limits;
 mod list;
 mod reading;
 mod writing;
@@ -13,6 +15,7 @@ mod writing;
 pub use covers::{active, covering, subtrees};
 pub use error::ListError;
 pub use laws::{landmarks_have_their_sizes, lists_are_read_as_written};
+pub use limits::{MOST_ACTIVE, MOST_ENTRIES};
 pub use list::{Landmarks, of_marks};
 pub use reading::read_list;
 pub use writing::write_list;

@@ -2,7 +2,7 @@
 use Rattle.std.specs.Prelude.{◌≡◌, ℕ, ◌==◌, ◌&&◌, ◌||◌, Bool, true, nat_le, List, Result, Ok, Err}
 use Rattle.std.specs.Prelude.{Option, Some, None}
 use Rattle.byte_forms.specs.Types.{Text}
-use Rattle.issuance_log.specs.Settings.{most_active, most_entries}
+use Rattle.landmarks.specs.Limits.{most_active, most_entries}
 use Rattle.mtc_words.specs.declared.command.Command.{Command}
 use Rattle.mtc_words.specs.declared.command.Command.TheVariants.{Member, Show, Verify, InitLog}
 use Rattle.mtc_words.specs.declared.command.Command.TheVariants.{Issue, Checkpoint, Entries}

@@ -11,7 +11,7 @@ ghost use Rattle.mtc_words.specs.Words.{command_from, number_word, id_word, word
 use crate::command::Command;
 use crate::error::WordError;
 use crate::name::Name;
-use issuance_log::{MOST_ACTIVE, MOST_ENTRIES};
+use landmarks::{MOST_ACTIVE, MOST_ENTRIES};
 use std::alloc::Global;
 use tls_wire::{AnchorError, AnchorId, read_number};
 
