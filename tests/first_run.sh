@@ -22,10 +22,23 @@ done
 
 # It notes the crate, and each crate of this repository that it names and that isn't proved yet. A crate with a file src/broken
 # isn't proved. Of one that is proved it prints the prover's line, but nothing where it was proved before. `rt run` makes a
-# program that prints its words and ends with status 3.
+# program that prints its words and ends with status 3. `rt try` notes its words. It answers as rt does, of a program that prints
+# two lines, the bytes of the files that it is given, and a line on standard error; or it fails, or goes on for ever.
 cat >"$folder/bin/rt" <<'END'
 #!/bin/bash
 name=${PWD##*/} root=${PWD%/crates/*}
+if [ "$1" = try ]; then
+    echo "$name $*" >>"$root/tried"
+    [ ! -e "$root/tries_hang" ] || { echo $$ >"$root/hanging"; sleep 1000; }
+    [ ! -e "$root/tries_fail" ] || { echo "mtc: half" >&2; echo "run=none proved=no" >&2; exit 2; }
+    printf 'one\n two\n'
+    while [ $# -gt 0 ]; do
+        [ "$1" != --data ] || cat "${2#*=}"
+        shift
+    done
+    printf 'mtc: aside\nchecked: ended status=3\nrun=ended status=3 runners=1 proved=no\n' >&2
+    exit 3
+fi
 for need in $(sed -n "s/^$name: *//p" "$root/crates.txt"); do
     [ ! -d "$root/crates/$need" ] || [ -e "$root/crates/$need/proved" ] || echo "early $name" >>"$root/asked"
 done
@@ -38,12 +51,22 @@ touch proved
 END
 chmod +x "$folder/bin/rt"
 
-# Runs `mtc a b`: what it prints, what it says, its status, and which crates rt was asked for.
+# Runs mtc with these words, or with `a b`, in the folder examples: what it prints, what it says, its status, and which crates rt
+# was asked for.
 run_mtc() {
+    [ $# -gt 0 ] || set -- a b
     : >"$folder/asked"
-    (cd "$folder" && PATH="$folder/bin:$PATH" ./mtc a b >printed 2>said)
+    (cd "$folder/examples" && PATH="$folder/bin:$PATH" ../mtc "$@" >../printed 2>../said)
     status=$?
     asked=$(grep -c '^asked' "$folder/asked")
+}
+
+# Runs mtc with these words where nothing is built: also what rt was asked to try.
+run_first() {
+    rm -rf "$folder/crates/mtc_main/out"
+    : >"$folder/tried"
+    run_mtc "$@"
+    [ "$status" -eq 3 ] && [ "$(cat "$folder/printed")" = "$*" ] || complain "$*: what is run before the proofs stops them, or prints"
 }
 
 is_built() {
@@ -106,5 +129,54 @@ if ! PATH=/usr/bin:/bin command -v rt >/dev/null; then
     (cd "$folder" && PATH=/usr/bin:/bin ./mtc a b >printed 2>said)
     [ $? -eq 70 ] && grep -q "rt of the kit is missing" "$folder/said" || complain "nothing says that rt is missing"
 fi
+reading=$(sed -n 's/^reading="\(.*\)"$/\1/p' "$root/mtc")
+[ -n "$reading" ] || complain "mtc names no command that only reads files"
+for command in $reading; do
+    grep "^| \`$command " "$root/docs/COMMANDS.md" | grep -qvE '\b(journal|secret)\b' || complain "$command isn't told as one that only reads files"
+done
+
+echo three >"$folder/examples/x"
+run_first member x /no_such_place 17
+[ "$(cat "$folder/tried")" = "mtc_main try --data x=$folder/examples/x -- member x /no_such_place 17" ] ||
+    complain "rt try doesn't get the words, or the file that is named from the caller's folder"
+[ "$(grep "not proved yet" "$folder/said")" = "$(printf 'mtc: not proved yet: %s\n' one ' two' three 'mtc: aside')" ] ||
+    complain "what the unproved program prints isn't shown, or more is"
+grep -q "run=ended" "$folder/said" && complain "what rt says of its try is shown"
+grep -q "run=ended" "$folder/crates/mtc_main/out/build.log" || complain "the log lacks what rt says of its try"
+
+run_mtc member x
+[ "$status" -eq 3 ] && [ ! -s "$folder/said" ] || complain "a program that is built is run unproved"
+
+# A command that writes, words that are none, and files of which rt try has another view than the program.
+mkdir "$folder/examples/sub" "$folder/crates/mtc_main/data"
+for words in "issue x x" "keygen 5 8 x" "landmarks x" "members x" "a b" "member ../examples/x" "member sub" "member data" "member x=y"; do
+    # shellcheck disable=SC2086
+    run_first $words
+    [ ! -s "$folder/tried" ] && ! grep -q unproved "$folder/said" || complain "$words: it is run before it is proved"
+done
+
+touch "$folder/tries_fail"
+run_first member x
+[ -s "$folder/tried" ] && grep -q "gave no answer" "$folder/said" && ! grep -q "not proved yet" "$folder/said" ||
+    complain "a try that fails isn't told, or is shown as an answer"
+grep -q "run=none" "$folder/crates/mtc_main/out/build.log" || complain "the log lacks why a try has failed"
+
+touch "$folder/tries_hang"
+MTC_TRY_SECONDS=1 run_first member x
+grep -q "gave no answer" "$folder/said" && ! grep -q "not proved yet" "$folder/said" || complain "a try that goes on for ever isn't told"
+is_hanging() {
+    kill -0 "$(cat "$folder/hanging")" 2>/dev/null
+}
+is_hanging && complain "a try that goes on for ever is left behind"
+
+rm -rf "$folder/crates/mtc_main/out" "$folder/hanging"
+(cd "$folder/examples" && PATH="$folder/bin:$PATH" exec ../mtc member x >../printed 2>../said) &
+until [ -s "$folder/hanging" ]; do sleep 0.1; done
+kill "$!"
+wait "$!"
+[ $? -eq 130 ] && [ ! -s "$folder/printed" ] || complain "mtc that is told to end in a try goes on"
+for _ in 1 2 3 4 5 6 7 8 9 10; do is_hanging && sleep 0.1; done
+is_hanging && complain "mtc that is told to end leaves its try behind"
+
 ls "$folder"/crates/mtc_main/out/build.log.* >/dev/null 2>&1 && complain "files of a build are left"
 exit "$wrong"
