@@ -1,29 +1,36 @@
 #!/usr/bin/env python3
 """Runs the gate, and tells what each crate cost: the processor seconds of its proof, of its tests and of its must-fail edits.
 
-Usage: bench/gate_costs.py [--write] [COMMAND WORD..]
-The command is rt ci where there is none; rt ci --anew proves all, also what is kept.
+Usage: bench/gate_costs.py [COMMAND WORD..]              runs rt ci, or this command, and prints the table
+       bench/gate_costs.py --write rt ci --anew          puts it into docs/GATE.md, and its sums into README
+       bench/gate_costs.py --above NAME                  what a change of a crate costs, by the table of GATE
+       bench/gate_costs.py --again                       makes what follows from that table's numbers anew
 
-What the command writes goes to standard error. The table goes to standard output, and with --write
-into docs/GATE.md, and its sums into README, if the command passed. The check of a crate of one
-function, before the command and behind it, tells how fast the machine is: where the two differ, or
-those of two runs, their seconds are no measure. Every half second the script looks at the provers
-that the command has started; what a prover used in its last half second is in no row, and only in
+What the command writes goes to standard error. --write refuses all but the whole gate from nothing: another command, one
+that failed, and a run in which a crate has no seconds of a part that it has. --again runs nothing and changes no number
+that was measured: it counts again what stands above each crate, by crates.txt, and the sums below the table.
+
+Two runs are compared by the sum of their proofs, which is the same work on each machine. Every half second the script
+looks at the provers that the command has started; what a prover used in its last half second is in no row, and only in
 the sum by the system's count.
 """
 import glob
 import os
+import re
 import resource
 import subprocess
 import sys
-import tempfile
 import time
 
 ROOT = os.path.dirname(os.path.dirname(os.path.abspath(__file__)))
+GATE = f"{ROOT}/docs/GATE.md"
 TICK = os.sysconf("SC_CLK_TCK")
 KINDS = ("proof", "tests", "edits")
-BUDGET = 3.5
+# What the whole may be: so many times the sum of the proofs, and so many processor minutes when the program is finished.
+RATIO, FINISHED = 1.9, 300
 BEGIN, END = "<!-- costs: begin -->\n", "<!-- costs: end -->"
+COLUMNS = ("Crate", "Lines", "Proof, s", "Tests, s", "Edits, s", "All, s", "Minutes for 1,000 lines")
+ABOVE = "With what stands above, minutes"
 
 
 def text_of(path):
@@ -85,27 +92,8 @@ def lines_of(crate):
     return sum(text_of(it).count("\n") for it in wanted)
 
 
-def table(costs):
-    """The rows of the table, the dearest crate first, and at the end all together."""
-    yield "| Crate | Lines | Proof, s | Tests, s | Edits, s | All, s | Minutes for 1,000 lines |"
-    yield "|---|---|---|---|---|---|---|"
-    rows = [(crate, lines_of(crate), [by.get(kind, 0) for kind in KINDS]) for crate, by in costs.items()]
-    rows.sort(key=lambda row: -sum(row[2]))
-    whole = [sum(row[2][at] for row in rows) for at in range(3)]
-    rows.append(("all", sum(row[1] for row in rows), whole))
-    for crate, lines, seconds in rows:
-        name = crate if crate == "all" else f"`{crate}`"
-        each = sum(seconds) / 60 / lines * 1000 if lines else 0
-        cells = [name, f"{lines:,}", *(f"{it:,.0f}" for it in seconds), f"{sum(seconds):,.0f}", f"{each:.1f}"]
-        yield "| " + " | ".join(cells) + " |"
-
-
 def by_clock(seconds):
     return f"{seconds / 60:.0f} minutes by the clock on {len(os.sched_getaffinity(0))} processors"
-
-
-def minutes_of(costs):
-    return sum(sum(by.values()) for by in costs.values()) / 60
 
 
 def seconds_used():
@@ -114,29 +102,27 @@ def seconds_used():
     return used.ru_utime + used.ru_stime
 
 
-def one_check():
-    """The processor seconds that the check of a crate of one function takes now."""
-    files = {"HANDLES": "Handles allowed: none.\n", "crates.txt": "one:\n"}
-    files["crates/one/src/lib.rt"] = "//! One.\n#![tactic(auto)]\n\n/// One.\npub fn one() -> u8 {\n    1\n}\n"
-    with tempfile.TemporaryDirectory() as room:
-        os.makedirs(f"{room}/crates/one/src")
-        for path, text in files.items():
-            with open(f"{room}/{path}", "w", encoding="utf-8") as it:
-                it.write(text)
-        before = seconds_used()
-        subprocess.run(["rt", "check"], cwd=f"{room}/crates/one", stdout=subprocess.DEVNULL, check=True)
-        return seconds_used() - before
+def measured_rows(costs):
+    """The cells of each crate that are measured, the dearest crate first, and at the end those of all together."""
+    rows = [(crate, lines_of(crate), [by.get(kind, 0) for kind in KINDS]) for crate, by in costs.items()]
+    rows.sort(key=lambda row: -sum(row[2]))
+    whole = [sum(row[2][at] for row in rows) for at in range(3)]
+    for crate, lines, seconds in [*rows, ("all", sum(row[1] for row in rows), whole)]:
+        name = crate if crate == "all" else f"`{crate}`"
+        each = sum(seconds) / 60 / lines * 1000 if lines else 0
+        yield [name, f"{lines:,}", *(f"{it:,.0f}" for it in seconds), f"{sum(seconds):,.0f}", f"{each:.1f}"]
 
 
-def summary(costs, minutes, seconds, checks):
-    """The sentences below the table."""
-    lines = sum(map(lines_of, costs))
-    return (
-        f"{minutes:.0f} processor minutes by the system's count, of which the table has {minutes_of(costs):.0f}, "
-        f"and {by_clock(seconds)}. "
-        f"The budget for these {lines:,} lines is {BUDGET * lines / 1000:.0f} processor minutes. "
-        f"The check of a crate of one function took {checks[0]:.1f} processor seconds before it, and {checks[1]:.1f} behind it."
-    )
+def written_rows():
+    """The same cells, as they stand in GATE."""
+    rows = [line.split("|")[1:-1] for line in block_of(GATE).split("\n") if re.match(r"\| (`|all )", line)]
+    return [[cell.strip() for cell in row[: len(COLUMNS)]] for row in rows]
+
+
+def seconds_in(rows, column):
+    """The seconds of each crate in a column, and of all."""
+    at = COLUMNS.index(column)
+    return {row[0].strip("`"): int(row[at].replace(",", "")) for row in rows}
 
 
 def needs():
@@ -145,44 +131,115 @@ def needs():
     return {line.split(":")[0].split()[0]: line.split(":")[1].split() for line in lines if ":" in line}
 
 
-def program_seconds(costs):
-    """The seconds of the proofs of the program's crates: all together, and those of the longest chain of crates."""
-    named, chain = needs(), {}
-    proofs = {crate: costs.get(crate, {}).get("proof", 0) for crate in named}
+def standing_on(crate):
+    """The crates that are proved again when this one changes, without itself."""
+    named, above, grew = needs(), {crate}, True
+    while grew:
+        more = {it for it in named if above & set(named[it])} - above
+        above |= more
+        grew = bool(more)
+    return above - {crate}
+
+
+def table(rows):
+    """The lines of the table: behind what was measured, what a crate costs with all that stands on it."""
+    spent = seconds_in(rows, "All, s")
+    yield f"| {' | '.join(COLUMNS)} | {ABOVE} |"
+    yield "|---" * (len(COLUMNS) + 1) + "|"
+    for row in rows:
+        crate = row[0].strip("`")
+        seconds = spent[crate] + sum(spent.get(it, 0) for it in standing_on(crate))
+        yield f"| {' | '.join(row)} | {seconds / 60:.0f} |"
+
+
+def chain_of(rows):
+    """The minutes of the proofs that follow one another below the program, along the longest chain of crates, and of all its
+    proofs."""
+    named, proofs, chain = needs(), seconds_in(rows, "Proof, s"), {}
 
     def longest(crate):
         if crate not in chain:
-            chain[crate] = proofs[crate] + max((longest(need) for need in named[crate] if need in named), default=0)
+            chain[crate] = proofs.get(crate, 0) + max((longest(it) for it in named[crate] if it in named), default=0)
         return chain[crate]
 
     longest("mtc_main")
-    return sum(proofs[crate] for crate in chain), chain["mtc_main"]
+    return chain["mtc_main"] / 60, sum(proofs.get(crate, 0) for crate in chain) / 60
 
 
-def sentence(costs, minutes, seconds):
-    """What README says of the times of its two commands."""
-    first, chain = program_seconds(costs)
+def summary(rows, whole, clock):
+    """The sentences below the table."""
+    proofs, spent = seconds_in(rows, "Proof, s")["all"] / 60, seconds_in(rows, "All, s")["all"] / 60
+    chain, told = chain_of(rows)[0], f"{whole} processor minutes by the system's count, of which the table has {spent:.0f}, and {clock}."
+    if not proofs:
+        return told
     return (
-        "The first shows each crate as it is proved, as many side by side as there are processors and memory. "
-        f"That is done once. On the machine of the last whole run the proofs add up to {first / 60:.0f} processor minutes, "
-        f"and by the clock they take no less than {chain / 60:.0f}, those of the longest chain of crates, "
-        "where no check has kept anything there. "
-        f"The second took {minutes:.0f} processor minutes, and {by_clock(seconds)} ([GATE](docs/GATE.md))."
+        f"{told} The proofs took {proofs:.0f} of them. The whole is {whole / proofs:.1f} times that, and {RATIO} is the most that it may be; "
+        f"{FINISHED} minutes are the most for the finished program. "
+        f"Of the proofs of the program {chain:.0f} minutes follow one another, those of the longest chain of crates: "
+        f"{chain / proofs:.2f} of all proofs."
     )
+
+
+def sentence(rows, whole, clock):
+    """What README says of the times of its two commands."""
+    chain, proofs = chain_of(rows)
+    return (
+        "The first has two waits. Within some three minutes it shows on standard error what the program answers, unproved: "
+        "`mtc: not proved yet: member 0`. Then it proves and builds the program, once, and prints the answer. "
+        "It shows each crate as it is proved, as many side by side as there are processors and memory. "
+        f"On the machine of the last whole run the proofs add up to {proofs:.0f} processor minutes, of which {chain:.0f} follow one another, "
+        "along the longest chain of crates, where no check has kept anything there. "
+        f"The second took {whole} processor minutes, and {clock} ([GATE](docs/GATE.md))."
+    )
+
+
+def gaps(costs):
+    """What each crate has, and this run has no seconds of."""
+    for crate in needs():
+        folder = f"{ROOT}/crates/{crate}"
+        sources = glob.glob(f"{folder}/src/**/*.rt", recursive=True)
+        has = {"proof": True, "tests": any("#[test]" in text_of(it) for it in sources)}
+        has["edits"] = bool(glob.glob(f"{folder}/must-fail/*.edit"))
+        yield from (f"no seconds of {crate}, {kind}" for kind in KINDS if has[kind] and not costs.get(crate, {}).get(kind))
+
+
+def block_of(path):
+    """What stands in a page between the marks."""
+    return text_of(path).split(BEGIN, 1)[1].split(END, 1)[0]
 
 
 def write(path, told):
     """Puts a text in its place in a page."""
-    page = text_of(path)
-    before, rest = page.split(BEGIN, 1)
-    _, after = rest.split(END, 1)
+    page = text_of(path).replace(BEGIN + block_of(path) + END, f"{BEGIN}{told}\n{END}")
     with open(path, "w", encoding="utf-8") as it:
-        it.write(f"{before}{BEGIN}{told}\n{END}{after}")
+        it.write(page)
 
 
-def main(command, writes):
-    before, seen = one_check(), {}
-    began, used = time.time(), seconds_used()
+def above(crate):
+    """What a change of a crate costs, by GATE's table."""
+    rows = written_rows()
+    spent, proofs, over = seconds_in(rows, "All, s"), seconds_in(rows, "Proof, s"), standing_on(crate)
+    if crate not in spent:
+        sys.exit(f"{crate}: no row of GATE")
+    checks = sum(proofs.get(it, 0) for it in over)
+    print(f"{crate}, in processor minutes of the machine of GATE's run:")
+    print(f"{spent[crate] / 60:5.0f}  its proof, its tests and its edits: rt ci {crate}, where those below it are kept")
+    print(f"{checks / 60:5.0f}  the proofs of the {len(over)} crates that stand on it: rt check")
+    print(f"{(spent[crate] + sum(spent.get(it, 0) for it in over)) / 60:5.0f}  both, with the tests and the edits of these: the gate")
+
+
+def again():
+    """Makes what follows from the numbers in GATE anew, there and in README."""
+    rows, block = written_rows(), block_of(GATE)
+    found = re.search(r"^(\d+) processor minutes by the system's count.*?(\d+ minutes by the clock on \d+ processors)\..*$", block, re.M)
+    whole, clock = int(found[1]), found[2]
+    write(GATE, "\n".join([*table(rows), "", summary(rows, whole, clock)]) + block[found.end() :].rstrip("\n"))
+    write(f"{ROOT}/README.md", sentence(rows, whole, clock))
+
+
+def run(command):
+    """Runs a command: its status, what each crate cost, and the minutes of all, by the system's count and by the clock."""
+    seen, began, used = {}, time.time(), seconds_used()
     ran = subprocess.Popen(command, cwd=ROOT, stdout=sys.stderr)
     while ran.poll() is None:
         look(ran.pid, seen)
@@ -191,16 +248,31 @@ def main(command, writes):
     for (crate, kind), ticks in seen.values():
         by = costs.setdefault(crate, {})
         by[kind] = by.get(kind, 0) + ticks / TICK
-    seconds, minutes = time.time() - began, (seconds_used() - used) / 60
-    told = "\n".join([*table(costs), "", summary(costs, minutes, seconds, (before, one_check()))])
+    return ran.returncode, costs, round((seconds_used() - used) / 60), by_clock(time.time() - began)
+
+
+def main(command, writes):
+    if writes and command != ["rt", "ci", "--anew"]:
+        sys.exit("only the run of rt ci --anew is written: it takes nothing that is kept, and leaves no crate out")
+    status, costs, whole, clock = run(command)
+    rows = list(measured_rows(costs))
+    told = "\n".join([*table(rows), "", summary(rows, whole, clock)])
     print(told)
-    if writes and ran.returncode == 0:
-        write(f"{ROOT}/docs/GATE.md", told)
-        write(f"{ROOT}/README.md", sentence(costs, minutes, seconds))
-    return ran.returncode
+    if writes:
+        wrong = [f"the command ended with status {status}"] * (status != 0) + list(gaps(costs))
+        if wrong:
+            sys.exit("\n".join(["nothing is written:", *wrong]))
+        write(GATE, told)
+        write(f"{ROOT}/README.md", sentence(rows, whole, clock))
+    return status
 
 
 if __name__ == "__main__":
     given = sys.argv[1:]
-    has_flag = given[:1] == ["--write"]
-    sys.exit(main(given[has_flag:] or ["rt", "ci"], has_flag))
+    if given[:1] == ["--above"] and len(given) == 2:
+        above(given[1])
+    elif given == ["--again"]:
+        again()
+    else:
+        has_flag = given[:1] == ["--write"]
+        sys.exit(main(given[has_flag:] or ["rt", "ci"], has_flag))
