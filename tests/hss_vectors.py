@@ -1,51 +1,18 @@
 #!/usr/bin/env python3
 """Makes the answers about signatures of crates/reference_tables anew, from RFC 8554 alone, and prints them.
 
-With --compare it prints nothing, and fails where crates/reference_tables/stdout doesn't begin with them. What it
-prints takes the place of as many lines there. It reads the lines of crates/reference_tables/stdin that ask for
-signatures, and uses nothing of the crates. So what it prints is what the program must print: the names of the
-refusals, the public keys, and the signatures by their lengths and SHA-256. It takes about half a minute. Sections and
-names are those of RFC 8554.
+With --compare it says whether crates/reference_tables/stdout begins with them. It reads the lines of
+crates/reference_tables/stdin that ask for signatures, and uses nothing of the crates. So what it prints is what the
+program must print: the names of the refusals, the public keys, and the signatures by their lengths and SHA-256. It
+takes about half a minute. Sections and names are those of RFC 8554.
+Usage: tests/hss_vectors.py [--compare]
 """
-import pathlib
 import sys
 from hashlib import sha256
 
-# Section 4.1: typecode, w, p, ls; the hash has 32 bytes.
-LMOTS = {1: (1, 265, 7), 2: (2, 133, 6), 3: (4, 67, 4), 4: (8, 34, 0)}
-# Section 5.1: typecode, h.
-LMS = {5: 5, 6: 10, 7: 15, 8: 20, 9: 25}
-# The lines about signatures and keys; they come first.
-KINDS = ("hss", "lms", "tree", "sign")
-D_PBLC, D_MESG, D_LEAF, D_INTR = b"\x80\x80", b"\x81\x81", b"\x82\x82", b"\x83\x83"
-
-
-def u32(number):
-    return number.to_bytes(4, "big")
-
-
-def number_at(text, place):
-    return int.from_bytes(text[place:place + 4], "big")
-
-
-def hashed(*pieces):
-    return sha256(b"".join(pieces)).digest()
-
-
-def coef(text, i, w):  # 3.1.3
-    return (1 << w) - 1 & text[i * w // 8] >> 8 - (w * (i % (8 // w)) + w)
-
-
-def digits(message_hash, w, p, ls):  # 4.4
-    total = sum((1 << w) - 1 - coef(message_hash, i, w) for i in range(256 // w))
-    coded = message_hash + (total << ls).to_bytes(2, "big")
-    return [coef(coded, i, w) for i in range(p)]
-
-
-def chain(prefix, start, end, value):  # 4.3, 4.5, 4.6
-    for j in range(start, end):
-        value = sha256(prefix + bytes([j]) + value).digest()
-    return value
+from reference import tables
+from reference.hss import D_INTR, D_LEAF, D_MESG, D_PBLC, LMOTS, LMS, chain, digits, hashed, hss_answer, lms_answer, u32
+from reference.tables import hexadecimal
 
 
 class Tree:
@@ -86,109 +53,28 @@ class Tree:
         return u32(q) + u32(self.ots) + randomizer + b"".join(links) + u32(self.lms) + b"".join(path)
 
 
-def key_is_known(key):  # 5.3
-    return len(key) == 56 and number_at(key, 0) in LMS and number_at(key, 4) in LMOTS
-
-
-def front_length(text):
-    """How many bytes the LMS signature has that the text begins with, by its own typecodes; None if it has none."""
-    if len(text) < 8 or number_at(text, 4) not in LMOTS:
-        return None
-    once = 36 + 32 * LMOTS[number_at(text, 4)][1]
-    if len(text) < 8 + once or number_at(text, 4 + once) not in LMS:
-        return None
-    whole = 8 + once + 32 * LMS[number_at(text, 4 + once)]
-    return whole if whole <= len(text) else None
-
-
-def level(key, message, signature):  # 4.6 and 5.4.2, algorithms 4b and 6a, for one whole signature
-    w, p, ls = LMOTS[number_at(signature, 4)]
-    behind = 8 + 32 + 32 * p
-    height = LMS.get(number_at(signature, behind))
-    if signature[behind:behind + 4] != key[0:4] or signature[4:8] != key[4:8]:
-        return "TypeDiffers"
-    q, identifier = number_at(signature, 0), key[8:24]
-    if q >= 1 << height:
-        return "BadIndex"
-    goal = hashed(identifier, u32(q), D_MESG, signature[8:40], message)
-    ends = []
-    for i, a in enumerate(digits(goal, w, p, ls)):
-        prefix = identifier + u32(q) + i.to_bytes(2, "big")
-        ends.append(chain(prefix, a, (1 << w) - 1, signature[40 + 32 * i:72 + 32 * i]))
-    candidate = hashed(identifier, u32(q), D_PBLC, *ends)
-    place = (1 << height) + q
-    value = hashed(identifier, u32(place), D_LEAF, candidate)
-    for i in range(height):
-        beside = signature[behind + 4 + 32 * i:behind + 36 + 32 * i]
-        pair = (value, beside) if place % 2 == 0 else (beside, value)
-        place //= 2
-        value = hashed(identifier, u32(place), D_INTR, *pair)
-    return "Ok" if value == key[24:56] else "WrongRoot"
-
-
-def lms_answer(key, message, signature):  # 5.4.2
-    if not key_is_known(key):
-        return "BadKey"
-    return level(key, message, signature) if front_length(signature) == len(signature) else "BadLength"
-
-
-def hss_answer(key, message, signature):  # 6.1, 6.3
-    if len(key) != 60 or not 1 <= number_at(key, 0) <= 8 or not key_is_known(key[4:]):
-        return "BadKey"
-    if len(signature) < 4:
-        return "BadLength"
-    pairs, rest, signed = number_at(signature, 0), signature[4:], []
-    for _ in range(pairs):
-        length = front_length(rest)
-        if length is None or len(rest) < length + 56:
-            return "BadLength"
-        signed.append((rest[:length], rest[length:length + 56]))
-        rest = rest[length + 56:]
-    if front_length(rest) != len(rest):
-        return "BadLength"
-    if pairs + 1 != number_at(key, 0):
-        return "TypeDiffers"
-    top = key[4:]
-    for part, public in signed:
-        name = level(top, public, part)
-        if name != "Ok":
-            return name
-        top = public
-    return level(top, message, rest)
-
-
-def text_of(word):
-    return b"" if word == "-" else bytes.fromhex(word)
-
-
-def answers(line):
-    kind, *words = line.split(" ")
+def answers(kind, *words):
+    """The lines that answer a line of stdin."""
     if kind in ("hss", "lms"):
         label, *texts = words
-        yield label + " " + (hss_answer if kind == "hss" else lms_answer)(*map(text_of, texts))
+        yield label + " " + (hss_answer if kind == "hss" else lms_answer)(*map(hexadecimal, texts))
         return
     height, width = int(words[0]), int(words[1])
-    tree = Tree({5: 5, 10: 6}[height], {1: 1, 2: 2, 4: 3, 8: 4}[width], text_of(words[2]))
+    tree = Tree({5: 5, 10: 6}[height], {1: 1, 2: 2, 4: 3, 8: 4}[width], hexadecimal(words[2]))
     if kind == "tree":
         yield tree.public().hex()
         return
     key = u32(1) + tree.public()
     yield f"{height} {width} {key.hex()}"
     for q, word in enumerate(words[4:], int(words[3])):
-        made = u32(0) + tree.signature(q, text_of(word))
-        yield f"{q} {len(made)} {sha256(made).hexdigest()} {hss_answer(key, text_of(word), made)}"
+        made = u32(0) + tree.signature(q, hexadecimal(word))
+        yield f"{q} {len(made)} {sha256(made).hexdigest()} {hss_answer(key, hexadecimal(word), made)}"
+
+
+def made():
+    """The lines that answer all that asks for signatures."""
+    return [answer for words in tables.asked(tables.SIGNATURES) for answer in answers(*words)]
 
 
 if __name__ == "__main__":
-    folder = pathlib.Path(__file__).resolve().parent.parent / "crates" / "reference_tables"
-    asked = [line for line in (folder / "stdin").read_text().splitlines() if line.split(" ")[0] in KINDS]
-    made = [answer for line in asked for answer in answers(line)]
-    if sys.argv[1:] == ["--compare"]:
-        found = (folder / "stdout").read_text().splitlines()
-        first = next((at for at, line in enumerate(made, 1) if found[at - 1:at] != [line]), None)
-        if first or not made:
-            sys.exit(f"line {first or 1} of crates/reference_tables/stdout is not what RFC 8554 gives")
-    elif sys.argv[1:]:
-        sys.exit("usage: tests/hss_vectors.py [--compare]")
-    else:
-        print("\n".join(made))
+    sys.exit(tables.main(tables.SIGNATURES, made, __doc__))

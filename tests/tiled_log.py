@@ -7,7 +7,6 @@ Prints a line for each size and each check, and below it what is wrong.
 Usage: tests/tiled_log.py [KILLS [SIZE ..]]      100 kills, and the sizes of SIZES, if nothing is said
 """
 
-import hashlib
 import random
 import shutil
 import subprocess
@@ -17,6 +16,7 @@ import time
 from cosigned_log import parts
 from cosignatures import items
 from real_files import ROOT, Folder, unlike
+from reference.merkle import List
 
 # About the ends of the first tiles, and about the first one of the next level.
 SIZES = [255, 256, 257, 511, 512, 65535, 65536, 65537]
@@ -26,54 +26,15 @@ PLACES = 40
 ID = bytes.fromhex("0481fd5901")
 
 
-def pair(left, right):
-    return hashlib.sha256(b"\1" + left + right).digest()
-
-
-class List:
-    """The plain list of a log's entries: the hashes of all full subtrees, level by level."""
-
-    def __init__(self, entries):
-        self.rows = [[hashlib.sha256(b"\0" + entry).digest() for entry in entries]]
-        while len(self.rows[-1]) > 1:
-            row = self.rows[-1]
-            self.rows.append([pair(row[at], row[at + 1]) for at in range(0, len(row) - 1, 2)])
-
-    def hash(self, start, end):
-        """The tree hash of the entries from `start` up to `end`."""
-        level = (end - start).bit_length() - 1
-        if end - start == 1 << level:
-            return self.rows[level][start >> level]
-        split = 1 << (end - start - 1).bit_length() - 1
-        return pair(self.hash(start, start + split), self.hash(start + split, end))
-
-    def path(self, index, start, end):
-        """The inclusion path of an entry in such a subtree."""
-        if end - start == 1:
-            return []
-        split = start + (1 << (end - start - 1).bit_length() - 1)
-        if index < split:
-            return [*self.path(index, start, split), self.hash(split, end)]
-        return [*self.path(index, split, end), self.hash(start, split)]
-
-    def proof(self, first, start, end, whole=True):
-        """The consistency proof of the first entries from `start` on (RFC 9162, section 2.1.4.1)."""
-        if first == end:
-            return [] if whole else [self.hash(start, end)]
-        split = start + (1 << (end - start - 1).bit_length() - 1)
-        if first <= split:
-            return [*self.proof(first, start, split, whole), self.hash(split, end)]
-        return [*self.proof(first, split, end, False), self.hash(start, split)]
-
-    def tiles(self, size):
-        """What a file holds of the full tiles of so many entries, and the level and place of each tile."""
-        found = {}
-        for level in range(3):
-            for place in range(size // 256 ** (level + 1)):
-                number = [place + place // 256 + place // 65536, 256 * (place + 1) + place + place // 256,
-                          65792 * (place + 1) + place][level]
-                found[number] = (level, place, b"".join(self.rows[8 * level][256 * place:256 * (place + 1)]))
-        return [found[number] for number in range(len(found))]
+def tiles_of(leaves, size):
+    """What a file holds of the full tiles of so many entries, and the level and place of each tile."""
+    found = {}
+    for level in range(3):
+        for place in range(size // 256 ** (level + 1)):
+            number = [place + place // 256 + place // 65536, 256 * (place + 1) + place + place // 256,
+                      65792 * (place + 1) + place][level]
+            found[number] = (level, place, b"".join(leaves.rows[8 * level][256 * place:256 * (place + 1)]))
+    return [found[number] for number in range(len(found))]
 
 
 def hashes(some):
@@ -110,7 +71,7 @@ def in_list(leaves, size, found):
     for command, index in (name for name in found if name != "checkpoint"):
         text, end = found[command, index], size.to_bytes(8, "big")
         if command == "consist":
-            wanted = ID + end + root + hashes(leaves.proof(index, 0, size))
+            wanted = ID + end + root + hashes(leaves.proof(0, index, 0, size))
         else:
             text = parts(text)[2][-len(hashes(leaves.path(index, 0, size))) - 18:]
             wanted = bytes(8) + end + hashes(leaves.path(index, 0, size)) + bytes(2)
@@ -126,13 +87,13 @@ def check_size(folder, size):
     nothing = (4, "", "mtc: tile: NothingNew\n")
     yield from unlike("tile", folder.run(["tile", "j"]), (0, f"tiled {full}\n", "") if full else nothing)
     yield from unlike("a second tile", folder.run(["tile", "j"]), nothing)
-    wanted = b"".join(tile for _, _, tile in leaves.tiles(full))
+    wanted = b"".join(tile for _, _, tile in tiles_of(leaves, full))
     yield from unlike("the file of tiles is that of the list", folder.bytes("j.tiles") == wanted, True)
     random.seed(size)
     after = written(folder, size)
     yield from unlike("what was written and is written over tiles is the same", before == after, True)
     yield from in_list(leaves, size, after)
-    yield from spoiled(folder, leaves.tiles(full), before["checkpoint"])
+    yield from spoiled(folder, tiles_of(leaves, full), before["checkpoint"])
 
 
 def changes(tiles):
