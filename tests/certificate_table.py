@@ -25,7 +25,7 @@ def read_answer(text):
     try:
         read = certificate.read(text)
     except Fault as fault:
-        return fault.name if fault.place is None else f"{fault.name} {fault.place}"
+        return str(fault)
     lengths = [len(part) for part in (read.issuer, read.subject, read.key, read.extensions, read.proof)]
     names = sum(len(one.names) for one in read.extension_list)
     unknown = any(one.critical and one.identifier not in judging.KNOWN for one in read.extension_list)

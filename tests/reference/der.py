@@ -11,6 +11,13 @@ BOOLEAN, INTEGER, BIT_STRING, OCTET_STRING, IDENTIFIER = 0x01, 0x02, 0x03, 0x04,
 UTF8_STRING, SEQUENCE, SET = 0x0C, 0x30, 0x31
 
 
+def encoded(tag, contents):
+    """An element with these contents."""
+    size = len(contents)
+    octets = size.to_bytes(max(size.bit_length() + 7, 8) // 8, "big")
+    return bytes([tag]) + (octets if size < 0x80 else bytes([0x80 | len(octets)]) + octets) + contents
+
+
 class Element(NamedTuple):
     """An element of a text: where it begins, where its contents do, and where it ends."""
 
@@ -18,6 +25,10 @@ class Element(NamedTuple):
     place: int
     inside: int
     end: int
+
+    @property
+    def tag(self):
+        return self.text[self.place]
 
     @property
     def whole(self):

@@ -86,8 +86,12 @@ def lms_answer(key, message, signature):  # 5.4.2
     return level(key, message, signature) if front_length(signature) == len(signature) else "BadLength"
 
 
+def is_hss_key(key):  # 6.1
+    return len(key) == 60 and 1 <= number_at(key, 0) <= 8 and key_is_known(key[4:])
+
+
 def hss_answer(key, message, signature):  # 6.1, 6.3
-    if len(key) != 60 or not 1 <= number_at(key, 0) <= 8 or not key_is_known(key[4:]):
+    if not is_hss_key(key):
         return "BadKey"
     if len(signature) < 4:
         return "BadLength"

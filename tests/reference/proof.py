@@ -1,4 +1,4 @@
-"""The proof in a certificate, by docs/FORMATS.md, "Proofs": its fields, or the first fault with its offset in the proof."""
+"""The proof in a certificate, by docs/FORMATS.md, "Proofs": its fields, or the first fault with its offset there."""
 
 from typing import NamedTuple
 

@@ -1,12 +1,22 @@
-"""What a relying party holds of one log, by docs/FORMATS.md, "Store file"."""
+"""What a relying party holds of one log, by docs/FORMATS.md, "Store file", and docs/COMMANDS.md, "verify"."""
 
+import base64
+import re
+import tomllib
 from typing import NamedTuple
 
-LOG_ID = bytes.fromhex("060a2b0601040182da4b2f01")
+from .der import SEQUENCE, SET, UTF8_STRING, encoded
+from .fault import Fault
+from .hss import is_hss_key
+from .merkle import is_subtree
+
+LOG_NAME = bytes.fromhex("060a2b0601040182da4b2f01")
+MOST_COSIGNERS, MOST_ID = 64, 255
+ROOT_KEYS = ("log", "cosigner", "rule", "subtree", "revoked")
 
 
 class Store(NamedTuple):
-    """A store: cosigners with their keys, rules with a count, subtrees with their hashes, ranges without their ends."""
+    """The log's id and name, ids and keys of cosigners, rules over their places, trusted subtrees, revoked ranges."""
 
     log: bytes
     name: bytes
@@ -17,17 +27,121 @@ class Store(NamedTuple):
 
 
 def anchor_id(text):
-    """An id from its text: each arc in the fewest bytes of seven bits (X.690, 8.20)."""
-    found = b""
-    for arc in map(int, text.split(".")):
-        digits = [arc >> shift & 0x7F for shift in range(63, -1, -7) if arc >> shift or shift == 0]
+    """An id from its text, each arc in the fewest bytes of seven bits (X.690, 8.20); none from another text."""
+    arc = "(0|[1-9][0-9]{0,19})"
+    if not isinstance(text, str) or not re.fullmatch(rf"{arc}(\.{arc})*", text, re.ASCII):
+        return None
+    found, arcs = b"", [int(one) for one in text.split(".")]
+    for one in arcs:
+        digits = [one >> shift & 0x7F for shift in range(63, -1, -7) if one >> shift or shift == 0]
         found += bytes([0x80 | digit for digit in digits[:-1]] + digits[-1:])
-    return found
+    return found if max(arcs) < 1 << 64 and len(found) <= MOST_ID else None
 
 
 def log_name(text):
     """The name of the log whose id has this text ("The name of a log")."""
-    name = LOG_ID + bytes([0x0C, len(text)]) + text.encode()
-    for tag in (0x30, 0x31, 0x30):
-        name = bytes([tag, len(name)]) + name
+    name = LOG_NAME + encoded(UTF8_STRING, text.encode())
+    for tag in (SEQUENCE, SET, SEQUENCE):
+        name = encoded(tag, name)
     return name
+
+
+def public_key(text):
+    """The HSS public key that stands in base64; none from another value."""
+    if not isinstance(text, str) or not re.fullmatch("[A-Za-z0-9+/]{80}", text):
+        return None
+    key = base64.b64decode(text)
+    return key if is_hss_key(key) else None
+
+
+def number(value):
+    """A number from 0 on; none from another value."""
+    return value if type(value) is int and value >= 0 else None
+
+
+def tree_hash(value):
+    """A hash in hexadecimal; none from another value."""
+    fits = isinstance(value, str) and re.fullmatch("[0-9a-fA-F]{64}", value)
+    return bytes.fromhex(value) if fits else None
+
+
+def checked(table, *keys):
+    """The table, which is one and has no other keys."""
+    if not isinstance(table, dict):
+        raise Fault("BadValue", "Table")
+    if not set(table) <= set(keys):
+        raise Fault("UnknownKey")
+    return table
+
+
+def field(table, key, name, read):
+    """What a key of a table says; a bad value is read as none."""
+    if key not in table:
+        raise Fault("Missing", name)
+    value = read(table[key])
+    if value is None:
+        raise Fault("BadValue", name)
+    return value
+
+
+def items(root, key):
+    """The items of an array that may be missing."""
+    value = root.get(key, [])
+    if not isinstance(value, list):
+        raise Fault("BadValue", "Table")
+    return value
+
+
+def cosigner(table, place):
+    """The id and the key of a cosigner; there are not too many."""
+    checked(table, "id", "key")
+    id = field(table, "id", "CosignerId", lambda text: anchor_id(text) if place < MOST_COSIGNERS else None)
+    return id, field(table, "key", "CosignerKey", public_key)
+
+
+def rule(table, ids):
+    """The places of different cosigners, and how many of them have to have signed."""
+    def places(texts):
+        named = [anchor_id(text) for text in texts] if isinstance(texts, list) else [None]
+        fits = all(one in ids for one in named) and len(set(named)) == len(named)
+        return [ids.index(one) for one in named] if fits else None
+
+    checked(table, "cosigners", "count")
+    found = field(table, "cosigners", "Cosigners", places)
+    return found, field(table, "count", "Count", lambda one: one if number(one) and one <= len(found) else None)
+
+
+def interval(table):
+    return field(table, "start", "Start", number), field(table, "end", "End", number)
+
+
+def subtree(table):
+    """A trusted subtree."""
+    start, end = interval(checked(table, "start", "end", "hash"))
+    return start, end, field(table, "hash", "Hash", tree_hash)
+
+
+def parsed(text):
+    """The tree of a text."""
+    try:
+        return tomllib.loads(text.decode())
+    except ValueError:
+        raise Fault("NotToml") from None
+
+
+def read(text):
+    """The store that these bytes are."""
+    root = checked(parsed(text), *ROOT_KEYS)
+    id = field(checked(root.get("log", {}), "id"), "id", "LogId", lambda one: anchor_id(one) and one)
+    cosigners = [cosigner(one, place) for place, one in enumerate(items(root, "cosigner"))]
+    ids = [one for one, _ in cosigners]
+    rules = [rule(one, ids) for one in items(root, "rule")]
+    subtrees = [subtree(one) for one in items(root, "subtree")]
+    revoked = [interval(checked(one, "start", "end")) for one in items(root, "revoked")]
+    if len(set(ids)) < len(ids):
+        raise Fault("RepeatedId")
+    if len({(start, end) for start, end, _ in subtrees}) < len(subtrees):
+        raise Fault("RepeatedSubtree")
+    if not all(is_subtree(start, end) for start, end, _ in subtrees) or any(start >= end for start, end in revoked):
+        raise Fault("BadRange")
+    return Store(anchor_id(id), log_name(id), cosigners, rules, subtrees, revoked)

@@ -56,8 +56,8 @@ def compare(kinds, made):
     lines = [(line, *pair) for line, pair in enumerate(zip_longest(found, made), first)]
     wrong = [difference(*line) for line in lines if line[1] != line[2]]
     if wrong or not made:
-        print(f"wrong: {len(wrong)} lines; first that of crates/reference_tables/stdout, then the one made here", *wrong[:3],
-              sep="\n    ")
+        both = "first that of crates/reference_tables/stdout, then the one made here"
+        print(f"wrong: {len(wrong)} lines; {both}", *wrong[:3], sep="\n    ")
         return 1
     print(f"ok: {len(made)} lines of crates/reference_tables/stdout, from line {first} on, are those made here")
     return 0
