@@ -1,8 +1,16 @@
-//! Tests of trees, of landmarks, of proofs in certificates and of requests to cosigners.
+//! Tests of trees, of landmarks, of proofs in certificates and of requests to cosigners; of two
+//! strings with one hash; and of the nodes that are kept, of the frames for tiles and of the store
+//! of tiles.
 #![tactic(auto)]
 
 #[cfg(test)]
+mod finding;
+#[cfg(test)]
+mod framing;
+#[cfg(test)]
 mod hashing;
+#[cfg(test)]
+mod keeping;
 #[cfg(test)]
 mod known;
 #[cfg(test)]
@@ -13,5 +21,9 @@ mod proving;
 mod requesting;
 #[cfg(test)]
 mod signing;
+#[cfg(test)]
+mod storing;
+#[cfg(test)]
+mod sweeping;
 #[cfg(test)]
 mod writing;

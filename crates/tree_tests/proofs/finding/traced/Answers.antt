@@ -2,7 +2,7 @@ use Rattle.std.proofs.Common.{◌≡◌, length, Ok, sym, ◌∙◌, ap, rules}
 use Rattle.tree_core.specs.Toy.{toy_hash}
 use Rattle.tree_proofs.proofs.Checked.{PassesWhereChecks_always}
 use Rattle.tree_proofs.specs.Consistency.{consistency}
-use Rattle.collide_tests.proofs.finding.traced.Goals as goal
+use Rattle.tree_tests.proofs.finding.traced.Goals as goal
 
 pub in_consistency-requires : goal.in_consistency-requires
 in_consistency-requires c =

@@ -3,7 +3,7 @@ use Rattle.tree_core.specs.Evaluation.{evaluation}
 use Rattle.tree_core.specs.Toy.{toy_hash}
 use Rattle.tree_core.specs.Tree.{tree_hash}
 use Rattle.collide.proofs.Halving.{part_map}
-use Rattle.collide_tests.proofs.finding.looked_up.Goals as goal
+use Rattle.tree_tests.proofs.finding.looked_up.Goals as goal
 
 pub in_list-requires-clause-evaluates : goal.in_list-requires-clause-evaluates
 in_list-requires-clause-evaluates c =

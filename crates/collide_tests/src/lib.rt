@@ -1,7 +1,0 @@
-//! Tests of two strings with one hash.
-#![tactic(auto)]
-
-#[cfg(test)]
-mod finding;
-#[cfg(test)]
-mod sweeping;
