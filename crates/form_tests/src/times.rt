@@ -72,7 +72,7 @@ fn time_of(tag: u8, contents: &[u8]) -> Option<i64> {
 
 #[test]
 fn times_of_a_certificate_name_moments(rt: HostRuntime) {
-    let times: [(u8, &[u8], Option<i64>); 15] = [
+    let times: [(u8, &[u8], Option<i64>); 16] = [
         (0x17, b"491231235959Z", Some(2_524_607_999)),
         (0x17, b"500101000000Z", Some(FIRST)),
         (0x17, b"260101000000Z", Some(1_767_225_600)),
@@ -86,6 +86,7 @@ fn times_of_a_certificate_name_moments(rt: HostRuntime) {
         (0x18, b"260101000000Z", None),
         (0x13, b"260101000000Z", None),
         (0x17, b"260101000060Z", None),
+        (0x17, b"261301000000Z", None),
         (0x17, b"260101240000Z", None),
         (0x17, b"260101000000", None),
     ];

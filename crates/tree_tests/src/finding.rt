@@ -62,7 +62,7 @@ fn looked_up(
 }
 
 // The answer for a node and its proof; none where the proof doesn't check.
-pub(crate) fn traced(
+fn traced(
     alloc: Global,
     items: &[&[u8]],
     start: u64,
@@ -78,7 +78,7 @@ pub(crate) fn traced(
 }
 
 // The answer is this pair, or none.
-pub(crate) fn is(answer: &Option<Result<Finding, Memory>>, wanted: Option<(&[u8], &[u8])>) -> bool {
+fn is(answer: &Option<Result<Finding, Memory>>, wanted: Option<(&[u8], &[u8])>) -> bool {
     match (answer, wanted) {
         (Some(Ok(Finding::Same)), None) => true,
         (Some(Ok(Finding::Pair(first, second))), Some((x, y))) => {

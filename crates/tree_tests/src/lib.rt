@@ -24,6 +24,4 @@ mod signing;
 #[cfg(test)]
 mod storing;
 #[cfg(test)]
-mod sweeping;
-#[cfg(test)]
 mod writing;
