@@ -12,7 +12,7 @@ Usage: tests/documents.py [CHECK ..]      the checks of these names alone
 import sys
 
 import beliefs
-from checks import citations, house, pages
+from checks import citations, house, ledger, pages
 from checks.sources import ROOT
 
 
@@ -26,18 +26,24 @@ CHECKS = [
     citations.check_names, citations.check_promises, citations.check_definitions, citations.check_meanings,
     citations.check_architecture, citations.check_commands, citations.check_refusals,
     citations.check_order, check_beliefs, house.check_lengths, house.check_errors,
-    house.check_columns, house.check_imports, house.check_heads, house.check_edits, pages.check_paths,
+    house.check_columns, house.check_imports, house.check_heads, house.check_edits, ledger.check_ledger,
+    pages.check_paths,
 ]
 
 
+REMARKS = {"ledger": ledger.remarks}
+
+
 def run(names):
+    """Prints each check and what is wrong; what has only to be looked at fails nothing."""
     status = 0
     for check in CHECKS:
         name = check.__name__.removeprefix("check_")
         if names and name not in names:
             continue
         wrong = list(check())
-        print(f"{'wrong' if wrong else 'ok'}: {name}: {check.__doc__}", *wrong, sep="\n    ")
+        remarks = REMARKS.get(name, list)()
+        print(f"{'wrong' if wrong else 'ok'}: {name}: {check.__doc__}", *wrong, *remarks, sep="\n    ")
         status |= bool(wrong)
     return status
 

@@ -1,49 +1,305 @@
 #!/usr/bin/env python3
-"""Tries the edits of tests/edits: `tests/edits.py [CRATE..]`, all crates where none is named. The gate doesn't run it.
+"""Tries the edits of crates, and writes into tests/edits/tried.txt which crates' edits were all refused.
 
-An edit there turns a meaning that an exact row of a test, or a script behind `rt ci`, tells as well, so the gate does
-without it. This script puts the edits of a crate beside those of its must-fail/, runs `rt must-fail`, which has to
-refuse each, and takes them away. Run no gate beside it: that would try them too. A crate takes as long as its proof and
-those below it, where `rt check` has kept none, and each edit some 20 to 50 seconds of a processor.
+`tests/edits.py [--jobs N] [CRATE..]`, all crates with edits where none is named. An edit is a small change that makes
+a function wrong. It stands in crates/CRATE/must-fail, where the gate tries it at each run, or in tests/edits/CRATE,
+where only this script does. Both are tried here, on a copy of the sources.
+
+An edit counts as refused only where the check says of the changed function itself that a clause is not proved: what it
+ensures, what a function that it calls requires, the invariant of its loop, or the invariant of a type. An edit that is
+refused for anything else, as for a sum that may be too large, a limit of the prover, or a proof that names what is no
+longer there, doesn't count, and neither does one that doesn't compile. Then the crate gets no line, and the status is 1.
+
+A clause stands open in one of two ways: the search for its proof fails, or the proof of it that was written by hand
+doesn't fit any longer. Both are told apart below, since the second says less: another proof might fit.
+
+Edits of different functions are made in one copy, and one check tells of each: a function is proved by the contracts of
+those that it calls, so a wrong body elsewhere changes nothing for it. Edits of one function, and those that didn't
+count beside others, are tried one by one. All of it begins with what `rt check` has kept; where it has kept nothing,
+the crate and all below are proved first.
+
+What a line of the ledger promises: on some machine these edits were refused against these contracts. Who wrote the line
+is believed for that. Who doesn't want to believe it, as a release does, runs this script for all crates.
 """
+import collections
+import os
 import pathlib
+import re
+import resource
 import shutil
 import signal
 import subprocess
 import sys
+import tempfile
+import time
 
-ROOT = pathlib.Path(__file__).resolve().parent.parent
-TOLD = ROOT / "tests" / "edits"
+sys.dont_write_bytecode = True
+from checks import ledger
+from checks.sources import ROOT
+
+PARTS = ("src", "specs", "proofs")
+OPEN = re.compile(r"note: (src/\S+?):(\d+):\d+: it is not proved that (.*?)(?:; .*)?$", re.M)
+UNFIT = re.compile(r"^(?:\./)?proofs/(\S+)/(Answers|Proof)\.antt:\d+:\d+: error: `(\S+?)`: (.*)$", re.M)
+CLAUSES = ("what the function ensures", "the invariant of the loop", "the struct's ghost fields", "the `invariant`")
+REQUIRED = re.compile(r"what `(\w+)` requires")
+GONE = re.compile(r"has no field|is not in scope|has no `|was not admitted")
+LIMIT = re.compile(r"antt ran out of|outgrew the memory limit|stopped at the step limit")
+PROVED = re.compile(r"^fn (\S+): proved$", re.M)
+
+Function = collections.namedtuple("Function", "name owner file begin end")
+Found = collections.namedtuple("Found", "counts by_search what")
 
 
-def tried(crate):
-    """Whether each edit of a crate is refused, those that the gate tries among them."""
-    folder = ROOT / "crates" / crate / "must-fail"
-    was_there = folder.is_dir()
-    folder.mkdir(exist_ok=True)
-    added = []
+class Edit:
+    """One edit, with the functions that it changes."""
+
+    def __init__(self, crate, path):
+        self.crate, self.name = crate, path.name.removesuffix(".edit")
+        self.changes = list(ledger.changes_of(path))
+        self.functions = {self.function_at(file, old) for file, old, _ in self.changes}
+
+    def function_at(self, name, old):
+        """The function that holds a text of a file, or nothing; functions end where the next begins."""
+        file = next((it for it in self.crate.files if it.path == self.crate.folder / name), None)
+        if file is None or old not in file.text:
+            return None
+        line = file.text.count("\n", 0, file.text.index(old)) + 1
+        heads = [*file.functions, None]
+        for one, after in zip(heads, heads[1:]):
+            if one.line <= line and (after is None or line < after.line):
+                return Function(one.name, one.owner, name, one.line, after.line if after else file.text.count("\n") + 2)
+        return None
+
+    @property
+    def stands_alone(self):
+        return None in self.functions
+
+    def applied(self, folder):
+        """Makes the edit below a folder, or says why it can't be made."""
+        for file, old, new in self.changes:
+            path = folder / file
+            count = path.read_text().count(old) if path.is_file() else 0
+            if count != 1:
+                return f"an old text of it stands in {file} {count} times, and not once"
+            path.write_text(path.read_text().replace(old, new))
+        return None if self.changes else "it changes nothing"
+
+
+class Copy:
+    """A copy of the sources of all crates, in which edits are made and checked."""
+
+    def __init__(self, jobs):
+        self.room = pathlib.Path(tempfile.mkdtemp(prefix="edits-"))
+        self.flags = ["--jobs", jobs] if jobs else []
+        for name in ("crates.txt", "HANDLES"):
+            shutil.copy(ROOT / name, self.room)
+        for crate in ledger.CRATES:
+            self.renew(crate)
+
+    def folder(self, crate):
+        return self.room / "crates" / crate
+
+    def renew(self, crate):
+        """Puts the sources of a crate as they stand in the repository."""
+        for part in PARTS:
+            shutil.rmtree(self.folder(crate) / part, ignore_errors=True)
+            if (ROOT / "crates" / crate / part).is_dir():
+                shutil.copytree(ROOT / "crates" / crate / part, self.folder(crate) / part)
+
+    def check(self, crate, functions=()):
+        """What `rt check` prints of a crate, or of these functions of it alone."""
+        words = ["rt", "check", *self.flags, *(word for name in functions for word in ("--only", name))]
+        run = subprocess.Popen(words, cwd=self.folder(crate), stdout=subprocess.PIPE, stderr=subprocess.STDOUT,
+                               text=True, errors="replace", start_new_session=True)
+        try:
+            return run.communicate()[0]
+        finally:
+            if run.returncode is None:
+                os.killpg(run.pid, signal.SIGKILL)
+                run.wait()
+
+    def prove(self, crate):
+        """Proves the crate as it stands, and lays aside what the check kept."""
+        said = self.check(crate)
+        if "\nlogic=proved" in said:
+            linked(self.folder(crate) / "out" / "incremental", self.room / "proved" / crate)
+        return said
+
+    def begin(self, crate):
+        """Puts the crate, and what its check kept, as they were when it was proved."""
+        self.renew(crate)
+        kept = self.folder(crate) / "out" / "incremental"
+        shutil.rmtree(kept, ignore_errors=True)
+        linked(self.room / "proved" / crate, kept)
+
+    def remove(self):
+        shutil.rmtree(self.room, ignore_errors=True)
+
+
+def linked(folder, to):
+    """Copies what a check kept: proofs by links, since a check replaces such a file and changes none."""
+    shutil.copytree(folder, to, copy_function=lambda one, other: os.link(one, other) if one.endswith(".oantt")
+                    else shutil.copy2(one, other))
+
+
+# ---- what a check says of an edit
+
+
+def is_of(function, place):
+    """Whether proofs/PLACE is the folder of a function: its modules, its type with its trait, its name."""
+    parts = place.split("/")
+    modules = [it for it in pathlib.Path(function.file).with_suffix("").parts[1:] if it not in ("lib", "main", "mod")]
+    rest = parts[len(modules):]
+    if parts[:len(modules)] != modules or len(rest) != (2 if function.owner else 1):
+        return False
+    return rest[-1] == function.name and rest[0].startswith(function.owner or function.name)
+
+
+def own_calls(name):
+    """Whether a function of this repository has that name: its `requires` is a clause, and std's is safety."""
+    return any(one.name == name and one.labels for crate in ledger.CRATES.values() for one in crate.functions)
+
+
+def is_clause(what):
+    required = REQUIRED.match(what)
+    return own_calls(required[1]) if required else what.startswith(CLAUSES)
+
+
+def is_clause_goal(goal):
+    """Whether a goal that has a proof by hand is one of a clause, by its name."""
+    return goal.startswith("returns") or goal.endswith("-preserved") or "-requires" in goal
+
+
+def found_of(edit, said):
+    """What a check says of the functions that an edit changes; of all functions, where it changes none."""
+    own = [it for it in edit.functions if it]
+    alone = edit.stands_alone
+    notes = [(what, f"{file}:{line}") for file, line, what in OPEN.findall(said)
+             if alone or any(it.file == file and it.begin <= int(line) < it.end for it in own)]
+    unfit = [(goal, why) for place, _, goal, why in UNFIT.findall(said)
+             if alone or any(is_of(it, place) for it in own)]
+    for what, place in notes:
+        if is_clause(what):
+            return Found(True, True, f"{what}, {place}")
+    for goal, why in unfit:
+        if is_clause_goal(goal) and not GONE.search(why):
+            return Found(True, False, f"the proof by hand of `{goal}` doesn't fit: {why}")
+    if notes or unfit:
+        what = notes[0][0] if notes else f"`{unfit[0][0]}`: {unfit[0][1]}"
+        return Found(False, False, f"refused, and no clause: {what}")
+    return Found(False, False, "")
+
+
+def why_nothing(said):
+    """Why a check of one edit says nothing of its function."""
+    if re.search(r"^(logic=proved|only=(\d+) proved=\2$)", said, re.M):
+        return "NOT REFUSED: it is still proved"
+    limit = LIMIT.search(said)
+    if limit:
+        return f"no verdict, by a limit of the prover: {limit[0]}"
+    wrong = re.search(r"^.*error.*$", said, re.M)
+    return f"refused, and not at its own function: {wrong[0] if wrong else said[-300:]}"
+
+
+# ---- trying
+
+
+def together(edits):
+    """Groups of edits that can be made in one copy: each of other functions than the rest."""
+    groups = []
+    for edit in edits:
+        fits = (it for it in groups if not edit.stands_alone and not any(
+            one.stands_alone or one.functions & edit.functions for one in it))
+        group = next(fits, None)
+        groups.append([edit]) if group is None else group.append(edit)
+    return groups
+
+
+def named(edits, known):
+    """The functions that edits change, as a check names them; nothing, where one is of none or of several."""
+    names = []
+    for edit in edits:
+        for one in edit.functions:
+            fitting = [it for it in known if one and is_of(one, "/".join(it.split("::")[1:]))]
+            if len(fitting) != 1:
+                return []
+            names += fitting
+    return names
+
+
+def tried_together(copy, crate, group, known):
+    """(edit, what was found) for each edit of a group, and those that have to be tried one by one."""
+    copy.begin(crate)
+    faults = [(edit, why) for edit in group if (why := edit.applied(copy.folder(crate)))]
+    if faults and len(group) > 1:
+        return [], group
+    if faults:
+        return [(group[0], Found(False, False, faults[0][1]))], []
+    said = copy.check(crate, named(group, known))
+    done, again = [], []
+    for edit in group:
+        found = found_of(edit, said)
+        if len(group) > 1 and not found.counts:
+            again.append(edit)
+        else:
+            done.append((edit, found if found.what else Found(False, False, why_nothing(said))))
+    return done, again
+
+
+def tried(copy, crate):
+    """(edit, what was found) for all edits of a crate."""
+    said = copy.prove(crate)
+    if "\nlogic=proved" not in said:
+        sys.exit(f"{said[-2000:]}\n{crate} itself is not proved")
+    edits = [Edit(ledger.CRATES[crate], path) for path in ledger.edits_of(crate)]
+    known, results = PROVED.findall(said), []
+    for group in together(edits):
+        done, again = tried_together(copy, crate, group, known)
+        results += done
+        for edit in again:
+            results += tried_together(copy, crate, [edit], known)[0]
+    return results
+
+
+def told(copy, crate):
+    """Tries a crate's edits, prints what came of each, writes its line, and returns whether it could."""
+    before, begun = seconds(), time.monotonic()
+    wanted = ledger.line_of(crate)
+    results = tried(copy, crate)
+    for edit, found in sorted(results, key=lambda it: it[0].name):
+        print(f"{crate}/{edit.name}: {'refused' if found.counts else 'DOES NOT COUNT'}: {found.what[:200]}")
+    by_search = sum(found.by_search for _, found in results)
+    by_hand = sum(found.counts for _, found in results) - by_search
+    missed = len(results) - by_search - by_hand
+    print(f"{crate}: {len(results)} edits, {by_search} refused by a search, {by_hand} by a proof by hand, {missed} not; "
+          f"{seconds() - before:.0f} processor seconds, {time.monotonic() - begun:.0f} by the clock", flush=True)
+    if missed or wanted != ledger.line_of(crate):
+        return False
+    ledger.write(crate, by_search, by_hand)
+    return True
+
+
+def seconds():
+    """The processor seconds of all checks that have ended."""
+    used = resource.getrusage(resource.RUSAGE_CHILDREN)
+    return used.ru_utime + used.ru_stime
+
+
+def main(words):
+    signal.signal(signal.SIGTERM, lambda *_: sys.exit("stopped"))
+    jobs = words[1] if words[:1] == ["--jobs"] else ""
+    known = ledger.with_edits()
+    names = words[2 if jobs else 0:] or known
+    unknown = [name for name in names if name not in known]
+    if unknown:
+        sys.exit(f"there are no edits of {', '.join(unknown)}")
+    copy = Copy(jobs)
     try:
-        for edit in sorted((TOLD / crate).glob("*.edit")):
-            if (folder / edit.name).exists():
-                sys.exit(f"{edit.name} stands in {folder} already")
-            added.append(shutil.copy(edit, folder))
-        wanted = len(list(folder.glob("*.edit")))
-        ended = subprocess.run(["rt", "must-fail", crate], cwd=ROOT, stdout=subprocess.PIPE, text=True)
+        missed = [name for name in names if not told(copy, name)]
     finally:
-        for edit in added:
-            pathlib.Path(edit).unlink()
-        if not was_there:
-            folder.rmdir()
-    print(ended.stdout, end="")
-    return ended.returncode == 0 and ended.stdout.count(": refused, as it must be") == wanted
+        copy.remove()
+    sys.exit(f"not all edits were refused on a clause: {', '.join(missed)}" if missed else 0)
 
 
 if __name__ == "__main__":
-    signal.signal(signal.SIGTERM, lambda *_: sys.exit("stopped"))
-    known = sorted(it.name for it in TOLD.iterdir())
-    crates = sys.argv[1:] or known
-    unknown = [crate for crate in crates if crate not in known]
-    if unknown:
-        sys.exit(f"tests/edits has none of {', '.join(unknown)}")
-    missed = [crate for crate in crates if not tried(crate)]
-    sys.exit(f"not all edits are refused: {', '.join(missed)}" if missed else 0)
+    main(sys.argv[1:])

@@ -2,6 +2,7 @@
 
 import re
 
+from . import ledger
 from .citations import CRATES
 from .pages import shown
 from .sources import ROOT
@@ -55,14 +56,32 @@ def check_errors():
                         yield f"{crate.name}: {lines[0].strip()[:50]} lists {', '.join(named)}; {enum} has another order"
 
 
+def fault_of(crate, edit):
+    """Why an edit can't be made, or nothing. Its changes are made one behind the other, as `rt` makes them."""
+    texts = {}
+    for file, old, new in ledger.changes_of(edit):
+        path = crate.folder / file
+        text = texts.get(file) or (path.read_text() if path.is_file() else "")
+        if not old or text.count(old) != 1:
+            return f"an old text of it doesn't stand once in {file}"
+        if old == new:
+            return f"it changes nothing in {file}"
+        texts[file] = text.replace(old, new)
+    return None if texts else "it has no change"
+
+
 def check_edits():
-    """each change of an edit of tests/edits applies: what it takes away stands once in its file"""
-    for edit in sorted((ROOT / "tests" / "edits").glob("*/*.edit")):
-        parts = [line.partition(":")[2].strip() for line in edit.read_text().splitlines()]
-        for file, old in zip(parts[0::3], parts[1::3]):
-            path = ROOT / "crates" / edit.parent.name / file
-            if not path.is_file() or path.read_text().count(old) != 1:
-                yield f"{edit.relative_to(ROOT)}: an old text of it doesn't stand once in {file}"
+    """each edit, of must-fail/ and of tests/edits, can be made: what it takes away stands once in its file"""
+    for name, crate in CRATES.items():
+        names = set()
+        for edit in ledger.edits_of(name):
+            why = fault_of(crate, edit) or ("stands in both folders" if edit.name in names else None)
+            names.add(edit.name)
+            if why:
+                yield f"{edit.relative_to(ROOT)}: {why}"
+    for folder in sorted(ledger.TOLD.iterdir()):
+        if folder.is_dir() and folder.name not in CRATES:
+            yield f"{folder.relative_to(ROOT)}: is of no crate"
 
 
 # ---- what is let through as yet: its numbers may not grow
@@ -162,13 +181,12 @@ def check_heads():
 
 
 def lower_limits():
-    """Lowers each number to what there is. A check without numbers takes what there is."""
+    """Lowers each number to what there is. Where there is no number, nothing is let through."""
     old = limits()
-    checks = {check for check, _ in old}
     rows = [line for line in LIMITS.read_text().split("\n") if line.startswith("#")]
     for check in LIMITED:
         for name, lines in sorted(by_crate(check).items()):
-            most = old.get((check, name), 0) if check in checks else len(lines)
+            most = old.get((check, name), 0)
             if most:
                 rows.append(f"{check} {name} {min(len(lines), most)}")
     LIMITS.write_text("\n".join(rows) + "\n")

@@ -1,0 +1,195 @@
+"""The ledger of tests/edits/tried.txt: which edits were tried, and against which contracts.
+
+A line of it is written by tests/edits.py, and by nothing else. Here the sums are made that it is compared by.
+"""
+
+import hashlib
+import re
+
+from .citations import CRATES
+from .sources import CLAUSE, ROOT, WHERE, behind_braces, behind_head, blanked, FUNCTION
+
+LEDGER = ROOT / "tests" / "edits" / "tried.txt"
+TOLD = ROOT / "tests" / "edits"
+TOKEN = re.compile(r"""b?"(?:\\.|[^"\\])*"|b?'(?:\\.[^']*|[^'\\])'|//[^\n]*|/\*.*?\*/""", re.S)
+HINT = re.compile(r"#!?\[(?:tactic|inline|cycle|allow|must_use)\b[^\]]*\]")
+IMPORT = re.compile(r"^[ \t]*(?:pub(?:\([a-z]+\))? +)?(?:ghost )?use ([^;]+);", re.M)
+MODULE = re.compile(r"^[ \t]*(?:pub(?:\([a-z]+\))? +)?mod \w+;", re.M)
+WORD = re.compile(r"[^\s(){}\[\],;:.<>&]+")
+
+
+def folders_of(name):
+    """The two folders in which edits of a crate stand: those that the gate tries, and those that it does not."""
+    return ROOT / "crates" / name / "must-fail", TOLD / name
+
+
+def edits_of(name):
+    """The edits of a crate, of both folders."""
+    return sorted((path for folder in folders_of(name) for path in folder.glob("*.edit")), key=lambda path: path.name)
+
+
+def changes_of(edit):
+    """(file, old, new) for each change of an edit, as `rt` reads them."""
+    file = old = ""
+    for line in edit.read_text().split("\n"):
+        if line.startswith("file: "):
+            file = line.removeprefix("file: ").strip()
+        elif line.startswith("old: "):
+            old = line.removeprefix("old: ")
+        elif line.startswith("new:"):
+            yield file, old, line.removeprefix("new:").removeprefix(" ")
+
+
+# ---- the contract text
+
+
+def without(text, spans):
+    """The text without these parts."""
+    out, at = [], 0
+    for start, end in sorted(spans):
+        out.append(text[at:max(at, start)])
+        at = max(at, end)
+    return "".join([*out, text[at:]])
+
+
+def behind_contract(bare, place, proofs):
+    """The place behind the clauses that stand here; the proofs among them are added to the list."""
+    while True:
+        where = WHERE.match(bare, place)
+        place = where.end() if where and where.end() > place else place
+        clause = CLAUSE.match(bare, place)
+        if not clause:
+            return place
+        place = behind_braces(bare, clause.end() - 1)
+        by = re.match(r"\s*by\s*\{", bare[place:])
+        if by:
+            end = behind_braces(bare, place + by.end() - 1)
+            proofs.append((place, end))
+            place = end
+
+
+def bodies_of(bare):
+    """The parts of a file that no contract sees: bodies, proofs beside clauses, private functions without a clause."""
+    parts = []
+    for match in FUNCTION.finditer(bare):
+        head = behind_head(bare, match.end())
+        place = behind_contract(bare, head, parts)
+        opened = re.match(r"\s*\{", bare[place:])
+        if opened:
+            is_shown = match[2] or CLAUSE.match(bare[head:place]) or WHERE.match(bare[head:place])
+            parts.append((place if is_shown else match.start(), behind_braces(bare, place + opened.end() - 1)))
+    return parts
+
+
+def imported(group, words):
+    """The names of one import that the text uses, each with what it comes from."""
+    inside = re.match(r"(.*?)\{(.*)\}\s*$", group, re.S)
+    head, items = (inside[1], inside[2].split(",")) if inside else ("", [group])
+    for item in filter(None, (" ".join(item.split()) for item in items)):
+        name = re.split(r"::|\.(?=\w)", item)[-1].split(" as ")[-1].strip()
+        if any(part in words for part in filter(None, name.split("◌"))):
+            yield f"use {''.join(head.split())}{item}"
+
+
+def contract_of(file):
+    """What callers of a file's functions can rely on: all of it but comments, bodies, proofs, hints and unused imports."""
+    bare = blanked(file.text)
+    text = without(file.text, bodies_of(bare))
+    text = TOKEN.sub(lambda match: "" if match[0].startswith("/") else match[0], text)
+    text = HINT.sub("", text)
+    uses = [match[1] for match in IMPORT.finditer(text)]
+    text = MODULE.sub("", IMPORT.sub("", text))
+    words = set(WORD.findall(text))
+    return " ".join([*sorted(one for group in uses for one in imported(group, words)), *text.split()])
+
+
+def specs_of(crate):
+    """The definitions of a crate, without comments and empty lines."""
+    out = []
+    for path in sorted((crate.folder / "specs").rglob("*.antt")):
+        lines = [re.sub(r"(^|\s)--( .*|$)", "", line).rstrip() for line in path.read_text().split("\n")]
+        out += [str(path.relative_to(crate.folder)), *filter(None, lines)]
+    return "\n".join(out)
+
+
+# ---- the sums
+
+
+def sum_of(*texts):
+    """A short sum of texts: the first 16 signs of their SHA-256."""
+    return hashlib.sha256("\0".join(texts).encode()).hexdigest()[:16]
+
+
+def contract_sum(name):
+    """The sum of what a crate promises: signatures, clauses, types, ghost items, and specs/."""
+    crate = CRATES[name]
+    texts = [f"{file.path.relative_to(crate.folder)} {contract_of(file)}" for file in crate.files]
+    return sum_of(*texts, specs_of(crate))
+
+
+def edits_sum(name):
+    """The sum of a crate's edits, by name and text; in which of the two folders one stands makes no difference."""
+    return sum_of(*(part for path in edits_of(name) for part in (path.name, path.read_text())))
+
+
+def below(name):
+    """The crates of this repository that a crate stands on, also through others."""
+    found = {need for need in CRATES[name].needs if need in CRATES}
+    return sorted(found.union(*(below(need) for need in found)))
+
+
+def below_sum(name):
+    """The sum of the definitions of all crates below: one made weaker there weakens the clauses here."""
+    return sum_of(*(part for one in below(name) for part in (one, specs_of(CRATES[one]))))
+
+
+def line_of(name):
+    """The name and the sums of a crate as it is now."""
+    return f"{name} {contract_sum(name)} {edits_sum(name)} {below_sum(name)}"
+
+
+# ---- the ledger
+
+
+def with_edits():
+    """The crates that have an edit in either folder."""
+    return [name for name in CRATES if edits_of(name)]
+
+
+def lines():
+    """The ledger's lines, by crate."""
+    text = LEDGER.read_text() if LEDGER.exists() else ""
+    return {line.split()[0]: line for line in text.split("\n") if line and not line.startswith("#")}
+
+
+def write(name, by_search, by_hand):
+    """Writes the line of a crate with how many of its edits were refused in which way; all others stay."""
+    head = [line for line in LEDGER.read_text().split("\n") if line.startswith("#")]
+    found = {**lines(), name: f"{line_of(name)} {by_search} {by_hand}"}
+    LEDGER.write_text("\n".join([*head, *(found[one] for one in sorted(found))]) + "\n")
+
+
+def check_ledger():
+    """the edits of each crate were tried against the contracts that it has now"""
+    found, wanted = lines(), with_edits()
+    for name in wanted:
+        contract, edits = found.get(name, "- - -").split()[1:3]
+        changed = [what for what, was, now in (("contracts", contract, contract_sum(name)),
+                                               ("edits", edits, edits_sum(name))) if was != now]
+        if name not in found:
+            yield f"{name}: its edits were not tried: run tests/edits.py {name}"
+        elif changed:
+            yield f"{name}: its {' and '.join(changed)} changed since its edits were tried: run tests/edits.py {name}"
+    for name in sorted(set(found) - set(wanted)):
+        yield f"{name}: has a line in {LEDGER.relative_to(ROOT)}, and no edits: take it out"
+
+
+def changed_below():
+    """The crates below which a definition changed since their edits were tried."""
+    return [name for name, line in lines().items() if name in CRATES and line.split()[3] != below_sum(name)]
+
+
+def remarks():
+    """What fails nothing, and has to be looked at before a release."""
+    names = changed_below()
+    return [f"definitions below changed since: {', '.join(names)}; try them before a release"] if names else []
