@@ -143,7 +143,7 @@ def wrong_quotations(page):
         elif block is not None:
             block.append(line)
         elif not line.startswith("|"):
-            for path in re.findall(r"`(crates/[\w./-]+)`", line):
+            for path in re.findall(r"`((?:crates|tests/edits)/[\w./-]+)`", line):
                 file = ROOT / path
     if quotes < 1:
         yield f"{shown(page)}: it quotes nothing"
