@@ -2,11 +2,11 @@
 
 import json
 
-from .der import OCTET_STRING, Fields, encoded
-from .fault import Fault
+from reference.der import OCTET_STRING, Fields, encoded
+from reference.fault import Fault
 
 NULL, NOTHING, CONSTRUCTED = b"\x05\0", b"\0\0", 0x20
-TAGS = bytes.fromhex("0102030405060c1718303182a0a1a31fbf")
+TAGS = bytes.fromhex("0102030405060c1718303182a0a1a2a31fbf")
 # The largest number of TOML.
 MOST = 2**63 - 1
 VALUES = [1, True, 1.5, "x", "32473.01", [], ["x"], {}, {"x": 1}]
@@ -30,7 +30,7 @@ def changes(text):
     tag, contents = element.tag, element.contents
     yield from (b"", text + text, NULL + text, text + NULL)
     yield from (encoded(one, contents) for one in TAGS)
-    for other in (b"", contents[1:], contents[:-1], b"\0" + contents, b"\x80" + contents, contents + b"\0",
+    for other in (b"", b"\5", contents[1:], contents[:-1], b"\0" + contents, b"\x80" + contents, contents + b"\0",
                   contents + contents, contents + bytes(128), contents + bytes(256), contents + bytes(65536)):
         yield encoded(tag, other)
     size = len(contents).to_bytes(3, "big")

@@ -1,0 +1,1 @@
+"""What tests/hostile_files.py judges: `changes` has the changes, `files` what is changed, and `cases` the kinds."""

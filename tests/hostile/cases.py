@@ -1,0 +1,143 @@
+"""The kinds of change: each gives certificates, stores and moments at which they are judged."""
+
+import base64
+import random
+from itertools import combinations, product
+
+from cosigned_log import vector, with_proof
+from reference import certificate, judging, times
+from reference.der import SEQUENCE, encoded
+
+from .changes import other_tables, pieces, variants
+from .files import COSIGNERS, FIRST, LAST, LOG, asked, rebuilt, root_of, signed, signers, text_of, trusted
+
+# A critical extension that isn't known; the algorithm with parameters.
+CRITICAL = encoded(SEQUENCE, bytes.fromhex("0603551d64 0101ff 040100"))
+WITH_PARAMETERS = encoded(SEQUENCE, judging.MTC_PROOF[2:] + b"\x05\0")
+# So many pairs of changes are tried.
+PAIRS = 400
+# Times at the ends of what there is, and such as there aren't.
+EARLIEST, LATEST, MOST_MOMENT = encoded(0x17, b"500101000000Z"), encoded(0x18, b"99991231235959Z"), 253402300799
+TIMES = b"""
+260101000000Z 491231235959Z 500101000000Z 991231235959Z 000229120000Z 240229000000Z 250229000000Z 260431000000Z
+260630235959Z 261301000000Z 260001000000Z 260100000000Z 260132000000Z 260101240000Z 260101006000Z 260101000060Z
+2601010000Z 260101000000 260101000000z 260101000000+0000 260101000000.0Z 26010100000\xb9Z -60101000000Z
+2601010000000Z 20491231235959Z 20500101000000Z 20500228235959Z 20520229000000Z 21000229000000Z 24000229000000Z
+99991231235959Z 20500101000060Z 20501301000000Z 205001010000Z 20500101000000.5Z 20500101000000 00010101000000Z
+00000101000000Z
+""".split()
+TEXTS = [b"", b"[log", b"\xff", b'[log]\nid = "32473.1"\n', b'[[log]]\nid = "32473.1"\n', b'log.id = "32473.1"\r\n',
+         b'[log]\nid = "32473.1"\nid = "32473.1"\n']
+
+
+def certificates():
+    """one element of a certificate is another, dropped, doubled or moved to the end"""
+    for label, now in (("small", FIRST), ("signed", LAST), ("large", FIRST), ("many", FIRST)):
+        subtree = trusted().get(label, trusted()["small"])
+        known = text_of(root_of(subtree=[subtree], revoked=[{"start": 7, "end": 9}]))
+        yield from ((text, known, now) for text in {asked()[label]: 0, **dict.fromkeys(variants(asked()[label]))})
+
+
+def proofs():
+    """a proof is cut or longer, and the moment is another"""
+    text, known = asked()["signed"], text_of(root_of(subtree=[trusted()["signed"]]))
+    whole = certificate.read(text).proof
+    yield from ((with_proof(text, whole[:size]), known, FIRST) for size in range(len(whole)))
+    yield from ((with_proof(text, whole + more), known, FIRST) for more in (b"\0", bytes(2), bytes(32), whole))
+    yield from ((text, known, now) for now in (0, FIRST - 1, FIRST, LAST, LAST + 1, 253402300799))
+
+
+def algorithms():
+    """both algorithms of a certificate are another one"""
+    known = text_of(root_of(subtree=[trusted()["small"]]))
+    signature = certificate.read(asked()["small"]).proof
+    for other in (judging.MTC_PROOF, *variants(judging.MTC_PROOF)):
+        yield rebuilt(other, b"", signature), known, FIRST
+
+
+def moments():
+    """the first or the last moment of a certificate is another, which is tried about that moment"""
+    known = text_of(root_of(subtree=[trusted()["small"]]))
+    signature = certificate.read(asked()["small"]).proof
+    yield asked()["small"], known, FIRST
+    for text, tag, is_last in product(TIMES, (times.UTC_TIME, times.GENERALIZED_TIME), (False, True)):
+        one = encoded(tag, text)
+        validity = encoded(SEQUENCE, EARLIEST + one if is_last else one + LATEST)
+        changed, moment = rebuilt(judging.MTC_PROOF, b"", signature, validity), times.moment(tag, text)
+        about = [FIRST] if moment is None else [moment - 1, moment, moment + 1]
+        yield from ((changed, known, now) for now in about if 0 <= now <= MOST_MOMENT)
+
+
+def reasons():
+    """each set of reasons against a certificate, of which the first is told"""
+    good = certificate.read(asked()["small"]).proof
+    longer = good[:16] + vector(good[18:50] * 2) + bytes(2)
+    algorithms, extensions = (judging.MTC_PROOF, WITH_PARAMETERS), (b"", CRITICAL)
+    beside, within = [{"start": 0, "end": 1}, {"start": 2, "end": 3}], [{"start": 1, "end": 2}]
+    for words in product(algorithms, extensions, (good, longer, good + b"\0")):
+        for log, revoked, hash in product((LOG, COSIGNERS[0]), (beside, within), (None, "00" * 32)):
+            subtree = {**trusted()["small"], **({"hash": hash} if hash else {})}
+            known = text_of(root_of(log={"id": log}, subtree=[subtree], revoked=revoked))
+            yield from ((rebuilt(*words), known, now) for now in (FIRST - 1, FIRST, LAST + 1))
+
+
+def two_changes():
+    """two fields of a certificate, or two values of a store, are another, and the first fault is told"""
+    random.seed(1)
+    text, known = signed([(id, text) for id, _, text in signers()]), text_of(whole_root())
+    yield text, known, FIRST
+    body, *behind = pieces(text)
+    for _ in range(PAIRS):
+        fields = pieces(body)
+        for place in random.sample(range(len(fields)), 2):
+            fields[place] = random.choice([*variants(fields[place])])
+        yield encoded(SEQUENCE, encoded(SEQUENCE, b"".join(fields)) + b"".join(behind)), known, FIRST
+    for one in random.sample([*other_tables(whole_root())], PAIRS):
+        yield text, text_of(random.choice([*other_tables(one)])), FIRST
+
+
+def signature_lists():
+    """Lists of signatures: good ones, of others, changed ones, and more than one of a cosigner."""
+    good = [(id, text) for id, _, text in signers()]
+    (one, text), (two, other), _ = good
+    bad = one, text[:-1] + bytes([text[-1] ^ 1])
+    for count in range(4):
+        yield from combinations(good, count)
+    yield from ([bad], [bad, good[0]], [good[0], bad], [bad, *good[1:]], [good[0], good[0]], good[::-1])
+    yield from ([(two, text)], [(one, other), (two, text)], [(one, text[:-1])], [(one, b"")], [(b"\1", text), good[1]])
+
+
+def signatures():
+    """a certificate has other signatures, and the store has other rules"""
+    few, rest = COSIGNERS[:1], COSIGNERS[1:]
+    rules = [[], [(COSIGNERS, 1)], [(COSIGNERS, 2)], [(COSIGNERS, 3)], [(few, 1), (rest, 1)], [(rest, 2), (few, 1)]]
+    stores_of = [root_of(rule=[{"cosigners": some, "count": count} for some, count in found]) for found in rules]
+    for other in ({"hash": "00" * 32}, {"start": 1}, {"end": 1}):
+        stores_of.append(root_of(subtree=[{**trusted()["small"], **other}]))
+    yield from ((signed(some), text_of(root), LAST) for some in signature_lists() for root in stores_of)
+
+
+def whole_root():
+    """The tree of a store with tables of each kind."""
+    rules = [{"cosigners": COSIGNERS, "count": 2}, {"cosigners": COSIGNERS[:1], "count": 1}]
+    subtrees = [trusted()["signed"], {**trusted()["small"], "end": 1}]
+    return root_of(rule=rules, subtree=subtrees, revoked=[{"start": 5, "end": 6}])
+
+
+def stores():
+    """one value of a store is another, missing, doubled or not known"""
+    root = whole_root()
+    text = signed([(id, text) for id, _, text in signers()])
+    yield from ((text, text_of(other), FIRST) for other in (root, *other_tables(root)))
+    yield from ((text, other, FIRST) for other in TEXTS)
+    for place, byte in ((3, 0), (3, 8), (3, 9), (7, 4), (7, 9), (7, 10), (11, 0), (11, 4), (11, 5)):
+        key = bytearray(signers()[0][1])
+        key[place] = byte
+        keys = [{**root["cosigner"][0], "key": base64.b64encode(key).decode()}, *root["cosigner"][1:]]
+        yield text, text_of({**root, "cosigner": keys}), FIRST
+    for count in (64, 65):
+        keys = [{**root["cosigner"][0], "id": str(number)} for number in range(count)]
+        yield text, text_of({**root, "cosigner": keys, "rule": []}), FIRST
+
+
+KINDS = (certificates, algorithms, moments, proofs, signatures, stores, reasons, two_changes)
