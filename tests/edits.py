@@ -22,6 +22,7 @@ What a line of the ledger promises: on some machine these edits were refused aga
 is believed for that. Who doesn't want to believe it, as a release does, runs this script for all crates.
 """
 import collections
+import functools
 import os
 import pathlib
 import re
@@ -155,19 +156,21 @@ def is_of(function, place):
     return rest[-1] == function.name and rest[0].startswith(function.owner or function.name)
 
 
-def own_calls(name):
-    """Whether a function of this repository has that name: its `requires` is a clause, and std's is safety."""
-    return any(one.name == name and one.labels for crate in ledger.CRATES.values() for one in crate.functions)
+@functools.cache
+def has_own_requires(name):
+    """Whether a function of this repository has that name and requires something; what std requires is safety."""
+    head = re.compile(rf"\bfn {name}\b[^;{{]*\brequires\b")
+    return any(head.search(file.bare) for crate in ledger.CRATES.values() for file in crate.files)
 
 
 def is_clause(what):
     required = REQUIRED.match(what)
-    return own_calls(required[1]) if required else what.startswith(CLAUSES)
+    return has_own_requires(required[1]) if required else what.startswith(CLAUSES)
 
 
 def is_clause_goal(goal):
     """Whether a goal that has a proof by hand is one of a clause, by its name."""
-    return goal.startswith("returns") or goal.endswith("-preserved") or "-requires" in goal
+    return goal.startswith(("returns", "invariant_of")) or goal.endswith("-preserved") or "-requires" in goal
 
 
 def found_of(edit, said):
@@ -258,6 +261,7 @@ def tried(copy, crate):
         results += done
         for edit in again:
             results += tried_together(copy, crate, [edit], known)[0]
+    copy.begin(crate)  # crates above are checked over it as it stands
     return results
 
 
