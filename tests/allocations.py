@@ -4,8 +4,8 @@
 The command then ends with status 8, one line that says so, nothing on standard output and every
 file as it was; or with its outcome, as if nothing had been refused. Of a log without a file of
 tiles an empty one may be there then. The allocations are those of the C library, of which a
-preloaded library refuses one. Needs a C compiler; where there is none it says so, and ends with
-status 0.
+preloaded library refuses one. Needs a C compiler; where there is none it says that this is left
+out, and ends with status 0.
 Usage: tests/allocations.py [PROGRAM]
 """
 
@@ -129,7 +129,7 @@ class Refusals:
 
 def main():
     if not shutil.which("cc"):
-        print("left out: there is no C compiler")
+        print("left out: allocations: there is no C compiler (cc)")
         return 0
     program = Path(sys.argv[1] if len(sys.argv) > 1 else ROOT / "crates/mtc_main/out/mtc_main").resolve()
     folder = Folder(program)

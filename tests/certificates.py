@@ -2,7 +2,8 @@
 """Has OpenSSL and Python's cryptography read certificates whole, and compares each field.
 
 One is of the first entry of a small log, without signatures; one is of a log of 1,024 entries, with
-those of three cosigners. Needs both; where one isn't there it says so, and ends with status 0.
+those of three cosigners. Needs both; where one isn't there it says that this is left out, and ends
+with status 0.
 Usage: tests/certificates.py [PROGRAM]
 """
 
@@ -104,7 +105,7 @@ def main():
     except ImportError:
         cryptography = None
     if not (cryptography and shutil.which("openssl")):
-        print("left out: OpenSSL or Python's cryptography isn't here")
+        print("left out: certificates: OpenSSL or Python's cryptography isn't here")
         return 0
     program = Path(sys.argv[1] if len(sys.argv) > 1 else ROOT / "crates/mtc_main/out/mtc_main")
     wrong = []

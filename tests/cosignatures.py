@@ -3,7 +3,7 @@
 
 The signed bytes are made here from the log's entries. The keys are those of the cosigners' exports, which have to be those
 that `init-cosigner` printed, and in which the secrets may not stand. Needs java and BouncyCastle's jar (BCPROV names it, or
-/usr/share/java has it); where they aren't there it says so, and ends with status 0.
+/usr/share/java has it); where they aren't there it says that this is left out, and ends with status 0.
 Usage: tests/cosignatures.py [PROGRAM]
 """
 
@@ -130,8 +130,8 @@ def verified(folder, cases):
 
 
 def main():
-    if not (shutil.which("javac") and JAR.exists()):
-        print("left out: javac or BouncyCastle isn't here")
+    if not (shutil.which("javac") and shutil.which("java") and JAR.exists()):
+        print("left out: cosignatures: javac, java or BouncyCastle's jar isn't here")
         return
     program = Path(sys.argv[1] if len(sys.argv) > 1 else ROOT / "crates/mtc_main/out/mtc_main").resolve()
     folder = Folder(program)

@@ -3,7 +3,7 @@
 
 Of the number of signatures only the bounds are compared: 48, and one more for each stop. Each drill is played twice, and has
 to print the same bytes. Prints what is wrong, and the longest processor time and the most memory of a drill. Needs a built
-program and GNU time. Not part of the gate.
+program, and GNU time; where that isn't there it says that this is left out, and ends with status 0. The gate plays eight.
 Usage: tests/drills.py [COUNT [FIRST]]      so many drills, 100 if nothing is said, from this number on, 0 if nothing is said;
                                      and that of the largest number
 """
@@ -14,6 +14,7 @@ import sys
 from pathlib import Path
 
 ROOT = Path(__file__).resolve().parent.parent
+TIME = Path("/usr/bin/time")
 ROUNDS = 16
 LAST = 2**63 - 1
 
@@ -69,7 +70,7 @@ def wrong_lines(number, text):
 def played(number):
     """What a drill prints, or what is wrong; its processor time in seconds, and the most memory that it held, in KB."""
     # A process that is made by Python counts Python's own memory as held, so GNU time stands in between.
-    words = ["/usr/bin/time", "-q", "-f", "%U %M", ROOT / "crates/mtc_main/out/mtc_main", "drill", str(number)]
+    words = [TIME, "-q", "-f", "%U %M", ROOT / "crates/mtc_main/out/mtc_main", "drill", str(number)]
     ended = subprocess.run(words, capture_output=True)
     *said, measured = ended.stderr.decode().splitlines()
     seconds, held = measured.split()
@@ -78,6 +79,9 @@ def played(number):
 
 
 def main(words):
+    if not TIME.exists():
+        print("left out: drills: GNU time isn't here")
+        return 0
     count, first = int(words[0]) if words else 100, int(words[1]) if words[1:] else 0
     numbers, wrong, most, longest = [*range(first, first + count), LAST], [], 0, 0.0
     for number in numbers:

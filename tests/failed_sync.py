@@ -5,7 +5,7 @@ afterwards is on the disk.
 A Linux system takes a page whose sync failed for written, keeps it in memory, and answers the next sync with Ok. The disk
 here is one in memory (zram) that refuses while its memory is limited; what a power cut would leave is read from it with
 no page of the system's memory in between, and mounted as a copy. Needs root, zram disks, loop devices and strace; where they
-aren't there it says so, and ends with status 0. Not part of the gate.
+aren't there it says that this is left out, and ends with status 0. Not part of the gate.
 Usage: tests/failed_sync.py [PROGRAM]
 """
 
@@ -192,12 +192,12 @@ def missing():
 def main(words):
     lacks = missing()
     if lacks:
-        print(f"nothing is checked: {lacks} isn't here")
+        print(f"left out: failed_sync: {lacks} isn't here")
         return 0
     program, status = Path(words[0] if words else ROOT / "crates/mtc_main/out/mtc_main").resolve(), 0
     for system, (make, _) in SYSTEMS.items():
         if not shutil.which(make[0]):
-            print(f"left out: {system}, {make[0]} isn't here")
+            print(f"left out: failed_sync of {system}: {make[0]} isn't here")
             continue
         for check in (check_gate, check_record, check_first, check_tiles):
             folder = Path(tempfile.mkdtemp())
