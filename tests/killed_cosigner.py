@@ -13,12 +13,13 @@ import subprocess
 import sys
 import time
 
-from real_files import ROOT, Folder, unlike
+from files.commands import COSIGNER, LOG, SIGN
+from files.folder import ROOT, Folder, unlike
+from files.kills import killed, next_span
+from files.locks import number_in
 
-LOG, COSIGNER = "32473.1", "32473.2"
-# As many one-time keys has a key of height 5, and so many kills each cosigner of the test is given.
-KEYS, KILLS = 32, 30
-SIGN = 0x13
+# A key of height 5 has 32 one-time keys, and so many kills each cosigner of the test is given.
+KILLS = 30
 
 
 class Cosigned(Folder):
@@ -33,17 +34,6 @@ class Cosigned(Folder):
         self.write("secret", bytes(range(48)))
         self.write("advance", self.said(["consist", "j", "0", str(size)]))
         self.write("subtree", self.said(["subtree", "j", "0", str(size), str(size)]))
-
-    def write(self, file, text):
-        (self.path / file).write_bytes(text)
-        self.own(self.path / file)
-
-    def said(self, words):
-        """What a command writes to standard output; it has to end with status 0."""
-        status, out, err = self.run(words)
-        if status != 0:
-            sys.exit(f"{' '.join(words)}: status {status} {err}")
-        return out.encode("latin-1")
 
     def new_cosigner(self, journal):
         self.said(["init-cosigner", journal, COSIGNER, LOG, "5", "8", "secret"])
@@ -61,20 +51,6 @@ class Cosigned(Folder):
         return found
 
 
-def number_in(signature):
-    """The number of the one-time key, where so much of a signature went out: behind the id, a length and the levels."""
-    place = 1 + signature[0] + 2 + 4
-    return int.from_bytes(signature[place:place + 4], "big") if len(signature) >= place + 4 else None
-
-
-def killed(folder, journal, moment):
-    """What `cosign` wrote until it was killed at this moment."""
-    process = folder.start(["cosign", journal, "subtree"])
-    time.sleep(moment)
-    process.kill()
-    return process.communicate()[0]
-
-
 def check(folder, kills):
     """What is wrong, and how many signatures went out, and how many records are there of which nothing did."""
     began = time.monotonic()
@@ -85,7 +61,7 @@ def check(folder, kills):
         if kill % KILLS == 0:
             journal, before = f"c{kill}", []
             folder.new_cosigner(journal)
-        out = killed(folder, journal, random.uniform(0, span))
+        out = killed(folder, ["cosign", journal, "subtree"], random.uniform(0, span)).encode("latin-1")
         numbers = folder.numbers(journal)
         yield from unlike(f"kill {kill}: the numbers", numbers, [*range(len(numbers))])
         if out:
@@ -95,9 +71,7 @@ def check(folder, kills):
         else:
             folder.unsaid += len(numbers) - len(before)
             yield from unlike(f"kill {kill}: a record at most", len(numbers) - len(before) in (0, 1), True)
-        # So that of some three in ten a byte goes out, however long a `cosign` takes by now.
-        span = min(span * (0.8 if out else 1.1), 10)
-        before = numbers
+        span, before = next_span(span, bool(out)), numbers
     yield from unlike("a byte went out", folder.out > 0, True)
 
 

@@ -4,7 +4,8 @@ the plain list of the log's entries: roots, paths and proofs, and each byte of t
 has it made anew, and kills `tile` at random moments.
 
 Prints a line for each size and each check, and below it what is wrong.
-Usage: tests/tiled_log.py [KILLS [SIZE ..]]      100 kills, and the sizes of SIZES, if nothing is said
+Usage: tests/tiled_log.py [KILLS [SIZE ..]]      100 kills, and the sizes of SIZES, if nothing is said. The gate takes 257 alone;
+       before a release it is run with nothing said, since only 65,536 entries fill a tile of the next level
 """
 
 import random
@@ -15,7 +16,7 @@ import time
 
 from cosigned_log import parts
 from cosignatures import items
-from real_files import ROOT, Folder, unlike
+from files.folder import ROOT, Folder, unlike
 from reference.merkle import List
 
 # About the ends of the first tiles, and about the first one of the next level.

@@ -1,0 +1,125 @@
+"""The commands that work on a journal, and files over which each of them does its work.
+
+A new command that works on a journal gets a line in COMMANDS, and the files that it wants a line in Scene: each check over
+all commands then tries it too. One that reads other files gets a line in READING of streams.py.
+"""
+
+import re
+
+from .folder import ROOT, Folder, unlike
+
+LOG, COSIGNER = "32473.1", "32473.2"
+HEADER = b"mtc-journal/v1\n\0"
+# So many entries fill a tile; the log of a scene has one more.
+TILE = 256
+# The tags of records (docs/FORMATS.md, "Journals").
+ENTRY, LANDMARK, TILES, ADVANCE, SIGN = 0x02, 0x03, 0x04, 0x12, 0x13
+LOG_BEGINS, COSIGNER_BEGINS = 0x01, 0x11
+
+
+class Command:
+    """A command on a journal: its words, which record it adds or begins a journal with, if any, and what it says again where
+    its record is there already. What it prints stands here where it is a line that its page tells."""
+
+    def __init__(self, words, says=None, adds=None, begins=None, again=None):
+        self.words, self.says, self.adds, self.begins, self.again = words.split(), says, adds, begins, again
+        self.name, self.journal = self.words[0], self.words[1]
+        self.is_of_log = self.journal == "j" or begins == LOG_BEGINS
+        # The file of tiles, beside the journal of a log that is there.
+        self.tiles = f"{self.journal}.tiles" if self.is_of_log and not begins else None
+
+    def line(self, file, refusal="Failed"):
+        """The line on standard error about a file."""
+        return f"mtc: {self.name}: {file}: {refusal}\n"
+
+
+COMMANDS = [
+    Command("init-log new 32473.1 2 100000", "log 32473.1\n", begins=LOG_BEGINS),
+    Command("init-cosigner new 32473.2 32473.1 5 4 secret", begins=COSIGNER_BEGINS),
+    Command("issue j r", "issued 257\n", adds=ENTRY),
+    Command("landmark j", "landmark 2 257\n", adds=LANDMARK, again="mtc: landmark: NothingNew\n"),
+    Command("tile j", "tiled 256\n", adds=TILES, again="mtc: tile: NothingNew\n"),
+    Command("advance s forward", "advanced 257\n", adds=ADVANCE, again="mtc: advance: NotNewer 257\n"),
+    Command("cosign s part", adds=SIGN),
+    Command("checkpoint j"), Command("entries j 2"), Command("consist j 1 257"), Command("subtree j 0 4 257"),
+    Command("landmarks j", "1 1\n256\n0\n"), Command("light-cert j 1"), Command("cert j 1 0 4 none"), Command("export s"),
+]
+BEGINNING = [command for command in COMMANDS if command.begins]
+ADDING = [command for command in COMMANDS if command.adds]
+OPENING = [command for command in COMMANDS if not command.begins]
+# How a whole journal is asked for what it holds, by whether it is a log's.
+ASKS = {True: "checkpoint", False: "export"}
+
+
+class Scene(Folder):
+    """A folder with the files of all commands: a log `j` of 257 entries, of which 256 have a landmark and none a tile, and a
+    cosigner `s` that holds 256 of them."""
+
+    def __init__(self, program):
+        super().__init__(program)
+        self.write("secret", bytes(range(48)))
+        self.write("none", b"")
+        self.long_log(TILE)
+        self.said("landmark j")
+        self.write("first", self.said(f"consist j 0 {TILE}"))
+        self.write("part", self.said(f"subtree j 0 4 {TILE}"))
+        self.said("issue j r")
+        self.write("forward", self.said(f"consist j {TILE} {TILE + 1}"))
+        self.said(f"init-cosigner s {COSIGNER} {LOG} 5 4 secret")
+        self.said("advance s first")
+        self.kept = self.files()
+
+    def files(self):
+        """What each file holds, but the program and the trace of a command."""
+        return {path.name: path.read_bytes() for path in self.path.iterdir()
+                if path.is_file() and path.name not in ("mtc", "trace")}
+
+    def restore(self):
+        """Makes the folder hold the files of the beginning and no others, and answers them."""
+        now = self.files()
+        for name in now.keys() - self.kept.keys():
+            (self.path / name).unlink()
+        for name, text in self.kept.items():
+            if now.get(name) != text:
+                self.write(name, text)
+        return self.kept
+
+    def changed(self):
+        """The names of the files that aren't as at the beginning."""
+        now = self.files()
+        return sorted(name for name in now.keys() | self.kept.keys() if now.get(name) != self.kept.get(name))
+
+
+def records(text):
+    """The bodies of the records of a journal (docs/FORMATS.md, "Journals"): none where it isn't one."""
+    found, place = [], len(HEADER)
+    while text is not None and text.startswith(HEADER) and text[place:place + 1] not in (b"", b"\0"):
+        end = place + 5 + int.from_bytes(text[place + 1:place + 5], "big")
+        found.append(text[place + 5:end])
+        place = end
+    return found
+
+
+def added(scene, command):
+    """The tags of the records that the command's journal has now and hadn't at the beginning; None where it isn't the old
+    journal with records behind it."""
+    before, after = records(scene.kept.get(command.journal)), records(scene.bytes(command.journal))
+    return [body[0] for body in after[len(before):]] if after[:len(before)] == before else None
+
+
+def asked(scene, command):
+    """What the command's journal then says of itself, and the records that this leaves in it are those of before."""
+    before = records(scene.bytes(command.journal))
+    status, out, err = scene.run([ASKS[command.is_of_log], command.journal])
+    return status, err, records(scene.bytes(command.journal)) == before
+
+
+def named_with(words):
+    """The commands of docs/COMMANDS.md that have one of these among their words."""
+    rows = re.findall(r"^\| `([a-z][a-z-]*) ([^`]*)`", (ROOT / "docs/COMMANDS.md").read_text(), re.M)
+    return sorted({name for name, row in rows if set(row.split()) & set(words)})
+
+
+def check_listed(_folder, _kills):
+    """Each command on a journal that COMMANDS names is among those that are tried here"""
+    yield from unlike("the commands", sorted(command.name for command in COMMANDS), named_with("JS"))

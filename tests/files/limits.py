@@ -1,0 +1,118 @@
+"""Limits on memory and on the size of inputs."""
+
+import resource
+import signal
+import subprocess
+import sys
+
+from .folder import DATES, KEY, NEW_LOG, ROOT, unlike
+from .streams import MOMENT
+
+# An input file has at most so many bytes (docs/COMMANDS.md, "Status").
+MOST = 16_777_216
+# So long the reading of the certificate may take that is slowest to read, in seconds of the processor. It took 12 with nothing
+# beside it, and 18 beside thirty processes; where each identifier is compared with all others it takes hours.
+SLOWEST = 40
+
+
+def new_log_within(folder, limit):
+    """What `init-log` answers with so much memory, and how long its file is, if there is one."""
+    (folder.path / "j").unlink(missing_ok=True)
+    found = folder.run(NEW_LOG, preexec_fn=lambda: resource.setrlimit(resource.RLIMIT_AS, (limit, limit)))
+    file = folder.bytes()
+    return *found, None if file is None else len(file)
+
+
+def least(most, is_enough):
+    """The least number up to this one that is enough."""
+    few = 0
+    while most - few > 1:
+        middle = (few + most) // 2
+        few, most = (few, middle) if is_enough(middle) else (middle, most)
+    return most
+
+
+def check_memory(folder, _kills):
+    """With less and less memory `init-log` makes its log, or answers status 8 and makes no file, or isn't loaded at all"""
+    def within(pages):
+        return new_log_within(folder, pages * resource.getpagesize())
+
+    enough = least(1 << 16, lambda pages: within(pages)[0] == 0)
+    loaded = least(enough, lambda pages: within(pages)[0] in (0, 8))
+    # Each limit about those at which the program is loaded, and some below.
+    step, margin = 1 + (enough - loaded) // 200, 8
+    limits = [*range(enough + margin, loaded - margin, -step), *range(loaded - margin, 0, -(1 + loaded // 50))]
+    met = set()
+    for pages in limits:
+        status, out, err, file = within(pages)
+        # A line names the command once the words are read.
+        line = err.replace("init-log: ", "")
+        endings = {0: ("log 32473.1\n", "", 36), 8: ("", "mtc: Memory\n", None)}
+        if status == 127 and err and not err.startswith("mtc: "):
+            endings[127] = "", line, None
+        elif 127 in met:
+            # Where the loader fails with more memory, the system may fail with less before the loader.
+            endings.update({-signal.SIGSEGV: ("", "", None), -signal.SIGKILL: ("", "", None)})
+        yield from unlike(f"status {status} with {pages} pages", (out, line, file), endings.get(status, "a known ending"))
+        met.add(status)
+    yield from unlike("statuses 0 and 8 came", {0, 8} <= met, True)
+    folder.notes.append(f"{len(limits)} limits, from {enough + margin} pages down; loaded with {loaded}, enough are {enough}")
+
+
+def padded(text, size):
+    """A text of TOML that has so many bytes with a comment behind it."""
+    return text + b"#" + b"x" * (size - len(text) - 1)
+
+
+def longest(scene, size):
+    """Inputs of so many bytes, and how the commands on them end where that isn't too many."""
+    request = f'{DATES}dns = ["a.example"]\nkey = "{KEY}"\n'.encode()
+    scene.write("long.store", padded(scene.bytes("trusting"), size))
+    scene.write("long.request", padded(request, size))
+    # No certificate begins with a byte of 0.
+    scene.write("long.cert", bytes(size))
+    yield f"verify light long.store {MOMENT}", "long.store", (0, "accepted 1\n", "")
+    yield "issue j long.request", "long.request", (0, "issued 257\n", "")
+    yield "show long.cert", "long.cert", (2, "", "mtc: show: long.cert: WrongTag 0\n")
+    yield f"verify long.cert trusting {MOMENT}", "long.cert", (2, "", "mtc: verify: long.cert: WrongTag 0\n")
+    yield "keygen 5 4 long.cert", "long.cert", (2, "", "mtc: keygen: long.cert: Trailing\n")
+
+
+def check_inputs(scene, _kills):
+    """An input of 16,777,216 bytes is read, and one of a byte more is too long, as is a device without an end"""
+    for size in (MOST, MOST + 1):
+        for words, file, wanted in longest(scene, size):
+            too_long = 9, "", f"mtc: {words.split()[0]}: {file}: TooLong\n"
+            yield from unlike(f"{words} of {size} bytes", scene.run(words), wanted if size == MOST else too_long)
+        yield from unlike(f"the log behind {size} bytes", scene.size(), 258)
+    yield from unlike("a device", scene.run("show /dev/zero"), (9, "", "mtc: show: /dev/zero: TooLong\n"))
+
+
+def processor_seconds(scene, words):
+    """How a command ends, and how long the processor worked on it."""
+    before = resource.getrusage(resource.RUSAGE_CHILDREN).ru_utime
+    found = scene.run(words)
+    return found, resource.getrusage(resource.RUSAGE_CHILDREN).ru_utime - before
+
+
+def check_extensions(scene, _kills):
+    """A certificate of nearly 16,777,216 bytes that are all extensions is read in 40 seconds of the processor"""
+    make = ROOT / "bench/extensions/make_certificate.py"
+    subprocess.run([sys.executable, make, "16777000", scene.path / "wide"], check=True)
+    (status, out, err), spent = processor_seconds(scene, "show wide")
+    lines = ["serial 1", "issuer other", "not_before 2026-01-01T00:00:00Z", "not_after 2026-01-08T00:00:00Z", "subject empty"]
+    yield from unlike("show", (status, out.split("\n")[:5], out.split("\n")[-2:], err), (0, lines, ["proof none", ""], ""))
+    yield from unlike(f"{spent:.1f} seconds are few enough", spent <= SLOWEST, True)
+    scene.notes.append(f"{spent:.1f} s of the processor")
+
+
+def check_long_entries(scene, _kills):
+    """The entries of an `audit` may have more than 16,777,216 bytes, and those of another input may not"""
+    # An entry that isn't in its form is taken as it is, without a key.
+    more = b"\xff\xff" + b"\xff" * 0xFFFF + b"\0\0"
+    scene.write("long", scene.bytes("entries") + more * (MOST // len(more) + 1))
+    yield from unlike("they are longer", len(scene.bytes("long")) > MOST, True)
+    yield from unlike("audit", scene.run(f"audit light trusting {MOMENT} long none"), (0, "stands 1\n", ""))
+    yield from unlike("cert", scene.run("cert j 1 0 4 long"), (9, "", "mtc: cert: long: TooLong\n"))
+    yield from unlike("a certificate", scene.run(f"audit long trusting {MOMENT} entries none"),
+                      (9, "", "mtc: audit: long: TooLong\n"))

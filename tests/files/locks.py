@@ -1,0 +1,132 @@
+"""Locks, commands at once, and the modes of new files."""
+
+import fcntl
+
+from .commands import COMMANDS, COSIGNER, LOG, OPENING, SIGN, records
+from .folder import NEW_LOG, failed, unlike
+
+ROUNDS = 60
+AT_ONCE = 4
+
+
+def held(scene, file):
+    """The file, open for a lock."""
+    return open(scene.path / file, "rb")
+
+
+def check_locks(scene, _kills):
+    """A journal or a file of tiles that another process has locked is not opened, and stays as it is; inputs are not locked"""
+    for command in OPENING:
+        for file in filter(None, (command.journal, command.tiles)):
+            scene.restore()
+            for how in (fcntl.LOCK_EX, fcntl.LOCK_SH):
+                with held(scene, file) as lock:
+                    fcntl.flock(lock, how)
+                    yield from unlike(f"{command.name} of {file}", scene.run(command.words), failed(command.name, file))
+            yield from unlike(f"files behind {command.name} of {file}", scene.changed(), [])
+    scene.restore()
+    (scene.path / "j.tiles").unlink()
+    with held(scene, "j") as lock:
+        fcntl.flock(lock, fcntl.LOCK_EX)
+        yield from unlike("issue", scene.run("issue j r"), failed("issue", "j"))
+    yield from unlike("a file of tiles beside a locked journal", scene.bytes("j.tiles"), None)
+    for command in COMMANDS:
+        scene.restore()
+        locks = [held(scene, word) for word in command.words[2:] if word in scene.kept]
+        for lock in locks:
+            fcntl.flock(lock, fcntl.LOCK_EX)
+        yield from unlike(f"{command.name} with locked inputs", scene.run(command.words)[0], 0)
+        for lock in locks:
+            lock.close()
+
+
+def check_modes(folder, _kills):
+    """A new journal and file of tiles are their owner's alone; a journal in a folder that may not be read is not opened"""
+    folder.new_log()
+    (folder.path / "j").unlink()
+    folder.write("secret", bytes(48))
+    folder.run(NEW_LOG, umask=0)
+    folder.run("checkpoint j", umask=0)
+    folder.run(f"init-cosigner s {COSIGNER} {LOG} 5 4 secret", umask=0)
+    for file in ("j", "j.tiles", "s"):
+        yield from unlike(f"the mode of {file}", oct((folder.path / file).stat().st_mode & 0o7777), "0o600")
+    (folder.path / "j.tiles").unlink()
+    before, inner = (folder.bytes(), folder.bytes("s")), folder.path / "d"
+    inner.mkdir(mode=0o700)
+    for file in ("j", "s"):
+        (folder.path / file).rename(inner / file)
+    folder.own(inner)
+    inner.chmod(0o300)
+    for words in ("checkpoint d/j", "entries d/j 1", "issue d/j r", "init-log d/new 32473.1 2 9", "export d/s",
+                  f"init-cosigner d/more {COSIGNER} {LOG} 5 4 secret"):
+        command, file, *_ = words.split()
+        yield from unlike(command, folder.run(words), failed(command, file))
+    inner.chmod(0o700)
+    yield from unlike("the journals", (folder.bytes("d/j"), folder.bytes("d/s")), before)
+    yield from unlike("the new files", (folder.bytes("d/new"), folder.bytes("d/more")), (b"", b""))
+    yield from unlike("the file of tiles", folder.bytes("d/j.tiles"), None)
+    yield from unlike("issue", folder.run("issue d/j r"), (0, "issued 1\n", ""))
+
+
+def acknowledged(out):
+    """The index in what `issue` printed, None where it isn't whole."""
+    name, _, index = out.rstrip("\n").partition(" ")
+    return int(index) if name == "issued" and index.isdigit() and out.endswith("\n") else None
+
+
+def misplaced(entries, told):
+    """The names of acknowledged entries that don't stand at their indexes."""
+    for index, name in told:
+        if not (index < len(entries) and name in entries[index]):
+            yield f"{name} was acknowledged as {index}, and isn't there"
+
+
+def check_at_once(folder, _kills):
+    """Of `issue` given several times at once, each is acknowledged under its own index, or answers status 5"""
+    folder.new_log()
+    told, tries = [], 0
+    for _ in range(ROUNDS):
+        running = []
+        for _ in range(AT_ONCE):
+            tries += 1
+            folder.request(f"r{tries}", f"n{tries}.example")
+            running.append((f"n{tries}.example", folder.start(["issue", "j", f"r{tries}"])))
+        for name, process in running:
+            out, err = (text.decode() for text in process.communicate())
+            index = acknowledged(out)
+            if index is not None:
+                told.append((index, name))
+            else:
+                yield from unlike(name, (process.returncode, out, err), failed("issue", "j"))
+    size = folder.size()
+    yield from unlike("the size and the indexes", sorted(index for index, _ in told), [*range(1, size)])
+    yield from misplaced(folder.entries(size), told)
+    yield from unlike("a round without an entry", len(told) >= ROUNDS, True)
+    folder.notes.append(f"{tries} times, {len(told)} acknowledged")
+
+
+def number_in(signature):
+    """The number of the one-time key, where so much of a signature went out: behind the id, a length and the levels."""
+    place = 1 + signature[0] + 2 + 4
+    return int.from_bytes(signature[place:place + 4], "big") if len(signature) >= place + 4 else None
+
+
+def check_keys_at_once(scene, _kills):
+    """Of `cosign` given several times at once, each signs with a one-time key of its own, or answers status 5 with nothing printed"""
+    # Of the keys of height 10 those of width 1 are made soonest.
+    scene.said(f"init-cosigner tall {COSIGNER} {LOG} 10 1 secret")
+    scene.said("advance tall first")
+    told = []
+    for _ in range(ROUNDS):
+        running = [scene.start(["cosign", "tall", "part"]) for _ in range(AT_ONCE)]
+        for process in running:
+            out, err = process.communicate()
+            if process.returncode == 0 and out:
+                told.append(number_in(out))
+            else:
+                yield from unlike("cosign", (process.returncode, out.decode("latin-1"), err.decode()), failed("cosign", "tall"))
+    signed = [int.from_bytes(body[1:5], "big") for body in records(scene.bytes("tall")) if body[0] == SIGN]
+    yield from unlike("the one-time keys of the signatures", sorted(told), [*range(len(told))])
+    yield from unlike("those of the records", signed, sorted(told))
+    yield from unlike("a round without a signature", len(told) >= ROUNDS, True)
+    scene.notes.append(f"{ROUNDS * AT_ONCE} times, {len(told)} acknowledged")

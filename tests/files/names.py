@@ -1,0 +1,128 @@
+"""Names of journals: what is refused, links, and long names."""
+
+import fcntl
+import shutil
+
+from .commands import COSIGNER, LOG, records
+from .folder import failed, unlike
+from .tracing import traced, wants_trace
+
+# The longest name of a file on Linux's file systems, and the longest of a log whose file of tiles can stand beside it.
+LONGEST = 255
+LONGEST_LOG = LONGEST - len(".tiles")
+
+
+def check_refusals(folder, _kills):
+    """Each error of the system has its answer, and a refusal makes no file"""
+    folder.new_log()
+    folder.write("secret", bytes(48))
+    (folder.path / "folder").mkdir()
+    (folder.path / "link").symlink_to("nowhere")
+    (folder.path / "loop").symlink_to("loop")
+    shutil.copy(folder.path / "j", folder.path / "copy")
+    (folder.path / "copy").chmod(0o400)
+    folder.own(folder.path / "copy", folder.path / "folder")
+    before, names = folder.bytes("copy"), folder.names()
+    new = f"{COSIGNER} {LOG} 5 4 secret"
+    for words, status, name in (
+            ("member none", 7, "Absent"), ("member r/x", 7, "Absent"), ("member folder", 5, "Failed"),
+            ("member loop", 5, "Failed"), ("issue j loop", 5, "Failed"), ("checkpoint loop", 5, "Failed"),
+            ("checkpoint none", 7, "Absent"), ("checkpoint r/x", 7, "Absent"), ("checkpoint none/x", 7, "Absent"),
+            ("checkpoint folder", 5, "Failed"), ("checkpoint link", 7, "Absent"), ("checkpoint copy", 5, "Failed"),
+            ("init-log none/x 32473.1 2 9", 5, "Failed"), ("init-log r/x 32473.1 2 9", 5, "Failed"),
+            ("init-log folder 32473.1 2 9", 7, "Exists"), ("init-log link 32473.1 2 9", 7, "Exists"),
+            ("init-log loop 32473.1 2 9", 7, "Exists"),
+            ("init-log j 32473.1 2 9", 7, "Exists"), ("issue j folder", 5, "Failed"),
+            ("export none", 7, "Absent"), ("export r/x", 7, "Absent"), ("export folder", 5, "Failed"),
+            ("export loop", 5, "Failed"), ("export link", 7, "Absent"), ("export copy", 5, "Failed"),
+            ("advance j none", 7, "Absent"), ("cosign j folder", 5, "Failed"), ("cosign j none", 7, "Absent"),
+            (f"init-cosigner none/x {new}", 5, "Failed"), (f"init-cosigner folder {new}", 7, "Exists"),
+            (f"init-cosigner link {new}", 7, "Exists"), (f"init-cosigner j {new}", 7, "Exists")):
+        command, *rest = words.split()
+        file = rest[1] if command in ("issue", "advance", "cosign") else rest[0]
+        wanted = (status, "", f"mtc: {command}: {file}: {name}\n")
+        yield from unlike(words, folder.run([command, *rest]), wanted)
+    yield from unlike("a word that isn't UTF-8", folder.run([b"member", b"\xff"]), (1, "", "mtc: NotUtf8\n"))
+    yield from unlike("the copy", folder.bytes("copy"), before)
+    yield from unlike("the folder", folder.names(), names)
+
+
+def linked(scene):
+    """Makes a folder `d` with the journals, and names that lead there."""
+    inner = scene.path / "d"
+    inner.mkdir()
+    scene.own(inner)
+    for name in ("j", "s"):
+        (scene.path / name).rename(inner / name)
+        (scene.path / name).symlink_to(f"d/{name}")
+    (scene.path / "j.tiles").unlink()
+
+
+def check_links(scene, _kills):
+    """Through a symbolic link a journal is that of the file, and its tiles stand beside the link, whose folder is synced"""
+    linked(scene)
+    before = records(scene.bytes("d/j"))
+    with open(scene.path / "d/j", "rb") as held:
+        fcntl.flock(held, fcntl.LOCK_EX)
+        yield from unlike("a locked file", scene.run("issue j r"), failed("issue", "j"))
+    yield from unlike("cosign", scene.run("cosign s part")[0], 0)
+    for words, says in (("issue j r", "issued 257\n"), ("tile j", "tiled 256\n"), ("advance s forward", "advanced 257\n")):
+        yield from unlike(words, scene.run(words), (0, says, ""))
+    yield from unlike("the records", [body[0] for body in records(scene.bytes("d/j"))[len(before):]], [2, 4])
+    yield from unlike("the tiles", (len(scene.bytes("j.tiles")), scene.bytes("d/j.tiles")), (8192, None))
+    yield from unlike("both are links still", [(scene.path / name).is_symlink() for name in ("j", "s")], [True, True])
+    # By its own name the log has another file of tiles, which is made then and is empty.
+    wanted = (2, "", "mtc: checkpoint: d/j.tiles: BadTile 0 0\n")
+    yield from unlike("the file by its own name", scene.run("checkpoint d/j"), wanted)
+    yield from unlike("its tiles", scene.bytes("d/j.tiles"), b"")
+
+
+def check_linked_folders(scene, _kills):
+    """Where a journal's name is a symbolic link, the link's folder is synced and no other"""
+    wants_trace(scene)
+    linked(scene)
+    for words in ("checkpoint j", "issue j r", "export s", "cosign s part"):
+        status, calls = traced(scene, words.split())
+        folders = {call for call, _ in calls if call in ("fsync .", "fsync d")}
+        yield from unlike(words, (status, folders), (0, {"fsync ."}))
+
+
+def check_hard_links(scene, _kills):
+    """A journal under a second name is the same one, and is locked under both"""
+    for name, other in (("j", "other"), ("s", "more")):
+        (scene.path / other).hardlink_to(scene.path / name)
+        with open(scene.path / name, "rb") as held:
+            fcntl.flock(held, fcntl.LOCK_EX)
+            command = {"other": "checkpoint", "more": "export"}[other]
+            yield from unlike(f"{other} while {name} is locked", scene.run([command, other]), failed(command, other))
+    yield from unlike("issue", scene.run("issue other r"), (0, "issued 257\n", ""))
+    yield from unlike("issue by the first name", scene.run("issue j r"), (0, "issued 258\n", ""))
+    yield from unlike("advance", scene.run("advance more forward"), (0, "advanced 257\n", ""))
+    yield from unlike("advance by the first name", scene.run("advance s forward"), (4, "", "mtc: advance: NotNewer 257\n"))
+
+
+def check_tiles_that_lead_back(scene, _kills):
+    """Where the name of a log's tiles leads to the log's journal, no command works on it, and the journal stays"""
+    before = scene.bytes("j")
+    for link in ((scene.path / "j.tiles").symlink_to, (scene.path / "j.tiles").hardlink_to):
+        (scene.path / "j.tiles").unlink()
+        link(scene.path / "j")
+        for words in ("checkpoint j", "issue j r", "tile j"):
+            status, out, _ = scene.run(words)
+            yield from unlike(words, (status in (2, 5), out, scene.bytes("j") == before), (True, "", True))
+
+
+def check_long_names(scene, _kills):
+    """A name is as long as the system takes it, and that of a log leaves room for its tiles; a longer one is `Failed`"""
+    log, cosigner, over = "l" * LONGEST_LOG, "c" * LONGEST, "o" * (LONGEST + 1)
+    new = f"{COSIGNER} {LOG} 5 4 secret"
+    for words, says in ((f"init-log {log} 32473.1 2 9", "log 32473.1\n"), (f"issue {log} r", "issued 1\n")):
+        yield from unlike(words, scene.run(words), (0, says, ""))
+    yield from unlike("the file of tiles", scene.bytes(f"{log}.tiles"), b"")
+    for words in (f"init-cosigner {cosigner} {new}", f"export {cosigner}"):
+        yield from unlike(words, scene.run(words)[0], 0)
+    before = scene.names()
+    for words in (f"init-log {over} 32473.1 2 9", f"init-cosigner {over} {new}", f"checkpoint {over}", f"export {over}",
+                  f"member {over}"):
+        yield from unlike(words, scene.run(words), failed(words.split()[0], over))
+    yield from unlike("the folder", scene.names(), before)

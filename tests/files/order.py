@@ -1,0 +1,92 @@
+"""In which order the commands call the system."""
+
+import random
+import re
+import shutil
+import time
+
+from .commands import COMMANDS, HEADER
+from .folder import NEW_LOG, ended, failed, unlike
+from .tracing import PIECE, TAIL, appending, new_trace, opening, tail_calls, traced, wants_trace
+
+
+def check_order(scene, _kills):
+    """Each command locks and syncs its files before it reads them, has its record on the disk, and only then writes its answer"""
+    wants_trace(scene)
+    shell = ["sh", "-c", 'exec "$0" "$@" <&- >&- 2>&-']
+    for command in COMMANDS:
+        scene.restore()
+        wanted = [*opening(scene, command), *appending(command)]
+        status, calls = traced(scene, command.words)
+        yield from unlike(command.name, (status, [call for call, _ in calls]), (0, [*wanted, "write out"]))
+        scene.restore()
+        # Where the streams are closed, no file that is written takes the place of one.
+        status, calls = traced(scene, command.words, *shell)
+        calls = [(call, number) for call, number in calls if not call.startswith("write ")]
+        yield from unlike(f"{command.name} without streams", (status, [call for call, _ in calls]), (6, wanted))
+        low = {call for call, number in calls if number <= 2 and call != "fsync ."}
+        yield from unlike(f"the files in the place of a stream of {command.name}", low, set())
+
+
+def placed(folder, words):
+    """The reads and writes of `j` behind its lock and before the first sync, each with its bytes' number and place, and
+    how many writes there are in all."""
+    trace = new_trace(folder)
+    calls = "trace=flock,fsync,pread64,pwrite64"
+    _, _, err = folder.run(words, before=["strace", "-qq", "-o", trace, "-e", calls, "-P", folder.path / "j"])
+    text = trace.read_text()
+    behind = re.search(r"^flock\(.*?\n(.*?)^fsync\(", text, re.M | re.S)
+    lines = re.findall(r"^(pread64|pwrite64)\(.*, (\d+), (\d+)\) += \2$", behind[1] if behind else "", re.M)
+    return [(call, int(size), int(place)) for call, size, place in lines], text.count("pwrite64("), err
+
+
+def check_tail(folder, _kills):
+    """The last bytes of a journal are written again as they are, behind its lock and before its sync, and no other file's"""
+    wants_trace(folder)
+    folder.new_log()
+    log, file = folder.bytes(), folder.path / "j"
+    lengths = [len(log), PIECE - 1, PIECE, PIECE + 1, TAIL - 1, TAIL, TAIL + 1, TAIL + PIECE, 3 * TAIL + 7]
+    for length in lengths:
+        # Bytes behind the closed gate mean nothing.
+        file.write_bytes(log + random.randbytes(length - len(log)))
+        before = folder.bytes()
+        wanted = [*tail_calls(length)]
+        writes = sum(call == "pwrite64" for call, _, _ in wanted)
+        yield from unlike(f"{length} bytes", placed(folder, ["checkpoint", "j"]), (wanted, writes, ""))
+        yield from unlike(f"the journal of {length} bytes", folder.bytes() == before, True)
+    line = "mtc: checkpoint: j: NotJournal\n"
+    for other in (b"", HEADER[:-1], HEADER[:-1] + b"\1", random.randbytes(2 * PIECE)):
+        file.write_bytes(other)
+        _, writes, err = placed(folder, ["checkpoint", "j"])
+        yield from unlike(f"another file of {len(other)} bytes", (writes, err, folder.bytes() == other), (0, line, True))
+
+
+def opened_before_its_lock(folder, words):
+    """A command that has opened the journal `j`, and waits a second before it locks it."""
+    trace = new_trace(folder)
+    waits = ["strace", "-qq", "-o", trace, "-e", "trace=openat,flock", "-e", "inject=flock:delay_enter=1000000"]
+    process = folder.start(words, before=waits)
+    while not re.search(r'"j", .* = \d', trace.read_text()) and process.poll() is None:
+        time.sleep(0.01)
+    return process
+
+
+def check_replaced(folder, _kills):
+    """Where another file takes the journal's place between its opening and its lock, both stay, and neither is written"""
+    wants_trace(folder)
+    folder.new_log()
+    shutil.copy(folder.path / "j", folder.path / "copy")
+    folder.own(folder.path / "copy")
+    before, process = folder.bytes(), opened_before_its_lock(folder, ["issue", "j", "r"])
+    (folder.path / "j").rename(folder.path / "old")
+    (folder.path / "copy").rename(folder.path / "j")
+    yield from unlike("issue", ended(process), failed("issue", "j"))
+    yield from unlike("the copy and the journal", (folder.bytes("j"), folder.bytes("old")), (before, before))
+    (folder.path / "j").unlink()
+    process = opened_before_its_lock(folder, NEW_LOG)
+    (folder.path / "j").rename(folder.path / "empty")
+    yield from unlike("the other init-log", folder.run(NEW_LOG), (0, "log 32473.1\n", ""))
+    made = folder.bytes()
+    yield from unlike("init-log", ended(process), failed("init-log", "j"))
+    yield from unlike("both files", (folder.bytes("j"), folder.bytes("empty")), (made, b""))
+    yield from unlike("the size", folder.size(), 1)

@@ -1,0 +1,155 @@
+"""Standard streams that fail, readers that go away, and files that are no plain ones."""
+
+import hashlib
+import os
+import shlex
+import stat
+
+from .commands import ADVANCE, COMMANDS, COSIGNER, COSIGNER_BEGINS, HEADER, LOG, SIGN, Scene, added, named_with, records
+from .folder import ROOT, failed, unlike
+
+# More than a pipe holds.
+LONG, PIPE = 1000, 65536
+MOMENT = "1767225600"
+
+
+def closed(*descriptors):
+    def close():
+        for descriptor in descriptors:
+            os.close(descriptor)
+    return close
+
+
+def broken_pipe():
+    """The end of a pipe that nobody reads."""
+    reader, writer = os.pipe()
+    os.close(reader)
+    return writer
+
+
+def failing_outputs(full, broken):
+    """Ways in which standard output fails, and whether standard error still takes a line."""
+    yield "full", {"stdout": full}, True
+    yield "broken", {"stdout": broken}, True
+    yield "closed", {"preexec_fn": closed(1)}, True
+    yield "closed as all streams", {"preexec_fn": closed(0, 1, 2)}, False
+
+
+def check_streams(scene, _kills):
+    """Standard output that fails is status 6 with the record there, standard error that fails changes nothing, and neither is a signal"""
+    broken = broken_pipe()
+    with open("/dev/full", "wb") as full:
+        for command in COMMANDS:
+            tags = [tag for tag in (command.adds, command.begins) if tag]
+            for how, options, takes in failing_outputs(full, broken):
+                scene.restore()
+                what, line = f"{command.name}, {how}", f"mtc: {command.name}: OutputFailed\n" if takes else ""
+                yield from unlike(what, scene.run(command.words, **options), (6, "", line))
+                yield from unlike(f"the records behind {what}", added(scene, command), tags)
+        for options in ({"stderr": full}, {"stderr": broken}, {"preexec_fn": closed(2)}):
+            yield from unlike(f"frob {[*options]}", scene.run("frob", **options), (1, "", ""))
+    os.close(broken)
+
+
+def left_by_its_reader(scene, words):
+    """What a reader has of a command's output that goes away then, and how the command ends."""
+    process = scene.start(words.split())
+    text = process.stdout.read(100)
+    process.stdout.close()
+    line = process.stderr.read().decode()
+    process.stderr.close()
+    return text, (process.wait(), line)
+
+
+def signed_often(count):
+    """The journal of a cosigner of height 10 and width 1 that holds two entries and has signed the first so many times
+    (docs/FORMATS.md, "The journal of a cosigner")."""
+    leaf, other = (hashlib.sha256(b"\0" + entry).digest() for entry in (b"\0\0", b"\0\1"))
+    root = hashlib.sha256(b"\1" + leaf + other).digest()
+    ids = bytes.fromhex("0481fd59020481fd5901")
+    bodies = [bytes([COSIGNER_BEGINS]) + ids + (6).to_bytes(4, "big") + (1).to_bytes(4, "big") + bytes(range(48)),
+              bytes([ADVANCE]) + (2).to_bytes(8, "big") + root + bytes(2)]
+    subtree = bytes(8) + (1).to_bytes(8, "big") + leaf + b"\0\x20" + other
+    bodies += [bytes([SIGN]) + number.to_bytes(4, "big") + subtree for number in range(count)]
+    return HEADER + b"".join(b"\1" + len(body).to_bytes(4, "big") + body for body in bodies) + b"\0"
+
+
+def check_readers(scene, _kills):
+    """A reader that goes away in the middle of a long output is status 6 and no signal, and the journal stays as it was"""
+    scene.long_log(LONG, "long")
+    scene.write("often", signed_often(LONG))
+    for words in (f"entries long {LONG}", "export often"):
+        name, journal, *_ = words.split()
+        before, whole = scene.bytes(journal), scene.said(words)
+        yield from unlike(f"{words} is longer than a pipe", len(whole) > PIPE, True)
+        text, ending = left_by_its_reader(scene, words)
+        yield from unlike(words, (text == whole[:100], ending), (True, (6, f"mtc: {name}: OutputFailed\n")))
+        yield from unlike(f"the journal behind {words}", scene.bytes(journal) == before, True)
+    records_of_export = scene.said("export often")[10 + 62:]
+    told = b"".join(len(body).to_bytes(4, "big") + body for body in records(scene.bytes("often"))[1:])
+    yield from unlike("the records of an export", records_of_export == told, True)
+
+
+class Judged(Scene):
+    """A scene with a certificate, a store and what an audit wants."""
+
+    def __init__(self, program):
+        super().__init__(program)
+        for file, words in (("light", "light-cert j 1"), ("list", "landmarks j"), ("entries", "entries j 257")):
+            self.write(file, self.said(words))
+        self.write("trusting", f'[log]\nid = "{LOG}"\n'.encode() + self.said("trust-landmarks list 2 entries"))
+        self.write("member", (ROOT / "examples/first.member").read_bytes())
+        self.kept = self.files()
+
+
+# The words of docs/COMMANDS.md that are inputs, and commands with such words and what they print where that is a line.
+INPUTS = ["FILE", "CERT", "STORE", "REQUEST", "SECRET", "SIGNATURES", "LIST", "ENTRIES", "EXPORT"]
+READING = [
+    ("member member", "member 0\n"), ("show light", None), (f"verify light trusting {MOMENT}", "accepted 1\n"),
+    ("keygen 5 4 secret", None), (f"init-cosigner new {COSIGNER} {LOG} 5 4 secret", None), ("issue j r", "issued 257\n"),
+    ("advance s forward", "advanced 257\n"), ("cosign s part", None), ("cert j 1 0 4 none", None),
+    ("trust-landmarks list 2 entries", None), (f"audit light trusting {MOMENT} entries none", "stands 1\n"),
+]
+# A file given as a pipe, in a shell.
+WAYS = {"<(..)": "./mtc {front} <(cat {file}) {back}", "/dev/stdin": "cat {file} | ./mtc {front} /dev/stdin {back}",
+        "a FIFO": "mkfifo pipe && {{ cat {file} >pipe & }} && ./mtc {front} pipe {back}; status=$?; rm pipe; exit $status"}
+
+
+def given_by_pipe(scene, words, place, way):
+    """How a command ends whose input at this place of its words comes through a pipe."""
+    front, back = shlex.join(words[:place]), shlex.join(words[place + 1:])
+    line = WAYS[way].format(front=front, file=words[place], back=back)
+    return scene.run([], before=["bash", "-c", line])
+
+
+def check_pipes(scene, _kills):
+    """An input that comes through a pipe, by its descriptor's name or as a FIFO, is taken as a plain file"""
+    yield from unlike("the commands", sorted(text.split()[0] for text, _ in READING), named_with(INPUTS))
+    for text, says in READING:
+        words = text.split()
+        scene.restore()
+        wanted = scene.run(words)
+        yield from unlike(text, (wanted[0], wanted[2], says in (None, wanted[1])), (0, "", True))
+        files = scene.files()
+        for place, word in enumerate(words):
+            for way in WAYS if word in scene.kept and word not in ("j", "s") and place else ():
+                scene.restore()
+                yield from unlike(f"{text}, {word} by {way}", given_by_pipe(scene, words, place, way), wanted)
+                yield from unlike(f"files behind {text}, {word} by {way}", scene.files() == files, True)
+
+
+def check_no_files(scene, _kills):
+    """A device or a FIFO in a journal's place is no journal: it isn't made anew, and no command goes on with it"""
+    os.mkfifo(scene.path / "pipe")
+    scene.own(scene.path / "pipe")
+    before = scene.names()
+    for journal in ("/dev/null", "pipe"):
+        for words in ("init-log {} 32473.1 2 9", f"init-cosigner {{}} {COSIGNER} {LOG} 5 4 secret"):
+            name = words.split()[0]
+            wanted = (7, "", f"mtc: {name}: {journal}: Exists\n")
+            yield from unlike(f"{name} {journal}", scene.run(words.format(journal)), wanted)
+        for words in ("checkpoint {}", "issue {} r", "tile {}", "export {}", "cosign {} part", "advance {} forward"):
+            name = words.split()[0]
+            yield from unlike(f"{name} {journal}", scene.run(words.format(journal)), failed(name, journal))
+    yield from unlike("the folder", scene.names(), before)
+    yield from unlike("the FIFO", stat.S_ISFIFO((scene.path / "pipe").stat().st_mode), True)

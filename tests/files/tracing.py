@@ -1,0 +1,84 @@
+"""Commands under strace: which calls of the system they make, and what comes of a call that fails."""
+
+import re
+import shutil
+import subprocess
+from pathlib import Path
+
+from .folder import LeftOut
+
+CALLS = "flock,fsync,fdatasync,sync_file_range,pwrite64,pwritev,pwritev2,write,writev,ftruncate,fallocate,rename,unlink"
+# The last bytes of a journal are written again in pieces.
+PIECE, PIECES = 4096, 33
+TAIL = PIECES * PIECE
+HEADER_BYTES = 16
+
+
+def wants_trace(folder):
+    """Leaves the check out where strace isn't there or may not trace."""
+    probe = ["strace", "-qq", "-o", "/dev/null", "true"]
+    if not (shutil.which("strace") and subprocess.run(probe, capture_output=True, **folder.owner).returncode == 0):
+        raise LeftOut("strace isn't here, or may not trace")
+
+
+def new_trace(folder):
+    trace = folder.path / "trace"
+    trace.write_bytes(b"")
+    folder.own(trace)
+    return trace
+
+
+def traced(folder, words, *more):
+    """The calls that write or sync files and streams, each as `CALL FILE` and with its descriptor, and the command's status.
+    The folder itself is `.`, and a stream `out` or `err`; calls on end that write to one stream are told as one."""
+    trace = new_trace(folder)
+    status, _, _ = folder.run(words, before=["strace", "-y", "-qq", "-o", trace, "-e", f"trace={CALLS}", *more])
+    found = []
+    for call, number, file in re.findall(r"^(\w+)\((\d+)(?:<([^>]*)>)?", trace.read_text(), re.M):
+        name = "." if Path(file) == folder.path.resolve() else Path(file).name
+        if call == "write" and number in ("1", "2"):
+            name = {"1": "out", "2": "err"}[number]
+        if call != "write" or found[-1:] != [(f"{call} {name}", int(number))]:
+            found.append((f"{call} {name}", int(number)))
+    return status, found
+
+
+def at_fault(folder, words, fault):
+    """How a command ends of which a call of the system fails, or brings a signal: of those on files of the folder alone."""
+    names = ["j", "j.tiles", "s", "new", "new.tiles", "."]
+    paths = [part for file in names for part in ("-P", (folder.path / file).resolve())]
+    watched = ["-e", f"trace={fault.split(':')[0]}", "-e", f"inject={fault}"]
+    return folder.run(words, before=["strace", "-qq", "-o", new_trace(folder), *watched, *paths])
+
+
+def tail_pages(length):
+    """Where the pieces begin by which the end of a journal of so many bytes is written again."""
+    return range(max(length - TAIL, 0), length, PIECE)
+
+
+def tail_calls(length):
+    """The calls that write the end of a journal of so many bytes again, piece by piece."""
+    yield "pread64", HEADER_BYTES, 0
+    for place in tail_pages(length):
+        size = min(PIECE, length - place)
+        yield "pread64", size, place
+        yield "pwrite64", size, place
+
+
+def opening(scene, command):
+    """The calls of a command until its journal is open: locks, its end written again, and syncs. So many have its page."""
+    journal, tiles = command.journal, command.tiles
+    if command.begins:
+        return [f"flock {journal}", f"fsync {journal}", "fsync ."]
+    pages = len(tail_pages(len(scene.kept[journal])))
+    tiled = [f"flock {tiles}", f"fsync {tiles}", "fsync ."] if tiles else []
+    return [f"flock {journal}", *[f"pwrite64 {journal}"] * pages, f"fsync {journal}", "fsync .", *tiled, f"fsync {journal}"]
+
+
+def appending(command):
+    """The calls by which a command adds its record, if it has one: the tiles before it, the record and its sync, then its
+    gate and its sync."""
+    if not (command.adds or command.begins):
+        return []
+    tiles = [f"fsync {command.tiles}", f"pwrite64 {command.tiles}", f"fsync {command.tiles}"] if command.name == "tile" else []
+    return [*tiles, *[f"pwrite64 {command.journal}", f"fsync {command.journal}"] * 2]
