@@ -1,1 +1,1 @@
-"""What tests/hostile_files.py judges: `changes` has the changes, `files` what is changed, and `cases` the kinds."""
+"""What tests/hostile_files.py tries: `judgements` and `requests` have the cases, `files` and `changes` make them."""

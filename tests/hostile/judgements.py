@@ -1,12 +1,13 @@
-"""The kinds of change: each gives certificates, stores and moments at which they are judged."""
+"""Certificates and stores that are changed, with a moment, and what `verify` has to say of them."""
 
 import base64
 import random
 from itertools import combinations, product
 
 from cosigned_log import vector, with_proof
-from reference import certificate, judging, times
+from reference import certificate, judging, store, times
 from reference.der import SEQUENCE, encoded
+from reference.fault import Fault
 
 from .changes import other_tables, pieces, variants
 from .files import COSIGNERS, FIRST, LAST, LOG, asked, rebuilt, root_of, signed, signers, text_of, trusted
@@ -140,4 +141,25 @@ def stores():
         yield text, text_of({**root, "cosigner": keys, "rule": []}), FIRST
 
 
-KINDS = (certificates, algorithms, moments, proofs, signatures, stores, reasons, two_changes)
+def wanted(text, store_file, now):
+    """The status and the two texts of `verify`, by the readers."""
+    try:
+        known = store.read(store_file)
+    except Fault as fault:
+        return [(2, b"", f"mtc: verify: store: {fault}\n".encode())]
+    try:
+        return [(0, f"accepted {judging.judge(text, known, now)[0]}\n".encode(), b"")]
+    except judging.Refused as refused:
+        name, reason = refused.name, refused.reason
+    if name in ("Grammar", "ProofGrammar"):
+        return [(2, b"", f"mtc: verify: c: {reason}\n".encode())]
+    return [(3, " ".join(map(str, ["refused", name] + [reason] * (reason is not None))).encode() + b"\n", b"")]
+
+
+def said(run, text, store_file, now):
+    """What the program says; `run` writes files and runs it."""
+    return [run({"c": text, "store": store_file}, ["verify", "c", "store", str(now)])]
+
+
+KINDS = [(kind, wanted, said) for kind in (
+    certificates, algorithms, moments, proofs, signatures, stores, reasons, two_changes)]
