@@ -1,5 +1,5 @@
 //! What a relying party answers to every change of one byte of a certificate, to be compared with
-//! the answers of another implementation.
+//! what `tests/certificate_table.py` makes.
 //!
 //! A line is `LABEL MOMENT LOG START END HASH FROM TO CERTIFICATE`: the moment in seconds since
 //! 1970-01-01T00:00:00Z, and a store for the log with the id LOG, which trusts the interval from

@@ -18,8 +18,9 @@
 //!   and to every change of one byte.
 //! - `list ENTRY ..`: the inclusion paths and consistency proofs of every subtree of the list.
 //!
-//! Lines of the first four kinds come first. What must be answered to them is made by
-//! `tests/hss_vectors.py`, which is written from RFC 8554 and uses nothing of these crates.
+//! Lines of the first four kinds come first, then certificates and judgements, then lists. What
+//! must be answered is made by scripts that use nothing of these crates: `tests/hss_vectors.py`,
+//! `tests/certificate_table.py` and `tests/list_table.py`.
 #![tactic(auto)]
 
 mod certificates;

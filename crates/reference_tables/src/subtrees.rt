@@ -1,5 +1,5 @@
-//! The proofs of every subtree of a list and of its beginnings, to be compared with those of
-//! another implementation of the same definitions.
+//! The proofs of every subtree of a list and of its beginnings, to be compared with those
+//! that `tests/list_table.py` makes.
 //!
 //! For each subtree of the list a line `START END HASH PATHS` is written: its hash, and the SHA-256
 //! of the inclusion paths of its entries one behind the other. For each size from 1 to the list's
