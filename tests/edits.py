@@ -51,6 +51,14 @@ Function = collections.namedtuple("Function", "name owner file begin end")
 Found = collections.namedtuple("Found", "counts by_search what")
 
 
+def begin_of(function, lines):
+    """The line of a function's first attribute or comment: a check names that line for the whole function."""
+    begin = function.line
+    while begin > 1 and lines[begin - 2].strip().startswith(("#[", "//")):
+        begin -= 1
+    return begin
+
+
 class Edit:
     """One edit, with the functions that it changes."""
 
@@ -60,15 +68,16 @@ class Edit:
         self.functions = {self.function_at(file, old) for file, old, _ in self.changes}
 
     def function_at(self, name, old):
-        """The function that holds a text of a file, or nothing; functions end where the next begins."""
+        """The function that holds a text of a file, or nothing; each ends where the next begins."""
         file = next((it for it in self.crate.files if it.path == self.crate.folder / name), None)
         if file is None or old not in file.text:
             return None
         line = file.text.count("\n", 0, file.text.index(old)) + 1
-        heads = [*file.functions, None]
-        for one, after in zip(heads, heads[1:]):
-            if one.line <= line and (after is None or line < after.line):
-                return Function(one.name, one.owner, name, one.line, after.line if after else file.text.count("\n") + 2)
+        begins = [begin_of(one, file.text.split("\n")) for one in file.functions]
+        ends = [*begins[1:], file.text.count("\n") + 2]
+        for one, begin, end in zip(file.functions, begins, ends):
+            if begin <= line < end:
+                return Function(one.name, one.owner, name, begin, end)
         return None
 
     @property
@@ -147,8 +156,8 @@ def linked(folder, to):
 
 
 def is_of(function, place):
-    """Whether proofs/PLACE is the folder of a function: its modules, its type with its trait, its name."""
-    parts = place.split("/")
+    """Whether proofs/PLACE is a function's folder: its modules, its type with its trait, its name, `+` if it recurs."""
+    parts = place.replace("/+", "/").split("/")
     modules = [it for it in pathlib.Path(function.file).with_suffix("").parts[1:] if it not in ("lib", "main", "mod")]
     rest = parts[len(modules):]
     if parts[:len(modules)] != modules or len(rest) != (2 if function.owner else 1):
