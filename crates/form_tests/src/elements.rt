@@ -18,23 +18,23 @@ fn refused_sequence(input: &[u8]) -> Option<DerError> {
 }
 
 #[test]
-fn faults_of_an_element_have_their_order_and_place(rt: HostRuntime) {
-    let cases: [(&[u8], DerError); 11] = [
-        (&[5], DerError::WrongTag(1)),
-        (&[5, 0x1f, 0], DerError::HighTag(1)),
-        (&[5, 0x31, 0], DerError::WrongTag(1)),
-        (&[5, 0x30], DerError::Truncated(1)),
-        (&[5, 0x30, 0x80], DerError::LongForm(1)),
-        (&[5, 0x30, 0x84], DerError::LongForm(1)),
-        (&[5, 0x30, 0x81, 0x7f], DerError::LongForm(1)),
-        (&[5, 0x30, 0x82, 0x00, 0x80], DerError::LongForm(1)),
-        (&[5, 0x30, 0x83, 0x00, 0x80, 0x00], DerError::LongForm(1)),
-        (&[5, 0x30, 0x82, 0x01], DerError::Truncated(1)),
-        (&[5, 0x30, 0x02, 0x05], DerError::Truncated(1)),
-    ];
-    for (input, fault) in cases {
-        assert!(rt; refused_sequence(input) == Some(fault), "of {input:?}");
-    }
+fn faults_of_a_tag_have_their_order_and_place(rt: HostRuntime) {
+    assert!(rt; refused_sequence(&[5]) == Some(DerError::WrongTag(1)));
+    assert!(rt; refused_sequence(&[5, 0x1f, 0]) == Some(DerError::HighTag(1)));
+    assert!(rt; refused_sequence(&[5, 0x31, 0]) == Some(DerError::WrongTag(1)));
+}
+
+#[test]
+fn faults_of_a_length_have_their_order_and_place(rt: HostRuntime) {
+    let (long, cut) = (Some(DerError::LongForm(1)), Some(DerError::Truncated(1)));
+    assert!(rt; refused_sequence(&[5, 0x30]) == cut);
+    assert!(rt; refused_sequence(&[5, 0x30, 0x80]) == long);
+    assert!(rt; refused_sequence(&[5, 0x30, 0x84]) == long);
+    assert!(rt; refused_sequence(&[5, 0x30, 0x81, 0x7f]) == long);
+    assert!(rt; refused_sequence(&[5, 0x30, 0x82, 0x00, 0x80]) == long);
+    assert!(rt; refused_sequence(&[5, 0x30, 0x83, 0x00, 0x80, 0x00]) == long);
+    assert!(rt; refused_sequence(&[5, 0x30, 0x82, 0x01]) == cut);
+    assert!(rt; refused_sequence(&[5, 0x30, 0x02, 0x05]) == cut);
 }
 
 // The place and the contents of a SEQUENCE at offset 1.
@@ -59,19 +59,12 @@ fn number_of(input: &[u8]) -> Result<Option<u64>, DerError> {
 
 #[test]
 fn numbers_have_their_rules(rt: HostRuntime) {
-    let numbers: [(&[u8], Result<Option<u64>, DerError>); 5] = [
-        (&[2, 1, 0x80], Ok(None)),
-        (&[2, 2, 0, 0x7f], Err(DerError::BadInteger(0))),
-        (
-            &[2, 9, 0, 255, 255, 255, 255, 255, 255, 255, 255],
-            Ok(Some(u64::MAX)),
-        ),
-        (&[2, 9, 1, 0, 0, 0, 0, 0, 0, 0, 0], Ok(None)),
-        (&[2, 0], Err(DerError::BadInteger(0))),
-    ];
-    for (input, wanted) in numbers {
-        assert!(rt; number_of(input) == wanted, "of {input:?}");
-    }
+    let largest = [2, 9, 0, 255, 255, 255, 255, 255, 255, 255, 255];
+    assert!(rt; number_of(&[2, 1, 0x80]) == Ok(None));
+    assert!(rt; number_of(&[2, 2, 0, 0x7f]) == Err(DerError::BadInteger(0)));
+    assert!(rt; number_of(&largest) == Ok(Some(u64::MAX)));
+    assert!(rt; number_of(&[2, 9, 1, 0, 0, 0, 0, 0, 0, 0, 0]) == Ok(None));
+    assert!(rt; number_of(&[2, 0]) == Err(DerError::BadInteger(0)));
 }
 
 fn truth_of(input: &[u8]) -> Result<bool, DerError> {
@@ -90,15 +83,10 @@ fn bits_of(input: &[u8]) -> Result<(u8, &[u8]), DerError> {
 
 #[test]
 fn strings_of_bits_have_their_rules(rt: HostRuntime) {
-    let strings: [(&[u8], Result<(u8, &[u8]), DerError>); 4] = [
-        (&[3, 1, 0], Ok((0, &[]))),
-        (&[3, 1, 1], Err(DerError::BadBits(0))),
-        (&[3, 2, 1, 1], Err(DerError::BadBits(0))),
-        (&[3, 2, 1, 2], Ok((1, &[2]))),
-    ];
-    for (input, wanted) in strings {
-        assert!(rt; bits_of(input) == wanted, "of {input:?}");
-    }
+    assert!(rt; bits_of(&[3, 1, 0]) == Ok((0, b"".as_slice())));
+    assert!(rt; bits_of(&[3, 1, 1]) == Err(DerError::BadBits(0)));
+    assert!(rt; bits_of(&[3, 2, 1, 1]) == Err(DerError::BadBits(0)));
+    assert!(rt; bits_of(&[3, 2, 1, 2]) == Ok((1, [2].as_slice())));
 }
 
 fn identifier_of(input: &[u8]) -> Result<&[u8], DerError> {
@@ -107,17 +95,12 @@ fn identifier_of(input: &[u8]) -> Result<&[u8], DerError> {
 
 #[test]
 fn identifiers_have_their_rules(rt: HostRuntime) {
-    let identifiers: [(&[u8], Result<&[u8], DerError>); 6] = [
-        (&[6, 0], Err(DerError::BadOid(0))),
-        (&[6, 1, 0x80], Err(DerError::BadOid(0))),
-        (&[6, 2, 0x80, 1], Err(DerError::BadOid(0))),
-        (&[6, 1, 0x81], Err(DerError::BadOid(0))),
-        (&[6, 2, 0x81, 0x80], Err(DerError::BadOid(0))),
-        (&[6, 3, 0x55, 4, 3], Ok(&[0x55, 4, 3])),
-    ];
-    for (input, wanted) in identifiers {
-        assert!(rt; identifier_of(input) == wanted, "of {input:?}");
-    }
+    assert!(rt; identifier_of(&[6, 0]) == Err(DerError::BadOid(0)));
+    assert!(rt; identifier_of(&[6, 1, 0x80]) == Err(DerError::BadOid(0)));
+    assert!(rt; identifier_of(&[6, 2, 0x80, 1]) == Err(DerError::BadOid(0)));
+    assert!(rt; identifier_of(&[6, 1, 0x81]) == Err(DerError::BadOid(0)));
+    assert!(rt; identifier_of(&[6, 2, 0x81, 0x80]) == Err(DerError::BadOid(0)));
+    assert!(rt; identifier_of(&[6, 3, 0x55, 4, 3]) == Ok([0x55, 4, 3].as_slice()));
 }
 
 fn order_of(input: &[u8]) -> Result<(), DerError> {
@@ -126,14 +109,9 @@ fn order_of(input: &[u8]) -> Result<(), DerError> {
 
 #[test]
 fn sets_rise(rt: HostRuntime) {
-    let sets: [(&[u8], Result<(), DerError>); 3] = [
-        (&[0x31, 6, 2, 1, 7, 2, 1, 7], Ok(())),
-        (&[0x31, 6, 2, 1, 7, 2, 1, 6], Err(DerError::SetOrder(0))),
-        (&[0x31, 5, 2, 1, 7, 2, 1], Err(DerError::Truncated(5))),
-    ];
-    for (input, wanted) in sets {
-        assert!(rt; order_of(input) == wanted, "of {input:?}");
-    }
+    assert!(rt; order_of(&[0x31, 6, 2, 1, 7, 2, 1, 7]) == Ok(()));
+    assert!(rt; order_of(&[0x31, 6, 2, 1, 7, 2, 1, 6]) == Err(DerError::SetOrder(0)));
+    assert!(rt; order_of(&[0x31, 5, 2, 1, 7, 2, 1]) == Err(DerError::Truncated(5)));
 }
 
 fn elements(alloc: Global) -> Result<Bytes, Memory> {
