@@ -1,19 +1,18 @@
 //! Audits of a certificate for `ab.example`, which is accepted by a subtree that is trusted or by a
 //! cosigner.
 
-use crate::lists::{are_strings, list_of, toy};
+use crate::lists::{are_strings, list_of, put_text, toy};
 use crate::records::export_of;
 use cert_fields::parse;
 use cert_names::log_name;
 use cosigner_core::read_export;
 use entry_list::read_items;
 use hss_core::{Key, LmsType, OtsType, SigBuf};
-use mtc_io::Memory;
+use mtc_io::{Bytes, Memory};
 use mtc_proof::{InputBuf, read_proof, signature_input};
 use policy_core::{Cosigners, Known, Places, Revoked, Rule, Rules, Store, Subtrees, Trusted};
 use relying_party::judge;
 use std::alloc::Global;
-use std::test::Fail;
 use tls_wire::AnchorId;
 use tree_core::Toy;
 use world_core::{Audit, audit};
@@ -42,80 +41,115 @@ const CERTIFICATE: [u8; 232] = [
 // 2026-01-01T00:00:00Z, the first moment of the certificate.
 const FIRST: i64 = 1_767_225_600;
 
-// The certificate with these signatures in its proof.
-fn with_signatures(alloc: Global, signatures: &[u8]) -> Result<Vec<u8>, Fail> {
-    let size = signatures.len();
-    let mut bytes = Vec::from_slice(alloc, &[0x30, 0x82])?;
-    bytes.extend_from_slice(&two_bytes(size.saturating_add(231))?)?;
-    bytes.extend_from_slice(&CERTIFICATE[3..177])?;
-    bytes.extend_from_slice(&[0x03, 0x82])?;
-    bytes.extend_from_slice(&two_bytes(size.saturating_add(53))?)?;
-    bytes.extend_from_slice(&CERTIFICATE[179..230])?;
-    bytes.extend_from_slice(&two_bytes(size)?)?;
-    bytes.extend_from_slice(signatures)?;
-    Ok(bytes)
+// A length in two bytes; 0 where it is too long for these.
+fn two_bytes(length: usize) -> [u8; 2] {
+    u16::try_from(length).unwrap_or(0).to_be_bytes()
 }
 
-// A length in two bytes.
-fn two_bytes(length: usize) -> Result<[u8; 2], Fail> {
-    match u16::try_from(length) {
-        Ok(length) => Ok(length.to_be_bytes()),
-        Err(_) => Err(Fail::from("too long")),
-    }
+// Puts what the certificate has before its proof behind the bytes, where its proof has this size.
+fn put_front(bytes: &mut Bytes, size: usize) -> Result<(), Memory> {
+    bytes.append(&[0x30, 0x82])?;
+    bytes.append(&two_bytes(size.saturating_add(178)))?;
+    bytes.append(&CERTIFICATE[3..177])?;
+    bytes.append(&[0x03, 0x82])?;
+    bytes.append(&two_bytes(size))
+}
+
+// Puts the proof with these signatures behind the bytes.
+fn put_proof(bytes: &mut Bytes, signatures: &[u8]) -> Result<(), Memory> {
+    bytes.append(&CERTIFICATE[179..230])?;
+    put_text(bytes, signatures)
+}
+
+// Puts the certificate with these signatures in its proof behind the bytes.
+fn put_certificate(bytes: &mut Bytes, signatures: &[u8]) -> Result<(), Memory> {
+    put_front(bytes, signatures.len().saturating_add(53))?;
+    put_proof(bytes, signatures)
 }
 
 // The id 32473.NUMBER.
-fn id_of(alloc: Global, number: u8) -> Result<AnchorId, Fail> {
-    let text = format!(in alloc; "32473.{number}")?;
-    Ok(AnchorId::from_text(alloc, text.as_str())?)
+fn id_of(alloc: Global, number: u8) -> Option<AnchorId> {
+    AnchorId::from_bytes(alloc, &[0x81, 0xFD, 0x59, number]).ok()
 }
 
 // The key of the cosigner with this number.
-fn key_of(alloc: Global, number: u8) -> Result<Key, Fail> {
-    Ok(Key::make(alloc, LmsType::H5, OtsType::W4, &[number; 48], 0)?)
+fn key_of(alloc: Global, number: u8) -> Option<Key> {
+    Key::make(alloc, LmsType::H5, OtsType::W4, &[number; 48], 0).ok()
 }
 
-// The signature of the first two entries by the cosigner 32473.2.
-fn signature(alloc: Global) -> Result<Vec<u8>, Fail> {
-    let mut key = key_of(alloc, 2)?;
+// What the cosigner 32473.2 signs of the first two entries.
+fn put_input(alloc: Global, text: &mut InputBuf) -> Option<()> {
     let id = id_of(alloc, 2)?;
     let log = id_of(alloc, 1)?;
-    let mut text = InputBuf::new();
-    signature_input(id.as_bytes(), log.as_bytes(), 0, 2, &toy(157), &mut text);
-    let mut out = SigBuf::new();
-    if key.left() > 0 {
-        key.sign(text.as_slice(), &mut out);
+    signature_input(id.as_bytes(), log.as_bytes(), 0, 2, &toy(157), text);
+    Some(())
+}
+
+// The signature of a text by this cosigner.
+fn sign(alloc: Global, text: &[u8], out: &mut SigBuf) -> Option<()> {
+    let mut key = key_of(alloc, 2)?;
+    if key.left() == 0 {
+        return None;
     }
-    let mut bytes = Vec::from_slice(alloc, &[4, 0x81, 0xFD, 0x59, 2])?;
-    bytes.extend_from_slice(&two_bytes(out.as_slice().len())?)?;
-    bytes.extend_from_slice(out.as_slice())?;
-    Ok(bytes)
+    key.sign(text, out);
+    Some(())
+}
+
+// Puts the cosigner's id and its signature of the first two entries behind the bytes.
+fn put_signature(alloc: Global, bytes: &mut Bytes) -> Option<()> {
+    let mut text = InputBuf::new();
+    put_input(alloc, &mut text)?;
+    let mut out = SigBuf::new();
+    sign(alloc, text.as_slice(), &mut out)?;
+    bytes.append(&[4, 0x81, 0xFD, 0x59, 2]).ok()?;
+    put_text(bytes, out.as_slice()).ok()
+}
+
+// The certificate with this signature.
+fn signed(alloc: Global) -> Option<Bytes> {
+    let mut signature = Bytes::new(alloc);
+    put_signature(alloc, &mut signature)?;
+    let mut bytes = Bytes::new(alloc);
+    put_certificate(&mut bytes, signature.as_slice()).ok()?;
+    Some(bytes)
 }
 
 // The cosigner with this number, as it is known.
-fn known(alloc: Global, number: u8) -> Result<Known, Fail> {
-    Ok(Known {
-        id: id_of(alloc, number)?,
-        key: key_of(alloc, number)?.public(),
-    })
+fn known(alloc: Global, number: u8) -> Option<Known> {
+    let key = key_of(alloc, number)?.public();
+    let id = id_of(alloc, number)?;
+    Some(Known { id, key })
 }
 
-// A store of the cosigners 32473.2 and 32473.3, one of whom has to have signed, and of these
-// subtrees.
-fn store_of(alloc: Global, subtrees: &[Trusted]) -> Result<Store, Fail> {
-    let log = id_of(alloc, 1)?;
-    let name = log_name(alloc, &log)?;
-    let cosigners = vec![in alloc; known(alloc, 2)?, known(alloc, 3)?]?;
+// The cosigners 32473.2 and 32473.3.
+fn cosigners(alloc: Global) -> Option<Cosigners> {
+    let first = known(alloc, 2)?;
+    let second = known(alloc, 3)?;
+    let both = vec![in alloc; first, second].ok()?;
+    Some(Cosigners::from_vec(both))
+}
+
+// The rule that one of them has to have signed.
+fn rules(alloc: Global) -> Option<Rules> {
     let rule = Rule {
         count: 1,
-        cosigners: Places::from_vec(vec![in alloc; 0, 1]?),
+        cosigners: Places::from_vec(vec![in alloc; 0, 1].ok()?),
     };
-    Ok(Store {
+    Some(Rules::from_vec(vec![in alloc; rule].ok()?))
+}
+
+// A store of these cosigners, of whom one has to have signed, and of these subtrees.
+fn store_of(alloc: Global, subtrees: &[Trusted]) -> Option<Store> {
+    let log = id_of(alloc, 1)?;
+    let name = log_name(alloc, &log).ok()?;
+    let subtrees = Vec::from_slice(alloc, subtrees).ok()?;
+    let rules = rules(alloc)?;
+    Some(Store {
         log,
         name,
-        cosigners: Cosigners::from_vec(cosigners),
-        rules: Rules::from_vec(vec![in alloc; rule]?),
-        subtrees: Subtrees::from_vec(Vec::from_slice(alloc, subtrees)?),
+        cosigners: cosigners(alloc)?,
+        rules,
+        subtrees: Subtrees::from_vec(subtrees),
         revoked: Revoked::from_vec(Vec::new(alloc)),
     })
 }
@@ -136,13 +170,13 @@ fn steps_of(name: &str) -> &'static str {
 
 // The export of a name: `other` is of the cosigner that has not signed, `key` has its key alone,
 // and `log` is of another log; `none` has no bytes.
-fn export_named(alloc: Global, store: &Store, name: &str) -> Result<Vec<u8>, Fail> {
+fn export_named(alloc: Global, store: &Store, name: &str) -> Option<Bytes> {
     let [first, second] = store.cosigners.as_slice() else {
-        return Err(Fail::from("two cosigners"));
+        return None;
     };
     let steps = steps_of(name);
     match name {
-        "none" => Ok(Vec::new(alloc)),
+        "none" => Some(Bytes::new(alloc)),
         "other" => export_of(alloc, 3, 1, &second.key, steps),
         "key" => export_of(alloc, 2, 1, &second.key, steps),
         "id" => export_of(alloc, 3, 1, &first.key, steps),
@@ -175,33 +209,32 @@ fn audited(
     ))
 }
 
+// Whether two hashes are those with these first bytes.
+fn are_hashes(first: &[u8; 32], second: &[u8; 32], sums: &str) -> bool {
+    match sums.split_once(' ') {
+        Some((one, other)) => {
+            one.parse::<u8>().map(toy) == Ok(*first) && other.parse::<u8>().map(toy) == Ok(*second)
+        }
+        None => false,
+    }
+}
+
 // Whether the answer is that of the words.
-fn is(alloc: Global, answer: &Audit, words: &str) -> Result<bool, Fail> {
+fn is(answer: &Audit, words: &str) -> bool {
     let (kind, rest) = words.split_once(' ').unwrap_or((words, ""));
     match answer {
-        Audit::Unrecorded => Ok(kind == "unrecorded"),
-        Audit::Stands(index) => Ok(kind == "stands" && *index == rest.parse::<u64>()?),
-        Audit::Pair(one, other) => are_strings(alloc, one.as_slice(), other.as_slice(), words),
-        Audit::Foreign { wanted, found } => match rest.split_once(' ') {
-            Some((first, second)) => Ok(
-                kind == "foreign"
-                    && *wanted == toy(first.parse::<u8>()?)
-                    && *found == toy(second.parse::<u8>()?),
-            ),
-            None => Ok(false),
-        },
+        Audit::Unrecorded => words == "unrecorded",
+        Audit::Stands(index) => kind == "stands" && rest.parse::<u64>() == Ok(*index),
+        Audit::Pair(one, other) => are_strings(one.as_slice(), other.as_slice(), words),
+        Audit::Foreign { wanted, found } => kind == "foreign" && are_hashes(wanted, found, rest),
     }
 }
 
 // Whether the audit of a line, `LIST EXPORT ANSWER`, answers so.
-fn is_audited(alloc: Global, certificate: &[u8], store: &Store, line: &str) -> Result<bool, Fail> {
-    let Some((letters, rest)) = line.split_once(' ') else {
-        return Ok(false);
-    };
-    let Some((name, words)) = rest.split_once(' ') else {
-        return Ok(false);
-    };
-    let list = list_of(alloc, letters)?;
+fn is_audited(alloc: Global, certificate: &[u8], store: &Store, line: &str) -> Option<bool> {
+    let (letters, rest) = line.split_once(' ')?;
+    let (name, words) = rest.split_once(' ')?;
+    let list = list_of(alloc, letters).ok()?;
     let export = export_named(alloc, store, name)?;
     match audited(
         alloc,
@@ -210,9 +243,32 @@ fn is_audited(alloc: Global, certificate: &[u8], store: &Store, line: &str) -> R
         list.as_slice(),
         export.as_slice(),
     ) {
-        Some(Ok(answer)) => is(alloc, &answer, words),
-        _ => Ok(false),
+        Some(Ok(answer)) => Some(is(&answer, words)),
+        _ => None,
     }
+}
+
+// How many lines are audited as they say, from the first on.
+fn count_in(alloc: Global, certificate: &[u8], store: &Store, lines: &str) -> u64 {
+    let mut count = 0u64;
+    for line in lines.lines() {
+        if is_audited(alloc, certificate, store, line) != Some(true) {
+            return count;
+        }
+        count = count.saturating_add(1);
+    }
+    count
+}
+
+// The same by the store of these subtrees.
+fn count_audited(
+    alloc: Global,
+    certificate: &[u8],
+    subtrees: &[Trusted],
+    lines: &str,
+) -> Option<u64> {
+    let store = store_of(alloc, subtrees)?;
+    Some(count_in(alloc, certificate, &store, lines))
 }
 
 // The leaf hashes are the bytes of the digits, and 156 for `c`, `d` and `k`; a node's is the sum of
@@ -249,21 +305,16 @@ c0234567 all node:156:0 node:0:156
 0d234567 nosign unrecorded
 ";
 
+// How many lines of the certificate that is signed are audited as they say.
+fn count_signed(alloc: Global) -> Option<u64> {
+    let certificate = signed(alloc)?;
+    count_audited(alloc, certificate.as_slice(), &[], SIGNED)
+}
+
 #[test]
-fn what_a_cosigner_supports_is_audited(rt: HostRuntime) -> Result<(), Fail> {
-    let alloc = rt.alloc();
-    let certificate = with_signatures(alloc, signature(alloc)?.as_slice())?;
-    let store = store_of(alloc, &[])?;
-    let mut count = 0u64;
-    for line in SIGNED.lines() {
-        assert!(rt;
-            is_audited(alloc, certificate.as_slice(), &store, line)?,
-            "{line}"
-        );
-        count = count.saturating_add(1);
-    }
-    assert!(rt; count == 28);
-    Ok(())
+fn what_a_cosigner_supports_is_audited(rt: HostRuntime) {
+    let count = count_signed(rt.alloc());
+    assert!(rt; count == Some(28), "{count:?}");
 }
 
 // The same where the hash 157 of the first two entries is trusted.
@@ -307,38 +358,23 @@ fn third() -> [u8; 232] {
 }
 
 #[test]
-fn a_later_subtree_is_audited(rt: HostRuntime) -> Result<(), Fail> {
-    let alloc = rt.alloc();
+fn a_later_subtree_is_audited(rt: HostRuntime) {
     let trusted = Trusted {
         start: 2,
         end: 4,
         hash: toy(159),
     };
-    let store = store_of(alloc, &[trusted])?;
-    let certificate = third();
-    let mut count = 0u64;
-    for line in LATER.lines() {
-        assert!(rt; is_audited(alloc, &certificate, &store, line)?, "{line}");
-        count = count.saturating_add(1);
-    }
-    assert!(rt; count == 11);
-    Ok(())
+    let count = count_audited(rt.alloc(), &third(), &[trusted], LATER);
+    assert!(rt; count == Some(11), "{count:?}");
 }
 
 #[test]
-fn what_a_trusted_subtree_supports_is_audited(rt: HostRuntime) -> Result<(), Fail> {
-    let alloc = rt.alloc();
+fn what_a_trusted_subtree_supports_is_audited(rt: HostRuntime) {
     let trusted = Trusted {
         start: 0,
         end: 2,
         hash: toy(157),
     };
-    let store = store_of(alloc, &[trusted])?;
-    let mut count = 0u64;
-    for line in TRUSTED.lines() {
-        assert!(rt; is_audited(alloc, &CERTIFICATE, &store, line)?, "{line}");
-        count = count.saturating_add(1);
-    }
-    assert!(rt; count == 11);
-    Ok(())
+    let count = count_audited(rt.alloc(), &CERTIFICATE, &[trusted], TRUSTED);
+    assert!(rt; count == Some(11), "{count:?}");
 }

@@ -1,8 +1,8 @@
 //! Entries files by letters, under the hash function for tests: the sum of the bytes modulo 256,
 //! and 31 bytes 0.
 
+use mtc_io::{Bytes, Memory};
 use std::alloc::Global;
-use std::test::Fail;
 
 // The entry of the certificate of [`audits`](crate::audits), for `ab.example`. Its bytes have the
 // sum 156.
@@ -18,6 +18,19 @@ pub const ENTRY: [u8; 132] = [
     0x6D, 0x70, 0x6C, 0x65,
 ];
 
+// The same for `ba.example`.
+const OTHER_ENTRY: [u8; 132] = [
+    0x00, 0x01, 0xA0, 0x03, 0x02, 0x01, 0x02, 0x30, 0x19, 0x31, 0x17, 0x30, 0x15, 0x06, 0x0A, 0x2B,
+    0x06, 0x01, 0x04, 0x01, 0x82, 0xDA, 0x4B, 0x2F, 0x01, 0x0C, 0x07, 0x33, 0x32, 0x34, 0x37, 0x33,
+    0x2E, 0x31, 0x30, 0x1E, 0x17, 0x0D, 0x32, 0x36, 0x30, 0x31, 0x30, 0x31, 0x30, 0x30, 0x30, 0x30,
+    0x30, 0x30, 0x5A, 0x17, 0x0D, 0x32, 0x36, 0x30, 0x31, 0x30, 0x38, 0x30, 0x30, 0x30, 0x30, 0x30,
+    0x30, 0x5A, 0x30, 0x00, 0x04, 0x20, 0xBC, 0x00, 0x00, 0x00, 0x00, 0x00, 0x00, 0x00, 0x00, 0x00,
+    0x00, 0x00, 0x00, 0x00, 0x00, 0x00, 0x00, 0x00, 0x00, 0x00, 0x00, 0x00, 0x00, 0x00, 0x00, 0x00,
+    0x00, 0x00, 0x00, 0x00, 0x00, 0x00, 0xA3, 0x1C, 0x30, 0x1A, 0x30, 0x18, 0x06, 0x03, 0x55, 0x1D,
+    0x11, 0x01, 0x01, 0xFF, 0x04, 0x0E, 0x30, 0x0C, 0x82, 0x0A, 0x62, 0x61, 0x2E, 0x65, 0x78, 0x61,
+    0x6D, 0x70, 0x6C, 0x65,
+];
+
 // The key for which it was made, an Ed25519 key of zeros.
 pub const KEY: [u8; 44] = [
     0x30, 0x2A, 0x30, 0x05, 0x06, 0x03, 0x2B, 0x65, 0x70, 0x03, 0x21, 0x00, 0x00, 0x00, 0x00, 0x00,
@@ -25,66 +38,69 @@ pub const KEY: [u8; 44] = [
     0x00, 0x00, 0x00, 0x00, 0x00, 0x00, 0x00, 0x00, 0x00, 0x00, 0x00, 0x00,
 ];
 
-/// An entry and its key.
-#[derive(Drop)]
-pub struct ListedItem {
-    pub entry: Vec<u8>,
-    pub key: Vec<u8>,
-}
+// Another key of one hash with it.
+const OTHER_KEY: [u8; 44] = [
+    0x30, 0x2A, 0x30, 0x05, 0x06, 0x03, 0x2B, 0x65, 0x70, 0x03, 0x21, 0x00, 0xFF, 0x01, 0x00, 0x00,
+    0x00, 0x00, 0x00, 0x00, 0x00, 0x00, 0x00, 0x00, 0x00, 0x00, 0x00, 0x00, 0x00, 0x00, 0x00, 0x00,
+    0x00, 0x00, 0x00, 0x00, 0x00, 0x00, 0x00, 0x00, 0x00, 0x00, 0x00, 0x00,
+];
 
-/// The item of a letter: `0` is the null entry; `c` the certificate's entry with its key, `k` the
-/// same with another key of one hash with it; `d` the entry for `ba.example`; a digit is an entry
-/// of this one byte.
-pub fn item_of(alloc: Global, letter: u8) -> Result<ListedItem, Fail> {
-    let mut entry = ENTRY;
-    let mut key = KEY;
+// The entry of each digit but 0.
+const DIGITS: [u8; 10] = [0, 1, 2, 3, 4, 5, 6, 7, 8, 9];
+
+/// The entry of a letter: `0` has the null entry; `c` and `k` that of the certificate; `d` that for
+/// `ba.example`; another digit an entry of this one byte.
+pub fn entry_of(letter: u8) -> &'static [u8] {
     match letter {
-        b'c' => {}
-        b'k' => {
-            key[12] = 0xFF;
-            key[13] = 0x01;
+        b'c' | b'k' => &ENTRY,
+        b'd' => &OTHER_ENTRY,
+        b'0' => &[0, 0],
+        digit => {
+            let place = usize::from(digit.saturating_sub(b'0'));
+            DIGITS.get(place..place.saturating_add(1)).unwrap_or(&[])
         }
-        b'd' => {
-            entry[122] = b'b';
-            entry[123] = b'a';
-        }
-        b'0' => return plain(alloc, &[0, 0]),
-        digit => return plain(alloc, &[digit.saturating_sub(b'0')]),
     }
-    Ok(ListedItem {
-        entry: Vec::from_slice(alloc, &entry)?,
-        key: Vec::from_slice(alloc, &key)?,
-    })
 }
 
-// An item without a key.
-fn plain(alloc: Global, entry: &[u8]) -> Result<ListedItem, Fail> {
-    Ok(ListedItem {
-        entry: Vec::from_slice(alloc, entry)?,
-        key: Vec::new(alloc),
-    })
+/// The key of a letter: `c` and `d` have the certificate's, `k` another one of one hash with it,
+/// the others none.
+pub fn key_of(letter: u8) -> &'static [u8] {
+    match letter {
+        b'c' | b'd' => &KEY,
+        b'k' => &OTHER_KEY,
+        _ => &[],
+    }
 }
 
-/// Puts a text behind the bytes, and before it its length in two bytes.
-pub fn put_text(bytes: &mut Vec<u8>, text: &[u8]) -> Result<(), Fail> {
+/// Puts a text behind the bytes, and before it its length in two bytes. One that is too long for
+/// these is refused as for want of memory.
+pub fn put_text(bytes: &mut Bytes, text: &[u8]) -> Result<(), Memory> {
     match u16::try_from(text.len()) {
-        Ok(length) => bytes.extend_from_slice(&length.to_be_bytes())?,
-        Err(_) => return Err(Fail::from("too long")),
+        Ok(length) => bytes.append_both(&length.to_be_bytes(), text),
+        Err(_) => Err(Memory),
     }
-    bytes.extend_from_slice(text)?;
+}
+
+/// Puts an entry and its key behind the bytes.
+pub fn put_item(bytes: &mut Bytes, entry: &[u8], key: &[u8]) -> Result<(), Memory> {
+    put_text(bytes, entry)?;
+    put_text(bytes, key)
+}
+
+/// Puts the items of these letters behind the bytes; a hyphen is none.
+pub fn put_items(bytes: &mut Bytes, letters: &str) -> Result<(), Memory> {
+    for letter in letters.bytes() {
+        if letter != b'-' {
+            put_item(bytes, entry_of(letter), key_of(letter))?;
+        }
+    }
     Ok(())
 }
 
 /// The entries file of the items of these letters; a hyphen is none.
-pub fn list_of(alloc: Global, letters: &str) -> Result<Vec<u8>, Fail> {
-    let mut bytes = Vec::new(alloc);
-    for letter in letters.bytes() {
-        if letter != b'-' {
-            let item = item_of(alloc, letter)?;
-            put_text(&mut bytes, item.entry.as_slice())?;
-            put_text(&mut bytes, item.key.as_slice())?;
-        }
-    }
+pub fn list_of(alloc: Global, letters: &str) -> Result<Bytes, Memory> {
+    let mut bytes = Bytes::new(alloc);
+    put_items(&mut bytes, letters)?;
     Ok(bytes)
 }
 
@@ -95,34 +111,51 @@ pub fn toy(sum: u8) -> [u8; 32] {
     hash
 }
 
-// The string of a word: `leaf:LETTER` is hashed for the entry of an item, `node:LEFT:RIGHT` for two
-// nodes with these first bytes, and `key:LETTER` is an item's key.
-fn string_of(alloc: Global, word: &str) -> Result<Vec<u8>, Fail> {
-    let mut fields = word.split(':');
-    let kind = fields.next().unwrap_or("");
-    let first = fields.next().unwrap_or("");
-    if kind == "node" {
-        let mut bytes = Vec::from_slice(alloc, &[1])?;
-        bytes.extend_from_slice(&toy(first.parse::<u8>()?))?;
-        bytes.extend_from_slice(&toy(fields.next().unwrap_or("").parse::<u8>()?))?;
-        return Ok(bytes);
+/// What stands before a word's first colon, and what behind it.
+pub fn cut(word: &str) -> (&str, &str) {
+    word.split_once(':').unwrap_or((word, ""))
+}
+
+// Whether the bytes are hashed for two nodes with these first bytes, `LEFT:RIGHT`.
+fn is_node(sums: &str, found: &[u8]) -> bool {
+    let (left, right) = cut(sums);
+    match (left.parse::<u8>(), right.parse::<u8>()) {
+        (Ok(left), Ok(right)) => {
+            let mut wanted = [0; 65];
+            wanted[0] = 1;
+            wanted[1] = left;
+            wanted[33] = right;
+            found == wanted.as_slice()
+        }
+        _ => false,
     }
-    let item = item_of(alloc, first.bytes().next().unwrap_or(b'0'))?;
-    if kind == "key" {
-        return Ok(item.key);
+}
+
+// Whether the bytes are hashed for the entry of a letter.
+fn is_leaf(letter: u8, found: &[u8]) -> bool {
+    match found.split_first() {
+        Some((first, entry)) => *first == 0 && entry == entry_of(letter),
+        None => false,
     }
-    let mut bytes = Vec::from_slice(alloc, &[0])?;
-    bytes.extend_from_slice(item.entry.as_slice())?;
-    Ok(bytes)
+}
+
+// Whether the bytes are the string of a word: `leaf:LETTER` is hashed for the entry of an item,
+// `node:LEFT:RIGHT` for two nodes with these first bytes, and `key:LETTER` is an item's key.
+fn is_string(word: &str, found: &[u8]) -> bool {
+    let (kind, rest) = cut(word);
+    let letter = rest.bytes().next().unwrap_or(b'-');
+    match kind {
+        "node" => is_node(rest, found),
+        "key" => found == key_of(letter),
+        "leaf" => is_leaf(letter, found),
+        _ => false,
+    }
 }
 
 /// Whether two strings are those of the words.
-pub fn are_strings(alloc: Global, first: &[u8], second: &[u8], words: &str) -> Result<bool, Fail> {
+pub fn are_strings(first: &[u8], second: &[u8], words: &str) -> bool {
     match words.split_once(' ') {
-        Some((one, other)) => Ok(
-            string_of(alloc, one)?.as_slice() == first
-                && string_of(alloc, other)?.as_slice() == second,
-        ),
-        None => Ok(false),
+        Some((one, other)) => is_string(one, first) && is_string(other, second),
+        None => false,
     }
 }

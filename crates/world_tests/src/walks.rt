@@ -7,7 +7,6 @@ use cosigner_core::{Step, read_export};
 use entry_list::read_items;
 use mtc_io::Memory;
 use std::alloc::Global;
-use std::test::Fail;
 use tree_core::Toy;
 use world_core::{has_front, held_by, walk};
 
@@ -54,37 +53,43 @@ c0234567 3 same
 ";
 
 // Whether the answer is that of the words.
-fn is(alloc: Global, answer: &Option<Result<Finding, Memory>>, words: &str) -> Result<bool, Fail> {
+fn is(answer: &Option<Result<Finding, Memory>>, words: &str) -> bool {
     match answer {
-        None => Ok(words == "none"),
-        Some(Ok(Finding::Same)) => Ok(words == "same"),
-        Some(Ok(Finding::Pair(one, other))) => {
-            are_strings(alloc, one.as_slice(), other.as_slice(), words)
-        }
-        Some(Err(_)) => Ok(false),
+        None => words == "none",
+        Some(Ok(Finding::Same)) => words == "same",
+        Some(Ok(Finding::Pair(one, other))) => are_strings(one.as_slice(), other.as_slice(), words),
+        Some(Err(_)) => false,
     }
 }
 
-fn is_walked(alloc: Global, export: &[u8], line: &str) -> Result<bool, Fail> {
-    let Some((letters, rest)) = line.split_once(' ') else {
-        return Ok(false);
-    };
-    let Some((sign, words)) = rest.split_once(' ') else {
-        return Ok(false);
-    };
-    let list = list_of(alloc, letters)?;
-    let answer = walked(alloc, list.as_slice(), export, sign.parse::<usize>()?);
-    is(alloc, &answer, words)
+// Whether the walk of a line answers so.
+fn is_walked(alloc: Global, export: &[u8], line: &str) -> Option<bool> {
+    let (letters, rest) = line.split_once(' ')?;
+    let (sign, words) = rest.split_once(' ')?;
+    let sign = sign.parse::<usize>().ok()?;
+    let list = list_of(alloc, letters).ok()?;
+    Some(is(&walked(alloc, list.as_slice(), export, sign), words))
+}
+
+// How many lines are answered as they say, from the first on.
+fn count_walked(alloc: Global, export: &[u8]) -> u64 {
+    let mut count = 0u64;
+    for line in CASES.lines() {
+        if is_walked(alloc, export, line) != Some(true) {
+            return count;
+        }
+        count = count.saturating_add(1);
+    }
+    count
+}
+
+fn count_of_cases(alloc: Global) -> Option<u64> {
+    let export = export_of(alloc, 2, 1, &PUBLIC, STEPS)?;
+    Some(count_walked(alloc, export.as_slice()))
 }
 
 #[test]
-fn a_sign_is_of_the_list_or_its_proofs_collide(rt: HostRuntime) -> Result<(), Fail> {
-    let export = export_of(rt.alloc(), 2, 1, &PUBLIC, STEPS)?;
-    let mut count = 0u64;
-    for line in CASES.lines() {
-        assert!(rt; is_walked(rt.alloc(), export.as_slice(), line)?, "{line}");
-        count = count.saturating_add(1);
-    }
-    assert!(rt; count == 14);
-    Ok(())
+fn a_sign_is_of_the_list_or_its_proofs_collide(rt: HostRuntime) {
+    let count = count_of_cases(rt.alloc());
+    assert!(rt; count == Some(14), "{count:?}");
 }
