@@ -1,10 +1,8 @@
 //! What the commands of a cosigner answer, and what they leave of its journal.
 
-use crate::desk::Desk;
-use crate::scripts::{Outcome, desk_of, outcome_of, owned_words};
-use mtc_io::MemSink;
+use crate::desk::{Answer, Desk};
+use crate::scripts::{Outcome, desk_behind, outcome_behind};
 use std::alloc::Global;
-use std::test::Fail;
 use tree_core::{Sha, TreeHash};
 
 /// Names of bytes for the scripts of a cosigner.
@@ -119,63 +117,47 @@ status 7
 "#;
 
 #[test]
-fn commands_of_a_cosigner(rt: HostRuntime) -> Result<(), Fail> {
-    let script = format!(in rt.alloc(); "{NAMES}{CASES}")?;
-    let outcome = outcome_of(rt.alloc(), script.as_str())?;
-    assert!(rt; outcome == Outcome::Passed(18), "{outcome:?}");
-    Ok(())
+fn commands_of_a_cosigner(rt: HostRuntime) {
+    let outcome = outcome_behind(rt.alloc(), NAMES, CASES);
+    assert!(rt; outcome == Ok(Outcome::Passed(18)), "{outcome:?}");
 }
 
-// How a run ended: the status, and how many bytes with which SHA-256 it wrote, and left in the
-// journal, in hexadecimal.
-#[derive(Debug, Drop, PartialEq, Eq)]
-struct Ended {
-    status: u8,
-    out: (usize, String),
-    journal: (usize, String),
-}
-
-fn known(alloc: Global, bytes: &[u8]) -> Result<(usize, String), Fail> {
+// Whether these are so many bytes with this SHA-256 in hexadecimal.
+fn are_known(alloc: Global, bytes: &[u8], (length, hash): (usize, &str)) -> bool {
     let mut running = Sha::begin();
     running.add(bytes);
-    Ok((bytes.len(), hex::encode(alloc, &running.end())?))
+    match hex::encode(alloc, &running.end()) {
+        Ok(text) => text.as_str() == hash && bytes.len() == length,
+        Err(_) => false,
+    }
 }
 
-fn wanted(
+// What a run printed: its output, and where it ended with another status than 0 its errors.
+fn printed(answer: &Answer) -> &[u8] {
+    if answer.status == 0 {
+        answer.out.taken()
+    } else {
+        answer.err.taken()
+    }
+}
+
+// Whether `cosign` ends with this status, and what it prints and leaves in the journal is known.
+fn cosigns(
     alloc: Global,
+    desk: &mut Desk,
     status: u8,
     out: (usize, &str),
     journal: (usize, &str),
-) -> Result<Ended, Fail> {
-    Ok(Ended {
-        status,
-        out: (out.0, String::from_str(alloc, out.1)?),
-        journal: (journal.0, String::from_str(alloc, journal.1)?),
-    })
-}
-
-fn cosigned(alloc: Global, desk: &mut Desk) -> Result<Ended, Fail> {
-    let words = owned_words(alloc, "cosign s t")?;
-    let mut out = MemSink::new(alloc, 1000, Vec::new(alloc));
-    let mut err = MemSink::new(alloc, 100, Vec::new(alloc));
-    let status = desk.run(alloc, &words, &mut out, &mut err);
-    Ok(Ended {
-        status,
-        out: known(
-            alloc,
-            if status == 0 {
-                out.taken()
-            } else {
-                err.taken()
-            },
-        )?,
-        journal: known(alloc, desk.bytes("s").unwrap_or(b""))?,
-    })
+) -> Option<bool> {
+    let answer = desk.answer(alloc, "cosign s t").ok()?;
+    let is_left = are_known(alloc, desk.bytes("s").unwrap_or(b""), journal);
+    Some(is_left && answer.status == status && are_known(alloc, printed(&answer), out))
 }
 
 const FIRST: &str = "2baa333c65571523bc7d81699d29d25cfbdbb92da4591e18b076bfa7e144d5ee";
 
 const LAST: &str = "dd2669fe00c057b7fdac02bc6bb90cac4cff762db0887496fff7c8a1b9cdb6af";
+
 // Of the line `mtc: cosign: Exhausted`.
 const EXHAUSTED: &str = "b86cc82da67abdedf6fee20a71fa6a00810bc949aa3bfd7f4e446354f04667ac";
 
@@ -183,86 +165,125 @@ const JOURNAL_OF_1: &str = "53552567265e4339eee4d88ea6a385ee072f40693d3c3baf653c
 
 const JOURNAL_OF_32: &str = "9cae403f8d3fddfbb4d456f9a919814416ad1f10ccc39345a8ab24bd4698a29f";
 
-// A key of height 5 signs 32 times, and each signature has its record. The 33rd is refused.
-#[test]
-fn each_one_time_key_signs_once(rt: HostRuntime) -> Result<(), Fail> {
-    let alloc = rt.alloc();
-    let script = format!(in alloc; "{NAMES}file t ALL\nfile s ADVANCED 00")?;
-    let Some(mut desk) = desk_of(alloc, script.as_str())? else {
-        assert!(rt; false, "the script fails");
-        return Ok(());
-    };
-    let first = cosigned(alloc, &mut desk)?;
-    assert!(rt;
-        first == wanted(alloc, 0, (2359, FIRST), (197, JOURNAL_OF_1))?,
-        "{first:?}"
-    );
-    for _ in 0..30 {
-        cosigned(alloc, &mut desk)?;
+// How many of 30 runs of `cosign` end with the status 0, from the first on.
+fn cosigns_more(alloc: Global, desk: &mut Desk) -> u64 {
+    for count in 0..30 {
+        match desk.answer(alloc, "cosign s t") {
+            Ok(answer) => if answer.status != 0 {
+                return count;
+            },
+            Err(_) => return count,
+        }
     }
-    let last = cosigned(alloc, &mut desk)?;
-    assert!(rt;
-        last == wanted(alloc, 0, (2359, LAST), (2057, JOURNAL_OF_32))?,
-        "{last:?}"
-    );
-    let refused = cosigned(alloc, &mut desk)?;
-    assert!(rt;
-        refused == wanted(alloc, 4, (23, EXHAUSTED), (2057, JOURNAL_OF_32))?,
-        "{refused:?}"
-    );
-    Ok(())
+    30
 }
 
-// The status of a command where a call of its device fails, if it is 5 with nothing out, or 0 with
-// so many bytes out; and if the journal has its old length, or the new one.
+// A room with a cosigner that holds 1,024 entries, and the request for a signature of all.
+fn ready(alloc: Global) -> Option<Desk> {
+    desk_behind(alloc, NAMES, "file t ALL\nfile s ADVANCED 00")
+}
+
+// Whether a key of height 5 signs 32 times, and is refused then.
+fn signs_32_times(alloc: Global, desk: &mut Desk) -> Option<bool> {
+    let first = cosigns(alloc, desk, 0, (2359, FIRST), (197, JOURNAL_OF_1))?;
+    let count = cosigns_more(alloc, desk);
+    let last = cosigns(alloc, desk, 0, (2359, LAST), (2057, JOURNAL_OF_32))?;
+    let refused = cosigns(alloc, desk, 4, (23, EXHAUSTED), (2057, JOURNAL_OF_32))?;
+    Some(first && count == 30 && last && refused)
+}
+
+fn signs_each_once(alloc: Global) -> Option<bool> {
+    let mut desk = ready(alloc)?;
+    signs_32_times(alloc, &mut desk)
+}
+
+// A key of height 5 signs 32 times, and each signature has its record. The 33rd is refused.
+#[test]
+fn each_one_time_key_signs_once(rt: HostRuntime) {
+    assert!(rt; signs_each_once(rt.alloc()) == Some(true));
+}
+
+// The status, if it is 5 with nothing out, or 0 with so many bytes out; and if the journal has its
+// old length, or the new one.
+fn status_of(answer: &Answer, size: usize, [out, old, new]: [usize; 3]) -> Option<u8> {
+    let is_right = match answer.status {
+        0 => answer.out.taken().len() == out && answer.err.taken().is_empty() && size == new,
+        5 => answer.out.taken().is_empty() && answer.err.taken().ends_with(b": s: Failed\n"),
+        _ => false,
+    };
+    if is_right && (size == old || size == new) {
+        Some(answer.status)
+    } else {
+        None
+    }
+}
+
+// The status of a command in a room of which a call of the journal's device fails.
 fn status_with(
+    alloc: Global,
+    desk: &mut Desk,
+    words: &str,
+    call: u64,
+    lengths: [usize; 3],
+) -> Option<u8> {
+    desk.fail(alloc, "s", vec![in alloc; call].ok()?)?;
+    let answer = desk.answer(alloc, words).ok()?;
+    let size = desk.bytes("s").map_or(0, |bytes| bytes.len());
+    status_of(&answer, size, lengths)
+}
+
+// The same in a room that is made anew, with this file for the journal.
+fn status_in(
     alloc: Global,
     words: &str,
     journal: &str,
     call: u64,
     lengths: [usize; 3],
-) -> Result<Option<u8>, Fail> {
-    let script = format!(in alloc;
-        "{NAMES}file t ALL\nfile a TO_1024\nfile s {journal}\nfails {call}"
-    )?;
-    let Some(mut desk) = desk_of(alloc, script.as_str())? else {
-        return Ok(None);
-    };
-    let words = owned_words(alloc, words)?;
-    let mut out = MemSink::new(alloc, 1000, Vec::new(alloc));
-    let mut err = MemSink::new(alloc, 100, Vec::new(alloc));
-    let status = desk.run(alloc, &words, &mut out, &mut err);
-    let [printed, old, new] = lengths;
-    let size = desk.bytes("s").map_or(0, |bytes| bytes.len());
-    let is_right = match status {
-        0 => out.taken().len() == printed && err.taken().is_empty() && size == new,
-        5 => out.taken().is_empty() && err.taken().ends_with(b": s: Failed\n"),
-        _ => false,
-    };
-    let is_known = size == old || size == new;
-    Ok(if is_right && is_known {
-        Some(status)
-    } else {
-        None
-    })
+) -> Option<u8> {
+    let mut desk = desk_behind(alloc, NAMES, journal)?;
+    status_with(alloc, &mut desk, words, call, lengths)
+}
+
+// The first of 16 calls at which a command ends in another way than it has to, where it makes so
+// many.
+fn wrong_call(
+    alloc: Global,
+    words: &str,
+    journal: &str,
+    calls: u64,
+    lengths: [usize; 3],
+) -> Option<u64> {
+    for call in 0..16 {
+        let wanted = if call < calls { 5 } else { 0 };
+        if status_in(alloc, words, journal, call, lengths) != Some(wanted) {
+            return Some(call);
+        }
+    }
+    None
 }
 
 // Four calls open the journal: a sync, the length, the header, and what stands behind it. Four add
 // a record: it is written and synced, and so is its gate. Two copy the only record that `export`
 // shows: its length is read, and then the whole.
 #[test]
-fn a_device_fails_a_cosigner(rt: HostRuntime) -> Result<(), Fail> {
+fn a_device_fails_a_cosigner(rt: HostRuntime) {
     let alloc = rt.alloc();
-    for (words, journal, calls, lengths) in [
-        ("advance s a", "FOUNDED 00", 8, [14, 89, 137]),
-        ("cosign s t", "ADVANCED 00", 8, [2359, 137, 197]),
-        ("export s", "ADVANCED 00", 6, [119, 137, 137]),
-    ] {
-        for call in 0..16 {
-            let wanted = if call < calls { 5 } else { 0 };
-            let status = status_with(alloc, words, journal, call, lengths)?;
-            assert!(rt; status == Some(wanted), "{words}, call {call}: {status:?}");
-        }
-    }
-    Ok(())
+    let wrong = wrong_call(
+        alloc,
+        "advance s a",
+        "file a TO_1024\nfile s FOUNDED 00",
+        8,
+        [14, 89, 137],
+    );
+    assert!(rt; wrong == None, "advance: {wrong:?}");
+    let wrong = wrong_call(
+        alloc,
+        "cosign s t",
+        "file t ALL\nfile s ADVANCED 00",
+        8,
+        [2359, 137, 197],
+    );
+    assert!(rt; wrong == None, "cosign: {wrong:?}");
+    let wrong = wrong_call(alloc, "export s", "file s ADVANCED 00", 6, [119, 137, 137]);
+    assert!(rt; wrong == None, "export: {wrong:?}");
 }

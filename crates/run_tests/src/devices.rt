@@ -1,10 +1,8 @@
 //! What the commands on the journal of a log answer where a call of its device fails.
 
-use crate::desk::Desk;
-use crate::scripts::{Outcome, desk_of, outcome_of, owned_words};
-use mtc_io::MemSink;
+use crate::desk::{Answer, Desk};
+use crate::scripts::{Outcome, desk_behind, outcome_of};
 use std::alloc::Global;
-use std::test::Fail;
 
 const SCRIPT: &str = r#"
 # A new journal, and that with its record's gate closed.
@@ -170,10 +168,9 @@ left j NEW
 "#;
 
 #[test]
-fn devices_fail(rt: HostRuntime) -> Result<(), Fail> {
-    let outcome = outcome_of(rt.alloc(), SCRIPT)?;
-    assert!(rt; outcome == Outcome::Passed(31), "{outcome:?}");
-    Ok(())
+fn devices_fail(rt: HostRuntime) {
+    let outcome = outcome_of(rt.alloc(), SCRIPT);
+    assert!(rt; outcome == Ok(Outcome::Passed(31)), "{outcome:?}");
 }
 
 // A request and a new journal, of which a call fails.
@@ -186,7 +183,9 @@ file r
 file j 6d74632d6a6f75726e616c2f76310a00010000000e010481fd59010000000200000040 00
 "#;
 
-// A command on that journal, its lines, and how long the journal is behind it.
+// A command on that journal, its line, and how long the journal is behind it; where it fails, what
+// it says of that.
+#[derive(Clone, Copy)]
 struct Appending {
     words: &'static str,
     said: &'static [u8],
@@ -194,78 +193,91 @@ struct Appending {
     length: usize,
 }
 
-const APPENDING: [Appending; 2] = [
-    Appending {
-        words: "issue j r",
-        said: b"issued 1\n",
-        failed: b"mtc: issue: j: Failed\n",
-        length: 221,
-    },
-    Appending {
-        words: "landmark j",
-        said: b"landmark 1 1\n",
-        failed: b"mtc: landmark: j: Failed\n",
-        length: 50,
-    },
-];
+const ISSUE: Appending = Appending {
+    words: "issue j r",
+    said: b"issued 1\n",
+    failed: b"mtc: issue: j: Failed\n",
+    length: 221,
+};
+
+const LANDMARK: Appending = Appending {
+    words: "landmark j",
+    said: b"landmark 1 1\n",
+    failed: b"mtc: landmark: j: Failed\n",
+    length: 50,
+};
 
 // The calls of the device: a sync, the length, the header and what stands behind it open the
 // journal; the record is written and synced, and so is its gate.
 const CALLS: u64 = 8;
 
-// Whichever calls of the device fail, the journal has its old records, or these and the new one.
-// The status, where all is as it has to be.
-fn status_of(alloc: Global, appending: &Appending, failing: &[u64]) -> Result<Option<u8>, Fail> {
-    let mut script = format!(in alloc; "{READY}fails")?;
-    for call in failing {
-        let word = format!(in alloc; " {call}")?;
-        script.push_str(word.as_str())?;
-    }
-    let Some(mut desk) = desk_of(alloc, script.as_str())? else {
-        return Ok(None);
-    };
-    let words = owned_words(alloc, appending.words)?;
-    let mut out = MemSink::new(alloc, 100, Vec::new(alloc));
-    let mut err = MemSink::new(alloc, 100, Vec::new(alloc));
-    let status = desk.run(alloc, &words, &mut out, &mut err);
-    let length = desk.bytes("j").map_or(0, |bytes| bytes.len());
-    let said = if status == 5 {
-        out.taken().is_empty() && err.taken() == appending.failed
+// The status, where the answer and the length of the journal are as they have to be: the journal
+// has its old records, or these and the new one.
+fn status_of(answer: &Answer, length: usize, appending: &Appending) -> Option<u8> {
+    let is_said = answer.is(5, b"", appending.failed) || answer.is(0, appending.said, b"");
+    if is_said && (length == 36 || length == appending.length) {
+        Some(answer.status)
     } else {
-        status == 0 && out.taken() == appending.said && err.taken().is_empty()
-    };
-    if said && (length == 36 || length == appending.length) {
-        Ok(Some(status))
-    } else {
-        Ok(None)
+        None
     }
 }
 
-// The calls from this one on, so many of them.
-fn calls_from(alloc: Global, call: u64, count: u64) -> Result<Vec<u64>, Fail> {
-    let mut calls = Vec::new(alloc);
+// The status in a room of which these calls of the journal's device fail.
+fn status_with(
+    alloc: Global,
+    desk: &mut Desk,
+    appending: &Appending,
+    failing: Vec<u64>,
+) -> Option<u8> {
+    desk.fail(alloc, "j", failing)?;
+    let answer = desk.answer(alloc, appending.words).ok()?;
+    let length = desk.bytes("j").map_or(0, |bytes| bytes.len());
+    status_of(&answer, length, appending)
+}
+
+fn put_calls(calls: &mut Vec<u64>, call: u64, count: u64) -> Option<()> {
     for behind in 0..count {
-        calls.push(call.saturating_add(behind))?;
+        calls.push(call.saturating_add(behind)).ok()?;
     }
-    Ok(calls)
+    Some(())
+}
+
+// The calls from this one on, so many of them.
+fn calls_from(alloc: Global, call: u64, count: u64) -> Option<Vec<u64>> {
+    let mut calls = Vec::new(alloc);
+    put_calls(&mut calls, call, count)?;
+    Some(calls)
+}
+
+// The status where so many calls from this one on fail, in a room that is made anew.
+fn status_from(alloc: Global, appending: &Appending, call: u64, count: u64) -> Option<u8> {
+    let mut desk = desk_behind(alloc, READY, "")?;
+    status_with(alloc, &mut desk, appending, calls_from(alloc, call, count)?)
+}
+
+// The first of the calls at which the command ends in another way than it has to, where so many
+// calls fail from there on.
+fn wrong_call(alloc: Global, appending: &Appending, count: u64) -> Option<u64> {
+    for call in 0..2 * CALLS {
+        let wanted = if call < CALLS { 5 } else { 0 };
+        if status_from(alloc, appending, call, count) != Some(wanted) {
+            return Some(call);
+        }
+    }
+    None
 }
 
 // One call fails alone; or the device stops at it, so that none behind it is answered.
 #[test]
-fn a_device_fails_an_append(rt: HostRuntime) -> Result<(), Fail> {
-    for appending in &APPENDING {
-        for call in 0..2 * CALLS {
-            let wanted = if call < CALLS { 5 } else { 0 };
-            for count in [1, 2 * CALLS] {
-                let failing = calls_from(rt.alloc(), call, count)?;
-                let status = status_of(rt.alloc(), appending, failing.as_slice())?;
-                assert!(rt;
-                    status == Some(wanted),
-                    "{}, {count} from {call}",
-                    appending.words
-                );
-            }
+fn a_device_fails_an_append(rt: HostRuntime) {
+    for appending in [ISSUE, LANDMARK] {
+        for count in [1, 2 * CALLS] {
+            let wrong = wrong_call(rt.alloc(), &appending, count);
+            assert!(rt;
+                wrong == None,
+                "{}, {count} from {wrong:?}",
+                appending.words
+            );
         }
     }
-    Ok(())
 }

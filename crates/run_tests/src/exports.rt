@@ -1,8 +1,7 @@
 //! The command `export`, and `init-cosigner` over devices that fail.
 
 use crate::cosigners::NAMES;
-use crate::scripts::{Outcome, outcome_of};
-use std::test::Fail;
+use crate::scripts::{Outcome, outcome_behind};
 
 const EXPORTS: &str = r#"
 # What stands before the records: the two ids and the public key.
@@ -61,11 +60,9 @@ status 2
 "#;
 
 #[test]
-fn exports(rt: HostRuntime) -> Result<(), Fail> {
-    let script = format!(in rt.alloc(); "{NAMES}{EXPORTS}")?;
-    let outcome = outcome_of(rt.alloc(), script.as_str())?;
-    assert!(rt; outcome == Outcome::Passed(8), "{outcome:?}");
-    Ok(())
+fn exports(rt: HostRuntime) {
+    let outcome = outcome_behind(rt.alloc(), NAMES, EXPORTS);
+    assert!(rt; outcome == Ok(Outcome::Passed(8)), "{outcome:?}");
 }
 
 const FRESH: &str = r#"
@@ -125,9 +122,7 @@ status 7
 "#;
 
 #[test]
-fn a_new_device_fails_a_cosigner(rt: HostRuntime) -> Result<(), Fail> {
-    let script = format!(in rt.alloc(); "{NAMES}{FRESH}")?;
-    let outcome = outcome_of(rt.alloc(), script.as_str())?;
-    assert!(rt; outcome == Outcome::Passed(8), "{outcome:?}");
-    Ok(())
+fn a_new_device_fails_a_cosigner(rt: HostRuntime) {
+    let outcome = outcome_behind(rt.alloc(), NAMES, FRESH);
+    assert!(rt; outcome == Ok(Outcome::Passed(8)), "{outcome:?}");
 }

@@ -5,6 +5,8 @@
 #[cfg(test)]
 mod audits;
 #[cfg(test)]
+mod blocks;
+#[cfg(test)]
 mod certificates;
 #[cfg(test)]
 mod cosigners;
@@ -24,6 +26,8 @@ mod marks;
 mod one_file;
 #[cfg(test)]
 mod scripts;
+#[cfg(test)]
+mod texts;
 #[cfg(test)]
 mod tiles;
 #[cfg(test)]

@@ -1,9 +1,8 @@
 //! What the commands on landmarks answer: those that set and list them, and the one that writes
 //! certificates without signatures.
 
-use crate::scripts::{Outcome, outcome_of};
+use crate::scripts::{Outcome, outcome_behind, outcome_of};
 use crate::trust::TABLES;
-use std::test::Fail;
 
 const SCRIPT: &str = r#"
 # The journal of log 32473.1 with 2 active landmarks and at most 64 entries: its header and its
@@ -154,10 +153,9 @@ left j SETTINGS 0100000009030000000000000001 00
 "#;
 
 #[test]
-fn landmarks_are_set_and_listed(rt: HostRuntime) -> Result<(), Fail> {
-    let outcome = outcome_of(rt.alloc(), SCRIPT)?;
-    assert!(rt; outcome == Outcome::Passed(42), "{outcome:?}");
-    Ok(())
+fn landmarks_are_set_and_listed(rt: HostRuntime) {
+    let outcome = outcome_of(rt.alloc(), SCRIPT);
+    assert!(rt; outcome == Ok(Outcome::Passed(42)), "{outcome:?}");
 }
 
 const LIGHT: &str = r#"
@@ -262,9 +260,7 @@ status 4
 "#;
 
 #[test]
-fn certificates_without_signatures(rt: HostRuntime) -> Result<(), Fail> {
-    let script = format!(in rt.alloc(); "{TABLES}{LIGHT}")?;
-    let outcome = outcome_of(rt.alloc(), script.as_str())?;
-    assert!(rt; outcome == Outcome::Passed(31), "{outcome:?}");
-    Ok(())
+fn certificates_without_signatures(rt: HostRuntime) {
+    let outcome = outcome_behind(rt.alloc(), TABLES, LIGHT);
+    assert!(rt; outcome == Ok(Outcome::Passed(31)), "{outcome:?}");
 }

@@ -1,10 +1,9 @@
 //! Words over one file, with streams that fail: what comes of each.
 
 use crate::desk::Desk;
-use crate::scripts::{Outcome, outcome_of, owned_words};
-use mtc_io::{Bytes, MemSink};
+use crate::scripts::{Outcome, outcome_of};
+use mtc_io::Bytes;
 use std::alloc::Global;
-use std::test::Fail;
 
 const SCRIPT: &str = r#"
 # The nodes of a list of eight entries, of which the first is empty and the second is the byte 0:
@@ -280,26 +279,26 @@ status 1
 "#;
 
 #[test]
-fn answers_words_and_a_file(rt: HostRuntime) -> Result<(), Fail> {
-    let outcome = outcome_of(rt.alloc(), SCRIPT)?;
-    assert!(rt; outcome == Outcome::Passed(40), "{outcome:?}");
-    Ok(())
+fn answers_words_and_a_file(rt: HostRuntime) {
+    let outcome = outcome_of(rt.alloc(), SCRIPT);
+    assert!(rt; outcome == Ok(Outcome::Passed(40)), "{outcome:?}");
 }
 
-fn answer_over_the_limit(alloc: Global) -> Result<bool, Fail> {
-    let mut desk = Desk::new(alloc);
-    let bytes = Bytes::from_vec(vec![in alloc; 0; 16_777_217]?);
-    desk.place("f", bytes, Vec::new(alloc))?;
-    let words = owned_words(alloc, "member f")?;
-    let mut out = MemSink::new(alloc, 100, Vec::new(alloc));
-    let mut err = MemSink::new(alloc, 100, Vec::new(alloc));
-    let status = desk.run(alloc, &words, &mut out, &mut err);
-    let line = b"mtc: member: f: TooLong\n".as_slice();
-    Ok(status == 9 && out.taken().is_empty() && err.taken() == line)
+// Puts a file of one byte more than is read in its place.
+fn place_over_the_limit(alloc: Global, desk: &mut Desk) -> Option<()> {
+    let bytes = vec![in alloc; 0; 16_777_217].ok()?;
+    desk.place("f", Bytes::from_vec(bytes), Vec::new(alloc))
+        .ok()
+}
+
+fn answer_over_the_limit(alloc: Global, desk: &mut Desk) -> Option<bool> {
+    place_over_the_limit(alloc, desk)?;
+    let answer = desk.answer(alloc, "member f").ok()?;
+    Some(answer.is(9, b"", b"mtc: member: f: TooLong\n"))
 }
 
 #[test]
-fn refuses_a_file_over_its_limit(rt: HostRuntime) -> Result<(), Fail> {
-    assert!(rt; answer_over_the_limit(rt.alloc())?);
-    Ok(())
+fn refuses_a_file_over_its_limit(rt: HostRuntime) {
+    let mut desk = Desk::new(rt.alloc());
+    assert!(rt; answer_over_the_limit(rt.alloc(), &mut desk) == Some(true));
 }

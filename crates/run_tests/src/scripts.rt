@@ -31,11 +31,12 @@
 //! and in lines `| TEXT`, each of which is a line of text. Those behind `$` are the output.
 //! `|= TEXT` and `!= TEXT` are text without the end of its line.
 
-use crate::desk::Desk;
-use mtc_io::{Bytes, MemSink};
+use crate::blocks::{Begun, Block};
+use crate::desk::{Answer, Desk, sink};
+use crate::texts::{Unread, numbers, owned_words, parted};
+use mtc_io::Bytes;
 use std::alloc::Global;
 use std::mem::replace;
-use std::test::Fail;
 
 /// How a script ended: so many runs did what it says, or it failed in the lines up to this one.
 #[derive(Clone, Copy, Debug, PartialEq, Eq)]
@@ -44,79 +45,89 @@ pub enum Outcome {
     FailedBefore(u64),
 }
 
-// What the bytes of the next lines are for.
+// A name, and the bytes for which it stands.
 #[derive(Drop)]
-enum Begun {
-    Nothing,
-    Name(String),
-    File(String),
-    Left(String),
-    Run,
-    Kept(String),
+struct Named {
+    name: String,
+    bytes: Vec<u8>,
 }
 
-// What a run answers.
+// The streams of the next run: how many bytes a call its output takes, and which calls fail.
 #[derive(Drop)]
-struct Answer {
+struct Streams {
+    takes: usize,
+    out_fails: Vec<u64>,
+    err_fails: Vec<u64>,
+}
+
+// What the last run answered, and which status and which lines of an error are wanted of it.
+#[derive(Drop)]
+struct Ran {
+    answer: Answer,
     status: u8,
-    out: Vec<u8>,
     err: Vec<u8>,
-}
-
-impl Answer {
-    fn new(alloc: Global) -> Answer {
-        Answer {
-            status: 0,
-            out: Vec::new(alloc),
-            err: Vec::new(alloc),
-        }
-    }
-
-    fn is(&self, other: &Answer) -> bool {
-        self.status == other.status && self.out == other.out && self.err == other.err
-    }
 }
 
 #[derive(Drop)]
 struct Script {
     alloc: Global,
-    names: Vec<(String, Vec<u8>)>,
+    names: Vec<Named>,
     desk: Desk,
-    begun: Begun,
-    bytes: Vec<u8>,
-    failing: Vec<u64>,
-    takes: usize,
-    out_fails: Vec<u64>,
-    err_fails: Vec<u64>,
-    wanted: Answer,
-    found: Answer,
+    block: Block,
+    streams: Streams,
+    ran: Ran,
     runs: u64,
 }
 
-// The first word of a line, and what stands behind the blank after it.
-fn parted(line: &str) -> (&str, &str) {
-    match line.split_once(' ') {
-        Some(parts) => parts,
-        None => (line, ""),
+// The bytes that a name stands for.
+fn known<'a>(names: &'a [Named], word: &str) -> Option<&'a [u8]> {
+    for named in names {
+        if named.name.as_str() == word {
+            return Some(named.bytes.as_slice());
+        }
+    }
+    None
+}
+
+impl Streams {
+    fn new(alloc: Global) -> Streams {
+        Streams {
+            takes: 100,
+            out_fails: Vec::new(alloc),
+            err_fails: Vec::new(alloc),
+        }
     }
 }
 
-/// The words of a text, as the program gets them; '' is an empty one.
-pub fn owned_words(alloc: Global, text: &str) -> Result<Vec<String>, Fail> {
-    let mut words = Vec::new(alloc);
-    for word in text.split_whitespace() {
-        let word = if word == "''" { "" } else { word };
-        words.push(String::from_str(alloc, word)?)?;
+impl Ran {
+    // Before the first run.
+    fn new(alloc: Global) -> Ran {
+        Ran {
+            answer: Answer {
+                status: 0,
+                out: sink(alloc, 1, Vec::new(alloc)),
+                err: sink(alloc, 1, Vec::new(alloc)),
+            },
+            status: 0,
+            err: Vec::new(alloc),
+        }
     }
-    Ok(words)
-}
 
-fn numbers(alloc: Global, text: &str) -> Result<Vec<u64>, Fail> {
-    let mut numbers = Vec::new(alloc);
-    for word in text.split_whitespace() {
-        numbers.push(word.parse::<u64>()?)?;
+    fn want_error(&mut self, text: &str, end: &str) -> Option<bool> {
+        self.err.extend_from_slice(text.as_bytes()).ok()?;
+        self.err.extend_from_slice(end.as_bytes()).ok()?;
+        Some(true)
     }
-    Ok(numbers)
+
+    // Whether the run answered as is wanted, with this output.
+    fn is(&self, out: &[u8]) -> bool {
+        self.answer.is(self.status, out, self.err.as_slice())
+    }
+
+    // The same with any output.
+    fn ended(&self) -> bool {
+        self.is(self.answer.out.taken())
+    }
 }
 
 fn new_script(alloc: Global) -> Script {
@@ -124,153 +135,121 @@ fn new_script(alloc: Global) -> Script {
         alloc,
         names: Vec::new(alloc),
         desk: Desk::new(alloc),
-        begun: Begun::Nothing,
-        bytes: Vec::new(alloc),
-        failing: Vec::new(alloc),
-        takes: 100,
-        out_fails: Vec::new(alloc),
-        err_fails: Vec::new(alloc),
-        wanted: Answer::new(alloc),
-        found: Answer::new(alloc),
+        block: Block::new(alloc),
+        streams: Streams::new(alloc),
+        ran: Ran::new(alloc),
         runs: 0,
     }
 }
 
+// Where a line can't be read, or memory is refused, its helpers answer none; and else whether all
+// is as the line says.
 impl Script {
     // Appends what a name stands for, or what a word spells in hexadecimal.
-    fn append_word(&mut self, word: &str) -> Result<(), Fail> {
-        for (name, bytes) in &self.names {
-            if name.as_str() == word {
-                self.bytes.extend_from_slice(bytes.as_slice())?;
-                return Ok(());
-            }
+    fn append_word(&mut self, word: &str) -> Option<bool> {
+        match known(self.names.as_slice(), word) {
+            Some(bytes) => self.block.append(bytes),
+            None => self.block.append_spelled(word),
         }
-        let bytes = hex::decode(self.alloc, word)?;
-        self.bytes.extend_from_slice(bytes.as_slice())?;
-        Ok(())
     }
 
-    fn append(&mut self, words: &str) -> Result<bool, Fail> {
+    fn append(&mut self, words: &str) -> Option<bool> {
         for word in words.split_whitespace() {
             self.append_word(word)?;
         }
-        Ok(true)
+        Some(true)
     }
 
     // So many times the same bytes: `N BYTES`.
-    fn append_times(&mut self, words: &str) -> Result<bool, Fail> {
+    fn append_times(&mut self, words: &str) -> Option<bool> {
         let (count, bytes) = parted(words);
-        for _ in 0..count.parse::<u64>()? {
+        for _ in 0..count.parse::<u64>().ok()? {
             self.append(bytes)?;
         }
-        Ok(true)
+        Some(true)
     }
 
-    fn append_text(&mut self, text: &str, end: &str) -> Result<bool, Fail> {
-        self.bytes.extend_from_slice(text.as_bytes())?;
-        self.bytes.extend_from_slice(end.as_bytes())?;
-        Ok(true)
+    fn end_name(&mut self) -> Option<bool> {
+        let name = self.block.take_name();
+        let bytes = self.block.take();
+        self.names.push(Named { name, bytes }).ok()?;
+        Some(true)
     }
 
-    fn want_error(&mut self, text: &str, end: &str) -> Result<bool, Fail> {
-        self.wanted.err.extend_from_slice(text.as_bytes())?;
-        self.wanted.err.extend_from_slice(end.as_bytes())?;
-        Ok(true)
+    // A file that has the bytes and fails the calls of the block.
+    fn end_file(&mut self) -> Option<bool> {
+        let bytes = Bytes::from_vec(self.block.take());
+        let failing = self.block.take_failing();
+        self.desk
+            .place(self.block.name.as_str(), bytes, failing)
+            .ok()?;
+        Some(true)
     }
 
-    // Another byte at a place: `N HEX`.
-    fn change(&mut self, words: &str) -> Result<bool, Fail> {
-        let (place, digits) = parted(words);
-        let new = hex::decode(self.alloc, digits)?;
-        match (self.bytes.get_mut(place.parse::<usize>()?), new.first()) {
-            (Some(old), Some(byte)) => {
-                *old = *byte;
-                Ok(new.len() == 1)
-            }
-            _ => Ok(false),
-        }
+    fn end_left(&mut self) -> bool {
+        let bytes = self.block.take();
+        self.desk.bytes(self.block.name.as_str()) == Some(bytes.as_slice())
     }
 
-    fn cut(&mut self, length: usize) -> Result<bool, Fail> {
-        let is_longer = length < self.bytes.len();
-        self.bytes.truncate(length);
-        Ok(is_longer)
+    fn end_run(&mut self) -> bool {
+        let out = self.block.take();
+        self.runs = self.runs.saturating_add(1);
+        self.ran.is(out.as_slice())
+    }
+
+    // Makes a file of what the run wrote behind the bytes: whether it ended as is wanted.
+    fn end_kept(&mut self) -> Option<bool> {
+        self.block.append(self.ran.answer.out.taken())?;
+        self.end_file()?;
+        self.runs = self.runs.saturating_add(1);
+        Some(self.ran.ended())
     }
 
     // Ends what was begun: whether it is as the script says.
-    fn end(&mut self) -> Result<bool, Fail> {
-        let bytes = replace(&mut self.bytes, Vec::new(self.alloc));
-        let failing = replace(&mut self.failing, Vec::new(self.alloc));
-        match replace(&mut self.begun, Begun::Nothing) {
-            Begun::Nothing => Ok(bytes.is_empty()),
-            Begun::Name(name) => {
-                self.names.push((name, bytes))?;
-                Ok(true)
-            }
-            Begun::File(name) => {
-                let bytes = Bytes::from_vec(bytes);
-                self.desk.place(name.as_str(), bytes, failing)?;
-                Ok(true)
-            }
-            Begun::Left(name) => Ok(self.desk.bytes(name.as_str()) == Some(bytes.as_slice())),
-            Begun::Run => {
-                self.wanted.out = bytes;
-                self.runs = self.runs.saturating_add(1);
-                Ok(self.found.is(&self.wanted))
-            }
-            Begun::Kept(name) => self.keep(name.as_str(), bytes),
+    fn end(&mut self) -> Option<bool> {
+        let begun = self.block.begun;
+        self.block.begun = Begun::Nothing;
+        match begun {
+            Begun::Nothing => Some(self.block.bytes.is_empty()),
+            Begun::Name => self.end_name(),
+            Begun::File => self.end_file(),
+            Begun::Left => Some(self.end_left()),
+            Begun::Run => Some(self.end_run()),
+            Begun::Kept => self.end_kept(),
         }
     }
 
-    // Makes a file of what the run wrote behind these bytes: whether it ended as is wanted.
-    fn keep(&mut self, name: &str, mut bytes: Vec<u8>) -> Result<bool, Fail> {
-        bytes.extend_from_slice(self.found.out.as_slice())?;
-        let bytes = Bytes::from_vec(bytes);
-        self.desk.place(name, bytes, Vec::new(self.alloc))?;
-        self.runs = self.runs.saturating_add(1);
-        Ok(self.found.status == self.wanted.status && self.found.err == self.wanted.err)
+    // What a run with these words answers over the streams that were set.
+    fn answer(&mut self, words: &[String]) -> Answer {
+        let streams = replace(&mut self.streams, Streams::new(self.alloc));
+        let out = sink(self.alloc, streams.takes, streams.out_fails);
+        let err = sink(self.alloc, 100, streams.err_fails);
+        self.desk.run_over(self.alloc, words, out, err)
     }
 
-    fn run(&mut self, words: &str) -> Result<bool, Fail> {
-        let words = owned_words(self.alloc, words)?;
-        let out_fails = replace(&mut self.out_fails, Vec::new(self.alloc));
-        let err_fails = replace(&mut self.err_fails, Vec::new(self.alloc));
-        let mut out = MemSink::new(self.alloc, self.takes.max(1), out_fails);
-        let mut err = MemSink::new(self.alloc, 100, err_fails);
-        self.wanted = Answer::new(self.alloc);
-        self.takes = 100;
-        self.found = Answer {
-            status: self
-                .desk
-                .run(self.alloc, words.as_slice(), &mut out, &mut err),
-            out: Vec::from_slice(self.alloc, out.taken())?,
-            err: Vec::from_slice(self.alloc, err.taken())?,
-        };
-        self.begun = Begun::Run;
-        Ok(true)
+    fn run(&mut self, words: &str) -> Option<bool> {
+        let words = owned_words(self.alloc, words).ok()?;
+        self.ran.answer = self.answer(words.as_slice());
+        self.ran.status = 0;
+        self.ran.err.truncate(0);
+        self.block.begun = Begun::Run;
+        Some(true)
     }
 
     // Begins what goes on in the next lines.
-    fn begin(&mut self, what: &str, words: &str) -> Result<bool, Fail> {
+    fn begin(&mut self, begun: Begun, words: &str) -> Option<bool> {
         let (name, bytes) = parted(words);
-        let name = String::from_str(self.alloc, name)?;
-        self.begun = match what {
-            "name" => Begun::Name(name),
-            "file" => Begun::File(name),
-            "left" => Begun::Left(name),
-            _ => return Ok(false),
-        };
+        self.block.begin(begun, name)?;
         self.append(bytes)
     }
 
     // Begins with what a file holds.
-    fn begin_again(&mut self, name: &str) -> Result<bool, Fail> {
-        let Some(bytes) = self.desk.bytes(name) else {
-            return Ok(false);
+    fn begin_again(&mut self, name: &str) -> Option<bool> {
+        match self.desk.bytes(name) {
+            Some(bytes) => self.block.append(bytes)?,
+            None => return Some(false),
         };
-        self.bytes.extend_from_slice(bytes)?;
-        self.begun = Begun::File(String::from_str(self.alloc, name)?);
-        Ok(true)
+        self.block.begin(Begun::File, name)
     }
 
     // Whether two files hold the same.
@@ -283,117 +262,126 @@ impl Script {
     }
 
     // Whether a file holds so many bytes: `F N`.
-    fn has_length(&self, words: &str) -> Result<bool, Fail> {
+    fn has_length(&self, words: &str) -> Option<bool> {
         let (name, length) = parted(words);
-        let length = length.parse::<usize>()?;
-        Ok(self.desk.bytes(name).map(|bytes| bytes.len()) == Some(length))
+        let length = length.parse::<usize>().ok()?;
+        match self.desk.bytes(name) {
+            Some(bytes) => Some(bytes.len() == length),
+            None => Some(false),
+        }
     }
 
-    // The output of the run that was begun is kept.
-    fn keep_into(&mut self, words: &str) -> Result<bool, Fail> {
-        let (name, bytes) = parted(words);
-        self.begun = Begun::Kept(String::from_str(self.alloc, name)?);
-        self.append(bytes)
+    fn fail_fresh(&mut self, words: &str) -> Option<bool> {
+        self.desk.fail_fresh(numbers(self.alloc, words)?);
+        Some(true)
+    }
+
+    // A line behind the end of what was begun.
+    fn start(&mut self, what: &str, words: &str) -> Option<bool> {
+        match what {
+            "case" => self.desk = Desk::new(self.alloc),
+            "toy" => self.desk.use_toy(),
+            "fresh" => return self.fail_fresh(words),
+            "$" => return self.run(words),
+            "again" => return self.begin_again(words),
+            "same" => return Some(self.are_same(words)),
+            "length" => return self.has_length(words),
+            "gone" => return Some(self.desk.bytes(words).is_none()),
+            "name" => return self.begin(Begun::Name, words),
+            "file" => return self.begin(Begun::File, words),
+            "left" => return self.begin(Begun::Left, words),
+            _ => return Some(false),
+        }
+        Some(true)
     }
 
     // A line that ends what was begun.
-    fn start(&mut self, what: &str, words: &str) -> Result<bool, Fail> {
-        if !self.end()? {
-            return Ok(false);
-        }
-        match what {
-            "case" => {
-                self.desk = Desk::new(self.alloc);
-                Ok(true)
-            }
-            "fresh" => {
-                self.desk.fail_fresh(numbers(self.alloc, words)?);
-                Ok(true)
-            }
-            "toy" => {
-                self.desk.use_toy();
-                Ok(true)
-            }
-            "$" => self.run(words),
-            "again" => self.begin_again(words),
-            "same" => Ok(self.are_same(words)),
-            "length" => self.has_length(words),
-            "gone" => Ok(self.desk.bytes(words).is_none()),
-            _ => self.begin(what, words),
+    fn start_behind(&mut self, what: &str, words: &str) -> Option<bool> {
+        if self.end()? {
+            self.start(what, words)
+        } else {
+            Some(false)
         }
     }
 
     // A line that says how streams and files behave.
-    fn set(&mut self, what: &str, words: &str) -> Result<bool, Fail> {
+    fn set(&mut self, what: &str, words: &str) -> Option<bool> {
         match what {
-            "cut" => return self.cut(words.parse::<usize>()?),
-            "fails" => self.failing = numbers(self.alloc, words)?,
-            "takes" => self.takes = words.parse::<usize>()?,
-            "out-fails" => self.out_fails = numbers(self.alloc, words)?,
-            "err-fails" => self.err_fails = numbers(self.alloc, words)?,
-            "status" => self.wanted.status = words.parse::<u8>()?,
-            _ => return self.start(what, words),
+            "fails" => self.block.failing = numbers(self.alloc, words)?,
+            "takes" => self.streams.takes = words.parse::<usize>().ok()?,
+            "out-fails" => self.streams.out_fails = numbers(self.alloc, words)?,
+            "err-fails" => self.streams.err_fails = numbers(self.alloc, words)?,
+            "status" => self.ran.status = words.parse::<u8>().ok()?,
+            _ => return self.start_behind(what, words),
         }
-        Ok(true)
+        Some(true)
     }
 
-    // Whether a line that says more of a run, or of a file, stands behind one.
-    fn is_in_place(&self, what: &str) -> bool {
+    // A line that says more of what was begun.
+    fn go_on(&mut self, what: &str, words: &str) -> Option<bool> {
         match what {
-            "status" | "!" | "!=" | ">" => matches!(self.begun, Begun::Run),
-            "fails" => matches!(self.begun, Begun::File(_)),
-            _ => true,
-        }
-    }
-
-    fn line(&mut self, line: &str) -> Result<bool, Fail> {
-        let (what, words) = parted(line);
-        if !self.is_in_place(what) {
-            return Ok(false);
-        }
-        match what {
-            "#" => Ok(true),
+            "#" => Some(true),
             "" => self.append(words),
             "times" => self.append_times(words),
-            "|" => self.append_text(words, "\n"),
-            "|=" => self.append_text(words, ""),
-            "!" => self.want_error(words, "\n"),
-            "!=" => self.want_error(words, ""),
-            ">" => self.keep_into(words),
-            "byte" => self.change(words),
+            "|" => self.block.append_text(words, "\n"),
+            "|=" => self.block.append_text(words, ""),
+            "byte" => self.block.change(words),
+            "cut" => self.block.cut(words),
+            "!" => self.ran.want_error(words, "\n"),
+            "!=" => self.ran.want_error(words, ""),
+            ">" => self.begin(Begun::Kept, words),
             _ => self.set(what, words),
         }
     }
-}
 
-// A script that was run; or how it failed.
-fn played(alloc: Global, text: &str) -> Result<Result<Script, Outcome>, Fail> {
-    let mut script = new_script(alloc);
-    let mut number = 0u64;
-    for line in text.lines() {
-        number = number.saturating_add(1);
-        if !script.line(line)? {
-            return Ok(Err(Outcome::FailedBefore(number)));
+    fn line(&mut self, line: &str) -> Option<bool> {
+        let (what, words) = parted(line);
+        if self.block.is_in_place(what) {
+            self.go_on(what, words)
+        } else {
+            Some(false)
         }
     }
-    if script.end()? {
-        Ok(Ok(script))
-    } else {
-        Ok(Err(Outcome::FailedBefore(number)))
+
+    // Does what a text says.
+    fn play(&mut self, text: &str) -> Option<Outcome> {
+        let mut number = 0u64;
+        for line in text.lines() {
+            number = number.saturating_add(1);
+            if !self.line(line)? {
+                return Some(Outcome::FailedBefore(number));
+            }
+        }
+        Some(if self.end()? {
+            Outcome::Passed(self.runs)
+        } else {
+            Outcome::FailedBefore(number)
+        })
     }
 }
 
 /// How a script ends.
-pub fn outcome_of(alloc: Global, text: &str) -> Result<Outcome, Fail> {
-    match played(alloc, text)? {
-        Ok(script) => Ok(Outcome::Passed(script.runs)),
-        Err(outcome) => Ok(outcome),
+pub fn outcome_of(alloc: Global, text: &str) -> Result<Outcome, Unread> {
+    let mut script = new_script(alloc);
+    script.play(text).ok_or(Unread)
+}
+
+/// How a script ends that goes on behind the names of another one.
+pub fn outcome_behind(alloc: Global, names: &str, text: &str) -> Result<Outcome, Unread> {
+    let mut script = new_script(alloc);
+    match script.play(names) {
+        Some(Outcome::Passed(_)) => script.play(text).ok_or(Unread),
+        _ => Err(Unread),
     }
 }
 
-/// The room that a script leaves, where it passes.
-pub fn desk_of(alloc: Global, text: &str) -> Result<Option<Desk>, Fail> {
-    Ok(played(alloc, text)?.ok().map(|script| script.desk))
+/// The room that a script leaves behind the names of another one, where both pass.
+pub fn desk_behind(alloc: Global, names: &str, text: &str) -> Option<Desk> {
+    let mut script = new_script(alloc);
+    match (script.play(names), script.play(text)) {
+        (Some(Outcome::Passed(_)), Some(Outcome::Passed(_))) => Some(script.desk),
+        _ => None,
+    }
 }
 
 // Scripts that fail in their last line: another status, no line of an error, an output that isn't
@@ -416,13 +404,12 @@ const WRONG: [&str; 12] = [
 ];
 
 #[test]
-fn wrong_scripts_fail(rt: HostRuntime) -> Result<(), Fail> {
+fn wrong_scripts_fail(rt: HostRuntime) {
     for script in WRONG {
         let last = script.lines().count() as u64;
         assert!(rt;
-            outcome_of(rt.alloc(), script)? == Outcome::FailedBefore(last),
+            outcome_of(rt.alloc(), script) == Ok(Outcome::FailedBefore(last)),
             "{script}"
         );
     }
-    Ok(())
 }

@@ -1,8 +1,8 @@
 //! What `tile` answers, and what the commands on a log answer to the file of its tiles.
 
-use crate::scripts::{Outcome, outcome_of};
+use crate::scripts::{Outcome, outcome_behind};
+use crate::texts::Unread;
 use std::alloc::Global;
-use std::test::Fail;
 
 // The journal of log 32473.1 with 2 active landmarks and at most 1,024 entries, its header and its
 // first record without the gate behind it; the record of an entry; and that of 256 stored tiles'
@@ -146,62 +146,71 @@ length n.tiles 8192
 "#;
 
 #[test]
-fn tiles_are_stored_beside_a_log(rt: HostRuntime) -> Result<(), Fail> {
-    let script = format!(in rt.alloc(); "{NAMES}{STORED}")?;
-    let outcome = outcome_of(rt.alloc(), script.as_str())?;
-    assert!(rt; outcome == Outcome::Passed(25), "{outcome:?}");
-    Ok(())
+fn tiles_are_stored_beside_a_log(rt: HostRuntime) {
+    let outcome = outcome_behind(rt.alloc(), NAMES, STORED);
+    assert!(rt; outcome == Ok(Outcome::Passed(25)), "{outcome:?}");
 }
 
-// What comes before the run in which a call of the file of tiles fails, the words of this run, what
-// it prints where none fails, and how many calls it makes: tiles are settled, written and settled;
-// or their file's length and a tile are read, and the tile once more for a path.
-const FAILING: [(&str, &str, &str, u64); 3] = [
-    ("file j.tiles", "tile j", "| tiled 256", 3),
-    (
-        "$ tile j\n| tiled 256\nagain j.tiles",
-        "cert j 1 0 256 none",
-        "> c",
-        3,
-    ),
-    (
-        "$ tile j\n| tiled 256\nagain j.tiles",
-        "issue j r",
-        "| issued 256",
-        2,
-    ),
-];
+// A case is what comes before the run in which a call of the file of tiles fails, the words of this
+// run, and what it prints where none fails.
+type Case = (&'static str, &'static str, &'static str);
 
-// How a command ends where a call of the file of tiles fails, and where none fails any more.
-fn failed(
-    alloc: Global,
-    (before, words, printed, calls): (&str, &str, &str, u64),
-    call: u64,
-) -> Result<Outcome, Fail> {
+const TILE: Case = ("file j.tiles", "tile j", "| tiled 256");
+
+const CERT: Case = (
+    "$ tile j\n| tiled 256\nagain j.tiles",
+    "cert j 1 0 256 none",
+    "> c",
+);
+
+const ISSUE: Case = (
+    "$ tile j\n| tiled 256\nagain j.tiles",
+    "issue j r",
+    "| issued 256",
+);
+
+// The script of a case where a call fails, and the run is made once more.
+fn failing(alloc: Global, (before, words, printed): Case, call: u64) -> Option<String> {
     let command = words.split_once(' ').map_or(words, |parts| parts.0);
-    let script = if call < calls {
-        format!(in alloc;
-            "{NAMES}{before}\nfails {call}\n$ {words}\nstatus 5\n\
-             ! mtc: {command}: j.tiles: Failed\n$ {words}\n{printed}\n"
-        )?
-    } else {
-        format!(in alloc; "{NAMES}{before}\nfails {call}\n$ {words}\n{printed}\n")?
-    };
-    outcome_of(alloc, script.as_str())
+    format!(in alloc;
+        "{before}\nfails {call}\n$ {words}\nstatus 5\n\
+         ! mtc: {command}: j.tiles: Failed\n$ {words}\n{printed}\n"
+    )
+    .ok()
 }
 
-#[test]
-fn a_file_of_tiles_fails(rt: HostRuntime) -> Result<(), Fail> {
-    for case in FAILING {
-        let runs = if case.0.starts_with('$') { 1 } else { 0 };
-        for call in 0..case.3.saturating_add(1) {
-            let wanted = if call < case.3 { runs + 2 } else { runs + 1 };
-            assert!(rt;
-                failed(rt.alloc(), case, call)? == Outcome::Passed(wanted),
-                "{} at {call}",
-                case.1
-            );
+// The same where none fails any more.
+fn passing(alloc: Global, (before, words, printed): Case, call: u64) -> Option<String> {
+    format!(in alloc; "{before}\nfails {call}\n$ {words}\n{printed}\n").ok()
+}
+
+fn outcome(alloc: Global, script: Option<String>) -> Result<Outcome, Unread> {
+    match script {
+        Some(script) => outcome_behind(alloc, NAMES, script.as_str()),
+        None => Err(Unread),
+    }
+}
+
+// The first call at which a case ends in another way than it has to, of so many and one more.
+fn wrong_call(alloc: Global, case: Case, calls: u64) -> Option<u64> {
+    let runs = if case.0.starts_with('$') { 1 } else { 0 };
+    for call in 0..calls {
+        if outcome(alloc, failing(alloc, case, call)) != Ok(Outcome::Passed(runs + 2)) {
+            return Some(call);
         }
     }
-    Ok(())
+    if outcome(alloc, passing(alloc, case, calls)) != Ok(Outcome::Passed(runs + 1)) {
+        return Some(calls);
+    }
+    None
+}
+
+// Tiles are settled, written and settled; or their file's length and a tile are read, and the tile
+// once more for a path.
+#[test]
+fn a_file_of_tiles_fails(rt: HostRuntime) {
+    for (case, calls) in [(TILE, 3), (CERT, 3), (ISSUE, 2)] {
+        let wrong = wrong_call(rt.alloc(), case, calls);
+        assert!(rt; wrong == None, "{} at {wrong:?}", case.1);
+    }
 }

@@ -1,10 +1,9 @@
 //! The stores that trust the subtrees of landmarks.
 
-use crate::desk::Desk;
-use crate::scripts::{Outcome, outcome_of, owned_words};
-use mtc_io::{Bytes, MemSink};
+use crate::desk::{Answer, Desk};
+use crate::scripts::{Outcome, outcome_behind};
+use mtc_io::{Bytes, Memory};
 use std::alloc::Global;
-use std::test::Fail;
 
 /// What landmarks at the sizes 5 and 9 make trusted, as TABLES.
 pub(crate) const TABLES: &str = r#"
@@ -266,49 +265,82 @@ $ verify cert store 1767225600
 "#;
 
 #[test]
-fn subtrees_of_landmarks_are_trusted(rt: HostRuntime) -> Result<(), Fail> {
+fn subtrees_of_landmarks_are_trusted(rt: HostRuntime) {
     for (script, runs) in [(SCRIPT, 18), (COVERED, 30)] {
-        let whole = format!(in rt.alloc(); "{TABLES}{script}")?;
-        let outcome = outcome_of(rt.alloc(), whole.as_str())?;
-        assert!(rt; outcome == Outcome::Passed(runs), "{outcome:?}");
+        let outcome = outcome_behind(rt.alloc(), TABLES, script);
+        assert!(rt; outcome == Ok(Outcome::Passed(runs)), "{outcome:?}");
     }
-    Ok(())
 }
 
 // The hash of an entry of no bytes.
 const EMPTY_LEAF: &str = "6e340b9cffb37a989ca544e6bb780a2c78901d3fb33738768511a30617afa01d";
 
-// A list of 10,000 active landmarks, one behind each entry of no bytes, and what it trusts.
-fn long_list(alloc: Global) -> Result<(String, String), Fail> {
-    let mut list = String::new(alloc);
-    let mut tables = String::new(alloc);
-    write!(list, "10000 10000\n10000\n")?;
+// Writes a list of 10,000 active landmarks, one behind each entry of no bytes.
+fn write_list(list: &mut String) -> Option<()> {
+    write!(list, "10000 10000\n10000\n").ok()?;
     for number in 0..10_000u64 {
-        write!(list, "{}\n", 9_999u64.saturating_sub(number))?;
+        write!(list, "{}\n", 9_999u64.saturating_sub(number)).ok()?;
+    }
+    Some(())
+}
+
+// Writes what it trusts.
+fn write_tables(tables: &mut String) -> Option<()> {
+    for number in 0..10_000u64 {
         let end = number.saturating_add(1);
         write!(
             tables,
             "[[subtree]]\nstart = {number}\nend = {end}\nhash = \"{EMPTY_LEAF}\"\n\n"
-        )?;
+        )
+        .ok()?;
     }
-    Ok((list, tables))
+    Some(())
+}
+
+// Puts 10,000 items of no bytes behind the bytes.
+fn put_items(bytes: &mut Bytes) -> Result<(), Memory> {
+    for _ in 0..10_000 {
+        bytes.append(&[0, 0, 0, 0])?;
+    }
+    Ok(())
+}
+
+// Puts the list in its place.
+fn place_list(alloc: Global, desk: &mut Desk) -> Option<()> {
+    let mut list = String::new(alloc);
+    write_list(&mut list)?;
+    desk.place("l", Bytes::from_vec(list.into_bytes()), Vec::new(alloc))
+        .ok()
+}
+
+// Puts the entries in their place.
+fn place_entries(alloc: Global, desk: &mut Desk) -> Option<()> {
+    let mut entries = Bytes::new(alloc);
+    put_items(&mut entries).ok()?;
+    desk.place("e", entries, Vec::new(alloc)).ok()
+}
+
+// What is answered to them.
+fn answer(alloc: Global, desk: &mut Desk) -> Option<Answer> {
+    place_list(alloc, desk)?;
+    place_entries(alloc, desk)?;
+    desk.answer(alloc, "trust-landmarks l 10000 e").ok()
+}
+
+// Whether what the list trusts is answered.
+fn is_trusted(alloc: Global, answer: &Answer) -> bool {
+    let mut tables = String::new(alloc);
+    let is_written = write_tables(&mut tables).is_some();
+    is_written && answer.is(0, tables.as_bytes(), b"")
+}
+
+fn is_long_list_trusted(alloc: Global) -> Option<bool> {
+    let mut desk = Desk::new(alloc);
+    let answer = answer(alloc, &mut desk)?;
+    Some(is_trusted(alloc, &answer))
 }
 
 #[test]
-fn a_long_list_is_trusted(rt: HostRuntime) -> Result<(), Fail> {
-    let alloc = rt.alloc();
-    let (list, tables) = long_list(alloc)?;
-    let mut desk = Desk::new(alloc);
-    let mut entries = Bytes::new(alloc);
-    for _ in 0..10_000 {
-        entries.append(&[0, 0, 0, 0])?;
-    }
-    desk.place("l", Bytes::from_vec(list.into_bytes()), Vec::new(alloc))?;
-    desk.place("e", entries, Vec::new(alloc))?;
-    let words = owned_words(alloc, "trust-landmarks l 10000 e")?;
-    let mut out = MemSink::new(alloc, 1_000_000, Vec::new(alloc));
-    let mut err = MemSink::new(alloc, 100, Vec::new(alloc));
-    let status = desk.run(alloc, words.as_slice(), &mut out, &mut err);
-    assert!(rt; status == 0 && out.taken() == tables.as_bytes());
-    Ok(())
+fn a_long_list_is_trusted(rt: HostRuntime) {
+    assert!(rt; is_long_list_trusted(rt.alloc()) == Some(true));
 }

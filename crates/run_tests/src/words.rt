@@ -1,9 +1,8 @@
 //! Words that are no command, by their first fault.
 
-use crate::scripts::owned_words;
+use crate::texts::owned_words;
 use mtc_words::{Command, WordError, read_words};
 use std::alloc::Global;
-use std::test::Fail;
 
 // Words, '' for an empty one, and the fault with its numbers.
 const CASES: &str = "\
@@ -63,12 +62,12 @@ cert j 1 0 x s.tiles => BadNumber 4
 ";
 
 // The fault that is meant; its first number is 0 where it has none.
-fn fault_in(text: &str) -> Result<Option<WordError>, Fail> {
+fn fault_in(text: &str) -> Option<WordError> {
     let mut words = text.split_whitespace();
-    let name = words.next().unwrap_or("");
-    let first = words.next().unwrap_or("0").parse::<usize>()?;
-    let second = words.next().unwrap_or("0").parse::<usize>()?;
-    Ok(match name {
+    let name = words.next()?;
+    let first = words.next().unwrap_or("0").parse::<usize>().ok()?;
+    let second = words.next().unwrap_or("0").parse::<usize>().ok()?;
+    match name {
         "NoCommand" => Some(WordError::NoCommand),
         "UnknownCommand" => Some(WordError::UnknownCommand),
         "BadWord" => Some(WordError::BadWord(first)),
@@ -80,45 +79,39 @@ fn fault_in(text: &str) -> Result<Option<WordError>, Fail> {
             want: second,
         }),
         _ => None,
-    })
-}
-
-fn fault_of(alloc: Global, texts: &str) -> Result<Option<WordError>, Fail> {
-    let words = owned_words(alloc, texts)?;
-    Ok(read_words(alloc, &words).err())
-}
-
-fn is_refused(alloc: Global, line: &str) -> Result<bool, Fail> {
-    match line.split_once("=>") {
-        Some((words, fault)) => {
-            let wanted = fault_in(fault)?;
-            Ok(wanted.is_some() && fault_of(alloc, words)? == wanted)
-        }
-        None => Ok(false),
     }
 }
 
-fn is_member_of_f(alloc: Global) -> Result<bool, Fail> {
-    let words = owned_words(alloc, "member f")?;
+fn fault_of(alloc: Global, text: &str) -> Option<WordError> {
+    let words = owned_words(alloc, text).ok()?;
+    read_words(alloc, &words).err()
+}
+
+fn is_refused(alloc: Global, line: &str) -> Option<bool> {
+    let (words, fault) = line.split_once("=>")?;
+    let wanted = fault_in(fault)?;
+    Some(fault_of(alloc, words) == Some(wanted))
+}
+
+fn is_member_of_f(alloc: Global) -> Option<bool> {
+    let words = owned_words(alloc, "member f").ok()?;
     match read_words(alloc, &words) {
-        Ok(Command::Member(file)) => Ok(file == "f"),
-        _ => Ok(false),
+        Ok(Command::Member(file)) => Some(file == "f"),
+        _ => None,
     }
 }
 
 #[test]
-fn words_are_refused_by_their_first_fault(rt: HostRuntime) -> Result<(), Fail> {
+fn words_are_refused_by_their_first_fault(rt: HostRuntime) {
     let mut count = 0u64;
     for line in CASES.lines() {
-        assert!(rt; is_refused(rt.alloc(), line)?, "{line}");
+        assert!(rt; is_refused(rt.alloc(), line) == Some(true), "{line}");
         count = count.saturating_add(1);
     }
     assert!(rt; count == 53);
-    Ok(())
 }
 
 #[test]
-fn a_command_has_its_words(rt: HostRuntime) -> Result<(), Fail> {
-    assert!(rt; is_member_of_f(rt.alloc())?);
-    Ok(())
+fn a_command_has_its_words(rt: HostRuntime) {
+    assert!(rt; is_member_of_f(rt.alloc()) == Some(true));
 }
