@@ -5,21 +5,6 @@ use mtc_io::Memory;
 use std::alloc::Global;
 use std::test::Fail;
 
-// What a script asks of a pool, about the tile of level 0 at a place.
-#[derive(Clone, Copy, Debug)]
-enum Ask {
-    // Claim a frame for it, which is that of this slot.
-    Claim(u64, u32),
-    // Pin its frame, take the pin away, make the frame empty.
-    Pin(u64),
-    Unpin(u64),
-    Release(u64),
-    // Its frame is that of this slot, or there is none.
-    Held(u64, Option<u32>),
-    // So many frames have no pin.
-    Unpinned(usize),
-}
-
 // The tile of level 0 at a place.
 fn tile(place: u64) -> TileKey {
     TileKey { level: 0, place }
@@ -58,78 +43,106 @@ fn release(pool: &mut Pool, key: TileKey) -> bool {
     true
 }
 
+fn find(pool: &Pool, key: TileKey) -> Option<Slot> {
+    pool.find(key)
+}
+
+fn unpinned(pool: &Pool) -> u64 {
+    pool.unpinned() as u64
+}
+
 // Whether the pool does and answers what is asked.
-fn does(pool: &mut Pool, ask: Ask) -> bool {
+fn answers(pool: &mut Pool, ask: &str, number: u64, slot: Option<Slot>) -> bool {
     match ask {
-        Ask::Claim(place, wanted) => claim(pool, tile(place)) == Some(Slot(wanted)),
-        Ask::Pin(place) => pin(pool, tile(place)),
-        Ask::Unpin(place) => unpin(pool, tile(place)),
-        Ask::Release(place) => release(pool, tile(place)),
-        Ask::Held(place, wanted) => pool.find(tile(place)) == wanted.map(Slot),
-        Ask::Unpinned(wanted) => pool.unpinned() == wanted,
+        "claim" => slot.is_some() && claim(pool, tile(number)) == slot,
+        "pin" => pin(pool, tile(number)),
+        "unpin" => unpin(pool, tile(number)),
+        "release" => release(pool, tile(number)),
+        "held" => find(pool, tile(number)) == slot,
+        "free" => unpinned(pool) == number,
+        _ => false,
     }
 }
 
-// Where a script goes wrong; none where it doesn't.
-fn fault(alloc: Global, frames: usize, script: &[Ask]) -> Result<Option<Ask>, Memory> {
+// The slot that a word names; none where there is no word.
+fn slot_of(word: Option<&str>) -> Option<Slot> {
+    Some(Slot(word?.parse::<u32>().ok()?))
+}
+
+// Whether the pool does and answers what a line asks.
+fn does(pool: &mut Pool, line: &str) -> bool {
+    let mut words = line.split(' ');
+    let ask = words.next().unwrap_or("");
+    let Ok(number) = words.next().unwrap_or("").parse::<u64>() else {
+        return false;
+    };
+    answers(pool, ask, number, slot_of(words.next()))
+}
+
+// How many lines of a script a pool follows.
+fn followed(pool: &mut Pool, script: &str) -> u64 {
+    let mut count = 0u64;
+    for line in script.lines() {
+        if !does(pool, line) {
+            return count;
+        }
+        count = count.saturating_add(1);
+    }
+    count
+}
+
+// How many lines of a script a new pool of so many frames follows.
+fn followed_by_new(alloc: Global, frames: usize, script: &str) -> Result<u64, Memory> {
     if frames == 0 || frames > 65_536 {
-        return Ok(script.first().copied());
+        return Ok(0);
     }
     let mut pool = Pool::new(alloc, frames)?;
-    for ask in script {
-        if !does(&mut pool, *ask) {
-            return Ok(Some(*ask));
-        }
-    }
-    Ok(None)
+    Ok(followed(&mut pool, script))
 }
 
-// One frame.
-const ONE: [Ask; 6] = [
-    Ask::Unpinned(1),
-    Ask::Claim(7, 0),
-    Ask::Held(7, Some(0)),
-    Ask::Release(7),
-    Ask::Claim(8, 0),
-    Ask::Held(7, None),
-];
+// Scripts of lines about the tile of level 0 at a place: claim a frame for it, which is that of
+// this slot; pin its frame, take the pin away, make the frame empty; its frame is that of this
+// slot, or there is none. And: so many frames have no pin. Here for one frame.
+const ONE: &str = "\
+free 1
+claim 7 0
+held 7 0
+release 7
+claim 8 0
+held 7";
 
 // The least empty frame first, and then the one that was claimed first.
-const OLDEST: [Ask; 9] = [
-    Ask::Claim(1, 0),
-    Ask::Claim(2, 1),
-    Ask::Claim(3, 2),
-    Ask::Release(2),
-    Ask::Claim(4, 1),
-    Ask::Claim(5, 0),
-    Ask::Claim(6, 2),
-    Ask::Claim(7, 1),
-    Ask::Held(4, None),
-];
+const OLDEST: &str = "\
+claim 1 0
+claim 2 1
+claim 3 2
+release 2
+claim 4 1
+claim 5 0
+claim 6 2
+claim 7 1
+held 4";
 
 // A pinned frame is passed over, and one that is unpinned has its old turn.
-const PINNED: [Ask; 12] = [
-    Ask::Claim(1, 0),
-    Ask::Claim(2, 1),
-    Ask::Claim(3, 2),
-    Ask::Pin(1),
-    Ask::Unpinned(2),
-    Ask::Claim(4, 1),
-    Ask::Claim(5, 2),
-    Ask::Held(1, Some(0)),
-    Ask::Unpin(1),
-    Ask::Unpinned(3),
-    Ask::Claim(6, 0),
-    Ask::Held(1, None),
-];
+const PINNED: &str = "\
+claim 1 0
+claim 2 1
+claim 3 2
+pin 1
+free 2
+claim 4 1
+claim 5 2
+held 1 0
+unpin 1
+free 3
+claim 6 0
+held 1";
 
 #[test]
 fn frames_hold_keys_as_scripts_say(rt: HostRuntime) -> Result<(), Fail> {
-    let scripts: [(usize, &[Ask]); 3] = [(1, &ONE), (3, &OLDEST), (3, &PINNED)];
-    for (frames, script) in scripts {
-        let found = fault(rt.alloc(), frames, script)?;
-        assert!(rt; found.is_none(), "{frames} frames: {found:?}");
-    }
+    assert!(rt; followed_by_new(rt.alloc(), 1, ONE)? == 6);
+    assert!(rt; followed_by_new(rt.alloc(), 3, OLDEST)? == 9);
+    assert!(rt; followed_by_new(rt.alloc(), 3, PINNED)? == 12);
     Ok(())
 }
 
@@ -148,26 +161,48 @@ fn fill(pool: &mut Pool, key: TileKey, byte: u8) -> bool {
     true
 }
 
+// Whether each of the bytes is this one.
+fn are_all(bytes: &[u8], byte: u8) -> bool {
+    for found in bytes {
+        if *found != byte {
+            return false;
+        }
+    }
+    true
+}
+
 // Whether each of the 8,192 bytes of a tile's frame is this one.
 fn is_filled(pool: &Pool, key: TileKey, byte: u8) -> bool {
     let Some(slot) = pool.find(key) else {
         return false;
     };
     let frame = pool.frame(slot);
-    frame.len() == 8192 && frame.iter().all(|found| *found == byte)
+    frame.len() == 8192 && are_all(frame, byte)
+}
+
+// A tile of another level.
+const OTHER: TileKey = TileKey { level: 1, place: 1 };
+
+// Whether the frames of two tiles keep the bytes with which each is filled.
+fn keeps_two(pool: &mut Pool) -> bool {
+    fill(pool, tile(1), 0xa1)
+        && fill(pool, OTHER, 0xb2)
+        && is_filled(pool, tile(1), 0xa1)
+        && is_filled(pool, OTHER, 0xb2)
+}
+
+// Whether a third tile takes the frame of the first, and the other frame keeps its bytes.
+fn keeps_the_second(pool: &mut Pool) -> bool {
+    fill(pool, tile(3), 0xc3)
+        && is_filled(pool, OTHER, 0xb2)
+        && is_filled(pool, tile(3), 0xc3)
+        && find(pool, tile(1)).is_none()
 }
 
 #[test]
 fn frames_keep_their_bytes(rt: HostRuntime) -> Result<(), Fail> {
     let mut pool = Pool::new(rt.alloc(), 2)?;
-    let other = TileKey { level: 1, place: 1 };
-    assert!(rt; fill(&mut pool, tile(1), 0xa1));
-    assert!(rt; fill(&mut pool, other, 0xb2));
-    assert!(rt; is_filled(&pool, tile(1), 0xa1));
-    assert!(rt; is_filled(&pool, other, 0xb2));
-    assert!(rt; fill(&mut pool, tile(3), 0xc3));
-    assert!(rt; is_filled(&pool, other, 0xb2));
-    assert!(rt; is_filled(&pool, tile(3), 0xc3));
-    assert!(rt; pool.find(tile(1)).is_none());
+    assert!(rt; keeps_two(&mut pool));
+    assert!(rt; keeps_the_second(&mut pool));
     Ok(())
 }

@@ -1,5 +1,8 @@
 //! Nodes that are kept, beside the known ones and beside those that are made anew.
 
+use crate::known::{
+    ENTRIES, N0_1, N0_2, N0_4, N0_6, N0_8, N1_2, N2_4, N4_5, N4_6, N4_8, N6_8, NONE,
+};
 use mtc_io::{Failed, Memory};
 use std::alloc::Global;
 use std::test::Fail;
@@ -7,107 +10,28 @@ use tree_cache::Cache;
 use tree_core::{Sha, leaf, subtree_ok};
 use tree_proofs::{Listed, Nodes, Path, consist, include};
 
-// The eight entries that implementations of RFC 6962 and RFC 9162 are tried on.
-const ENTRIES: [&[u8]; 8] = [
-    b"",
-    b"\x00",
-    b"\x10",
-    b"\x20\x21",
-    b"\x30\x31",
-    b"\x40\x41\x42\x43",
-    b"\x50\x51\x52\x53\x54\x55\x56\x57",
-    b"\x60\x61\x62\x63\x64\x65\x66\x67\x68\x69\x6a\x6b\x6c\x6d\x6e\x6f",
-];
-
-// The hash of their full subtrees, by level and place.
-const FULLS: [(u32, u64, &str); 10] = [
-    (
-        0,
-        0,
-        "6e340b9cffb37a989ca544e6bb780a2c78901d3fb33738768511a30617afa01d",
-    ),
-    (
-        0,
-        1,
-        "96a296d224f285c67bee93c30f8a309157f0daa35dc5b87e410b78630a09cfc7",
-    ),
-    (
-        0,
-        4,
-        "bc1a0643b12e4d2d7c77918f44e0f4f79a838b6cf9ec5b5c283e1f4d88599e6b",
-    ),
-    (
-        1,
-        0,
-        "fac54203e7cc696cf0dfcb42c92a1d9dbaf70ad9e621f4bd8d98662f00e3c125",
-    ),
-    (
-        1,
-        1,
-        "5f083f0a1a33ca076a95279832580db3e0ef4584bdff1f54c8a360f50de3031e",
-    ),
-    (
-        1,
-        2,
-        "0ebc5d3437fbe2db158b9f126a1d118e308181031d0a949f8dededebc558ef6a",
-    ),
-    (
-        1,
-        3,
-        "ca854ea128ed050b41b35ffc1b87b8eb2bde461e9e3b5596ece6b9d5975a0ae0",
-    ),
-    (
-        2,
-        0,
-        "d37ee418976dd95753c1c73862b9398fa2a2cf9b4ff0fdfe8b30cd95209614b7",
-    ),
-    (
-        2,
-        1,
-        "6b47aaf29ee3c2af9af889bc1fb9254dabd31177f16232dd6aab035ca39bf6e4",
-    ),
-    (
-        3,
-        0,
-        "5dc9da79a70659a9ad559cb701ded9a2ab9d823aad2f4960cfe370eff4604328",
-    ),
-];
-
-// The roots of none, of six and of all of them.
-const ROOTS: [(usize, &str); 3] = [
-    (
-        0,
-        "e3b0c44298fc1c149afbf4c8996fb92427ae41e4649b934ca495991b7852b855",
-    ),
-    (
-        6,
-        "76e67dadbcdf1e10e1b74ddc608abd2f98dfb16fbce75277b5232a127f2087ef",
-    ),
-    (
-        8,
-        "5dc9da79a70659a9ad559cb701ded9a2ab9d823aad2f4960cfe370eff4604328",
-    ),
-];
-
-// The hash that such digits write; none where they write no 32 bytes.
-fn hash(digits: &str) -> Option<[u8; 32]> {
-    let mut hash = [0; 32];
-    hex::decode_to_slice(digits, &mut hash).ok()?;
-    Some(hash)
+// Adds the first entries.
+fn add_first(cache: &mut Cache<Sha>, count: usize) -> Result<(), Memory> {
+    for text in ENTRIES.iter().take(count) {
+        cache.push(&leaf::<Sha>(text))?;
+    }
+    Ok(())
 }
 
 // The first entries, half of them in reserved room.
 fn kept(alloc: Global, count: usize) -> Result<Cache<Sha>, Memory> {
     let mut cache = Cache::new(alloc);
     cache.reserve(count / 2)?;
-    for text in ENTRIES.iter().take(count) {
-        cache.push(&leaf::<Sha>(text))?;
-    }
+    add_first(&mut cache, count)?;
     Ok(cache)
 }
 
-// A node; none of what the nodes have not.
-fn node<N: Nodes>(nodes: &mut N, level: u32, place: u64) -> Option<Result<[u8; 32], Failed>> {
+/// A node; none of what the nodes have not.
+pub(crate) fn node<N: Nodes>(
+    nodes: &mut N,
+    level: u32,
+    place: u64,
+) -> Option<Result<[u8; 32], Failed>> {
     let size = nodes.size();
     if level >= 32 || place >= size >> level {
         return None;
@@ -115,16 +39,56 @@ fn node<N: Nodes>(nodes: &mut N, level: u32, place: u64) -> Option<Result<[u8; 3
     Some(nodes.node(level, place))
 }
 
+// Whether the hash of a full subtree is this one.
+fn is_node(cache: &mut Cache<Sha>, level: u32, place: u64, wanted: &[u8; 32]) -> bool {
+    node(cache, level, place) == Some(Ok(*wanted))
+}
+
+// Whether these leaves and pairs of leaves have the known hashes.
+fn has_lower_nodes(cache: &mut Cache<Sha>) -> bool {
+    is_node(cache, 0, 0, &N0_1)
+        && is_node(cache, 0, 1, &N1_2)
+        && is_node(cache, 0, 4, &N4_5)
+        && is_node(cache, 1, 0, &N0_2)
+        && is_node(cache, 1, 1, &N2_4)
+        && is_node(cache, 1, 2, &N4_6)
+}
+
+// Whether the last pair and the nodes above the pairs have the known hashes.
+fn has_upper_nodes(cache: &mut Cache<Sha>) -> bool {
+    is_node(cache, 1, 3, &N6_8)
+        && is_node(cache, 2, 0, &N0_4)
+        && is_node(cache, 2, 1, &N4_8)
+        && is_node(cache, 3, 0, &N0_8)
+}
+
 #[test]
 fn full_subtrees_have_the_known_hashes(rt: HostRuntime) -> Result<(), Fail> {
     let mut cache = kept(rt.alloc(), 8)?;
-    for (level, place, digits) in FULLS {
-        assert!(rt;
-            node(&mut cache, level, place) == hash(digits).map(Ok),
-            "{level} {place}"
-        );
-    }
+    assert!(rt; has_lower_nodes(&mut cache));
+    assert!(rt; has_upper_nodes(&mut cache));
     Ok(())
+}
+
+// How long the row of a level is.
+fn length(cache: &Cache<Sha>, level: u32) -> usize {
+    cache.row(level).len()
+}
+
+// Whether the hash at a place of a row is this one.
+fn is_in_row(cache: &Cache<Sha>, level: u32, place: usize, wanted: &[u8; 32]) -> bool {
+    cache.row(level).get(place) == Some(wanted)
+}
+
+// Whether the rows of seven entries hold the known hashes.
+fn has_rows_of_seven(cache: &Cache<Sha>) -> bool {
+    is_in_row(cache, 0, 0, &N0_1)
+        && is_in_row(cache, 0, 1, &N1_2)
+        && is_in_row(cache, 0, 4, &N4_5)
+        && is_in_row(cache, 1, 0, &N0_2)
+        && is_in_row(cache, 1, 1, &N2_4)
+        && is_in_row(cache, 1, 2, &N4_6)
+        && is_in_row(cache, 2, 0, &N0_4)
 }
 
 #[test]
@@ -139,82 +103,93 @@ fn rows_have_the_full_subtrees_of_their_level(rt: HostRuntime) -> Result<(), Fai
         (64, 0),
         (u32::MAX, 0),
     ] {
-        assert!(rt; cache.row(level).len() == count, "{level}");
+        assert!(rt; length(&cache, level) == count, "{level}");
     }
-    for (level, place, digits) in FULLS {
-        let kept = cache.row(level).get(place as usize).copied();
-        let wanted = if (level, place) == (1, 3) || (level, place) == (2, 1) || level == 3 {
-            None
-        } else {
-            hash(digits)
-        };
-        assert!(rt; kept == wanted, "{level} {place}");
-    }
+    assert!(rt; has_rows_of_seven(&cache));
     Ok(())
+}
+
+// The root of the first entries.
+fn root_of(alloc: Global, count: usize) -> Result<[u8; 32], Memory> {
+    Ok(kept(alloc, count)?.root())
 }
 
 #[test]
 fn roots_are_the_known_ones(rt: HostRuntime) -> Result<(), Fail> {
-    for (count, digits) in ROOTS {
-        let cache = kept(rt.alloc(), count)?;
-        assert!(rt; Some(cache.root()) == hash(digits), "{count}");
-    }
+    assert!(rt; root_of(rt.alloc(), 0)? == NONE);
+    assert!(rt; root_of(rt.alloc(), 6)? == N0_6);
+    assert!(rt; root_of(rt.alloc(), 8)? == N0_8);
     Ok(())
 }
 
 // The inclusion path of an entry among all; none of no entry.
-fn path<N: Nodes>(nodes: &mut N, index: u64, out: &mut Path) -> Option<Result<(), Failed>> {
+fn path_of<N: Nodes>(nodes: &mut N, index: u64) -> Option<Path> {
     let size = nodes.size();
     if index >= size || !subtree_ok(0, size) {
         return None;
     }
-    Some(include(nodes, index, 0, size, out))
+    let mut path = Path::new();
+    match include(nodes, index, 0, size, &mut path) {
+        Ok(()) => Some(path),
+        Err(Failed) => None,
+    }
 }
 
 // The consistency proof of the first entries; none of no entries.
-fn proof<N: Nodes>(nodes: &mut N, end: u64, out: &mut Path) -> Option<Result<(), Failed>> {
+fn proof_of<N: Nodes>(nodes: &mut N, end: u64) -> Option<Path> {
     let size = nodes.size();
     if end > size || !subtree_ok(0, end) {
         return None;
     }
-    Some(consist(nodes, 0, end, size, out))
+    let mut proof = Path::new();
+    match consist(nodes, 0, end, size, &mut proof) {
+        Ok(()) => Some(proof),
+        Err(Failed) => None,
+    }
 }
 
-// Whether both give the same path and the same proof at each place.
+// Whether both are there and the same.
+fn are_same(given: Option<Path>, wanted: Option<Path>) -> bool {
+    match (given, wanted) {
+        (Some(given), Some(wanted)) => given.as_slice() == wanted.as_slice(),
+        _ => false,
+    }
+}
+
+// Whether both give the same path of each entry and the same proof up to it.
 fn agree(cache: &mut Cache<Sha>, listed: &mut Listed<Sha>, size: u64) -> bool {
-    let mut kept = Path::new();
-    let mut made = Path::new();
     for at in 0..size {
-        if path(cache, at, &mut kept) != Some(Ok(()))
-            || path(listed, at, &mut made) != Some(Ok(()))
-        {
-            return false;
-        }
-        if kept.as_slice() != made.as_slice() {
-            return false;
-        }
         let end = at + 1;
-        if proof(cache, end, &mut kept) != Some(Ok(()))
-            || proof(listed, end, &mut made) != Some(Ok(()))
+        if !are_same(path_of(cache, at), path_of(listed, at))
+            || !are_same(proof_of(cache, end), proof_of(listed, end))
         {
-            return false;
-        }
-        if kept.as_slice() != made.as_slice() {
             return false;
         }
     }
     true
 }
 
+fn push(cache: &mut Cache<Sha>, listed: &mut Listed<Sha>, size: u64) -> Result<(), Memory> {
+    let hash = leaf::<Sha>(&size.to_be_bytes());
+    cache.push(&hash)?;
+    listed.push(&hash)
+}
+
+// The first size up to 33 at which the two differ.
+fn differ_at(cache: &mut Cache<Sha>, listed: &mut Listed<Sha>) -> Result<Option<u64>, Memory> {
+    for size in 1..34 {
+        push(cache, listed, size)?;
+        if !agree(cache, listed, size) {
+            return Ok(Some(size));
+        }
+    }
+    Ok(None)
+}
+
 #[test]
-fn proofs_are_those_of_nodes_made_anew(rt: HostRuntime) -> Result<(), Fail> {
+fn proofs_are_those_of_nodes_made_anew(rt: HostRuntime) {
     let mut cache = Cache::new(rt.alloc());
     let mut listed = Listed::new(rt.alloc());
-    for size in 1..34u64 {
-        let hash = leaf::<Sha>(&size.to_be_bytes());
-        cache.push(&hash)?;
-        listed.push(&hash)?;
-        assert!(rt; agree(&mut cache, &mut listed, size), "{size}");
-    }
-    Ok(())
+    let found = differ_at(&mut cache, &mut listed);
+    assert!(rt; found == Ok(None), "{found:?}");
 }
