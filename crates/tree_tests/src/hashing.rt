@@ -5,19 +5,14 @@ use tree_core::{
     Cover, EvalError, Sha, Span, Toy, TreeHash, cover, evaluate, leaf, pair, subtree_ok,
 };
 
-// The hashes of nodes over the entries by SHA-256, and the first byte of each by `Toy`.
-const NODES: [([u8; 32], u8); 11] = [
-    (N0_1, 0x00),
-    (N1_2, 0x00),
-    (N0_2, 0x01),
-    (N2_4, 0x52),
-    (N0_4, 0x54),
-    (N4_5, 0x61),
-    (N4_6, 0x68),
-    (N0_6, 0xbd),
-    (N6_8, 0x15),
-    (N4_8, 0x7e),
-    (N0_8, 0xd3),
+// The hashes of nodes over the entries by SHA-256.
+const BY_SHA: [[u8; 32]; 11] = [
+    N0_1, N1_2, N0_2, N2_4, N0_4, N4_5, N4_6, N0_6, N6_8, N4_8, N0_8,
+];
+
+// The first byte of each by `Toy`, the others are 0.
+const BY_TOY: [u8; 11] = [
+    0x00, 0x00, 0x01, 0x52, 0x54, 0x61, 0x68, 0xbd, 0x15, 0x7e, 0xd3,
 ];
 
 // The same nodes by a hash function.
@@ -38,15 +33,19 @@ fn nodes<H: TreeHash>() -> [[u8; 32]; 11] {
     ]
 }
 
+// Whether a hash has this first byte, and 0 in all others.
+fn is_toy(hash: &[u8; 32], sum: u8) -> bool {
+    let mut toy = [0; 32];
+    toy[0] = sum;
+    *hash == toy
+}
+
 #[test]
 fn nodes_have_the_known_hashes(rt: HostRuntime) {
-    let by_sha = nodes::<Sha>();
+    assert!(rt; nodes::<Sha>().as_slice() == BY_SHA.as_slice());
     let by_toy = nodes::<Toy>();
-    for i in 0..NODES.len() {
-        let (wanted, sum) = NODES[i];
-        let mut toy = [0; 32];
-        toy[0] = sum;
-        assert!(rt; by_sha[i] == wanted && by_toy[i] == toy, "node {i}");
+    for i in 0..BY_TOY.len() {
+        assert!(rt; is_toy(&by_toy[i], BY_TOY[i]), "node {i}");
     }
 }
 
@@ -108,49 +107,51 @@ fn intervals_have_their_cover(rt: HostRuntime) {
     }
 }
 
-// A leaf hash, its index, the interval, a path, and the answer.
-type Case<'a> = (
-    [u8; 32],
-    u64,
-    u64,
-    u64,
-    &'a [[u8; 32]],
-    Result<[u8; 32], EvalError>,
-);
+// What a path of an entry in an interval is answered by SHA-256.
+fn answered(
+    leaf: &[u8; 32],
+    index: u64,
+    interval: (u64, u64),
+    path: &[[u8; 32]],
+) -> Result<[u8; 32], EvalError> {
+    evaluate::<Sha>(leaf, index, interval.0, interval.1, path)
+}
 
-// What a path is answered by SHA-256.
-fn answered(case: &Case) -> Result<[u8; 32], EvalError> {
-    let (leaf, index, start, end, path, _) = case;
-    evaluate::<Sha>(leaf, *index, *start, *end, path)
+// Whether it gives this hash.
+fn gives(
+    leaf: &[u8; 32],
+    index: u64,
+    interval: (u64, u64),
+    path: &[[u8; 32]],
+    wanted: &[u8; 32],
+) -> bool {
+    answered(leaf, index, interval, path) == Ok(*wanted)
 }
 
 #[test]
-fn paths_evaluate_to_their_subtree_or_are_refused(rt: HostRuntime) {
+fn paths_evaluate_to_their_subtree(rt: HostRuntime) {
     let n5_6 = leaf::<Sha>(ENTRIES[5]);
-    let cases: [Case; 14] = [
-        (N1_2, 1, 0, 8, &[N0_1, N2_4, N4_8], Ok(N0_8)),
-        (N0_1, 0, 0, 8, &[N1_2, N2_4, N4_8], Ok(N0_8)),
-        (N4_5, 4, 0, 6, &[n5_6, N0_4], Ok(N0_6)),
-        (n5_6, 5, 0, 6, &[N4_5, N0_4], Ok(N0_6)),
-        (n5_6, 5, 4, 6, &[N4_5], Ok(N4_6)),
-        (N0_1, 0, 0, 1, &[], Ok(N0_1)),
-        (N1_2, 1, 0, 8, &[N0_1, N2_4], Err(EvalError::WrongLength)),
-        (
-            N1_2,
-            1,
-            0,
-            8,
-            &[N0_1, N2_4, N4_8, N0_1],
-            Err(EvalError::WrongLength),
-        ),
-        (N0_1, 0, 0, 1, &[N0_1], Err(EvalError::WrongLength)),
-        (N1_2, 1, 1, 1, &[], Err(EvalError::BadSubtree)),
-        (N1_2, 9, 1, 3, &[N0_1], Err(EvalError::BadSubtree)),
-        (N1_2, 1, 0, 1, &[], Err(EvalError::Outside)),
-        (N1_2, 8, 0, 8, &[N0_1], Err(EvalError::Outside)),
-        (N1_2, 3, 4, 6, &[N0_1], Err(EvalError::Outside)),
-    ];
-    for (i, case) in cases.iter().enumerate() {
-        assert!(rt; answered(case) == case.5, "case {i}");
-    }
+    assert!(rt; gives(&N1_2, 1, (0, 8), &[N0_1, N2_4, N4_8], &N0_8));
+    assert!(rt; gives(&N0_1, 0, (0, 8), &[N1_2, N2_4, N4_8], &N0_8));
+    assert!(rt; gives(&N4_5, 4, (0, 6), &[n5_6, N0_4], &N0_6));
+    assert!(rt; gives(&n5_6, 5, (0, 6), &[N4_5, N0_4], &N0_6));
+    assert!(rt; gives(&n5_6, 5, (4, 6), &[N4_5], &N4_6));
+    assert!(rt; gives(&N0_1, 0, (0, 1), &[], &N0_1));
+}
+
+#[test]
+fn paths_of_another_length_are_refused(rt: HostRuntime) {
+    let (short, long) = ([N0_1, N2_4], [N0_1, N2_4, N4_8, N0_1]);
+    assert!(rt; answered(&N1_2, 1, (0, 8), &short) == Err(EvalError::WrongLength));
+    assert!(rt; answered(&N1_2, 1, (0, 8), &long) == Err(EvalError::WrongLength));
+    assert!(rt; answered(&N0_1, 0, (0, 1), &[N0_1]) == Err(EvalError::WrongLength));
+}
+
+#[test]
+fn paths_of_no_entry_of_a_subtree_are_refused(rt: HostRuntime) {
+    assert!(rt; answered(&N1_2, 1, (1, 1), &[]) == Err(EvalError::BadSubtree));
+    assert!(rt; answered(&N1_2, 9, (1, 3), &[N0_1]) == Err(EvalError::BadSubtree));
+    assert!(rt; answered(&N1_2, 1, (0, 1), &[]) == Err(EvalError::Outside));
+    assert!(rt; answered(&N1_2, 8, (0, 8), &[N0_1]) == Err(EvalError::Outside));
+    assert!(rt; answered(&N1_2, 3, (4, 6), &[N0_1]) == Err(EvalError::Outside));
 }

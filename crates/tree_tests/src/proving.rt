@@ -84,29 +84,36 @@ fn lists_have_their_root(rt: HostRuntime) -> Result<(), Fail> {
     Ok(())
 }
 
+// Whether the hash of a subtree of the nodes is this one.
+fn is_hash(nodes: &mut Listed<Sha>, start: u64, end: u64, wanted: &[u8; 32]) -> bool {
+    subtree(nodes, start, end) == Some(Ok(*wanted))
+}
+
+// Whether the subtrees of the first four entries have the known hashes.
+fn has_first_four(nodes: &mut Listed<Sha>) -> bool {
+    is_hash(nodes, 0, 1, &N0_1)
+        && is_hash(nodes, 1, 2, &N1_2)
+        && is_hash(nodes, 0, 2, &N0_2)
+        && is_hash(nodes, 2, 4, &N2_4)
+        && is_hash(nodes, 0, 4, &N0_4)
+}
+
+// Whether those that hold later ones have them.
+fn has_later_ones(nodes: &mut Listed<Sha>) -> bool {
+    is_hash(nodes, 4, 5, &N4_5)
+        && is_hash(nodes, 4, 6, &N4_6)
+        && is_hash(nodes, 0, 6, &N0_6)
+        && is_hash(nodes, 6, 8, &N6_8)
+        && is_hash(nodes, 4, 8, &N4_8)
+        && is_hash(nodes, 0, 8, &N0_8)
+}
+
 #[test]
 fn subtrees_of_a_list_have_the_known_hashes(rt: HostRuntime) -> Result<(), Fail> {
-    let cases = [
-        (0, 1, N0_1),
-        (1, 2, N1_2),
-        (0, 2, N0_2),
-        (2, 4, N2_4),
-        (0, 4, N0_4),
-        (4, 5, N4_5),
-        (4, 6, N4_6),
-        (0, 6, N0_6),
-        (6, 8, N6_8),
-        (4, 8, N4_8),
-        (0, 8, N0_8),
-    ];
     let mut nodes = nodes(rt.alloc())?;
     assert!(rt; nodes.size() == 8);
-    for (start, end, wanted) in cases {
-        assert!(rt;
-            subtree(&mut nodes, start, end) == Some(Ok(wanted)),
-            "{start} to {end}"
-        );
-    }
+    assert!(rt; has_first_four(&mut nodes));
+    assert!(rt; has_later_ones(&mut nodes));
     Ok(())
 }
 
@@ -137,75 +144,51 @@ fn is_proof(nodes: &mut Listed<Sha>, start: u64, end: u64, size: u64, wanted: &[
 #[test]
 fn consistency_proofs_are_the_known_ones(rt: HostRuntime) -> Result<(), Fail> {
     let mut nodes = nodes(rt.alloc())?;
-    let cases: [(u64, u64, u64, &[[u8; 32]]); 4] = [
-        (0, 2, 5, &[N2_4, N4_5]),
-        (4, 6, 8, &[N6_8, N0_4]),
-        (0, 8, 8, &[]),
-        (0, 6, 8, &[N4_6, N6_8, N0_4]),
-    ];
-    for (start, end, size, wanted) in cases {
-        assert!(rt;
-            is_proof(&mut nodes, start, end, size, wanted),
-            "{start} to {end} of {size}"
-        );
-    }
+    assert!(rt; is_proof(&mut nodes, 0, 2, 5, &[N2_4, N4_5]));
+    assert!(rt; is_proof(&mut nodes, 4, 6, 8, &[N6_8, N0_4]));
+    assert!(rt; is_proof(&mut nodes, 0, 8, 8, &[]));
+    assert!(rt; is_proof(&mut nodes, 0, 6, 8, &[N4_6, N6_8, N0_4]));
     Ok(())
 }
 
-// A subtree, the size, its hash, the root, a proof, and the answer.
-type Case<'a> = (
-    u64,
-    u64,
-    u64,
-    [u8; 32],
-    [u8; 32],
-    &'a [[u8; 32]],
-    Result<(), ConsistError>,
-);
+// What a proof of a subtree with this hash is answered, at this size and this root.
+fn answered(
+    interval: (u64, u64),
+    node: &[u8; 32],
+    size: u64,
+    root: &[u8; 32],
+    proof: &[[u8; 32]],
+) -> Result<(), ConsistError> {
+    check::<Sha>(interval.0, interval.1, size, node, root, proof)
+}
 
-// What a proof is answered by SHA-256.
-fn answered(case: &Case) -> Result<(), ConsistError> {
-    let (start, end, size, node, root, proof, _) = case;
-    check::<Sha>(*start, *end, *size, node, root, proof)
+const PROOF: [[u8; 32]; 2] = [N6_8, N0_4];
+
+const INNER: [[u8; 32]; 3] = [N4_6, N6_8, N0_4];
+
+#[test]
+fn proofs_pass(rt: HostRuntime) {
+    assert!(rt; answered((4, 6), &N4_6, 8, &N0_8, &PROOF) == Ok(()));
+    assert!(rt; answered((0, 8), &N0_8, 8, &N0_8, &[]) == Ok(()));
+    assert!(rt; answered((0, 6), &N0_6, 8, &N0_8, &INNER) == Ok(()));
 }
 
 #[test]
-fn proofs_pass_or_are_refused(rt: HostRuntime) {
-    let proof = &[N6_8, N0_4][..];
-    let inner = &[N4_6, N6_8, N0_4][..];
-    let cases: [Case; 12] = [
-        (4, 6, 8, N4_6, N0_8, proof, Ok(())),
-        (0, 8, 8, N0_8, N0_8, &[], Ok(())),
-        (0, 6, 8, N0_6, N0_8, inner, Ok(())),
-        (4, 6, 8, N4_6, N0_6, proof, Err(ConsistError::WrongRoot)),
-        (
-            4,
-            6,
-            8,
-            N4_6,
-            N0_8,
-            &proof[..1],
-            Err(ConsistError::WrongLength),
-        ),
-        (4, 6, 8, N4_6, N0_8, inner, Err(ConsistError::WrongLength)),
-        (
-            0,
-            6,
-            8,
-            N0_6,
-            N0_8,
-            &inner[1..],
-            Err(ConsistError::WrongLength),
-        ),
-        (0, 6, 8, N0_4, N0_8, inner, Err(ConsistError::WrongNode)),
-        (0, 6, 8, N0_6, N0_4, inner, Err(ConsistError::WrongRoot)),
-        (4, 6, 8, N2_4, N0_8, proof, Err(ConsistError::WrongRoot)),
-        (4, 6, 5, N4_6, N0_8, proof, Err(ConsistError::Beyond)),
-        (1, 3, 2, N2_4, N0_8, proof, Err(ConsistError::BadSubtree)),
-    ];
-    for (i, case) in cases.iter().enumerate() {
-        assert!(rt; answered(case) == case.6, "case {i}");
-    }
+fn proofs_of_another_length_are_refused(rt: HostRuntime) {
+    let refused = Err(ConsistError::WrongLength);
+    assert!(rt; answered((4, 6), &N4_6, 8, &N0_8, &PROOF[..1]) == refused);
+    assert!(rt; answered((4, 6), &N4_6, 8, &N0_8, &INNER) == refused);
+    assert!(rt; answered((0, 6), &N0_6, 8, &N0_8, &INNER[1..]) == refused);
+}
+
+#[test]
+fn proofs_of_another_subtree_or_root_are_refused(rt: HostRuntime) {
+    assert!(rt; answered((0, 6), &N0_4, 8, &N0_8, &INNER) == Err(ConsistError::WrongNode));
+    assert!(rt; answered((0, 6), &N0_6, 8, &N0_4, &INNER) == Err(ConsistError::WrongRoot));
+    assert!(rt; answered((4, 6), &N4_6, 8, &N0_6, &PROOF) == Err(ConsistError::WrongRoot));
+    assert!(rt; answered((4, 6), &N2_4, 8, &N0_8, &PROOF) == Err(ConsistError::WrongRoot));
+    assert!(rt; answered((4, 6), &N4_6, 5, &N0_8, &PROOF) == Err(ConsistError::Beyond));
+    assert!(rt; answered((1, 3), &N2_4, 2, &N0_8, &PROOF) == Err(ConsistError::BadSubtree));
 }
 
 // What a proof gives; none also of an interval that is not within the size.
@@ -225,8 +208,7 @@ fn given(
 
 #[test]
 fn a_proof_gives_the_hash_of_a_subtree_that_is_not_known(rt: HostRuntime) {
-    let proof = [N4_6, N6_8, N0_4];
-    assert!(rt; given(4, 6, 8, false, &proof) == Some((N4_6, N0_8)));
+    assert!(rt; given(4, 6, 8, false, &INNER) == Some((N4_6, N0_8)));
     assert!(rt; given(1, 3, 4, true, &[N0_1, N2_4]) == None);
 }
 
