@@ -42,28 +42,60 @@ fn covered(alloc: Global, most: u32, index: u64) -> Result<Option<Span>, Memory>
     }
 }
 
+fn number(word: Option<&str>) -> Option<u64> {
+    word?.parse::<u64>().ok()
+}
+
+// The interval of two words; none where there is none.
+fn interval_of(start: Option<&str>, end: Option<&str>) -> Option<Span> {
+    Some(Span {
+        start: number(start)?,
+        end: number(end)?,
+    })
+}
+
+// Whether the entry of a line is in the subtree of the line.
+fn is_covered(alloc: Global, most: u32, line: &str) -> Result<bool, Memory> {
+    let mut words = line.split(' ');
+    let Some(index) = number(words.next()) else {
+        return Ok(false);
+    };
+    let wanted = interval_of(words.next(), words.next());
+    Ok(covered(alloc, most, index)? == wanted)
+}
+
+// How many entries of a text are in the subtrees of their lines.
+fn count_covered(alloc: Global, most: u32, text: &str) -> Result<u64, Memory> {
+    let mut count = 0u64;
+    for line in text.lines() {
+        if is_covered(alloc, most, line)? {
+            count = count.saturating_add(1);
+        }
+    }
+    Ok(count)
+}
+
+// The index of an entry and the subtree that it is in, where two landmarks are active.
+const OF_TWO: &str = "\
+0 0 4
+3 0 4
+4 4 5
+5 4 8
+6 4 8
+8 8 9
+9
+18446744073709551615";
+
+// The same where one is active.
+const OF_ONE: &str = "\
+6 4 8
+4
+3";
+
 #[test]
 fn an_entry_is_in_a_subtree_of_the_least_landmark_above_it(rt: HostRuntime) -> Result<(), Fail> {
-    let cases = [
-        (2, 0, Some((0, 4))),
-        (2, 3, Some((0, 4))),
-        (2, 4, Some((4, 5))),
-        (2, 5, Some((4, 8))),
-        (2, 6, Some((4, 8))),
-        (2, 8, Some((8, 9))),
-        (2, 9, None),
-        (2, u64::MAX, None),
-        (1, 6, Some((4, 8))),
-        (1, 4, None),
-        (1, 3, None),
-    ];
-    for (most, index, wanted) in cases {
-        let wanted = wanted.map(|(start, end)| Span { start, end });
-        assert!(rt;
-            covered(rt.alloc(), most, index)? == wanted,
-            "{index} of {most}"
-        );
-    }
+    assert!(rt; count_covered(rt.alloc(), 2, OF_TWO)? == 8);
+    assert!(rt; count_covered(rt.alloc(), 1, OF_ONE)? == 3);
     Ok(())
 }
 
@@ -111,12 +143,14 @@ fn a_text_is_read_and_written_again(rt: HostRuntime) -> Result<(), Fail> {
     Ok(())
 }
 
-// Whether a text is refused so.
-fn is_refused(alloc: Global, text: &[u8], most: u32, size: u64, fault: ListError) -> bool {
-    match read_list(alloc, text, most, size) {
-        Ok(_) => false,
-        Err(told) => told == fault,
-    }
+// Why a text is refused.
+fn refusal(alloc: Global, text: &[u8], most: u32, size: u64) -> Option<ListError> {
+    read_list(alloc, text, most, size).err()
+}
+
+// Whether a text of a log of nine entries is refused at this line.
+fn is_refused_at(alloc: Global, text: &str, line: usize) -> bool {
+    refusal(alloc, text.as_bytes(), 2, 9) == Some(ListError::BadLine(line))
 }
 
 #[test]
@@ -139,30 +173,26 @@ fn a_text_outside_its_form_is_told_by_its_line(rt: HostRuntime) {
         ("2 1\n9\n5\n0\n", 3),
     ];
     for (text, line) in cases {
-        assert!(rt;
-            is_refused(rt.alloc(), text.as_bytes(), 2, 9, ListError::BadLine(line)),
-            "{text}"
-        );
+        assert!(rt; is_refused_at(rt.alloc(), text, line), "{text}");
     }
 }
 
 #[test]
-fn sizes_that_cannot_be_are_told_in_their_order(rt: HostRuntime) {
-    let cases = [
-        ("2 2\n9\n9\n0\n", 2, 9, ListError::NotFalling(2)),
-        ("2 2\n9\n12\n0\n", 2, 5, ListError::NotFalling(2)),
-        ("2 2\n9\n0\n0\n", 2, 9, ListError::NotFalling(3)),
-        ("2 3\n9\n5\n0\n", 5, 9, ListError::TooManyActive),
-        ("2 2\nx\n", 1, 9, ListError::TooManyActive),
-        ("2 2\n9\n5\n0\n", 2, 8, ListError::BeyondLog),
-        ("2 2\n9\n5\n0\n0\n", 2, 8, ListError::BadLine(4)),
-    ];
-    for (text, most, size, fault) in cases {
-        assert!(rt;
-            is_refused(rt.alloc(), text.as_bytes(), most, size, fault),
-            "{text}"
-        );
-    }
+fn sizes_that_do_not_fall_are_told(rt: HostRuntime) {
+    let (second, third) = (ListError::NotFalling(2), ListError::NotFalling(3));
+    assert!(rt; refusal(rt.alloc(), b"2 2\n9\n9\n0\n", 2, 9) == Some(second));
+    assert!(rt; refusal(rt.alloc(), b"2 2\n9\n12\n0\n", 2, 5) == Some(second));
+    assert!(rt; refusal(rt.alloc(), b"2 2\n9\n0\n0\n", 2, 9) == Some(third));
+}
+
+#[test]
+fn a_text_that_is_too_long_or_beyond_the_log_is_told_in_order(rt: HostRuntime) {
+    let (many, beyond) = (ListError::TooManyActive, ListError::BeyondLog);
+    assert!(rt; refusal(rt.alloc(), b"2 3\n9\n5\n0\n", 5, 9) == Some(many));
+    assert!(rt; refusal(rt.alloc(), b"2 2\nx\n", 1, 9) == Some(many));
+    assert!(rt; refusal(rt.alloc(), b"2 2\n9\n5\n0\n", 2, 8) == Some(beyond));
+    let line = ListError::BadLine(4);
+    assert!(rt; refusal(rt.alloc(), b"2 2\n9\n5\n0\n0\n", 2, 8) == Some(line));
 }
 
 // The text of so many landmarks, at the sizes from 1 on.
@@ -180,14 +210,7 @@ fn the_longest_list_is_read_and_written_again(rt: HostRuntime) -> Result<(), Fai
     let text = long_text(rt.alloc(), 10_000)?;
     assert!(rt; text.len() == 48_908);
     assert!(rt; is_kept(rt.alloc(), text.as_slice(), 10_000, 10_000)?);
-    assert!(rt;
-        is_refused(
-            rt.alloc(),
-            text.as_slice(),
-            9_999,
-            10_000,
-            ListError::TooManyActive
-        )
-    );
+    let told = refusal(rt.alloc(), text.as_slice(), 9_999, 10_000);
+    assert!(rt; told == Some(ListError::TooManyActive));
     Ok(())
 }
