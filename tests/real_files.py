@@ -20,7 +20,7 @@ from files.streams import Judged
 
 # Each check with the files that it wants.
 CHECKS = [
-    (Folder, commands.check_listed), (Scene, locks.check_locks), (Folder, names.check_refusals),
+    (Scene, commands.check_listed), (Scene, locks.check_locks), (Folder, names.check_refusals),
     (Scene, names.check_links), (Scene, names.check_linked_folders), (Scene, names.check_hard_links),
     (Scene, names.check_tiles_that_lead_back),
     (Scene, names.check_long_names), (Folder, locks.check_modes), (Scene, streams.check_streams),
@@ -38,18 +38,22 @@ CHECKS = [
 def tried(kind, check, killed):
     """Prints what came of a check, and answers whether it is wrong."""
     name, began = check.__name__.removeprefix("check_"), time.monotonic()
-    folder, wrong, lacks = kind(ROOT / "crates/mtc_main/out/mtc_main"), [], None
+    folder, wrong, lacks = None, [], None
     try:
+        folder = kind(ROOT / "crates/mtc_main/out/mtc_main")
         for line in check(folder, killed):
             wrong.append(line)
     except LeftOut as why:
         lacks = why
-    finally:
+    except Exception as why:
+        # So that the other checks are tried too.
+        wrong.append(f"{type(why).__name__}: {why}")
+    if folder:
         shutil.rmtree(folder.path)
     if lacks and not wrong:
         print(f"left out: {name}: {lacks}")
         return False
-    notes = [*folder.notes, f"{time.monotonic() - began:.0f} s"]
+    notes = [*(folder.notes if folder else ()), f"{time.monotonic() - began:.0f} s"]
     print(f"{'wrong' if wrong else 'ok'}: {name}: {check.__doc__}", *wrong, *notes, sep="\n    ")
     return bool(wrong)
 

@@ -120,6 +120,12 @@ def named_with(words):
     return sorted({name for name, row in rows if set(row.split()) & set(words)})
 
 
-def check_listed(_folder, _kills):
-    """Each command on a journal that COMMANDS names is among those that are tried here"""
+def check_listed(scene, _kills):
+    """Each command on a journal that COMMANDS names is among those that are tried here, and does its work over these files"""
     yield from unlike("the commands", sorted(command.name for command in COMMANDS), named_with("JS"))
+    for command in COMMANDS:
+        scene.restore()
+        status, out, err = scene.run(command.words)
+        tags = [tag for tag in (command.adds, command.begins) if tag]
+        yield from unlike(command.name, (status, command.says or out, err), (0, out, ""))
+        yield from unlike(f"the records of {command.name}", added(scene, command), tags)

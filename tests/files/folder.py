@@ -57,7 +57,7 @@ class Folder:
         """What a command writes to standard output; it has to end with status 0."""
         status, out, err = self.run(words)
         if status != 0:
-            sys.exit(f"{words}: status {status} {err}")
+            raise RuntimeError(f"{words}: status {status} {err}")
         return out.encode("latin-1")
 
     def new_log(self, file="j"):
