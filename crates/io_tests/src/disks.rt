@@ -1,35 +1,42 @@
 //! Disks in memory, and what a crash leaves of them.
 
-use disk_core::{Call, Disk, Fuse, MemDisk, look_at, write_synced};
-use mtc_io::{Bytes, Failed};
+use crate::readings::{disk, empty};
+use disk_core::{Call, Change, Disk, Fuse, MemDisk, look_at, write_synced};
+use mtc_io::{Failed, Memory};
 use std::alloc::Global;
 use std::test::Fail;
 
+const EIGHT: &[u8] = b"abcdefgh";
+
 const PIECE: [u8; 8] = *b"WXYZ!?+-";
 
-// Eight bytes, of which the length was asked. A further listed call fails.
-fn eight(alloc: Global, failing: &[u64]) -> Result<MemDisk, Fail> {
-    let failing = Vec::from_slice(alloc, failing)?;
-    let mut disk = MemDisk::over(alloc, Bytes::copy_of(alloc, b"abcdefgh")?, failing);
-    disk.len()?;
-    Ok(disk)
-}
-
-fn write<D: Disk>(disk: &mut D, place: u64, bytes: &[u8]) -> Result<(), Failed> {
+// Writes behind a call for the length.
+fn write(disk: &mut MemDisk, place: u64, bytes: &[u8]) -> Result<(), Failed> {
     if disk.len()? < place || place > 1000 || bytes.len() > 1000 {
         return Err(Failed);
     }
     disk.write_at(place, bytes)
 }
 
-// What a crash leaves by this pick of eight bytes over which eight were written from the fourth on.
-fn left(alloc: Global, pick: u64, synced: bool) -> Result<MemDisk, Fail> {
-    let mut disk = eight(alloc, &[])?;
-    write(&mut disk, 4, &PIECE)?;
-    if synced {
-        disk.sync()?;
-    }
-    Ok(disk.crash(pick)?)
+fn sync(disk: &mut MemDisk) -> Result<(), Failed> {
+    disk.sync()
+}
+
+// Whether a crash leaves these bytes, by this pick.
+fn leaves(disk: MemDisk, pick: u64, image: &[u8]) -> Result<bool, Memory> {
+    Ok(disk.crash(pick)?.bytes() == image)
+}
+
+// Whether eight bytes are written from the fourth on, and synced where that is asked.
+fn is_written(disk: &mut MemDisk, synced: bool) -> bool {
+    write(disk, 4, &PIECE) == Ok(()) && (!synced || sync(disk) == Ok(()))
+}
+
+// Whether a crash leaves this image by this pick of eight bytes over which eight were written.
+fn is_left(alloc: Global, pick: u64, synced: bool, image: &[u8]) -> Result<bool, Memory> {
+    let mut disk = disk(alloc, EIGHT, &[])?;
+    let written = is_written(&mut disk, synced);
+    Ok(leaves(disk, pick, image)? && written)
 }
 
 #[test]
@@ -46,24 +53,22 @@ fn a_crash_leaves_an_image(rt: HostRuntime) -> Result<(), Fail> {
         (15, b"abcdWXYZ!?\xd4\xd2WXYZ!?"),
     ];
     for (pick, image) in images {
-        assert!(rt;
-            left(rt.alloc(), pick, false)?.bytes() == image,
-            "by pick {pick}"
-        );
-        assert!(rt; left(rt.alloc(), pick, true)?.bytes() == b"abcdWXYZ!?+-".as_slice());
+        assert!(rt; is_left(rt.alloc(), pick, false, image)?, "by pick {pick}");
+        assert!(rt; is_left(rt.alloc(), pick, true, b"abcdWXYZ!?+-")?);
     }
     Ok(())
 }
 
-// Two writes, and between them a sync that fails.
-fn left_of_two(alloc: Global, pick: u64) -> Result<MemDisk, Fail> {
-    let mut disk = eight(alloc, &[3])?;
-    write(&mut disk, 0, b"W")?;
-    if disk.sync() != Err(Failed) {
-        return Ok(MemDisk::new(alloc, Vec::new(alloc)));
-    }
-    write(&mut disk, 1, b"X")?;
-    Ok(disk.crash(pick)?)
+// Whether two bytes are written, and a sync between them fails.
+fn are_written(disk: &mut MemDisk) -> bool {
+    write(disk, 0, b"W") == Ok(()) && sync(disk) == Err(Failed) && write(disk, 1, b"X") == Ok(())
+}
+
+// The sync is call 2.
+fn is_left_of_two(alloc: Global, pick: u64, image: &[u8]) -> Result<bool, Memory> {
+    let mut disk = disk(alloc, EIGHT, &[2])?;
+    let written = are_written(&mut disk);
+    Ok(leaves(disk, pick, image)? && written)
 }
 
 #[test]
@@ -75,31 +80,39 @@ fn a_failed_sync_settles_nothing(rt: HostRuntime) -> Result<(), Fail> {
         (5, b"WXcdefgh"),
     ];
     for (pick, image) in images {
-        assert!(rt;
-            left_of_two(rt.alloc(), pick)?.bytes() == image,
-            "by pick {pick}"
-        );
+        assert!(rt; is_left_of_two(rt.alloc(), pick, image)?, "by pick {pick}");
     }
     Ok(())
 }
 
-// A disk of which the second call, a write, fails. It isn't seen, and a crash may leave it all the
-// same.
-fn failed_write(alloc: Global) -> Result<MemDisk, Fail> {
-    let mut disk = MemDisk::new(alloc, Vec::from_slice(alloc, &[1])?);
-    let empty = disk.len() == Ok(0);
-    let failed = disk.write_at(0, b"abcd") == Err(Failed);
-    if empty && failed && disk.bytes().is_empty() {
-        Ok(disk)
-    } else {
-        Ok(MemDisk::new(alloc, Vec::new(alloc)))
+// Whether the second call of a disk, a write, fails. It isn't seen, and a crash may leave it all
+// the same.
+fn fails_to_write(disk: &mut MemDisk) -> bool {
+    disk.len() == Ok(0) && disk.write_at(0, b"abcd") == Err(Failed) && disk.bytes().is_empty()
+}
+
+fn counts(disk: &MemDisk) -> (u64, u64) {
+    (disk.faults(), disk.starved())
+}
+
+fn lent_alike(disk: &MemDisk) -> Result<bool, Memory> {
+    let lent = disk.lend()?;
+    let counted = counts(disk).0 == 1 && counts(&lent) == (0, 0);
+    Ok(leaves(lent, 1, b"abcd")? && counted)
+}
+
+// Whether a change is a write at the start, of so many bytes and with this answer.
+fn is_write(change: &Change, size: usize, ok: bool) -> bool {
+    match &change.made.call {
+        Call::Write { place, piece } => {
+            *place == 0 && piece.len() == size && change.made.ok == ok
+        }
+        _ => false,
     }
 }
 
-fn lent_alike(disk: &MemDisk) -> Result<bool, Fail> {
-    let lent = disk.lend()?;
-    let counts = (disk.faults(), lent.faults(), lent.starved()) == (1, 0, 0);
-    Ok(counts && lent.crash(1)?.bytes() == b"abcd".as_slice())
+fn is_sync(change: &Change) -> bool {
+    matches!(change.made.call, Call::Sync) && change.made.ok
 }
 
 // The changes of the disk, each with its answer, and the length that was asked before them. What
@@ -107,12 +120,9 @@ fn lent_alike(disk: &MemDisk) -> Result<bool, Fail> {
 fn are_noted(disk: &MemDisk) -> bool {
     match disk.changes() {
         [failed, written, synced] => {
-            matches!(&failed.made.call, Call::Write { place: 0, piece } if piece.len() == 4)
-                && !failed.made.ok
-                && matches!(&written.made.call, Call::Write { place: 0, piece } if piece.len() == 2)
-                && written.made.ok
-                && matches!(synced.made.call, Call::Sync)
-                && synced.made.ok
+            is_write(failed, 4, false)
+                && is_write(written, 2, true)
+                && is_sync(synced)
                 && (failed.looks, written.looks, synced.looks) == (1, 0, 0)
                 && disk.made() == 5
         }
@@ -130,35 +140,43 @@ fn last_of_two(disk: &mut MemDisk) -> Result<[u8; 1], Failed> {
 
 #[test]
 fn a_listed_call_fails(rt: HostRuntime) -> Result<(), Fail> {
-    let mut disk = failed_write(rt.alloc())?;
+    let mut disk = empty(rt.alloc(), &[1])?;
+    assert!(rt; fails_to_write(&mut disk));
     assert!(rt; lent_alike(&disk)?);
     assert!(rt; last_of_two(&mut disk) == Ok(*b"y"));
     assert!(rt; are_noted(&disk));
-    assert!(rt; (disk.faults(), disk.starved()) == (1, 0));
-    assert!(rt; disk.crash(1)?.bytes() == b"xy".as_slice());
+    assert!(rt; counts(&disk) == (1, 0));
+    assert!(rt; leaves(disk, 1, b"xy")?);
     Ok(())
 }
 
-// A fuse that passes one write, and the disk inside behind the calls that it fails.
-fn blown(alloc: Global) -> Result<(bool, MemDisk), Fail> {
+type Fused = Fuse<MemDisk>;
+
+// Whether nothing is passed on, where two calls were refused before.
+fn is_blown(fuse: &mut Fused) -> bool {
+    fuse.len() == Err(Failed) && fuse.write_at(0, b"wxyz") == Err(Failed) && fuse.refused() == 4
+}
+
+// Whether a fuse that passes one write refuses what comes behind it.
+fn blows(fuse: &mut Fused) -> bool {
+    if fuse.write_at(0, b"abcd") != Ok(()) || fuse.len() != Ok(4) || fuse.refused() != 0 {
+        return false;
+    }
+    fuse.sync() == Err(Failed) && fuse.read_at(0, &mut [0; 4]) == Err(Failed) && is_blown(fuse)
+}
+
+// The disk inside behind these calls, where they were refused.
+fn behind_the_fuse(alloc: Global) -> Option<MemDisk> {
     let mut fuse = Fuse::new(MemDisk::new(alloc, Vec::new(alloc)), 1);
-    fuse.write_at(0, b"abcd")?;
-    let whole = fuse.len()? == 4 && fuse.refused() == 0;
-    let synced = fuse.sync();
-    let length = fuse.len();
-    let read = fuse.read_at(0, &mut [0; 4]);
-    let written = fuse.write_at(0, b"wxyz");
-    let failed = synced == Err(Failed) && length == Err(Failed);
-    let stopped = failed && read == Err(Failed) && written == Err(Failed);
-    let counted = fuse.refused() == 4;
-    Ok((whole && stopped && counted, fuse.into_inner()))
+    let blown = blows(&mut fuse);
+    let disk = fuse.into_inner();
+    if blown { Some(disk) } else { None }
 }
 
 #[test]
 fn a_fuse_blows_once(rt: HostRuntime) -> Result<(), Fail> {
-    let (stopped, disk) = blown(rt.alloc())?;
-    assert!(rt; stopped);
+    let disk = behind_the_fuse(rt.alloc()).ok_or("calls were passed")?;
     assert!(rt; (disk.bytes(), disk.made()) == (b"abcd".as_slice(), 2));
-    assert!(rt; disk.crash(0)?.bytes() == b"".as_slice());
+    assert!(rt; leaves(disk, 0, b"")?);
     Ok(())
 }

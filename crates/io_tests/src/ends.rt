@@ -104,18 +104,22 @@ const ENDS: [End; 11] = [
     (300_000, 164_832, 33, 4096),
 ];
 
-fn calls_of(alloc: Global, from: u64, pieces: u64, last: usize) -> Result<Vec<Call>, Memory> {
-    let mut calls = Vec::new(alloc);
-    calls.push(Call::Len)?;
-    if pieces > 0 {
-        calls.push(Call::Read(0, 16))?;
-    }
+// Puts the reads and the writes of so many pieces behind other calls.
+fn add_pieces(calls: &mut Vec<Call>, from: u64, pieces: u64, last: usize) -> Result<(), Memory> {
     for piece in 0..pieces {
         let place = from.saturating_add(piece.saturating_mul(4096));
         let size = if piece + 1 == pieces { last } else { 4096 };
         calls.push(Call::Read(place, size))?;
         calls.push(Call::Write(place, size))?;
     }
+    Ok(())
+}
+
+fn calls_of(alloc: Global, from: u64, pieces: u64, last: usize) -> Result<Vec<Call>, Memory> {
+    let front = [Call::Len, Call::Read(0, 16)];
+    let count = if pieces > 0 { 2 } else { 1 };
+    let mut calls = Vec::from_slice(alloc, &front[..count])?;
+    add_pieces(&mut calls, from, pieces, last)?;
     calls.push(Call::Sync)?;
     Ok(calls)
 }
@@ -133,6 +137,35 @@ fn bytes_of(alloc: Global, begins: &[u8], length: u64) -> Result<Vec<u8>, Memory
     Ok(bytes)
 }
 
+// A file with these bytes.
+fn watch<R: Files<File = File>>(
+    files: &R,
+    path: &str,
+    bytes: &[u8],
+    wanted: Vec<Call>,
+    failing: usize,
+) -> io::Result<Watched> {
+    fs::write(files, path, bytes)?;
+    let file = File::options().read(true).write(true).open(files, path)?;
+    Ok(Watched {
+        file,
+        wanted,
+        failing,
+        made: Cell::new(0),
+        strange: Cell::new(false),
+    })
+}
+
+// Whether a file is synced, with its end, and how many calls it took where each was the one to
+// come.
+fn ended(file: Watched) -> (bool, Option<usize>) {
+    (sync_with_end(&file).is_ok(), file.met())
+}
+
+fn holds<R: Files<File = File> + Alloc>(files: &R, path: &str, bytes: &[u8]) -> io::Result<bool> {
+    Ok(fs::read(files, path)?.as_slice() == bytes)
+}
+
 // How a file with these bytes is synced, with its end: whether that went well, how many calls it
 // took where each was the one to come, and whether the file keeps its bytes.
 fn synced<R: Files<File = File> + Alloc>(
@@ -142,17 +175,8 @@ fn synced<R: Files<File = File> + Alloc>(
     wanted: Vec<Call>,
     failing: usize,
 ) -> io::Result<(bool, Option<usize>, bool)> {
-    fs::write(files, path, bytes)?;
-    let file = Watched {
-        file: File::options().read(true).write(true).open(files, path)?,
-        wanted,
-        failing,
-        made: Cell::new(0),
-        strange: Cell::new(false),
-    };
-    let ended = sync_with_end(&file);
-    let kept = fs::read(files, path)?;
-    Ok((ended.is_ok(), file.met(), kept.as_slice() == bytes))
+    let (went_well, met) = ended(watch(files, path, bytes, wanted, failing)?);
+    Ok((went_well, met, holds(files, path, bytes)?))
 }
 
 #[test]

@@ -56,22 +56,21 @@ impl FileExt for Counted {
     }
 }
 
-// The calls that two writes make, each synced, and one that doesn't.
+// Two writes, each synced, and one that isn't.
+fn write_thrice(disk: &mut FileDisk<Counted>) -> Result<(), Failed> {
+    write_synced(disk, 0, b"abcd")?;
+    write_synced(disk, 2, b"WXYZ")?;
+    disk.write_at(0, b"a")
+}
+
+// The calls that these make.
 fn calls_of_writes() -> u32 {
     let mut disk = FileDisk::new(Counted {
         calls: Cell::new(0),
     });
-    let first = write_synced(&mut disk, 0, b"abcd");
-    let second = match first {
-        Ok(()) => write_synced(&mut disk, 2, b"WXYZ"),
-        Err(Failed) => Err(Failed),
-    };
-    let third = match second {
-        Ok(()) => disk.write_at(0, b"a"),
-        Err(Failed) => Err(Failed),
-    };
+    let written = write_thrice(&mut disk);
     let calls = disk.into_inner().calls.get();
-    if third == Ok(()) { calls } else { 0 }
+    if written == Ok(()) { calls } else { 0 }
 }
 
 #[test]
@@ -85,29 +84,39 @@ fn opened<R: Files<File = File>>(rt: &R, path: &str) -> io::Result<File> {
     how.open(rt, path)
 }
 
-// Whether two writes, one over the other, are read as they were written.
-fn is_written(file: File) -> Result<bool, Failed> {
-    let mut disk = FileDisk::new(file);
-    let empty = disk.len() == Ok(0);
-    write_synced(&mut disk, 0, b"abcd")?;
-    write_synced(&mut disk, 2, b"WXYZ")?;
+// What is read behind two writes, one over the other, in an empty file.
+fn written(disk: &mut FileDisk) -> Result<[u8; 5], Failed> {
+    if disk.len()? != 0 {
+        return Err(Failed);
+    }
+    write_synced(disk, 0, b"abcd")?;
+    write_synced(disk, 2, b"WXYZ")?;
     let mut out = [0; 5];
     disk.read_at(1, &mut out)?;
-    Ok(empty && (out, disk.faults()) == (*b"bWXYZ", 0))
+    Ok(out)
+}
+
+// Whether it is what was written.
+fn is_written(file: File) -> bool {
+    let mut disk = FileDisk::new(file);
+    written(&mut disk) == Ok(*b"bWXYZ") && disk.faults() == 0
 }
 
 // Whether a file that is open to be read alone refuses a write, and counts that.
+fn refuses(disk: &mut FileDisk) -> bool {
+    disk.len() == Ok(6) && disk.write_at(0, b"x") == Err(Failed) && disk.faults() == 1
+}
+
 fn is_shut(file: File) -> bool {
     let mut shut = FileDisk::new(file);
-    let length = shut.len();
-    length == Ok(6) && shut.write_at(0, b"x") == Err(Failed) && shut.faults() == 1
+    refuses(&mut shut)
 }
 
 #[test]
 fn a_file_is_a_disk(rt: HostRuntime) -> Result<(), Fail> {
     let path = "disk_core_test";
     let _ = fs::remove_file(&rt, path);
-    assert!(rt; is_written(opened(&rt, path)?) == Ok(true));
+    assert!(rt; is_written(opened(&rt, path)?));
     assert!(rt; is_shut(fs::OpenOptions::new().read(true).open(&rt, path)?));
     fs::remove_file(&rt, path)?;
     Ok(())

@@ -1,44 +1,39 @@
 //! Journals over disks in memory and over a file.
 
-use crate::readings::{append, begun, empty, opened, read_all};
+use crate::readings::{End, append, begun, disk_of, empty, is_read, opened, read_all};
 use disk_core::{FileDisk, MemDisk};
-use journal_core::{AppendError, OpenError, Refused, StartError};
+use journal_core::{AppendError, Journal, OpenError, Refused, StartError};
 use mtc_io::{Bytes, Memory};
 use std::alloc::Global;
 use std::fs;
 use std::test::Fail;
 
+type MemJournal = Journal<MemDisk>;
+
 const HEADER: &[u8] = b"mtc-journal/v1\n\0";
 
 // Whether these records are read of a file with these bytes, and the reading ends so.
-fn reads(
-    alloc: Global,
-    bytes: &[u8],
-    records: &[u8],
-    end: Result<(), OpenError>,
-) -> Result<bool, Memory> {
-    let disk = MemDisk::over(alloc, Bytes::copy_of(alloc, bytes)?, Vec::new(alloc));
-    match read_all(alloc, disk)? {
-        Some((found, ends)) => Ok(found.as_slice() == records && ends == end),
-        None => Ok(false),
-    }
+fn reads(alloc: Global, bytes: Bytes, records: &[u8], end: End) -> Result<bool, Memory> {
+    let disk = disk_of(alloc, bytes, &[])?;
+    Ok(is_read(&read_all(alloc, disk)?, records, end))
 }
 
-// The same of the header with these bytes behind it.
-fn reads_behind(
+// The same of these bytes behind a front.
+fn reads_both(
     alloc: Global,
+    front: &[u8],
     behind: &[u8],
     records: &[u8],
-    end: Result<(), OpenError>,
+    end: End,
 ) -> Result<bool, Memory> {
-    let mut bytes = Bytes::copy_of(alloc, HEADER)?;
+    let mut bytes = Bytes::copy_of(alloc, front)?;
     bytes.append(behind)?;
-    reads(alloc, bytes.as_slice(), records, end)
+    reads(alloc, bytes, records, end)
 }
 
 #[test]
 fn a_file_is_read_or_refused(rt: HostRuntime) -> Result<(), Fail> {
-    let cases: [(&[u8], &[u8], Result<(), OpenError>); 9] = [
+    let cases: [(&[u8], &[u8], End); 9] = [
         (&[1, 0, 0, 0, 1, 1, 0], &[0, 0, 0, 1, 1], Ok(())),
         (
             &[1, 0, 0, 0, 1, 1],
@@ -55,62 +50,101 @@ fn a_file_is_read_or_refused(rt: HostRuntime) -> Result<(), Fail> {
     ];
     for (behind, records, end) in cases {
         assert!(rt;
-            reads_behind(rt.alloc(), behind, records, end)?,
+            reads_both(rt.alloc(), HEADER, behind, records, end)?,
             "for {behind:?}"
         );
     }
     let others: [&[u8]; 2] = [b"mtc-journal/v1\n", b"mtc-journal/v1\n\x01\0"];
     for other in others {
-        assert!(rt; reads(rt.alloc(), other, b"", Err(OpenError::NotJournal))?);
+        assert!(rt; reads_both(rt.alloc(), other, b"", b"", Err(OpenError::NotJournal))?);
     }
     Ok(())
 }
 
-// Whether the disk that a journal left holds the header and these bytes, and no journal is begun on
-// it.
-fn is_taken(alloc: Global, disk: MemDisk, behind: &[u8]) -> bool {
-    let bytes = disk.bytes();
-    let (front, back) = bytes.split_at(16.min(bytes.len()));
-    let same = front == HEADER && back == behind;
+// A journal of one record, on a disk of which these calls fail.
+fn begun_on(alloc: Global, failing: &[u64]) -> Result<Option<MemJournal>, Memory> {
+    let disk = empty(alloc, failing)?;
+    Ok(begun(alloc, disk, &[1]).ok())
+}
+
+fn disk_behind(journal: MemJournal) -> MemDisk {
+    journal.into_disk()
+}
+
+// Whether no journal is begun on the disk that a journal left.
+fn is_taken(alloc: Global, disk: MemDisk) -> bool {
     match begun(alloc, disk, &[1]) {
         Ok(_) => false,
-        Err(Refused { why, .. }) => same && why == StartError::NotEmpty,
+        Err(Refused { why, .. }) => why == StartError::NotEmpty,
     }
 }
 
-// What a journal of two records reads at the place of the second body, and of its length.
-fn reads_what_was_added(alloc: Global) -> Result<bool, Memory> {
-    let Ok(mut journal) = begun(alloc, empty(alloc, &[])?, &[1]) else {
-        return Ok(false);
-    };
-    let added = append(&mut journal, &[0xaa, 0xbb]) == Ok(()) && journal.end() == 30;
-    let (mut body, mut length) = ([0; 2], [0; 4]);
+// Whether a disk holds the header and these bytes.
+fn holds(disk: &MemDisk, behind: &[u8]) -> bool {
+    let bytes = disk.bytes();
+    let (front, back) = bytes.split_at(16.min(bytes.len()));
+    front == HEADER && back == behind
+}
+
+// What a journal of two records reads at the place of the second body.
+fn second_body(journal: &mut MemJournal) -> Option<[u8; 2]> {
     if journal.end() != 30 {
-        return Ok(false);
+        return None;
     }
-    let read = journal.read(27, &mut body) == Ok(()) && body == [0xaa, 0xbb];
-    let sized = journal.read(23, &mut length) == Ok(()) && length == [0, 0, 0, 2];
-    let number = journal.read_size(23) == Ok(2);
-    let left = [1, 0, 0, 0, 1, 1, 1, 0, 0, 0, 2, 0xaa, 0xbb, 0];
-    Ok(added && read && sized && number && is_taken(alloc, journal.into_disk(), &left))
+    let mut body = [0; 2];
+    journal.read(27, &mut body).ok()?;
+    Some(body)
+}
+
+// What it reads at the place of the length of that, as bytes and as a number.
+fn second_length(journal: &mut MemJournal) -> Option<[u8; 4]> {
+    if journal.end() != 30 {
+        return None;
+    }
+    let mut length = [0; 4];
+    journal.read(23, &mut length).ok()?;
+    Some(length)
+}
+
+fn second_size(journal: &mut MemJournal) -> Option<u32> {
+    if journal.end() != 30 {
+        return None;
+    }
+    journal.read_size(23).ok()
+}
+
+fn reads_what_was_added(journal: &mut MemJournal) -> bool {
+    append(journal, &[0xaa, 0xbb]) == Ok(())
+        && second_body(journal) == Some([0xaa, 0xbb])
+        && second_length(journal) == Some([0, 0, 0, 2])
+        && second_size(journal) == Some(2)
 }
 
 #[test]
 fn records_are_appended(rt: HostRuntime) -> Result<(), Fail> {
-    assert!(rt; reads_what_was_added(rt.alloc())?);
+    let mut journal = begun_on(rt.alloc(), &[])?.ok_or("refused")?;
+    assert!(rt; reads_what_was_added(&mut journal));
+    let disk = disk_behind(journal);
+    assert!(rt; holds(&disk, &[1, 0, 0, 0, 1, 1, 1, 0, 0, 0, 2, 0xaa, 0xbb, 0]));
+    assert!(rt; is_taken(rt.alloc(), disk));
     Ok(())
 }
 
-// Whether an append answers Failed where this call of the disk fails, and makes none behind it; nor
-// does the next append.
+// Whether an append to the journal of one record answers Failed, and the next one Broken.
+fn is_broken(journal: &mut MemJournal) -> bool {
+    journal.end() == 23
+        && append(journal, &[0xaa, 0xbb]) == Err(AppendError::Failed)
+        && append(journal, &[0xaa, 0xbb]) == Err(AppendError::Broken)
+}
+
+// Whether an append fails where this call of the disk fails, and makes none behind it; nor does the
+// next append.
 fn breaks(alloc: Global, call: u64) -> Result<bool, Memory> {
-    let Ok(mut journal) = begun(alloc, empty(alloc, &[call])?, &[1]) else {
+    let Some(mut journal) = begun_on(alloc, &[call])? else {
         return Ok(false);
     };
-    let whole = journal.end() == 23;
-    let failed = append(&mut journal, &[0xaa, 0xbb]) == Err(AppendError::Failed);
-    let broken = append(&mut journal, &[0xaa, 0xbb]) == Err(AppendError::Broken);
-    Ok(whole && failed && broken && journal.into_disk().made() == call.saturating_add(1))
+    let broken = is_broken(&mut journal);
+    Ok(disk_behind(journal).made() == call.saturating_add(1) && broken)
 }
 
 #[test]
@@ -130,15 +164,24 @@ fn begins(alloc: Global, file: fs::File) -> bool {
     }
 }
 
+// Whether a journal of these two records takes another one.
+fn takes_one_more(journal: &mut Journal<FileDisk>) -> bool {
+    journal.end() == 30 && append(journal, &[0xcc]) == Ok(())
+}
+
+// The file of the journal in this file behind a third record.
+fn gone_on(alloc: Global, file: fs::File) -> Option<FileDisk> {
+    let mut journal = opened(alloc, FileDisk::new(file))?;
+    let taken = takes_one_more(&mut journal);
+    let disk = journal.into_disk();
+    if taken { Some(disk) } else { None }
+}
+
 // Whether the journal in this file takes another one, and all three are read.
 fn goes_on(alloc: Global, file: fs::File) -> Result<bool, Memory> {
-    let Some(mut journal) = opened(alloc, FileDisk::new(file)) else {
-        return Ok(false);
-    };
-    let added = journal.end() == 30 && append(&mut journal, &[0xcc]) == Ok(());
     let wanted = [0, 0, 0, 1, 1, 0, 0, 0, 2, 0xaa, 0xbb, 0, 0, 0, 1, 0xcc];
-    match read_all(alloc, journal.into_disk())? {
-        Some((records, end)) => Ok(added && end.is_ok() && records.as_slice() == wanted.as_slice()),
+    match gone_on(alloc, file) {
+        Some(disk) => Ok(is_read(&read_all(alloc, disk)?, &wanted, Ok(()))),
         None => Ok(false),
     }
 }

@@ -1,4 +1,4 @@
-//! Journals that are begun and read, for the cases beside.
+//! Disks, and journals that are begun and read, for the cases beside.
 
 use disk_core::{Disk, MemDisk};
 use journal_core::{
@@ -7,12 +7,24 @@ use journal_core::{
 use mtc_io::{Bytes, Memory};
 use std::alloc::Global;
 
+/// How a reading ends.
+pub(crate) type End = Result<(), OpenError>;
+
 /// The records of a file, each behind its length, and how the reading ends; none where it ends
 /// otherwise when it is asked again.
-pub(crate) type Reading = Option<(Bytes, Result<(), OpenError>)>;
+pub(crate) type Reading = Option<(Bytes, End)>;
 
 pub(crate) fn empty(alloc: Global, failing: &[u64]) -> Result<MemDisk, Memory> {
     Ok(MemDisk::new(alloc, Vec::from_slice(alloc, failing)?))
+}
+
+/// A disk that holds these bytes, of which these calls fail.
+pub(crate) fn disk(alloc: Global, bytes: &[u8], failing: &[u64]) -> Result<MemDisk, Memory> {
+    disk_of(alloc, Bytes::copy_of(alloc, bytes)?, failing)
+}
+
+pub(crate) fn disk_of(alloc: Global, bytes: Bytes, failing: &[u64]) -> Result<MemDisk, Memory> {
+    Ok(MemDisk::over(alloc, bytes, Vec::from_slice(alloc, failing)?))
 }
 
 /// A record behind others, behind its length.
@@ -21,7 +33,7 @@ pub(crate) fn add(records: &mut Bytes, body: &[u8]) -> Result<(), Memory> {
     records.append_both(&size.to_be_bytes(), body)
 }
 
-/// A journal of one record, on a disk with these failing calls.
+/// A journal of one record.
 pub(crate) fn begun<D: Disk>(
     alloc: Global,
     disk: D,
@@ -45,10 +57,7 @@ pub(crate) fn append<D: Disk>(journal: &mut Journal<D>, body: &[u8]) -> Result<(
 }
 
 // One step, with the body that it finds put behind the others; or how the reading ends.
-fn step<D: Disk>(
-    opening: &mut Opening<D>,
-    found: &mut Bytes,
-) -> Result<Option<Result<(), OpenError>>, Memory> {
+fn step<D: Disk>(opening: &mut Opening<D>, found: &mut Bytes) -> Result<Option<End>, Memory> {
     match opening.next() {
         Ok(Some(body)) => {
             add(found, body)?;
@@ -59,25 +68,57 @@ fn step<D: Disk>(
     }
 }
 
-/// What is read of a file.
-pub(crate) fn read_all<D: Disk + Drop>(alloc: Global, disk: D) -> Result<Reading, Memory> {
-    let mut found = Bytes::new(alloc);
-    let mut opening = match Opening::begin(alloc, disk) {
-        Ok(opening) => opening,
-        Err(Refused { why, .. }) => return Ok(Some((found, Err(why)))),
-    };
+// Whether so many records were read, and the reading ends so when it is asked again. Four bytes of
+// length stand for the gate and the length of each record.
+fn is_ended<D: Disk>(
+    opening: &mut Opening<D>,
+    found: &mut Bytes,
+    count: u64,
+    end: End,
+) -> Result<bool, Memory> {
+    let again = step(opening, found)?;
+    let behind = (found.len() as u64)
+        .saturating_add(count)
+        .saturating_add(16);
+    Ok(again == Some(end) && opening.read_count() == count && opening.place() == behind)
+}
+
+// How the reading of fewer than a thousand records ends.
+fn read_on<D: Disk>(opening: &mut Opening<D>, found: &mut Bytes) -> Result<Option<End>, Memory> {
     for count in 0..1000 {
-        if let Some(end) = step(&mut opening, &mut found)? {
-            let again = step(&mut opening, &mut found)?;
-            // Four bytes of length stand for the gate and the length of each record.
-            let behind = (found.as_slice().len() as u64).saturating_add(count + 16);
-            if again == Some(end) && opening.read_count() == count && opening.place() == behind {
-                return Ok(Some((found, end)));
-            }
-            return Ok(None);
+        if let Some(end) = step(opening, found)? {
+            return Ok(if is_ended(opening, found, count, end)? {
+                Some(end)
+            } else {
+                None
+            });
         }
     }
     Ok(None)
+}
+
+fn read_whole<D: Disk + Drop>(alloc: Global, mut opening: Opening<D>) -> Result<Reading, Memory> {
+    let mut found = Bytes::new(alloc);
+    match read_on(&mut opening, &mut found)? {
+        Some(end) => Ok(Some((found, end))),
+        None => Ok(None),
+    }
+}
+
+/// What is read of a file.
+pub(crate) fn read_all<D: Disk + Drop>(alloc: Global, disk: D) -> Result<Reading, Memory> {
+    match Opening::begin(alloc, disk) {
+        Ok(opening) => read_whole(alloc, opening),
+        Err(Refused { why, .. }) => Ok(Some((Bytes::new(alloc), Err(why)))),
+    }
+}
+
+/// Whether what was read are these records, and the reading ends so.
+pub(crate) fn is_read(reading: &Reading, records: &[u8], end: End) -> bool {
+    match reading {
+        Some((found, ended)) => found.as_slice() == records && *ended == end,
+        None => false,
+    }
 }
 
 /// The journal in a file of fewer than a thousand records.

@@ -1,25 +1,48 @@
 //! Rooms in memory.
 
-ghost use Rattle.std.specs.Prelude.{◌≡◌, IfOk, IfSome};
+ghost use Rattle.std.specs.Prelude.{◌≡◌, IfOk};
 ghost use Rattle.mtc_room.specs.Memory.{state};
 
-use disk_core::Disk;
-use mtc_io::{Bytes, Failed, Memory, ReadError, read_all};
+use disk_core::{Disk, MemDisk};
+use mtc_io::{Bytes, Failed, MemSource, Memory, ReadError, read_all};
 use mtc_room::{MemRoom, Room, RoomError};
 use std::alloc::Global;
 use std::test::Fail;
 
-// A room of two files; the first was placed twice, and reading the second fails. None of them is
-// out.
+// Places a file of which these calls fail, and lends nothing.
+fn place(
+    alloc: Global,
+    room: &mut MemRoom,
+    name: &str,
+    bytes: &[u8],
+    failing: &[u64],
+) -> Result<(), Memory>
+    ensures { (state room.new).lent ≡ (state room.old).lent }
+{
+    let bytes = Bytes::copy_of(alloc, bytes)?;
+    room.place(name, bytes, Vec::from_slice(alloc, failing)?)
+}
+
+// Places two files; the first is placed twice, and reading the second fails.
+fn place_all(alloc: Global, room: &mut MemRoom) -> Result<(), Memory>
+    ensures { (state room.new).lent ≡ (state room.old).lent }
+{
+    place(alloc, room, "f", b"one", &[])?;
+    place(alloc, room, "f", b"two", &[])?;
+    place(alloc, room, "bad", b"three", &[0])
+}
+
+// The room with these files. None of them is out.
 fn room(alloc: Global) -> Result<MemRoom, Memory>
     ensures { IfOk result (λ room. (state room).lent ≡ 0) }
 {
     let mut room = MemRoom::new(alloc);
-    room.place("f", Bytes::copy_of(alloc, b"one")?, Vec::new(alloc))?;
-    room.place("f", Bytes::copy_of(alloc, b"two")?, Vec::new(alloc))?;
-    let failing = Vec::from_slice(alloc, &[0])?;
-    room.place("bad", Bytes::copy_of(alloc, b"three")?, failing)?;
+    place_all(alloc, &mut room)?;
     Ok(room)
+}
+
+fn holds(room: &MemRoom, name: &str, bytes: &[u8]) -> bool {
+    room.bytes(name) == Some(bytes)
 }
 
 // What a room answers to one that reads a file of three bytes.
@@ -31,30 +54,40 @@ enum Lent {
     Other,
 }
 
+fn read(alloc: Global, source: &mut MemSource) -> Result<Bytes, ReadError> {
+    read_all(alloc, source, 3)
+}
+
+fn found(read: Result<Bytes, ReadError>) -> Lent {
+    match read {
+        Ok(bytes) => match bytes.as_slice() {
+            [a, b, c] => Lent::Read([*a, *b, *c]),
+            _ => Lent::Other,
+        },
+        Err(why) => Lent::NotRead(why),
+    }
+}
+
 fn lend(alloc: Global, name: &str) -> Result<Lent, Memory> {
     let mut room = room(alloc)?;
     let mut source = match room.source(name) {
         Ok(source) => source,
         Err(why) => return Ok(Lent::Refused(why)),
     };
-    let bytes = read_all(alloc, &mut source, 3);
+    let bytes = read(alloc, &mut source);
     room.done(source);
-    if room.starved() != 0 {
-        return Ok(Lent::Other);
-    }
-    match bytes {
-        Ok(bytes) => match bytes.as_slice() {
-            [a, b, c] => Ok(Lent::Read([*a, *b, *c])),
-            _ => Ok(Lent::Other),
-        },
-        Err(why) => Ok(Lent::NotRead(why)),
-    }
+    let found = found(bytes);
+    Ok(if room.starved() == 0 {
+        found
+    } else {
+        Lent::Other
+    })
 }
 
 #[test]
 fn a_room_lends_what_was_placed(rt: HostRuntime) -> Result<(), Fail> {
     let placed = room(rt.alloc())?;
-    assert!(rt; placed.bytes("f") == Some(b"two".as_slice()));
+    assert!(rt; holds(&placed, "f", b"two"));
     assert!(rt; placed.bytes("g") == None && placed.starved() == 0);
     let cases: [(&str, Lent); 3] = [
         ("f", Lent::Read(*b"two")),
@@ -67,84 +100,111 @@ fn a_room_lends_what_was_placed(rt: HostRuntime) -> Result<(), Fail> {
     Ok(())
 }
 
-// A file that was made, and took three bytes while its device was out. A second one of its name is
-// refused.
-fn made(alloc: Global) -> Result<Option<MemRoom>, Memory>
-    ensures { IfOk result (λ made. IfSome made (λ room. (state room).lent ≡ 0)) }
-{
-    let mut room = MemRoom::new(alloc);
-    room.fail_fresh(Vec::from_slice(alloc, &[2])?);
-    let mut disk = match room.fresh("j") {
-        Ok(disk) => disk,
-        Err(_) => return Ok(None),
-    };
-    let again = match room.fresh("j") {
-        Ok(other) => {
-            room.keep("j", other);
-            false
-        }
-        Err(why) => why == RoomError::Exists,
-    };
-    let written = disk.len() == Ok(0) && disk.write_at(0, b"abc") == Ok(());
-    let before = room.bytes("j") == Some(b"".as_slice());
-    room.keep("j", disk);
-    Ok(if again && written && before {
-        Some(room)
-    } else {
-        None
-    })
+fn takes_three(disk: &mut MemDisk) -> bool {
+    disk.len() == Ok(0) && disk.write_at(0, b"abc") == Ok(())
 }
 
-// Whether the calls are counted over all lendings: the third one fails. A name without a file is
-// refused.
-fn lends_again(alloc: Global) -> Result<bool, Memory> {
-    let Some(mut room) = made(alloc)? else {
-        return Ok(false);
-    };
-    let kept = room.bytes("j") == Some(b"abc".as_slice());
-    let failed = match room.disk("j") {
-        Ok(mut disk) => {
-            let failed = disk.sync() == Err(Failed) && disk.faults() == 1;
-            room.keep("j", disk);
-            failed
-        }
-        Err(_) => false,
-    };
-    match room.disk("k") {
+fn fails_to_sync(disk: &mut MemDisk) -> bool {
+    disk.sync() == Err(Failed) && disk.faults() == 1
+}
+
+// Why no file of that name is made, by a room of which nothing else is out.
+fn fresh_refusal(room: &mut MemRoom, name: &str) -> Option<RoomError>
+    requires { (state room.old).lent ≡ 1 }
+    ensures { (state room.new).lent ≡ 1 }
+{
+    match room.fresh(name) {
         Ok(disk) => {
-            room.keep("k", disk);
-            Ok(false)
+            room.keep(name, disk);
+            None
         }
-        Err(why) => Ok(kept && failed && why == RoomError::Absent),
+        Err(why) => Some(why),
     }
+}
+
+// Whether a file is made that takes three bytes while its device is out, and no second one of its
+// name.
+fn makes(room: &mut MemRoom) -> bool
+    requires { (state room.old).lent ≡ 0 }
+    ensures { (state room.new).lent ≡ 0 }
+{
+    let Ok(mut disk) = room.fresh("j") else {
+        return false;
+    };
+    let again = fresh_refusal(room, "j");
+    let written = takes_three(&mut disk) && holds(room, "j", b"");
+    room.keep("j", disk);
+    again == Some(RoomError::Exists) && written && holds(room, "j", b"abc")
+}
+
+// Whether the calls are counted over all lendings: the third one fails.
+fn fails_later(room: &mut MemRoom) -> bool
+    requires { (state room.old).lent ≡ 0 }
+    ensures { (state room.new).lent ≡ 0 }
+{
+    let Ok(mut disk) = room.disk("j") else {
+        return false;
+    };
+    let failed = fails_to_sync(&mut disk);
+    room.keep("j", disk);
+    failed
+}
+
+// Why a file isn't lent.
+fn disk_refusal(room: &mut MemRoom, name: &str) -> Option<RoomError>
+    requires { (state room.old).lent ≡ 0 }
+{
+    match room.disk(name) {
+        Ok(disk) => {
+            room.keep(name, disk);
+            None
+        }
+        Err(why) => Some(why),
+    }
+}
+
+fn puts_back(alloc: Global, failing: Vec<u64>) -> bool {
+    let mut room = MemRoom::new(alloc);
+    room.fail_fresh(failing);
+    makes(&mut room)
+        && fails_later(&mut room)
+        && disk_refusal(&mut room, "k") == Some(RoomError::Absent)
 }
 
 #[test]
 fn a_room_puts_devices_back(rt: HostRuntime) -> Result<(), Fail> {
-    assert!(rt; lends_again(rt.alloc())?);
+    assert!(rt; puts_back(rt.alloc(), Vec::from_slice(rt.alloc(), &[2])?));
     Ok(())
 }
 
-// A file that isn't there is made, and takes three bytes; lent a second time it has them.
-fn lends_what_it_made(alloc: Global) -> Result<bool, Memory> {
-    let mut room = MemRoom::new(alloc);
+// Whether a file that isn't there is made, and takes three bytes.
+fn makes_what_it_has_not(room: &mut MemRoom) -> bool
+    requires { (state room.old).lent ≡ 0 }
+    ensures { (state room.new).lent ≡ 0 }
+{
     let Ok(mut disk) = room.scratch("t") else {
-        return Ok(false);
+        return false;
     };
-    let empty = room.bytes("t") == Some(b"".as_slice());
-    let written = disk.len() == Ok(0) && disk.write_at(0, b"abc") == Ok(());
+    let written = holds(room, "t", b"") && takes_three(&mut disk);
     room.keep("t", disk);
-    let Ok(mut again) = room.scratch("t") else {
-        return Ok(false);
+    written
+}
+
+// Whether it has them when it is lent a second time.
+fn lends_what_it_made(room: &mut MemRoom) -> bool
+    requires { (state room.old).lent ≡ 0 }
+{
+    let Ok(mut disk) = room.scratch("t") else {
+        return false;
     };
-    let length = again.len();
-    room.keep("t", again);
-    let kept = room.bytes("t") == Some(b"abc".as_slice());
-    Ok(empty && written && length == Ok(3) && kept)
+    let length = disk.len();
+    room.keep("t", disk);
+    length == Ok(3) && holds(room, "t", b"abc")
 }
 
 #[test]
-fn a_room_makes_what_it_has_not(rt: HostRuntime) -> Result<(), Fail> {
-    assert!(rt; lends_what_it_made(rt.alloc())?);
-    Ok(())
+fn a_room_makes_what_it_has_not(rt: HostRuntime) {
+    let mut room = MemRoom::new(rt.alloc());
+    assert!(rt; makes_what_it_has_not(&mut room));
+    assert!(rt; lends_what_it_made(&mut room));
 }

@@ -8,6 +8,31 @@ use std::alloc::Global;
 use std::io::{self, ErrorKind, Read};
 use std::test::Fail;
 
+fn source(alloc: Global, bytes: &[u8], failing: &[u64]) -> Result<MemSource, Memory> {
+    let bytes = Bytes::copy_of(alloc, bytes)?;
+    Ok(MemSource::new(bytes, Vec::from_slice(alloc, failing)?))
+}
+
+fn read(alloc: Global, source: &mut MemSource, limit: u64) -> Result<Bytes, ReadError> {
+    read_all(alloc, source, limit)
+}
+
+// Whether the bytes were read without a fault, or refused so.
+fn is_read(read: Result<Bytes, ReadError>, bytes: &[u8], refusal: Option<ReadError>) -> bool {
+    match read {
+        Ok(read) => refusal.is_none() && read.as_slice() == bytes,
+        Err(why) => Some(why) == refusal,
+    }
+}
+
+fn faults_of(refusal: Option<ReadError>) -> u64 {
+    if refusal == Some(ReadError::Failed) {
+        1
+    } else {
+        0
+    }
+}
+
 // Whether a source of these bytes is read whole, or refused so, by a limit.
 fn reads(
     alloc: Global,
@@ -16,15 +41,9 @@ fn reads(
     limit: u64,
     refusal: Option<ReadError>,
 ) -> Result<bool, Memory> {
-    let failing = Vec::from_slice(alloc, failing)?;
-    let mut source = MemSource::new(Bytes::copy_of(alloc, bytes)?, failing);
-    match read_all(alloc, &mut source, limit) {
-        Ok(read) => Ok(refusal.is_none() && read.as_slice() == bytes && source.faults() == 0),
-        Err(why) => {
-            let faults = if why == ReadError::Failed { 1 } else { 0 };
-            Ok(Some(why) == refusal && source.faults() == faults)
-        }
-    }
+    let mut source = source(alloc, bytes, failing)?;
+    let read = read(alloc, &mut source, limit);
+    Ok(source.faults() == faults_of(refusal) && is_read(read, bytes, refusal))
 }
 
 #[test]
@@ -50,6 +69,23 @@ fn a_source_is_read_to_its_end_or_refused(rt: HostRuntime) -> Result<(), Fail> {
     Ok(())
 }
 
+fn sink(alloc: Global, per_call: usize, failing: &[u64]) -> Result<MemSink, Memory> {
+    let failing = Vec::from_slice(alloc, failing)?;
+    Ok(MemSink::new(alloc, per_call.max(1), failing))
+}
+
+// One piece is written at once.
+fn write(sink: &mut MemSink, pieces: &[&[u8]]) -> Result<(), Failed> {
+    match pieces {
+        [whole] => write_all(sink, whole),
+        _ => write_pieces(sink, pieces),
+    }
+}
+
+fn has_taken(sink: &MemSink, taken: &[u8]) -> bool {
+    sink.taken() == taken && sink.starved() == 0
+}
+
 // Whether a sink that takes so much a call answers so, and has so much at the end.
 fn writes(
     alloc: Global,
@@ -59,15 +95,9 @@ fn writes(
     answer: Result<(), Failed>,
     taken: &[u8],
 ) -> Result<bool, Memory> {
-    if per_call == 0 {
-        return Ok(false);
-    }
-    let mut sink = MemSink::new(alloc, per_call, Vec::from_slice(alloc, failing)?);
-    let made = match pieces {
-        [whole] => write_all(&mut sink, whole),
-        _ => write_pieces(&mut sink, pieces),
-    };
-    Ok(made == answer && sink.taken() == taken && sink.starved() == 0)
+    let mut sink = sink(alloc, per_call, failing)?;
+    let made = write(&mut sink, pieces);
+    Ok(made == answer && has_taken(&sink, taken))
 }
 
 #[test]
@@ -134,20 +164,28 @@ fn readers_and_writers_are_adapted(rt: HostRuntime) -> Result<(), Fail> {
     Ok(())
 }
 
-// Bytes that were put one behind the other, and cut off again.
-fn bytes_are_kept(alloc: Global) -> Result<bool, Memory> {
+// Bytes that were put one behind the other.
+fn grown(alloc: Global) -> Result<Bytes, Memory> {
     let mut bytes = Bytes::copy_of(alloc, b"log")?;
     bytes.append(b" ")?;
     bytes.append_both(b"en", b"try")?;
-    let grown = bytes.as_slice() == b"log entry".as_slice();
+    Ok(bytes)
+}
+
+fn is_cut(bytes: &mut Bytes) -> bool {
     bytes.truncate(3);
-    let cut = bytes.len() == 3 && !bytes.is_empty();
-    let again = Bytes::from_vec(bytes.into_vec());
-    Ok(grown && cut && again.as_slice() == b"log".as_slice())
+    bytes.len() == 3 && !bytes.is_empty()
+}
+
+fn is_kept(bytes: Bytes) -> bool {
+    Bytes::from_vec(bytes.into_vec()).as_slice() == b"log".as_slice()
 }
 
 #[test]
 fn bytes_grow_and_shrink(rt: HostRuntime) -> Result<(), Fail> {
-    assert!(rt; bytes_are_kept(rt.alloc())?);
+    let mut bytes = grown(rt.alloc())?;
+    assert!(rt; bytes.as_slice() == b"log entry".as_slice());
+    assert!(rt; is_cut(&mut bytes));
+    assert!(rt; is_kept(bytes));
     Ok(())
 }

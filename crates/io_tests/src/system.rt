@@ -1,116 +1,167 @@
 //! The room of real files.
 
-use disk_core::Disk;
+use disk_core::{Disk, FileDisk};
 use mtc_files::FileRoom;
-use mtc_io::read_all;
+use mtc_io::{Bytes, ReadError, Source, read_all};
 use mtc_room::{Room, RoomError};
-use std::fs::{File, TryLockError};
+use std::alloc::Global;
+use std::fs::{self, File, TryLockError};
+use std::io;
 use std::os::unix::fs::MetadataExt;
 use std::rt::Files;
 use std::test::Fail;
-use std::{env, fs, io};
 
-#[test]
-fn lends_the_files_of_the_system(rt: HostRuntime) -> Result<(), Fail> {
-    let mut path = env::temp_dir(&rt)?;
-    path.push("mtc-file-room-test")?;
-    fs::write(&rt, &path, b"entry")?;
-    let name = path.to_str().expect(&rt, "a path in UTF-8");
-
-    let mut room = FileRoom::new(&rt);
-    match room.source(name) {
-        Ok(mut source) => {
-            let bytes = read_all(rt.alloc(), &mut source, 5);
-            room.done(source);
-            assert!(rt; bytes?.as_slice() == b"entry".as_slice());
-        }
-        Err(why) => assert!(rt; false, "{why}"),
-    }
-    fs::remove_file(&rt, &path)?;
-    assert!(rt; matches!(room.source(name), Err(RoomError::Absent)));
-    Ok(())
-}
-
-#[test]
-fn makes_files_and_opens_them_again(rt: HostRuntime) -> Result<(), Fail> {
-    let mut path = env::temp_dir(&rt)?;
-    path.push("mtc-file-room-fresh-test")?;
-    // One may be left of a run that was cut off.
-    let _ = fs::remove_file(&rt, &path);
-    let name = path.to_str().expect(&rt, "a path in UTF-8");
-
-    let mut room = FileRoom::new(&rt);
-    assert!(rt; matches!(room.disk(name), Err(RoomError::Absent)));
-    let mut disk = room.fresh(name).expect(&rt, "a new file");
-    assert!(rt;
-        disk.len() == Ok(0) && disk.write_at(0, b"entry") == Ok(()) && disk.sync() == Ok(())
-    );
-    room.keep(name, disk);
-    assert!(rt; matches!(room.fresh(name), Err(RoomError::Exists)));
-    assert!(rt; fs::metadata(&rt, &path)?.mode() & 0o777 == 0o600);
-
-    let mut disk = room.disk(name).expect(&rt, "the file");
-    assert!(rt; disk.len() == Ok(5) && disk.write_at(5, b" 1") == Ok(()));
-    room.keep(name, disk);
-    let bytes = fs::read(&rt, &path)?;
-    assert!(rt; bytes.as_slice() == b"entry 1".as_slice());
-    fs::remove_file(&rt, &path)?;
-    assert!(rt; matches!(room.disk(name), Err(RoomError::Absent)));
-    Ok(())
-}
-
-// What each of a room's calls answers for a name.
-fn refusals<R: Files<File = File>>(files: &R, name: &str) -> [Option<RoomError>; 3] {
+// Why a room doesn't lend an input file of that name; none where it does.
+fn source_refusal<R: Files<File = File>>(files: &R, name: &str) -> Option<RoomError> {
     let mut room = FileRoom::new(files);
-    let source = match room.source(name) {
+    match room.source(name) {
         Ok(source) => {
             room.done(source);
             None
         }
         Err(why) => Some(why),
-    };
-    let disk = match room.disk(name) {
+    }
+}
+
+// The same of a journal.
+fn disk_refusal<R: Files<File = File>>(files: &R, name: &str) -> Option<RoomError> {
+    let mut room = FileRoom::new(files);
+    match room.disk(name) {
         Ok(disk) => {
             room.keep(name, disk);
             None
         }
         Err(why) => Some(why),
-    };
-    let fresh = match room.fresh(name) {
+    }
+}
+
+// The same of a new journal.
+fn fresh_refusal<R: Files<File = File>>(files: &R, name: &str) -> Option<RoomError> {
+    let mut room = FileRoom::new(files);
+    match room.fresh(name) {
         Ok(disk) => {
             room.keep(name, disk);
             None
         }
         Err(why) => Some(why),
+    }
+}
+
+// What each of these calls answers for a name.
+fn refusals<R: Files<File = File>>(files: &R, name: &str) -> [Option<RoomError>; 3] {
+    [
+        source_refusal(files, name),
+        disk_refusal(files, name),
+        fresh_refusal(files, name),
+    ]
+}
+
+fn read<S: Source>(alloc: Global, source: &mut S) -> Result<Bytes, ReadError> {
+    read_all(alloc, source, 5)
+}
+
+// What a room gives of an input file of five bytes at most.
+fn lent_bytes<R: Files<File = File>>(files: &R, alloc: Global, name: &str) -> Option<Bytes> {
+    let mut room = FileRoom::new(files);
+    let mut source = room.source(name).ok()?;
+    let bytes = read(alloc, &mut source);
+    room.done(source);
+    bytes.ok()
+}
+
+// Whether these are the bytes.
+fn is_lent<R: Files<File = File>>(files: &R, alloc: Global, name: &str, wanted: &[u8]) -> bool {
+    match lent_bytes(files, alloc, name) {
+        Some(bytes) => bytes.as_slice() == wanted,
+        None => false,
+    }
+}
+
+#[test]
+fn lends_the_files_of_the_system(rt: HostRuntime) -> Result<(), Fail> {
+    let name = "mtc_file_room_test";
+    fs::write(&rt, name, b"entry")?;
+    assert!(rt; is_lent(&rt, rt.alloc(), name, b"entry"));
+    fs::remove_file(&rt, name)?;
+    assert!(rt; source_refusal(&rt, name) == Some(RoomError::Absent));
+    Ok(())
+}
+
+// Whether an empty file takes five bytes.
+fn is_filled(disk: &mut FileDisk) -> bool {
+    disk.len() == Ok(0) && disk.write_at(0, b"entry") == Ok(()) && disk.sync() == Ok(())
+}
+
+// Whether they are there, and it takes two more.
+fn is_filled_up(disk: &mut FileDisk) -> bool {
+    disk.len() == Ok(5) && disk.write_at(5, b" 1") == Ok(())
+}
+
+// Whether a new file is made that takes bytes, and no second one of that name.
+fn makes<R: Files<File = File>>(files: &R, name: &str) -> bool {
+    let mut room = FileRoom::new(files);
+    let Ok(mut disk) = room.fresh(name) else {
+        return false;
     };
-    [source, disk, fresh]
+    let filled = is_filled(&mut disk);
+    room.keep(name, disk);
+    filled && fresh_refusal(files, name) == Some(RoomError::Exists)
+}
+
+// Whether the file is lent again, and takes more.
+fn opens_again<R: Files<File = File>>(files: &R, name: &str) -> bool {
+    let mut room = FileRoom::new(files);
+    let Ok(mut disk) = room.disk(name) else {
+        return false;
+    };
+    let filled = is_filled_up(&mut disk);
+    room.keep(name, disk);
+    filled
+}
+
+fn holds<R: Files<File = File> + Alloc>(files: &R, name: &str, bytes: &[u8]) -> io::Result<bool> {
+    Ok(fs::read(files, name)?.as_slice() == bytes)
+}
+
+#[test]
+fn makes_files_and_opens_them_again(rt: HostRuntime) -> Result<(), Fail> {
+    let name = "mtc_file_room_fresh_test";
+    // One may be left of a run that was cut off.
+    let _ = fs::remove_file(&rt, name);
+    assert!(rt; disk_refusal(&rt, name) == Some(RoomError::Absent));
+    assert!(rt; makes(&rt, name));
+    assert!(rt; fs::metadata(&rt, name)?.mode() & 0o777 == 0o600);
+    assert!(rt; opens_again(&rt, name));
+    assert!(rt; holds(&rt, name, b"entry 1")?);
+    fs::remove_file(&rt, name)?;
+    assert!(rt; disk_refusal(&rt, name) == Some(RoomError::Absent));
+    Ok(())
 }
 
 // The calls are those for an input file, for a journal and for a new journal.
 #[test]
 fn each_error_of_the_system_has_its_answer(rt: HostRuntime) -> Result<(), Fail> {
-    let mut path = env::temp_dir(&rt)?;
-    path.push("mtc-file-room-refusals")?;
-    let _ = fs::create_dir(&rt, &path);
-    let _ = fs::create_dir(&rt, path.join(rt.alloc(), "folder")?);
-    let _ = fs::write(&rt, path.join(rt.alloc(), "file")?, b"");
+    let _ = fs::create_dir(&rt, "mtc_file_room_refusals");
+    let _ = fs::create_dir(&rt, "mtc_file_room_refusals/folder");
+    let _ = fs::write(&rt, "mtc_file_room_refusals/file", b"");
     let absent = Some(RoomError::Absent);
     let exists = Some(RoomError::Exists);
     let failed = Some(RoomError::Failed);
     // A folder opens as a source, and fails where it is read.
     let cases = [
-        ("folder", [None, failed, exists]),
-        ("file", [None, None, exists]),
-        ("file/behind", [absent, absent, failed]),
-        ("none/new", [absent, absent, failed]),
+        ("mtc_file_room_refusals/folder", [None, failed, exists]),
+        ("mtc_file_room_refusals/file", [None, None, exists]),
+        (
+            "mtc_file_room_refusals/file/behind",
+            [absent, absent, failed],
+        ),
+        ("mtc_file_room_refusals/none/new", [absent, absent, failed]),
     ];
     for (name, wanted) in cases {
-        let whole = path.join(rt.alloc(), name)?;
-        let name = whole.to_str().expect(&rt, "a path in UTF-8");
         assert!(rt; refusals(&rt, name) == wanted, "{name}");
     }
-    assert!(rt; !fs::exists(&rt, path.join(rt.alloc(), "none")?)?);
-    fs::remove_dir_all(&rt, &path)?;
+    assert!(rt; !fs::exists(&rt, "mtc_file_room_refusals/none")?);
+    fs::remove_dir_all(&rt, "mtc_file_room_refusals")?;
     Ok(())
 }
 
@@ -121,30 +172,54 @@ fn open_to_write<R: Files>(files: &R, name: &str) -> io::Result<R::File> {
 
 // Whether a room can lend the journal of that name.
 fn lends<R: Files<File = File>>(files: &R, name: &str) -> bool {
-    refusals(files, name)[1].is_none()
+    disk_refusal(files, name).is_none()
+}
+
+// Whether nobody else is lent a new journal while it is out.
+fn is_lent_alone<R: Files<File = File>>(files: &R, name: &str) -> bool {
+    let mut room = FileRoom::new(files);
+    let Ok(disk) = room.fresh(name) else {
+        return false;
+    };
+    let found = refusals(files, name);
+    room.keep(name, disk);
+    found == [None, Some(RoomError::Failed), Some(RoomError::Exists)]
+}
+
+// Whether a journal isn't lent that another opening has locked.
+fn is_refused<R: Files<File = File>>(files: &R, name: &str) -> io::Result<bool> {
+    let other = open_to_write(files, name)?;
+    Ok(other.try_lock().is_ok() && !lends(files, name))
+}
+
+// Whether another opening can't lock a file.
+fn is_locked<R: Files<File = File>>(files: &R, name: &str) -> bool {
+    match open_to_write(files, name) {
+        Ok(other) => matches!(other.try_lock(), Err(TryLockError::WouldBlock)),
+        Err(_) => false,
+    }
+}
+
+// Whether it can't while the journal is out.
+fn is_lent_locked<R: Files<File = File>>(files: &R, name: &str) -> bool {
+    let mut room = FileRoom::new(files);
+    let Ok(disk) = room.disk(name) else {
+        return false;
+    };
+    let locked = is_locked(files, name);
+    room.keep(name, disk);
+    locked
 }
 
 #[test]
 fn a_journal_is_lent_once_at_a_time(rt: HostRuntime) -> Result<(), Fail> {
-    let mut path = env::temp_dir(&rt)?;
-    path.push("mtc-file-room-lock-test")?;
-    let _ = fs::remove_file(&rt, &path);
-    let name = path.to_str().expect(&rt, "a path in UTF-8");
-
-    let mut room = FileRoom::new(&rt);
-    let disk = room.fresh(name).expect(&rt, "a new file");
-    assert!(rt; refusals(&rt, name) == [None, Some(RoomError::Failed), Some(RoomError::Exists)]);
-    room.keep(name, disk);
+    let name = "mtc_file_room_lock_test";
+    let _ = fs::remove_file(&rt, name);
+    assert!(rt; is_lent_alone(&rt, name));
     assert!(rt; lends(&rt, name));
-
-    let other = open_to_write(&rt, name)?;
-    assert!(rt; other.try_lock().is_ok() && !lends(&rt, name));
-    drop(other);
-    let disk = room.disk(name).expect(&rt, "the file");
-    let other = open_to_write(&rt, name)?;
-    assert!(rt; matches!(other.try_lock(), Err(TryLockError::WouldBlock)));
-    room.keep(name, disk);
+    assert!(rt; is_refused(&rt, name)?);
+    assert!(rt; is_lent_locked(&rt, name));
     assert!(rt; lends(&rt, name));
-    fs::remove_file(&rt, &path)?;
+    fs::remove_file(&rt, name)?;
     Ok(())
 }

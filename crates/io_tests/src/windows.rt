@@ -1,45 +1,55 @@
 //! Journals that are read in windows of their disk.
 
+use crate::readings::{End, disk_of};
 use disk_core::MemDisk;
 use journal_core::{OpenError, Opening};
 use mtc_io::{Bytes, Memory};
 use std::alloc::Global;
 use std::test::Fail;
 
-// A file of so many records of so many bytes.
-fn file_of(alloc: Global, count: u64, size: u32) -> Result<Bytes, Memory> {
-    let mut bytes = Bytes::copy_of(alloc, b"mtc-journal/v1\n\0")?;
-    let body = vec![in alloc; 7; size as usize]?;
+// Puts so many records with this body of so many bytes, and a closed gate, behind a header.
+fn add_records(bytes: &mut Bytes, count: u64, size: u32, body: &[u8]) -> Result<(), Memory> {
     for _ in 0..count {
         bytes.append(&[1])?;
-        bytes.append_both(&size.to_be_bytes(), &body)?;
+        bytes.append_both(&size.to_be_bytes(), body)?;
     }
-    bytes.append(&[0])?;
+    bytes.append(&[0])
+}
+
+// A file of such records.
+fn file_of(alloc: Global, count: u64, size: u32, body: &[u8]) -> Result<Bytes, Memory> {
+    let mut bytes = Bytes::copy_of(alloc, b"mtc-journal/v1\n\0")?;
+    add_records(&mut bytes, count, size, body)?;
     Ok(bytes)
 }
 
 // How many records are read, how the reading ends, and how many calls of the disk it makes.
-type Read = (u64, Result<(), OpenError>, u64);
+type Read = (u64, End, u64);
 
-fn ended(opening: Opening<MemDisk>, end: Result<(), OpenError>) -> Read {
-    let count = opening.read_count();
-    (count, end, opening.into_disk().made())
-}
-
-fn read(alloc: Global, count: u64, size: u32, failing: &[u64]) -> Result<Option<Read>, Memory> {
-    let failing = Vec::from_slice(alloc, failing)?;
-    let disk = MemDisk::over(alloc, file_of(alloc, count, size)?, failing);
-    let Ok(mut opening) = Opening::begin(alloc, disk) else {
-        return Ok(None);
-    };
+// How a reading ends, of two thousand records at most.
+fn read_on(opening: &mut Opening<MemDisk>) -> Option<End> {
     for _ in 0..2000 {
         match opening.next() {
             Ok(Some(_)) => {}
-            Ok(None) => return Ok(Some(ended(opening, Ok(())))),
-            Err(why) => return Ok(Some(ended(opening, Err(why)))),
+            Ok(None) => return Some(Ok(())),
+            Err(why) => return Some(Err(why)),
         }
     }
-    Ok(None)
+    None
+}
+
+fn read_whole(alloc: Global, disk: MemDisk) -> Option<Read> {
+    let mut opening = Opening::begin(alloc, disk).ok()?;
+    let end = read_on(&mut opening);
+    let count = opening.read_count();
+    let made = opening.into_disk().made();
+    Some((count, end?, made))
+}
+
+fn read(alloc: Global, count: u64, size: u32, failing: &[u64]) -> Result<Option<Read>, Memory> {
+    let body = vec![in alloc; 7; size as usize]?;
+    let bytes = file_of(alloc, count, size, &body)?;
+    Ok(read_whole(alloc, disk_of(alloc, bytes, failing)?))
 }
 
 // A sync, the length and the header come first. A window has 131,094 bytes, and a fault comes at
