@@ -286,7 +286,8 @@ def told(copy, crate):
     by_hand = sum(found.counts for _, found in results) - by_search
     missed = len(results) - by_search - by_hand
     print(f"{crate}: {len(results)} edits, {by_search} refused by a search, {by_hand} by a proof by hand,",
-          f"{missed} not; {seconds() - before:.0f} processor seconds, {time.monotonic() - begun:.0f} by the clock", flush=True)
+          f"{missed} not; {seconds() - before:.0f} processor seconds, {time.monotonic() - begun:.0f} by the clock",
+          flush=True)
     if missed or ledger.line_of(crate) != copy.lines[crate]:
         return False
     ledger.write(crate, by_search, by_hand)
