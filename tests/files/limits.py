@@ -11,7 +11,7 @@ from .streams import MOMENT
 # An input file has at most so many bytes (docs/COMMANDS.md, "Status").
 MOST = 16_777_216
 # So long the reading of the certificate may take that is slowest to read, in seconds of the processor. It took 12 with nothing
-# beside it, and 18 beside thirty processes; where each identifier is compared with all others it takes hours.
+# beside it, and 20 beside thirty processes; where each identifier is compared with all others it takes hours.
 SLOWEST = 40
 
 
