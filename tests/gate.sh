@@ -46,7 +46,6 @@ done <<'TABLE'
 0|must-fail edits: 3 refused|left out: order: there is no strace|0||0|left out: order: there is no strace
 0|must-fail edits: 3 refused|left out: order: there is no strace|0|MTC_ALL=1|1|left out: order: there is no strace
 0|must-fail edits: 3 refused|left out: order: there is no strace|0|MTC_ALL=0|0|left out: order: there is no strace
-0|must-fail edits: 3 refused|9 blocks are run, and 2 are left out, since there is no OpenSSL|0|MTC_ALL=1|1|9 blocks are run, and 2 are left out, since there is no OpenSSL
 0|must-fail edits: 3 refused|ok: imports left out|0|MTC_ALL=1|0|nothing was left out
 3|must-fail edits: 3 refused|ok|0||3|rt: ok; handles allowed: none; must-fail edits: 3 refused; every proof was done in this run
 TABLE

@@ -41,7 +41,9 @@ awk -v has_openssl="$has_openssl" -v commands="$folder/commands" -v shown="$fold
             print "wrong: no whole blocks in the page"
             exit 1
         }
-        print blocks + 0 " blocks of the tour are run" (left ? ", and " left " are left out, since there is no OpenSSL 3" : "")
+        print blocks + 0 " blocks of the tour are run"
+        if (left)
+            print "left out: tour: " left " blocks, since there is no OpenSSL 3"
     }' "$page" || exit 1
 
 (cd "$folder/clone" && bash "$folder/commands" >"$folder/printed" 2>&1 </dev/null)
