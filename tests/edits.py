@@ -16,7 +16,7 @@ doesn't fit any longer. Both are told apart below, since the second says less: a
 
 Edits of different functions are made in one copy, and one check tells of each: a function is proved by the contracts of
 those that it calls, so a wrong body elsewhere changes nothing for it. Edits of one function, and those that didn't
-count beside others, are tried one by one. All of it begins with what `rt check` has kept, and takes some 12 processor
+count beside others, are tried one by one. All of it begins with what `rt check` has kept, and takes some 14 processor
 seconds an edit; where nothing is kept, the crate and all below are proved first.
 
 What a line of the ledger promises: on some machine these edits were refused against these contracts. Who wrote the line
