@@ -18,7 +18,8 @@ use Rattle.authority_core.specs.Acceptance.{IsSetUpFor, StoresAccept}
 use Rattle.authority_core.specs.Certificates.{proof_for}
 use Rattle.authority_core.specs.Issuing.{entry_for, tbs_for}
 use Rattle.authority_core.specs.Requests.{CanBeIssued, RequestParts}
-use Rattle.fleet.specs.Entries.{drill_log_id, request_for}
+use Rattle.drill_nodes.specs.Ids.{drill_log_id}
+use Rattle.fleet.specs.Entries.{request_for}
 use Rattle.fleet.specs.LightStores.{IsDueEntry}
 use Rattle.fleet.specs.Stores.{IsDrillEntry, StoresAcceptNow}
 use Rattle.fleet.proofs.FirstEntries.{all_of}

@@ -22,10 +22,10 @@ use Rattle.world_core.specs.Audit.{AuditCase, IsAudit}
 use Rattle.world_core.specs.declared.answer.Audit.{Audit}
 use Rattle.world_core.specs.declared.answer.Audit.TheVariants.{Foreign, Pair, Stands, Unrecorded}
 use Rattle.fleet.specs.Audits.{StandsBy, StandsByExport, StandsWith}
-use Rattle.fleet.specs.CosignerNodes.{IsCosignerDisk}
+use Rattle.drill_nodes.specs.CosignerNodes.{IsCosignerDisk}
 use Rattle.fleet.specs.Listed.{log_items}
-use Rattle.fleet.specs.Nodes.{records_on}
-use Rattle.fleet.proofs.Exported.{steps_again}
+use Rattle.drill_nodes.specs.Disks.{records_on}
+use Rattle.drill_nodes.proofs.Exported.{steps_again}
 
 -- where an audit may answer that the entry stands, it answers nothing else
 pub stands_only : (h : HashFunction) (x : AuditCase) (index : ℕ) (answer : Audit)

@@ -1,19 +1,22 @@
 -- The beginning of a drill.
-use Rattle.std.proofs.Common.{◌≡◌, ◌∙◌, ℕ, List, [], refl, sym, ap, subst, arith}
-use Rattle.byte_forms.specs.Types.{HashFunction, Text}
-use Rattle.hss_core.specs.Hss.{one_level_public}
-use Rattle.lmots_core.specs.declared.parameters.OtsType.TheVariants.{W4}
-use Rattle.lms_core.specs.Trees.{private_key}
-use Rattle.lms_core.specs.declared.private_key.PrivateKey.{PrivateKey}
-use Rattle.lms_core.specs.declared.heights.LmsType.TheVariants.{H5}
+use Rattle.std.proofs.Common.{◌≡◌, ◌∙◌, ◌+◌, ℕ, List, [], ◌∷◌, refl, sym, ap, subst, arith}
+use Rattle.std.specs.Prelude.{map}
+use Rattle.std.specs.List.{sum_by}
+use Rattle.std.proofs.lemmas.List.Sums.{sum_by-cons}
+use Rattle.byte_forms.specs.Types.{HashFunction}
+use Rattle.tree_core.specs.declared.hashing.TreeHash.{Ghosts as Hashes}
 use Rattle.issuance_log.specs.Folds.{new_log}
 use Rattle.cosigner_core.specs.Checkpoints.{empty_checkpoint}
 use Rattle.cosigner_core.specs.Folds.{CosignerState, new_cosigner}
-use Rattle.fleet.specs.CosignerNodes.{cosigner_settings, secret_of}
+use Rattle.policy_core.specs.declared.cosigners.Known.{Known}
+use Rattle.drill_nodes.specs.CosignerNodes.{cosigner_settings, secret_of}
+use Rattle.drill_nodes.specs.CosignerViews.{cosigner_shown, cosigner_stops}
+use Rattle.drill_nodes.specs.Cosigners.{IsNewNode, Paired, keys_used, stops_by}
+use Rattle.drill_nodes.specs.Rounds.{begun}
+use Rattle.drill_nodes.specs.declared.cosigner_node.CosignerNode.{CosignerNode}
 use Rattle.fleet.specs.Entries.{entries_to, keys_to, log_settings, log_with}
-use Rattle.fleet.specs.Played.{AreWritten, IsAfter, IsCosignerWithin, Shown}
-use Rattle.fleet.specs.Rounds.{begun}
-use Rattle.fleet.specs.Stores.{drill_public, drill_store, store_with}
+use Rattle.fleet.specs.Played.{IsCosignerWithin, IsNodeAfter}
+use Rattle.fleet.specs.Stores.{drill_known, known_as}
 
 new_within : (h : HashFunction) (number last : ℕ) (s : CosignerState)
     → s ≡ new_cosigner h (cosigner_settings last) (secret_of last number)
@@ -22,53 +25,52 @@ new_within h number last s same =
     subst (λ (t : CosignerState). IsCosignerWithin number last 0 (empty_checkpoint h) t) (sym same)
     (record { id = refl; log_id = refl; held = refl; key = refl; signed = omega arith })
 
-none_used : (h : HashFunction) (number last : ℕ) (s : CosignerState)
-    → s ≡ new_cosigner h (cosigner_settings last) (secret_of last number) → s.key.next ≡ 0
-none_used h number last s same =
-    subst (λ (t : CosignerState). t.key.next ≡ 0) (sym same) refl
-
-log_first : (h : HashFunction) → new_log log_settings ≡ log_with h 1 []
+pub log_first : (h : HashFunction) → new_log log_settings ≡ log_with h 1 []
 unfolding entries_to keys_to
 log_first h = refl
 
-new_key : (h : HashFunction) (number last : ℕ) (s : CosignerState)
-    → s ≡ new_cosigner h (cosigner_settings last) (secret_of last number)
-    → s.key.key ≡ private_key H5 W4 (secret_of last number)
-new_key h number last s same = ap (λ (t : CosignerState). t.key.key) same
+module _ {H : Type 0} {hashes : Hashes H} (h : HashFunction) (number : ℕ) where
+  pub node_first : (last : ℕ) (node : CosignerNode H hashes) → IsNewNode h number last node
+      → IsNodeAfter h number 0 (begun number) last node
+  node_first last node is = record {
+    within = new_within h number last (cosigner_shown node) is.state;
+    signs = tt;
+  }
 
-store_first : (number : ℕ) (a b c : PrivateKey)
-    → a ≡ private_key H5 W4 (secret_of 2 number) → b ≡ private_key H5 W4 (secret_of 3 number)
-    → c ≡ private_key H5 W4 (secret_of 4 number)
-    → store_with (one_level_public a) (one_level_public b) (one_level_public c)
-    ≡ drill_store number
-store_first number a b c first second third =
-    ap (λ (k : PrivateKey). store_with (one_level_public k) (one_level_public b)
-    (one_level_public c)) first
-    ∙ ap (λ (k : PrivateKey). store_with (drill_public 2 number) (one_level_public k)
-    (one_level_public c)) second
-    ∙ ap (λ (k : PrivateKey). store_with (drill_public 2 number) (drill_public 3 number)
-    (one_level_public k)) third
+  -- no one-time key is used
+  pub no_keys : (arcs : List ℕ) (nodes : List (CosignerNode H hashes))
+      → Paired (IsNewNode h number) arcs nodes → keys_used nodes ≡ 0
+  no_keys [] [] are = refl
+  no_keys [] (n ∷ ns) are = absurd are
+  no_keys (a ∷ others) [] are = absurd are
+  no_keys (a ∷ others) (n ∷ ns) are =
+      let whole = sum_by-cons (λ (x : CosignerNode H hashes). (cosigner_shown x).key.next) n ns
+      in
+      let here : (cosigner_shown n).key.next ≡ 0 =
+      ap (λ (s : CosignerState). s.key.next) are.0.state in
+      let rest = no_keys others ns are.1 in
+      omega (arith, whole, here, rest)
 
-pub after_none : (h : HashFunction) (number : ℕ) (p : Shown) → p.log ≡ new_log log_settings
-    → p.first ≡ new_cosigner h (cosigner_settings 2) (secret_of 2 number)
-    → p.second ≡ new_cosigner h (cosigner_settings 3) (secret_of 3 number)
-    → p.third ≡ new_cosigner h (cosigner_settings 4) (secret_of 4 number)
-    → p.store ≡ store_with (one_level_public p.first.key.key) (one_level_public p.second.key.key)
-    (one_level_public p.third.key.key)
-    → p.certs ≡ [] → p.verified ≡ 0 → IsAfter h number 0 (begun number) p
-after_none h number p log first second third store certs verified =
-    let a = none_used h number 2 p.first first in
-    let b = none_used h number 3 p.second second in
-    let c = none_used h number 4 p.third third in
-    record {
-      log = log ∙ log_first h;
-      first = new_within h number 2 p.first first;
-      second = new_within h number 3 p.second second;
-      third = new_within h number 4 p.third third;
-      few = omega arith;
-      store = store ∙ store_first number p.first.key.key p.second.key.key p.third.key.key
-          (new_key h number 2 p.first first) (new_key h number 3 p.second second)
-          (new_key h number 4 p.third third);
-      certs = subst (λ (list : List Text). AreWritten h number list []) (sym certs) tt;
-      verified = verified;
-    }
+  -- and no stop was made
+  pub no_stops : (arcs : List ℕ) (nodes : List (CosignerNode H hashes))
+      → Paired (IsNewNode h number) arcs nodes → stops_by nodes ≡ 0
+  no_stops [] [] are = refl
+  no_stops [] (n ∷ ns) are = absurd are
+  no_stops (a ∷ others) [] are = absurd are
+  no_stops (a ∷ others) (n ∷ ns) are =
+      let whole = sum_by-cons cosigner_stops n ns in
+      let here = are.0.stops in
+      let rest = no_stops others ns are.1 in
+      omega (arith, whole, here, rest)
+
+  -- what is known of them
+  pub known_first : (arcs : List ℕ) (nodes : List (CosignerNode H hashes))
+      → Paired (IsNewNode h number) arcs nodes
+      → map (λ node. known_as (cosigner_shown node)) nodes ≡ map (drill_known number) arcs
+  known_first [] [] are = refl
+  known_first [] (n ∷ ns) are = absurd are
+  known_first (a ∷ others) [] are = absurd are
+  known_first (a ∷ others) (n ∷ ns) are =
+      ap (λ (s : CosignerState). known_as s ∷ map (λ node. known_as (cosigner_shown node)) ns)
+      are.0.state
+      ∙ ap (λ (list : List Known). drill_known number a ∷ list) (known_first others ns are.1)

@@ -1,24 +1,36 @@
 -- The audits of the certificates of a drill with the records of a cosigner.
-use Rattle.std.proofs.Common.{◌≡◌, ◌≤◌, ℕ, List, [], ◌∷◌, ◌++◌, length, arith, refl, subst}
+use Rattle.std.proofs.Common.{◌≡◌, ◌+◌, ◌≤◌, ℕ, suc, List, [], ◌∷◌, ◌++◌, length, arith, refl}
+use Rattle.std.proofs.Common.{subst}
 use Rattle.byte_forms.specs.Places.{IsBytes}
 use Rattle.byte_forms.specs.Types.{HashFunction, Text}
 use Rattle.disk_core.specs.Memory.{bytes_of, calls_of}
 use Rattle.disk_core.specs.ReplayLaws.{told_are}
 use Rattle.disk_core.specs.declared.memory.mem_disk.MemDisk.{MemDisk}
 use Rattle.tree_core.specs.Tree.{tree_hash}
+use Rattle.tree_core.specs.declared.hashing.TreeHash.{Ghosts as Hashes}
+use Rattle.std.specs.List.{AllByRecursion}
+use Rattle.cosigner_core.specs.Words.{cosigner_disk}
+use Rattle.drill_nodes.specs.CosignerViews.{cosigner_shown, records_shown}
+use Rattle.drill_nodes.specs.Cosigners.{Paired}
+use Rattle.drill_nodes.specs.Rounds.{Drill, behind_round, marks_behind}
+use Rattle.drill_nodes.specs.declared.cosigner_node.CosignerNode.{CosignerNode}
+use Rattle.drill_nodes.specs.declared.round.Round.{Round}
+use Rattle.fleet.specs.AuditViews.{AllStand}
 use Rattle.issuance_log.specs.Folds.{LogState}
 use Rattle.cosigner_core.specs.Folds.{CosignerState}
 use Rattle.fleet.specs.Audits.{StandsWith}
-use Rattle.fleet.specs.CosignerNodes.{HasMore, HasSign, IsCosignerDisk}
+use Rattle.drill_nodes.specs.CosignerNodes.{HasMore, HasSign, IsCosignerDisk}
 use Rattle.fleet.specs.Entries.{entries_to, log_with}
 use Rattle.fleet.specs.Fleets.{EachStands}
-use Rattle.fleet.specs.Nodes.{records_on}
-use Rattle.fleet.specs.Played.{AreWritten, IsCosignerWithin, IsWrittenOf}
+use Rattle.drill_nodes.specs.Disks.{records_on}
+use Rattle.fleet.specs.Played.{AreWritten, IsCosignerWithin, IsNodeAfter, IsWrittenOf}
+use Rattle.fleet.specs.Played.{cosigner_arcs}
 use Rattle.fleet.specs.Stores.{IsAcceptedByAll, drill_store}
-use Rattle.fleet.specs.Tallies.{HaveSigns, NoneLarger}
-use Rattle.fleet.proofs.CosignerStops.{sign_stays}
+use Rattle.fleet.specs.Played.{HaveSigns, NoneLarger}
+use Rattle.drill_nodes.proofs.CosignerStops.{sign_stays}
 use Rattle.fleet.proofs.EntryCounts.{entries_length}
-use Rattle.fleet.proofs.StandingAudits.{Counts, audit_stands}
+use Rattle.fleet.proofs.StandingAudits.{Counts, audit_stands, first_is_counted, second_is_counted}
+use Rattle.fleet.proofs.StandingAudits.{third_is_counted}
 
 -- ---- the Signs
 
@@ -91,13 +103,38 @@ module _ (h : HashFunction) (number arc count larger : ℕ) (marks : List ℕ) (
     each_stands cs ws stands counts is are.1 few.1 signs.1,
   )
 
--- the certificate that was written last
-pub last_written : (h : HashFunction) (number : ℕ) (certs : List Text) (written : List (ℕ × ℕ))
-    (cert : Text) (w : ℕ × ℕ) → AreWritten h number certs written
-    → AreWritten h number (certs ++ cert ∷ []) (written ++ w ∷ [])
-    → IsWrittenOf h (log_with h w.1 []) w.0 cert × IsAcceptedByAll h number w.0 w.1 cert
-last_written h number [] [] cert w are all = all.0
-last_written h number [] (v ∷ vs) cert w are all = absurd are
-last_written h number (c ∷ cs) [] cert w are all = absurd are
-last_written h number (c ∷ cs) (v ∷ vs) cert w are all =
-    last_written h number cs vs cert w are.1 all.1
+-- ---- the cosigners
+
+-- each counts where all three do
+pub arcs_count : (number : ℕ) → AllByRecursion (Counts number) cosigner_arcs
+arcs_count number =
+    (first_is_counted number, (second_is_counted number, (third_is_counted number, tt)))
+
+last_sign : (h : HashFunction) (written : List (ℕ × ℕ)) (w : ℕ × ℕ) (list : List Text)
+    → HaveSigns h (written ++ w ∷ []) list → HasSign 0 w.1 (tree_hash h (entries_to h w.1)) list
+last_sign h [] w list signs = signs.0
+last_sign h (v ∷ vs) w list signs = last_sign h vs w list signs.1
+
+-- the audit of the certificate of a round with the records of each
+pub all_stand : {H : Type 0} {hashes : Hashes H} (h : HashFunction) (number count next : ℕ)
+    (d : Drill) (r : Round) (arcs : List ℕ) (nodes : List (CosignerNode H hashes)) (cert : Text)
+    → AllByRecursion (Counts number) arcs
+    → Paired (IsNodeAfter h number (suc count) (behind_round d r next)) arcs nodes
+    → AllByRecursion (λ node. IsCosignerDisk h (cosigner_shown node) (cosigner_disk node.cosigner))
+    nodes
+    → IsWrittenOf h (log_with h (d.size + length r.entries) []) r.index cert
+    → IsAcceptedByAll h number r.index (d.size + length r.entries) cert
+    → AllStand h (drill_store number) cert (log_with h (d.size + length r.entries)
+    (marks_behind d.marks r.landmark (d.size + length r.entries))) nodes
+all_stand h number count next d r [] [] cert counts are disks written accepted = tt
+all_stand h number count next d r [] (n ∷ ns) cert counts are disks written accepted = absurd are
+all_stand h number count next d r (a ∷ others) [] cert counts are disks written accepted =
+    absurd are
+all_stand h number count next d r (a ∷ others) (n ∷ ns) cert counts are disks written accepted =
+    let size : ℕ = d.size + length r.entries in (
+      one_stands h number a (suc count) size (marks_behind d.marks r.landmark size)
+          (cosigner_shown n) (cosigner_disk n.cosigner) size r.index cert disks.0 counts.0
+          are.0.within (omega arith) written accepted
+          (last_sign h d.written (r.index, size) (records_shown n) are.0.signs),
+      all_stand h number count next d r others ns cert counts.1 are.1 disks.1 written accepted,
+    )

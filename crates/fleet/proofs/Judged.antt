@@ -11,7 +11,6 @@ use Rattle.lms_core.specs.declared.private_key.PrivateKey.{PrivateKey}
 use Rattle.hss_core.specs.Hss.{Verifies, one_level_public}
 use Rattle.mtc_proof.specs.Inputs.{signed_text}
 use Rattle.mtc_proof.specs.Proofs.{IsMtcSignature, ProofParts, SigParts, signature_text}
-use Rattle.issuance_log.specs.Folds.{LogState}
 use Rattle.cosigner_core.specs.Folds.{CosignerState}
 use Rattle.cosigner_core.specs.declared.checkpoint.Checkpoint.{Checkpoint}
 use Rattle.policy_core.specs.Counting.{counted, counts, has_signed, is_signature_of}
@@ -23,12 +22,12 @@ use Rattle.policy_core.specs.declared.cosigners.Known.{Known}
 use Rattle.policy_core.proofs.Sets.{signed_as_spelled}
 use Rattle.authority_core.specs.Acceptance.{IsSetUpFor}
 use Rattle.authority_core.specs.Certificates.{proof_for}
-use Rattle.fleet.specs.Entries.{drill_log_id, entries_to, id_of, log_with}
-use Rattle.fleet.specs.Played.{AreWithin, HasCertified, HasSignedAll, IsCosignerWithin, Shown}
+use Rattle.drill_nodes.specs.Cosigners.{IsSignatureBy, Paired}
+use Rattle.drill_nodes.specs.Ids.{drill_log_id, id_of}
+use Rattle.fleet.specs.Entries.{entries_to, log_with}
+use Rattle.fleet.specs.Played.{IsCosignerWithin, cosigner_arcs}
 use Rattle.fleet.specs.Stores.{IsAcceptedByAll, IsDrillEntry, StoresAcceptNow, drill_public}
-use Rattle.fleet.specs.Stores.{drill_store, known_with}
-use Rattle.fleet.specs.declared.turns.Stop.{Stop}
-use Rattle.fleet.specs.declared.turns.Three.{Three}
+use Rattle.fleet.specs.Stores.{drill_known, drill_store}
 use Rattle.fleet.proofs.EntryCounts.{entries_length}
 use Rattle.fleet.proofs.Requested.{is_entry}
 
@@ -79,9 +78,6 @@ text_by last p hash = signed_text (id_of last) drill_log_id p.start p.end hash
 abbrev SignsAs : ℕ → ℕ → ProofParts → Hash → Text → Type 0
 SignsAs number last p hash signature =
     Verifies (drill_public last number) (text_by last p hash) signature
-
-abbrev drill_known : ℕ → ℕ → Known
-drill_known number last = known_with last (drill_public last number)
 
 first_signs : (number : ℕ) (p : ProofParts) (hash : Hash) (a b c : Text)
     → AllByRecursion IsMtcSignature (three_of a b c)
@@ -176,66 +172,69 @@ accepted_now h number index size marks a b c cert entry accepts all =
 
 -- ---- what the cosigners have signed
 
--- a signature over all of the log, in the words of the store
-signs_as : (h : HashFunction) (number last count size index : ℕ) (marks : List ℕ)
-    (held : Checkpoint) (log : LogState) (turn : Option Stop) (s t : CosignerState)
-    (signatures signature : Text) → log ≡ log_with h size marks
-    → IsCosignerWithin number last count held s → HasSignedAll h log turn s t signature
-    → SignsAs number last (proof_for h (log_with h size marks) index 0
-    (length (entries_to h size)) signatures) (tree_hash h (entries_to h size)) signature
-signs_as h number last count size index marks held log turn s t signatures signature same is by =
-    subst (λ (l : LogState). Verifies (drill_public last number)
-    (signed_text (id_of last) drill_log_id 0 (length l.entries) (tree_hash h l.entries)) signature)
-    same
-    (subst (λ (id : Text). Verifies (drill_public last number)
-    (signed_text id drill_log_id 0 (length log.entries) (tree_hash h log.entries)) signature) is.id
-    (subst (λ (id : Text). Verifies (drill_public last number)
-    (signed_text s.id id 0 (length log.entries) (tree_hash h log.entries)) signature) is.log_id
-    (subst (λ (k : PrivateKey). Verifies (one_level_public k)
-    (signed_text s.id s.log 0 (length log.entries) (tree_hash h log.entries)) signature) is.key
-    by.verifies)))
+-- The signature stands under the id 32473.N of the drill, and verifies under its key.
+pub record SignsUnder (number size : ℕ) (hash : Hash) (last : ℕ) (part : SigParts) : Type 0 where
+  pub cosigner : part.cosigner ≡ id_of last
+  pub verifies : Verifies (drill_public last number)
+      (signed_text (id_of last) drill_log_id 0 size hash) part.signature
+  pub short : length part.signature < 2 ^ 14
 
--- the signatures under the ids of the drill
-accepts_as : (h : HashFunction) (size index : ℕ) (marks : List ℕ) (log : LogState)
-    (i j k a b c cert : Text) → log ≡ log_with h size marks
-    → i ≡ id_of 2 → j ≡ id_of 3 → k ≡ id_of 4
-    → StoresAcceptNow h log index (flat_map signature_text
-    (record { cosigner = i; signature = a } ∷ record { cosigner = j; signature = b }
-    ∷ record { cosigner = k; signature = c } ∷ [])) cert
-    → StoresAcceptNow h (log_with h size marks) index (text_of_three a b c) cert
-accepts_as h size index marks log i j k a b c cert same first second third accepts =
-    subst (λ (l : LogState). StoresAcceptNow h l index (text_of_three a b c)
-    cert) same
-    (subst (λ (x : Text). StoresAcceptNow h log index (flat_map signature_text
-    (under 2 a ∷ under 3 b ∷ record { cosigner = x; signature = c } ∷ [])) cert) third
-    (subst (λ (x : Text). StoresAcceptNow h log index (flat_map signature_text
-    (under 2 a ∷ record { cosigner = x; signature = b }
-    ∷ record { cosigner = k; signature = c } ∷ [])) cert) second
-    (subst (λ (x : Text). StoresAcceptNow h log index (flat_map signature_text
-    (record { cosigner = x; signature = a } ∷ record { cosigner = j; signature = b }
-    ∷ record { cosigner = k; signature = c } ∷ [])) cert) first accepts)))
+pub signs_under : (number last count size : ℕ) (hash : Hash) (held : Checkpoint)
+    (s : CosignerState) (part : SigParts) → IsCosignerWithin number last count held s
+    → IsSignatureBy size hash s part → SignsUnder number size hash last part
+signs_under number last count size hash held s part is by = record {
+  cosigner = by.cosigner ∙ is.id;
+  verifies = subst (λ (id : Text). Verifies (drill_public last number)
+      (signed_text id drill_log_id 0 size hash) part.signature) is.id
+      (subst (λ (id : Text). Verifies (drill_public last number)
+      (signed_text s.id id 0 size hash) part.signature) is.log_id
+      (subst (λ (k : PrivateKey). Verifies (one_level_public k)
+      (signed_text s.id s.log 0 size hash) part.signature) is.key by.verifies));
+  short = by.short;
+}
+
+as_under : (last : ℕ) (part : SigParts) → part.cosigner ≡ id_of last
+    → part ≡ under last part.signature
+as_under last part is =
+    ap (λ (id : Text). record { cosigner = id; signature = part.signature }) is
+
+spelled_so : (a b c : SigParts) → a.cosigner ≡ id_of 2 → b.cosigner ≡ id_of 3
+    → c.cosigner ≡ id_of 4
+    → flat_map signature_text (a ∷ b ∷ c ∷ [])
+    ≡ text_of_three a.signature b.signature c.signature
+spelled_so a b c first second third =
+    ap (λ (x : SigParts). flat_map signature_text (x ∷ b ∷ c ∷ [])) (as_under 2 a first)
+    ∙ ap (λ (x : SigParts). flat_map signature_text (under 2 a.signature ∷ x ∷ c ∷ []))
+    (as_under 3 b second)
+    ∙ ap (λ (x : SigParts). flat_map signature_text
+    (under 2 a.signature ∷ under 3 b.signature ∷ x ∷ [])) (as_under 4 c third)
 
 -- The certificate of a round is accepted by all three.
-pub is_accepted : (h : HashFunction) (number count size most : ℕ) (marks : List ℕ)
-    (held : Checkpoint) (written : List (ℕ × ℕ)) (index : ℕ) (turns : Three) (p q : Shown)
-    → AreWithin h number count size marks held most written p
-    → (done : HasCertified h index turns p q) → 1 ≤ index → index < size → size ≤ 64
-    → IsAcceptedByAll h number index size done.cert
-is_accepted h number count size most marks held written index turns p q is done some below few =
-    let a : Text = done.one in
-    let b : Text = done.two in
-    let c : Text = done.three in
-    let signatures : Text = text_of_three a b c in
-    accepted_now h number index size marks a b c done.cert
+pub is_accepted : (h : HashFunction) (number size index : ℕ) (marks : List ℕ)
+    (signatures cert : Text) (parts : List SigParts)
+    → Paired (SignsUnder number (length (entries_to h size)) (tree_hash h (entries_to h size)))
+    cosigner_arcs parts
+    → signatures ≡ flat_map signature_text parts
+    → StoresAcceptNow h (log_with h size marks) index signatures cert
+    → 1 ≤ index → index < size → size ≤ 64 → IsAcceptedByAll h number index size cert
+is_accepted h number size index marks signatures cert [] are spelled accepts some below few =
+    absurd are
+is_accepted h number size index marks signatures cert (a ∷ []) are spelled accepts some below few =
+    absurd are.1
+is_accepted h number size index marks signatures cert (a ∷ b ∷ []) are spelled accepts some below
+    few = absurd are.1.1
+is_accepted h number size index marks signatures cert (a ∷ b ∷ c ∷ d ∷ ds) are spelled accepts some
+    below few = absurd are.1.1.1
+is_accepted h number size index marks signatures cert (a ∷ b ∷ c ∷ []) are spelled accepts some
+    below few =
+    let first = are.0 in
+    let second = are.1.0 in
+    let third = are.1.1.0 in
+    let text = spelled ∙ spelled_so a b c first.cosigner second.cosigner third.cosigner in
+    let all : Text = text_of_three a.signature b.signature c.signature in
+    accepted_now h number index size marks a.signature b.signature c.signature cert
     (is_entry h size index marks some below few)
-    (accepts_as h size index marks p.log p.first.id p.second.id p.third.id a b c done.cert is.log
-    is.first.id is.second.id is.third.id done.accepts)
+    (subst (λ (t : Text). StoresAcceptNow h (log_with h size marks) index t cert) text accepts)
     (all_count number (proof_for h (log_with h size marks) index 0 (length (entries_to h size))
-    signatures) (tree_hash h (entries_to h size)) a b c done.first.short done.second.short
-    done.third.short refl
-    (signs_as h number 2 count size index marks held p.log turns.first p.first q.first signatures a
-    is.log is.first done.first)
-    (signs_as h number 3 count size index marks held p.log turns.second p.second q.second
-    signatures b is.log is.second done.second)
-    (signs_as h number 4 count size index marks held p.log turns.third p.third q.third signatures c
-    is.log is.third done.third))
+    all) (tree_hash h (entries_to h size)) a.signature b.signature c.signature first.short
+    second.short third.short refl first.verifies second.verifies third.verifies)

@@ -24,7 +24,7 @@ use Rattle.issuance_log.specs.Folds.{LogState}
 use Rattle.authority_core.specs.Acceptance.{AcceptsIn, IsOwnEntry, IsSetUpFor}
 use Rattle.authority_core.specs.Acceptance.{StoresAcceptLightly}
 use Rattle.authority_core.specs.Certificates.{proof_for}
-use Rattle.fleet.specs.Entries.{drill_log_id}
+use Rattle.drill_nodes.specs.Ids.{drill_log_id}
 use Rattle.fleet.specs.LightStores.{AreOwn, HasCover, IsDueEntry, IsOwnSubtree}
 use Rattle.fleet.specs.LightStores.{TrustsActive, light_store, with_hash}
 

@@ -15,7 +15,8 @@ use Rattle.issuance_log.specs.Folds.{log_of}
 use Rattle.issuance_log.specs.Words.{LogAsksTiles, LogStays, log_disk, view_of}
 use Rattle.issuance_log.specs.declared.log.Log.{Log}
 use Rattle.fleet.specs.Calls.{HasCalledLog, log_called, record_of}
-use Rattle.fleet.specs.Nodes.{IsLogDisk, log_seen, records_on}
+use Rattle.fleet.specs.Nodes.{IsLogDisk, log_seen}
+use Rattle.drill_nodes.specs.Disks.{records_on}
 use Rattle.fleet.specs.declared.calls.LogCall.{LogCall}
 
 pub some_is : {A : Type 0} (x y : A) → Some x ≡ Some y → x ≡ y

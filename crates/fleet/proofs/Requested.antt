@@ -14,7 +14,8 @@ use Rattle.der_core.specs.Elements.{element}
 use Rattle.cert_fields.specs.Grammar.{IsAlgorithm, IsBits, IsPublicKey}
 use Rattle.authority_core.specs.Hosts.{is_host_name, is_label, labels_of}
 use Rattle.authority_core.specs.Requests.{CanBeIssued}
-use Rattle.fleet.specs.Entries.{drill_entry, drill_log_id, entries_to, host_of, key_of, log_with}
+use Rattle.drill_nodes.specs.Ids.{drill_log_id}
+use Rattle.fleet.specs.Entries.{drill_entry, entries_to, host_of, key_of, log_with}
 use Rattle.fleet.specs.Entries.{request_for}
 use Rattle.fleet.specs.Stores.{IsDrillEntry}
 use Rattle.fleet.proofs.EntryCounts.{entries_length}

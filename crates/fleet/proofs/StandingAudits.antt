@@ -55,13 +55,14 @@ use Rattle.world_core.specs.Walk.{held_by}
 use Rattle.world_core.proofs.Premises.{held_at_last}
 use Rattle.world_core.proofs.Settled.{eval_inside, judged_path}
 use Rattle.fleet.specs.Audits.{StandsWith}
-use Rattle.fleet.specs.CosignerNodes.{HasSign, secret_of}
-use Rattle.fleet.specs.Entries.{drill_entry, drill_key, drill_log_id, entries_to, id_of, keys_to}
+use Rattle.drill_nodes.specs.CosignerNodes.{HasSign, secret_of}
+use Rattle.drill_nodes.specs.Ids.{drill_log_id, id_of}
+use Rattle.fleet.specs.Entries.{drill_entry, drill_key, entries_to, keys_to}
 use Rattle.fleet.specs.Entries.{log_with}
 use Rattle.fleet.specs.Played.{IsWrittenOf}
 use Rattle.fleet.specs.Stores.{IsAcceptedByAll, drill_public, drill_store, known_with}
 use Rattle.fleet.proofs.EntryCounts.{entries_length}
-use Rattle.fleet.proofs.SignPlaces.{found, said_there}
+use Rattle.drill_nodes.proofs.SignPlaces.{found, said_there}
 
 same_bytes : (x : Text) → bytes_eq x x ≡ true
 same_bytes x = (bytes_eq-Decides x x).1 refl

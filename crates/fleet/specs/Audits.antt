@@ -1,5 +1,6 @@
 -- The audits of a drill's certificates.
 use Rattle.std.specs.Prelude.{◌≡◌, pos, List, drop, Some, Ok}
+use Rattle.std.specs.List.{AllByRecursion}
 use Rattle.byte_forms.specs.Types.{HashFunction, Text}
 use Rattle.cert_fields.specs.Certificate.{Parts, parts_of}
 use Rattle.mtc_proof.specs.Proofs.{ProofParts}
@@ -44,12 +45,9 @@ pub record StandsByExport (h : HashFunction) (store : Store) (cert : Text) (item
   pub read : export_in h file ≡ Ok (Some kept)
   pub stands : StandsBy h store cert items kept
 
--- The same with the files of three exports.
-pub record AllByExport (h : HashFunction) (store : Store) (cert : Text) (items : ItemLists)
-    (one two three : Text) : Type 0 where
-  pub first : StandsByExport h store cert items one
-  pub second : StandsByExport h store cert items two
-  pub third : StandsByExport h store cert items three
+-- The same with the file of each of several exports.
+abbrev pub AllByExport : HashFunction → Store → Text → ItemLists → List Text → Type 0
+AllByExport h store cert items files = AllByRecursion (StandsByExport h store cert items) files
 
 -- The same with the items of a log and the steps in the records of a cosigner.
 pub record StandsWith (h : HashFunction) (store : Store) (cert : Text) (log : LogState)

@@ -1,21 +1,7 @@
 -- What a drill comes to, in numbers.
-use Rattle.std.specs.Prelude.{◌≡◌, ◌+◌, ◌≤◌, ℕ, Bool, true, false, length}
-use Rattle.cosigner_core.specs.Counts.{indices_of}
-use Rattle.cosigner_core.specs.declared.step.Step.{Step}
-use Rattle.cosigner_core.specs.declared.step.Step.TheVariants.{Advance, Sign}
-use Rattle.disk_core.specs.declared.memory.mem_disk.MemDisk.{MemDisk}
-use Rattle.fleet.specs.Nodes.{records_on}
-use Rattle.fleet.specs.Rounds.{drill_of}
+use Rattle.std.specs.Prelude.{◌≡◌, ◌+◌, ◌≤◌, ℕ, length}
+use Rattle.drill_nodes.specs.Rounds.{drill_of}
 use Rattle.fleet.specs.declared.made.Counts.{Counts}
-
--- the step is a Sign
-abbrev pub is_sign : Step → Bool
-is_sign (Advance size root proof) = false
-is_sign (Sign index start end hash proof) = true
-
--- how many records on the disk of a cosigner are Signs
-abbrev pub signs_on : MemDisk → ℕ
-signs_on disk = length (indices_of (records_on disk))
 
 -- Entries, landmarks and stops are those that the number draws. Each of three cosigners signs in
 -- each of sixteen rounds, and at most once more for each stop. All certificates are accepted, also

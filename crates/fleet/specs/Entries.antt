@@ -6,14 +6,7 @@ use Rattle.authority_core.specs.Issuing.{entry_for}
 use Rattle.authority_core.specs.Requests.{RequestParts}
 use Rattle.issuance_log.specs.Folds.{LogState, null_entry}
 use Rattle.issuance_log.specs.Settings.{Settings}
-
--- the anchor id 32473.N, N below 128
-abbrev pub id_of : ℕ → Text
-id_of last = 0x81 ∷ 0xFD ∷ 0x59 ∷ last ∷ []
-
--- the id of the log, 32473.1
-abbrev pub drill_log_id : Text
-drill_log_id = id_of 1
+use Rattle.drill_nodes.specs.Ids.{drill_log_id}
 
 -- the log has 4 active landmarks and 64 entries at most
 abbrev pub log_settings : Settings

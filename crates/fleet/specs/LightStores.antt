@@ -22,7 +22,7 @@ use Rattle.policy_core.specs.declared.store.Store.{Store}
 use Rattle.issuance_log.specs.Folds.{LogState}
 use Rattle.authority_core.specs.Acceptance.{IsOwnEntry}
 use Rattle.authority_core.specs.Certificates.{IsLightlyWritten}
-use Rattle.fleet.specs.Entries.{drill_log_id}
+use Rattle.drill_nodes.specs.Ids.{drill_log_id}
 use Rattle.fleet.specs.Stores.{IsDrillEntry}
 
 -- a subtree with the tree hash of its entries

@@ -2,9 +2,9 @@
 use Rattle.std.specs.Prelude.{◌≡◌, ◌⊎◌, List, [], ◌∷◌, ◌++◌, Ok}
 use Rattle.std.proofs.Props.{props}
 use Rattle.byte_forms.specs.Types.{Text, HashFunction}
-use Rattle.disk_core.specs.Memory.{bytes_of, failing_of, images_of, starved_of}
+use Rattle.disk_core.specs.Memory.{bytes_of, images_of}
 use Rattle.disk_core.specs.declared.memory.mem_disk.MemDisk.{MemDisk}
-use Rattle.journal_core.specs.Format.{StandsFor, StandsForEither, records_of}
+use Rattle.journal_core.specs.Format.{StandsFor, StandsForEither}
 use Rattle.journal_core.specs.Settled.{StandsFor-prop}
 use Rattle.disk_core.specs.declared.disk.Disk.{Ghosts}
 use Rattle.issuance_log.specs.Folds.{LogState, log_of, view_in}
@@ -12,23 +12,15 @@ use Rattle.issuance_log.specs.Shown.{shown_with}
 use Rattle.issuance_log.specs.Words.{log_disk, view_of}
 use Rattle.issuance_log.specs.declared.log.Log.{Log}
 use Rattle.tree_core.specs.declared.hashing.TreeHash.{Ghosts as Hashes}
+use Rattle.drill_nodes.specs.Disks.{records_on}
 use Rattle.fleet.specs.Calls.{log_called, record_of}
 use Rattle.fleet.specs.declared.calls.LogCall.{LogCall}
-
--- the records of a disk in memory
-abbrev pub records_on : MemDisk → List Text
-records_on disk = records_of (bytes_of disk)
 
 -- The log whose journal stands on a disk in memory: what it shows over every disk, with the items
 -- in the records of that disk.
 abbrev pub log_seen : {H T : Type 0} {hashes : Hashes H} {g : Ghosts MemDisk} {k : Ghosts T}
     → Log H MemDisk T hashes g k → LogState
 log_seen log = shown_with (view_of log) (records_on (log_disk log))
-
--- The disk lists no call that fails, and each call has found memory.
-pub record FailsNone (disk : MemDisk) : Type 0 where
-  pub none_listed : failing_of disk ≡ []
-  pub none_starved : starved_of disk ≡ 0
 
 -- What a disk holds and all that a crash now may leave of it stand for its records, and these make
 -- this log.

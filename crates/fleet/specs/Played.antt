@@ -1,32 +1,35 @@
--- What a round makes of the nodes of a drill.
-use Rattle.std.specs.Prelude.{◌≡◌, ◌+◌, ◌*◌, ◌<◌, ◌≤◌, ◌^◌, ℕ, zero, suc, List, [], ◌∷◌, ◌++◌}
-use Rattle.std.specs.Prelude.{length, pos}
-use Rattle.std.specs.Prelude.{Option, Some, None}
-use Rattle.std.specs.List.{flat_map}
-use Rattle.byte_forms.specs.Types.{HashFunction, Text}
-use Rattle.hss_core.specs.Hss.{Verifies, one_level_public}
+-- What a round makes of the nodes of a drill, and what rounds make of them.
+use Rattle.std.specs.Prelude.{◌≡◌, ◌+◌, ◌*◌, ◌<◌, ◌≤◌, ℕ, zero, suc, List, [], ◌∷◌, ◌++◌, length}
+use Rattle.std.specs.Prelude.{pos, Option, Some, None}
+use Rattle.std.specs.List.{AllByRecursion}
+use Rattle.byte_forms.specs.Types.{Hash, HashFunction, Text}
 use Rattle.lmots_core.specs.declared.parameters.OtsType.TheVariants.{W4}
 use Rattle.lms_core.specs.declared.heights.LmsType.TheVariants.{H5}
 use Rattle.lms_core.specs.Trees.{private_key}
-use Rattle.mtc_proof.specs.Inputs.{signed_text}
-use Rattle.mtc_proof.specs.Proofs.{SigParts, signature_text}
 use Rattle.tree_core.specs.Tree.{tree_hash}
+use Rattle.tree_core.specs.declared.hashing.TreeHash.{Ghosts as Hashes}
 use Rattle.issuance_log.specs.Folds.{LogState, with_mark}
 use Rattle.cosigner_core.specs.Checkpoints.{empty_checkpoint}
-use Rattle.cosigner_core.specs.Folds.{CosignerState, holding}
+use Rattle.cosigner_core.specs.Folds.{CosignerState}
 use Rattle.cosigner_core.specs.declared.checkpoint.Checkpoint.{Checkpoint}
 use Rattle.policy_core.specs.Judgement.{judgement}
-use Rattle.policy_core.specs.declared.store.Store.{Store}
 use Rattle.authority_core.specs.Certificates.{IsWritten}
 use Rattle.authority_core.specs.Issues.{issued_log}
-use Rattle.fleet.specs.CosignerNodes.{most_of, secret_of}
-use Rattle.fleet.specs.Entries.{drill_log_id, entries_to, id_of, log_with}
-use Rattle.fleet.specs.Entries.{request_for}
-use Rattle.fleet.specs.Rounds.{Drill}
+use Rattle.drill_nodes.specs.CosignerNodes.{HasSign, secret_of}
+use Rattle.drill_nodes.specs.CosignerViews.{cosigner_shown, records_shown}
+use Rattle.drill_nodes.specs.Cosigners.{HasRecordedAll, HaveSigned, IsSigned, Paired, keys_used}
+use Rattle.drill_nodes.specs.Cosigners.{stops_by}
+use Rattle.drill_nodes.specs.Ids.{drill_log_id, id_of}
+use Rattle.drill_nodes.specs.Rounds.{Drill, after_rounds, begun, landmark_turns, stops_in, stops_of}
+use Rattle.drill_nodes.specs.declared.cosigner_node.CosignerNode.{CosignerNode}
+use Rattle.drill_nodes.specs.declared.round.Round.{Round}
+use Rattle.drill_nodes.specs.declared.turns.Stop.{Stop}
+use Rattle.fleet.specs.AuditViews.{AllStand}
+use Rattle.fleet.specs.Entries.{entries_to, log_with, request_for}
+use Rattle.fleet.specs.LightStores.{IsDue}
+use Rattle.fleet.specs.LogNodes.{IsSameLog, log_shown, log_stops}
 use Rattle.fleet.specs.Stores.{IsAcceptedByAll, StoresAcceptNow, drill_store, one_accepted}
-use Rattle.fleet.specs.declared.round.Round.{Round}
-use Rattle.fleet.specs.declared.turns.Stop.{Stop}
-use Rattle.fleet.specs.declared.turns.Three.{Three}
+use Rattle.fleet.specs.declared.nodes.FleetNodes.{FleetNodes}
 
 -- the log that has issued so many entries more
 unfoldable pub issued_to : HashFunction → ℕ → LogState → LogState
@@ -35,101 +38,94 @@ issued_to h (suc count) s =
     let t = issued_to h count s in
     issued_log h t.settings (request_for (length t.entries)) t
 
--- the cosigner that holds all of this log
-abbrev pub holding_all : HashFunction → LogState → CosignerState → CosignerState
-holding_all h log s = holding (length log.entries) (tree_hash h log.entries) s
+-- the log with a landmark more, if there is one
+abbrev pub with_landmark : Option (Option Stop) → LogState → LogState
+with_landmark None s = s
+with_landmark (Some turn) s = with_mark s
 
--- A cosigner that has signed all of a log: one one-time key more is used, or two where the call was
--- stopped, and the signature verifies under its key.
-pub record HasSignedAll (h : HashFunction) (log : LogState) (turn : Option Stop)
-    (old new : CosignerState) (signature : Text) : Type 0 where
-  pub id : new.id ≡ old.id
-  pub log_id : new.log ≡ old.log
-  pub held : new.held ≡ old.held
-  pub key : new.key.key ≡ old.key.key
-  pub more : old.key.next + 1 ≤ new.key.next
-  pub few : new.key.next ≤ old.key.next + most_of turn
-  pub verifies : Verifies (one_level_public old.key.key)
-      (signed_text old.id old.log 0 (length log.entries) (tree_hash h log.entries)) signature
-  pub short : length signature < 2 ^ 14
-
--- ---- the nodes of a drill, and what they have made so far
-
--- the log, the three cosigners, the store of the relying party, the certificates so far, and how
--- many of them were accepted
-pub record Shown : Type 0 where
-  pub log : LogState
-  pub first : CosignerState
-  pub second : CosignerState
-  pub third : CosignerState
-  pub store : Store
-  pub certs : List Text
-  pub verified : ℕ
-
--- all cosigners hold all of this log
-abbrev pub all_holding : HashFunction → LogState → Shown → Shown
-all_holding h log p = record {
-  log = log;
-  first = holding_all h log p.first;
-  second = holding_all h log p.second;
-  third = holding_all h log p.third;
-  store = p.store;
-  certs = p.certs;
-  verified = p.verified;
-}
-
--- a landmark more, if there is one
-abbrev pub mark_shown : Option (Option Stop) → Shown → Shown
-mark_shown None p = p
-mark_shown (Some turn) p = record {
-  log = with_mark p.log;
-  first = p.first;
-  second = p.second;
-  third = p.third;
-  store = p.store;
-  certs = p.certs;
-  verified = p.verified;
-}
+-- the tree hash of all of a log
+abbrev pub log_root : HashFunction → LogState → Hash
+log_root h s = tree_hash h s.entries
 
 -- The bytes are a certificate of the log's entry at an index, in the subtree of all its entries.
 abbrev pub IsWrittenOf : HashFunction → LogState → ℕ → Text → Type 0
 IsWrittenOf h s index bytes =
     (signatures : Text) × IsWritten h s index 0 (length s.entries) signatures bytes
 
--- the signatures of the cosigners, one behind the other
-abbrev pub signed_by_three : Shown → Text → Text → Text → List SigParts
-signed_by_three p one two three =
-    record { cosigner = p.first.id; signature = one }
-    ∷ record { cosigner = p.second.id; signature = two }
-    ∷ record { cosigner = p.third.id; signature = three } ∷ []
+-- ---- a round
 
-abbrev pub signatures_by : Shown → Text → Text → Text → Text
-signatures_by p one two three = flat_map signature_text (signed_by_three p one two three)
+module _ {H : Type 0} {hashes : Hashes H} where
+  -- how many stops were made
+  abbrev pub all_stops : FleetNodes H hashes → ℕ
+  all_stops nodes = log_stops nodes.log + stops_by nodes.cosigners.nodes.items
 
--- The cosigners have signed all of the log, and there is one certificate more, with their
--- signatures. It was judged.
-pub record HasCertified (h : HashFunction) (index : ℕ) (turns : Three) (old new : Shown)
-    : Type 0 where
-  pub log : new.log ≡ old.log
-  pub store : new.store ≡ old.store
-  pub one : Text
-  pub two : Text
-  pub three : Text
-  pub first : HasSignedAll h old.log turns.first old.first new.first one
-  pub second : HasSignedAll h old.log turns.second old.second new.second two
-  pub third : HasSignedAll h old.log turns.third old.third new.third three
-  pub cert : Text
-  pub certs : new.certs ≡ old.certs ++ cert ∷ []
-  pub written : IsWritten h old.log index 0 (length old.log.entries)
-      (signatures_by old one two three) cert
-  pub accepts : StoresAcceptNow h old.log index (signatures_by old one two three) cert
-  pub verified : new.verified
-      ≡ old.verified + one_accepted (judgement h cert old.store (pos 1767225600))
+  -- What a round asks of the nodes: three cosigners, which hold no more than the log has, and
+  -- counts that have room for it.
+  pub record AreReady (nodes : FleetNodes H hashes) : Type 0 where
+    pub three : length nodes.cosigners.nodes.items ≡ 3
+    pub held : AllByRecursion (λ node. (cosigner_shown node).held.size
+        ≤ length (log_shown nodes.log).entries) nodes.cosigners.nodes.items
+    pub verified : nodes.verified ≤ 15
+    pub stands : nodes.stands ≤ 45
+    pub light : nodes.light ≤ 15
 
--- A round was played.
-abbrev pub HasPlayed : HashFunction → Round → Shown → Shown → Type 0
-HasPlayed h r old new = HasCertified h r.index r.signs
-    (mark_shown r.landmark (all_holding h (issued_to h (length r.entries) old.log) old)) new
+  -- All cosigners have signed all of the log, and there is one certificate more, with their
+  -- signatures. It was judged, and audited with the records of each.
+  pub record HasCertified (h : HashFunction) (index : ℕ) (old new : FleetNodes H hashes)
+      : Type 0 where
+    pub log : IsSameLog old.log new.log
+    pub store : new.store ≡ old.store
+    pub each : Paired (IsSigned (length (log_shown old.log).entries)
+        (log_root h (log_shown old.log))) old.cosigners.nodes.items new.cosigners.nodes.items
+    pub signatures : Text
+    pub signed : HaveSigned (length (log_shown old.log).entries) (log_root h (log_shown old.log))
+        old.cosigners.nodes.items [] signatures
+    pub cert : Text
+    pub certs : new.certs.items ≡ old.certs.items ++ cert ∷ []
+    pub written : IsWritten h (log_shown old.log) index 0 (length (log_shown old.log).entries)
+        signatures cert
+    pub accepts : StoresAcceptNow h (log_shown old.log) index signatures cert
+    pub verified : new.verified
+        ≡ old.verified + one_accepted (judgement h cert old.store (pos 1767225600))
+    pub stands : AllStand h old.store cert (log_shown old.log) new.cosigners.nodes.items
+        → new.stands ≡ old.stands + 3
+    pub light : new.light ≡ old.light
+
+  -- A cosigner behind a round: it holds this root, and has signed it.
+  pub record HasHeldAndSigned (size : ℕ) (hash : Hash) (old new : CosignerNode H hashes)
+      : Type 0 where
+    pub id : (cosigner_shown new).id ≡ (cosigner_shown old).id
+    pub log_id : (cosigner_shown new).log ≡ (cosigner_shown old).log
+    pub held : (cosigner_shown new).held ≡ record { size = size; root = hash }
+    pub key : (cosigner_shown new).key.key ≡ (cosigner_shown old).key.key
+    pub more : (cosigner_shown old).key.next + 1 ≤ (cosigner_shown new).key.next
+    pub recorded : HasRecordedAll size hash (records_shown old) (records_shown new)
+
+  -- A round was played.
+  pub record HasPlayed (h : HashFunction) (r : Round) (old new : FleetNodes H hashes)
+      : Type 0 where
+    pub log : log_shown new.log
+        ≡ with_landmark r.landmark (issued_to h (length r.entries) (log_shown old.log))
+    pub store : new.store ≡ old.store
+    pub each : Paired (HasHeldAndSigned (length (log_shown new.log).entries)
+        (log_root h (log_shown new.log))) old.cosigners.nodes.items new.cosigners.nodes.items
+    pub signatures : Text
+    pub signed : HaveSigned (length (log_shown new.log).entries) (log_root h (log_shown new.log))
+        old.cosigners.nodes.items [] signatures
+    pub cert : Text
+    pub certs : new.certs.items ≡ old.certs.items ++ cert ∷ []
+    pub written : IsWritten h (log_shown new.log) r.index 0 (length (log_shown new.log).entries)
+        signatures cert
+    pub accepts : StoresAcceptNow h (log_shown new.log) r.index signatures cert
+    pub verified : new.verified
+        ≡ old.verified + one_accepted (judgement h cert old.store (pos 1767225600))
+    pub stands : AllStand h old.store cert (log_shown new.log) new.cosigners.nodes.items
+        → new.stands ≡ old.stands + 3
+    pub light : IsDue h (log_shown new.log)
+        → new.light ≡ old.light + length (landmark_turns r.landmark)
+    pub keys : keys_used new.cosigners.nodes.items
+        ≤ keys_used old.cosigners.nodes.items + 3 + stops_in r.signs
+    pub stops : all_stops new ≡ all_stops old + stops_of r
 
 -- ---- so many rounds of the drill with a number
 
@@ -158,25 +154,48 @@ AreWritten h number (cert ∷ certs) (w ∷ ws) =
     (IsWrittenOf h (log_with h w.1 []) w.0 cert × IsAcceptedByAll h number w.0 w.1 cert)
     × AreWritten h number certs ws
 
--- how many one-time keys are used
-abbrev pub used_keys : Shown → ℕ
-used_keys p = p.first.key.next + p.second.key.next + p.third.key.next
+-- Among these records is a Sign of all of the log at each size of a certificate.
+abbrev pub HaveSigns : HashFunction → List (ℕ × ℕ) → List Text → Type 0
+HaveSigns h written list =
+    AllByRecursion (λ w. HasSign 0 w.1 (tree_hash h (entries_to h w.1)) list) written
 
--- The nodes within a drill: the log has so many entries and these landmarks, the cosigners hold
--- this, have signed so often, and have used so many one-time keys at most. The relying party has
--- accepted a certificate of each round.
-pub record AreWithin (h : HashFunction) (number count size : ℕ) (marks : List ℕ)
-    (held : Checkpoint) (most : ℕ) (written : List (ℕ × ℕ)) (p : Shown) : Type 0 where
-  pub log : p.log ≡ log_with h size marks
-  pub first : IsCosignerWithin number 2 count held p.first
-  pub second : IsCosignerWithin number 3 count held p.second
-  pub third : IsCosignerWithin number 4 count held p.third
-  pub few : used_keys p ≤ most
-  pub store : p.store ≡ drill_store number
-  pub certs : AreWritten h number p.certs written
-  pub verified : p.verified ≡ count
+-- No certificate was written at a larger size.
+abbrev pub NoneLarger : ℕ → List (ℕ × ℕ) → Type 0
+NoneLarger size written = AllByRecursion (λ w. w.1 ≤ size) written
 
--- The nodes behind so many rounds of the drill with a number, which stands so.
-abbrev pub IsAfter : HashFunction → ℕ → ℕ → Drill → Shown → Type 0
-IsAfter h number count d p = AreWithin h number count d.size d.marks
-    (checkpoint_after h count d.size) (3 * count + d.stops) d.written p
+-- the cosigners of a drill
+abbrev pub cosigner_arcs : List ℕ
+cosigner_arcs = 2 ∷ 3 ∷ 4 ∷ []
+
+module _ {H : Type 0} {hashes : Hashes H} where
+  -- A cosigner behind so many rounds: it holds all of the log, and has signed it in each.
+  pub record IsNodeAfter (h : HashFunction) (number count : ℕ) (d : Drill) (last : ℕ)
+      (node : CosignerNode H hashes) : Type 0 where
+    pub within : IsCosignerWithin number last count (checkpoint_after h count d.size)
+        (cosigner_shown node)
+    pub signs : HaveSigns h d.written (records_shown node)
+
+  -- The nodes behind so many rounds of the drill with a number, which stands so, and what was
+  -- counted.
+  pub record IsAfter (h : HashFunction) (number count : ℕ) (d : Drill) (nodes : FleetNodes H hashes)
+      : Type 0 where
+    pub log : log_shown nodes.log ≡ log_with h d.size d.marks
+    pub cosigners : Paired (IsNodeAfter h number count d) cosigner_arcs nodes.cosigners.nodes.items
+    pub keys : keys_used nodes.cosigners.nodes.items ≤ 3 * count + d.stops
+    pub store : nodes.store ≡ drill_store number
+    pub certs : AreWritten h number nodes.certs.items d.written
+    pub sizes : NoneLarger d.size d.written
+    pub verified : nodes.verified ≡ count
+    pub stands : nodes.stands ≡ 3 * count
+    pub light : nodes.light ≡ length d.marks
+    pub few_marks : length d.marks ≤ count
+    pub stops : all_stops nodes ≡ d.stops
+    pub few_stops : d.stops ≤ 10 * count
+
+  -- A drill with a number, behind so many rounds: the number for the next draw, and the nodes.
+  pub record IsStanding (h : HashFunction) (number count next : ℕ) (nodes : FleetNodes H hashes)
+      : Type 0 where
+    pub next_is : next ≡ (after_rounds count (begun number)).next
+    pub some : 1 ≤ (after_rounds count (begun number)).size
+    pub small : (after_rounds count (begun number)).size ≤ 1 + 3 * count
+    pub after : IsAfter h number count (after_rounds count (begun number)) nodes

@@ -1,5 +1,5 @@
 -- What a relying party of a drill holds, and the certificates that it accepts.
-use Rattle.std.specs.Prelude.{◌≡◌, ℕ, pos, [], ◌∷◌, length, slice_index_or, Ok, Err, Result}
+use Rattle.std.specs.Prelude.{◌≡◌, ℕ, pos, List, [], ◌∷◌, length, slice_index_or, Ok, Err, Result}
 use Rattle.std.specs.Prelude.{◌==◌, if◌then◌else◌}
 use Rattle.byte_forms.specs.Types.{HashFunction, Text}
 use Rattle.tls_wire.specs.Anchors.{text_of}
@@ -23,20 +23,26 @@ use Rattle.authority_core.specs.Acceptance.{IsSetUpFor}
 use Rattle.authority_core.specs.Certificates.{proof_for}
 use Rattle.authority_core.specs.Issuing.{entry_for}
 use Rattle.authority_core.specs.Requests.{CanBeIssued}
-use Rattle.fleet.specs.CosignerNodes.{secret_of}
-use Rattle.fleet.specs.Entries.{drill_log_id, entries_to, id_of, request_for}
+use Rattle.cosigner_core.specs.Folds.{CosignerState}
+use Rattle.drill_nodes.specs.CosignerNodes.{secret_of}
+use Rattle.drill_nodes.specs.Ids.{drill_log_id, id_of}
+use Rattle.fleet.specs.Entries.{entries_to, request_for}
 
 -- what is known of the cosigner 32473.N that has this public key
 abbrev pub known_with : ℕ → Text → Known
 known_with last key = record { id = id_of last; key = key }
 
--- The store of the log that knows the cosigners 32473.2 to 32473.4 by these public keys. Two of the
--- three have to have signed; no subtree is trusted, and nothing revoked.
-abbrev pub store_with : Text → Text → Text → Store
-store_with first second third = record {
+-- what is known of a cosigner by its id and its public key
+abbrev pub known_as : CosignerState → Known
+known_as s = record { id = s.id; key = one_level_public s.key.key }
+
+-- The store of the log that knows these cosigners, of whom there are three. Two of them have to
+-- have signed; no subtree is trusted, and nothing revoked.
+abbrev pub store_with : List Known → Store
+store_with cosigners = record {
   log = drill_log_id;
   name = name_with (text_of drill_log_id);
-  cosigners = known_with 2 first ∷ known_with 3 second ∷ known_with 4 third ∷ [];
+  cosigners = cosigners;
   rules = record { count = 2; cosigners = 0 ∷ 1 ∷ 2 ∷ [] } ∷ [];
   subtrees = [];
   revoked = [];
@@ -46,10 +52,14 @@ store_with first second third = record {
 abbrev pub drill_public : ℕ → ℕ → Text
 drill_public last number = one_level_public (private_key H5 W4 (secret_of last number))
 
--- The store of the drill with a number.
+-- what is known of the cosigner 32473.N of the drill with a number
+abbrev pub drill_known : ℕ → ℕ → Known
+drill_known number last = known_with last (drill_public last number)
+
+-- The store of the drill with a number: the cosigners 32473.2 to 32473.4.
 abbrev pub drill_store : ℕ → Store
 drill_store number =
-    store_with (drill_public 2 number) (drill_public 3 number) (drill_public 4 number)
+    store_with (drill_known number 2 ∷ drill_known number 3 ∷ drill_known number 4 ∷ [])
 
 -- The bytes are accepted at 2026-01-01, as the certificate of this index in the subtree of so many
 -- entries, by all three cosigners.

@@ -10,16 +10,8 @@
 
 mod audits;
 mod calls;
-mod cosigner;
-mod cosigner_calls;
-mod cosigner_node;
-mod cosigner_trio;
-mod cosigners;
-mod dice;
 mod drill;
-mod exports;
 mod handed;
-mod ids;
 mod judged_cert;
 mod light;
 mod listed;
@@ -29,11 +21,8 @@ mod made;
 mod nodes;
 mod play;
 mod requests;
-mod round;
 mod store;
 mod tree;
-mod trio;
-mod turns;
 
 pub use drill::fleet;
 pub use made::{Certs, Counts, Fleet};

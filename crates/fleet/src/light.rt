@@ -7,12 +7,12 @@ ghost use Rattle.fleet.specs.LightStores.{AreOfLandmarks, IsDue, IsLit, TrustsAc
 ghost use Rattle.fleet.specs.LightStores.{cover_with, with_hash};
 ghost use Rattle.fleet.specs.Nodes.{log_seen};
 
-use crate::ids::{LOG, id_of};
 use crate::log_node::size_of;
 use crate::requests::NOT_BEFORE;
 use authority_core::{entries_say_what_was_asked, light_cert};
 use cert_names::log_name;
 use disk_core::MemDisk;
+use drill_nodes::{LOG, id_of};
 use issuance_log::Log;
 use landmarks::{Landmarks, active, of_marks, subtrees};
 use mtc_io::{Failed, Memory};

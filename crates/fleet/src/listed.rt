@@ -5,10 +5,10 @@ ghost use Rattle.entry_list.specs.Items.{file_text, listed_text};
 ghost use Rattle.entry_list.specs.Reading.{items_in};
 ghost use Rattle.issuance_log.specs.Words.{LogStays};
 ghost use Rattle.fleet.specs.Listed.{IsListedAt, log_items};
-ghost use Rattle.fleet.specs.LogNodes.{log_shown, log_stops};
+ghost use Rattle.fleet.specs.LogNodes.{IsSameLog, log_shown};
 ghost use Rattle.fleet.specs.Nodes.{log_seen};
 
-use crate::log_node::{LogNode, looked_at, size_of};
+use crate::log_node::{LogNode, size_of};
 use disk_core::MemDisk;
 use issuance_log::Log;
 use mtc_io::{Bytes, Memory};
@@ -72,14 +72,13 @@ fn item_file<H: TreeHash>(
 
 impl<H: TreeHash> LogNode<H> {
     /// The file of its items, which is read as these.
-    pub(crate) fn listed(self, alloc: Global) -> Result<(LogNode<H>, Bytes), Memory>
-        ensures same { IfOk result (λ x. log_shown x.0 ≡ log_shown self) }
-        ensures no_stop { IfOk result (λ x. log_stops x.0 ≡ log_stops self) }
-        ensures read { IfOk result (λ x. items_in H.hash x.1 ≡ Ok (log_items (log_shown self))) }
+    pub(crate) fn listed(&mut self, alloc: Global) -> Result<Bytes, Memory>
+        ensures same { IsSameLog self.old self.new }
+        ensures read { IfOk result
+            (λ text. items_in H.hash text ≡ Ok (log_items (log_shown self.old))) }
     {
-        let mut inner = self.log;
-        inner.sound();
-        let text = item_file(alloc, &mut inner)?;
-        Ok((looked_at(inner, self.stops), text))
+        self.log.sound();
+        let text = item_file(alloc, &mut self.log)?;
+        Ok(text)
     }
 }

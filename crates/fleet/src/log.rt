@@ -11,14 +11,13 @@ ghost use Rattle.fleet.specs.Entries.{log_settings, request_for};
 ghost use Rattle.fleet.specs.LogNodes.{log_shown, log_stops};
 ghost use Rattle.fleet.specs.Nodes.{IsEither, IsLeft};
 ghost use Rattle.fleet.specs.Played.{issued_to};
-ghost use Rattle.fleet.specs.Rounds.{stops_in};
+ghost use Rattle.drill_nodes.specs.Rounds.{stops_in};
 
 use crate::calls::{LogCall, call_log, open_log};
-use crate::ids::{LOG, id_of};
 use crate::log_node::{LogNode, size_of};
 use crate::requests::request_for;
-use crate::turns::{Stop, Turn, Turns};
 use disk_core::{Fuse, MemDisk};
+use drill_nodes::{LOG, Stop, Stops, Turn, Turns, id_of};
 use issuance_log::{Log, LogSettings, create};
 use mtc_io::Memory;
 use std::alloc::Global;
@@ -34,11 +33,11 @@ fn opened<H: TreeHash>(
     alloc: Global,
     disk: MemDisk,
     tiles: MemDisk,
-    stops: Vec<Stop>,
+    stops: Stops,
 ) -> Result<LogNode<H>, Memory>
     ensures state { IfOk result (λ it. (list : List Text) (s : LogState)
         → StandsFor (bytes_of disk) list → log_of H.hash list ≡ Ok s → log_shown it ≡ s) }
-    ensures stops { IfOk result (λ it. log_stops it ≡ length stops.items) }
+    ensures stops { IfOk result (λ it. log_stops it ≡ length stops.made.items) }
 {
     Ok(LogNode {
         log: open_log(alloc, disk, tiles)?,
@@ -51,9 +50,9 @@ fn fused<H: TreeHash>(
     alloc: Global,
     node: LogNode<H>,
     passes: u64,
-) -> Result<(Log<H, Fuse<MemDisk>, MemDisk>, Vec<Stop>), Memory>
+) -> Result<(Log<H, Fuse<MemDisk>, MemDisk>, Stops), Memory>
     ensures state { IfOk result (λ x. IsLogWith H.hash (log_shown node) x.0) }
-    ensures stops { IfOk result (λ x. length x.1.items ≡ log_stops node) }
+    ensures stops { IfOk result (λ x. length x.1.made.items ≡ log_stops node) }
 {
     let (disk, tiles) = node.log.into_disks();
     let fuse = Fuse::new(disk, passes);
@@ -62,24 +61,24 @@ fn fused<H: TreeHash>(
     Ok((log, node.stops))
 }
 
-// What a call leaves of the device behind the fuse, and of that of the tiles. It may find no
-// memory.
+// What a call leaves of the device behind the fuse, and of that of the tiles, and whether it was
+// done. It may find no memory.
 fn halted<H: TreeHash>(
     alloc: Global,
     log: Log<H, Fuse<MemDisk>, MemDisk>,
     call: &LogCall,
-) -> Result<(MemDisk, MemDisk), Memory>
+) -> Result<(MemDisk, MemDisk, bool), Memory>
     ensures { IfOk result (λ left. (s : LogState) → IsLogWith H.hash s log
         → IsLeft H.hash call.now s (images_of left.0)) }
 {
     let mut log = log;
-    call_log(alloc, &mut log, call)?;
+    let done = call_log(alloc, &mut log, call)?;
     let (fuse, tiles) = log.into_disks();
     let left = fuse.into_inner();
     if left.starved() > 0 {
         return Err(Memory);
     }
-    Ok((left, tiles))
+    Ok((left, tiles, done))
 }
 
 // The call is made behind a fuse, and the log is opened again on an image of what is left of each
@@ -94,10 +93,10 @@ fn stopped<H: TreeHash>(
     ensures stops { IfOk result (λ it. log_stops it ≡ log_stops node + 1) }
 {
     let (log, mut stops) = fused(alloc, node, stop.passes)?;
-    let (left, tiles) = halted(alloc, log, call)?;
+    let (left, tiles, done) = halted(alloc, log, call)?;
     let image = left.crash(stop.pick)?;
     let tiles = tiles.crash(stop.pick)?;
-    stops.push(stop)?;
+    stops.add(stop, done)?;
     let again = opened(alloc, image, tiles, stops)?;
     Ok(again)
 }
@@ -117,7 +116,7 @@ impl<H: TreeHash> LogNode<H> {
         match create(alloc, disk, &settings) {
             Ok(journal) => {
                 let tiles = MemDisk::new(alloc, Vec::new(alloc));
-                let node = opened(alloc, journal.into_disk(), tiles, Vec::new(alloc))?;
+                let node = opened(alloc, journal.into_disk(), tiles, Stops::new(alloc))?;
                 Ok(node)
             }
             Err(_) => Err(Memory),
@@ -159,8 +158,9 @@ impl<H: TreeHash> LogNode<H> {
             return Ok(done);
         };
         let before = self.count(call);
-        let node = stopped(alloc, self, call, stop)?;
+        let mut node = stopped(alloc, self, call, stop)?;
         if before < node.count(call) {
+            node.stops.recover();
             Ok(node)
         } else {
             let again = node.done(alloc, call)?;

@@ -4,8 +4,8 @@ ghost use Rattle.std.specs.Prelude.{◌≡◌, ◌≤◌, false, length};
 ghost use Rattle.issuance_log.specs.Words.{log_broken, log_disk};
 ghost use Rattle.fleet.specs.Nodes.{IsLogDisk, IsLogDisk-prop, log_seen};
 
-use crate::turns::Stop;
 use disk_core::MemDisk;
+use drill_nodes::Stops;
 use issuance_log::Log;
 use tree_core::TreeHash;
 
@@ -14,7 +14,7 @@ use tree_core::TreeHash;
 #[derive(Drop)]
 pub(crate) struct LogNode<H: TreeHash> {
     pub(crate) log: Log<H, MemDisk, MemDisk>,
-    pub(crate) stops: Vec<Stop>,
+    pub(crate) stops: Stops,
     ghost sound: { log_broken log ≡ false },
     ghost stands: { IsLogDisk H.TreeHash.hash (log_seen log) (log_disk log) } by { IsLogDisk-prop
         H.TreeHash.hash (log_seen log) (log_disk log) },
@@ -27,14 +27,4 @@ pub(crate) fn size_of<H: TreeHash>(log: &Log<H, MemDisk, MemDisk>) -> u64
 {
     log.sound();
     log.size()
-}
-
-/// The log, whose devices were only looked at.
-pub(crate) fn looked_at<H: TreeHash>(log: Log<H, MemDisk, MemDisk>, stops: Vec<Stop>) -> LogNode<H>
-    requires sound { log_broken log ≡ false }
-    requires stands { IsLogDisk H.hash (log_seen log) (log_disk log) }
-    ensures state { log_seen result.log ≡ log_seen log }
-    ensures stops { result.stops.items ≡ stops.items }
-{
-    LogNode { log, stops }
 }

@@ -79,7 +79,7 @@ pub fn found_entries(alloc: Global, fleet: &Fleet) -> Result<u64, Memory> {
     let store = store_of(alloc, fleet)?;
     let list = listed(alloc, &fleet.log)?;
     let mut count = 0u64;
-    for disk in [&fleet.first, &fleet.second, &fleet.third] {
+    for disk in &fleet.cosigners {
         let export = exported(alloc, disk)?;
         for certificate in fleet.certs.as_slice() {
             if stands(

@@ -63,14 +63,23 @@ fn known(alloc: Global, export: &Export) -> Result<Known, Memory> {
     }
 }
 
+// What others may know of each cosigner of a drill.
+fn exports_of(alloc: Global, fleet: &Fleet) -> Result<Vec<Export>, Memory> {
+    let mut exports = Vec::new(alloc);
+    for disk in &fleet.cosigners {
+        exports.push(export_of(alloc, disk)?)?;
+    }
+    Ok(exports)
+}
+
 // The store with the rule two of three.
-fn store_with(alloc: Global, exports: [&Export; 3]) -> Result<Store, Memory> {
+fn store_with(alloc: Global, exports: &[Export]) -> Result<Store, Memory> {
     let mut cosigners = Vec::new(alloc);
     let mut places = Vec::new(alloc);
     let mut rules = Vec::new(alloc);
-    cosigners.push(known(alloc, exports[0])?)?;
-    cosigners.push(known(alloc, exports[1])?)?;
-    cosigners.push(known(alloc, exports[2])?)?;
+    for export in exports {
+        cosigners.push(known(alloc, export)?)?;
+    }
     for place in [0, 1, 2] {
         places.push(place)?;
     }
@@ -104,29 +113,26 @@ fn is_verified(bytes: &[u8], store: &Store) -> bool {
 
 /// The store of a relying party who knows the cosigners by their exports.
 pub(crate) fn store_of(alloc: Global, fleet: &Fleet) -> Result<Store, Memory> {
-    let first = export_of(alloc, &fleet.first)?;
-    let second = export_of(alloc, &fleet.second)?;
-    let third = export_of(alloc, &fleet.third)?;
-    store_with(alloc, [&first, &second, &third])
+    let exports = exports_of(alloc, fleet)?;
+    store_with(alloc, exports.as_slice())
 }
 
 /// The entries, the landmarks, the Sign records, and the certificates that a relying party accepts
 /// who knows the cosigners by their exports.
 pub fn recounted(alloc: Global, fleet: &Fleet) -> Result<(u64, u64, u64, u64), Memory> {
     let log = open_log(alloc, &fleet.log)?;
-    let first = export_of(alloc, &fleet.first)?;
-    let second = export_of(alloc, &fleet.second)?;
-    let third = export_of(alloc, &fleet.third)?;
-    let store = store_with(alloc, [&first, &second, &third])?;
+    let exports = exports_of(alloc, fleet)?;
+    let store = store_with(alloc, exports.as_slice())?;
     let mut verified = 0u64;
     for bytes in fleet.certs.as_slice() {
         if is_verified(bytes.as_slice(), &store) {
             verified = verified.saturating_add(1);
         }
     }
-    let signatures = signs(&first)
-        .saturating_add(signs(&second))
-        .saturating_add(signs(&third));
+    let mut signatures = 0u64;
+    for export in &exports {
+        signatures = signatures.saturating_add(signs(export));
+    }
     let landmarks = log.marks().len() as u64;
     Ok((log.size(), landmarks, signatures, verified))
 }

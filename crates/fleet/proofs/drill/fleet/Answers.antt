@@ -1,61 +1,72 @@
-use Rattle.std.proofs.Common.{◌≡◌, ℕ, sym, subst, arith}
-use Rattle.fleet.specs.Fleets.{IsStanding}
-use Rattle.fleet.specs.Tallies.{AddUp}
-use Rattle.fleet.specs.Views.{shown}
+use Rattle.std.proofs.Common.{◌≡◌, ◌∙◌, ◌≤◌, ℕ, length, sym, ap, subst, arith}
+use Rattle.issuance_log.specs.Folds.{LogState}
+use Rattle.drill_nodes.specs.Rounds.{after_rounds, begun}
+use Rattle.drill_nodes.proofs.Pairs.{paired_length}
+use Rattle.fleet.specs.LogNodes.{log_shown}
+use Rattle.fleet.specs.Played.{IsNodeAfter, IsStanding, cosigner_arcs}
 use Rattle.fleet.proofs.Ending.{is_fleet}
+use Rattle.fleet.proofs.EntryCounts.{entries_length}
 use Rattle.fleet.proofs.Standing.{standing_first}
+use Rattle.fleet.proofs.Turns.{hold_that}
 use Rattle.fleet.proofs.drill.fleet.Goals as goal
 
 pub loop-round-init : goal.loop-round-init
-loop-round-init g c = record {
-  stands = subst (λ (x : ℕ). IsStanding g.H.TreeHash.hash c.args.number 0 x
-      (shown c.in_ok-nodes.nodes)) (sym c.new-dice.ensures)
-      (standing_first g.H.TreeHash.hash c.args.number (shown c.in_ok-nodes.nodes)
-      c.in_ok-nodes.ensures.state);
-  counts = c.in_ok-nodes.ensures.counts;
-}
+loop-round-init g c = subst (λ (x : ℕ). IsStanding g.H.TreeHash.hash c.args.number 0 x
+    c.in_ok-nodes.nodes) (sym c.new-dice.ensures)
+    (standing_first g.H.TreeHash.hash c.args.number c.in_ok-nodes.nodes c.in_ok-nodes.ensures)
 
 pub loop-round-preserved : goal.loop-round-preserved
 loop-round-preserved g c =
-    let before = c.loop-round.invariant in
+    c.in_ok-nodes-2.ensures c.args.number c.loop-round._round c.loop-round.invariant
+
+pub go_on-requires : goal.go_on-requires
+go_on-requires g c =
+    let h = g.H.TreeHash.hash in
+    let nodes = c.loop-round.nodes in
+    let i = c.loop-round._round in
+    let is = c.loop-round.invariant in
+    let d = after_rounds i (begun c.args.number) in
+    let size : length (log_shown nodes.log).entries ≡ d.size =
+    ap (λ (l : LogState). length l.entries) is.after.log ∙ entries_length h d.size in
+    let some = is.some in
+    let test = c.loop-round-test.true in
+    let verified = is.after.verified in
+    let stands = is.after.stands in
+    let light = is.after.light in
+    let few = is.after.few_marks in
     record {
-      stands = c.in_ok-nodes-2.ensures.state c.args.number c.loop-round._round before.stands;
-      counts = c.in_ok-nodes-2.ensures.counts c.args.number c.loop-round._round before.stands
-          before.counts;
+      three = sym (paired_length (IsNodeAfter h c.args.number i d) cosigner_arcs
+          nodes.cosigners.nodes.items is.after.cosigners);
+      held = hold_that h c.args.number i d cosigner_arcs nodes.cosigners.nodes.items
+          (length (log_shown nodes.log).entries) (omega (arith, size)) (omega (arith, size, some))
+          is.after.cosigners;
+      verified = omega (arith, verified, test);
+      stands = omega (arith, stands, test);
+      light = omega (arith, light, few, test);
     }
 
-pub go_on-requires-clause-verified : goal.go_on-requires-clause-verified
-go_on-requires-clause-verified g c =
-    let counted = c.loop-round.invariant.stands.after.verified in
-    omega (arith, counted, c.loop-round-test.true)
+pub handed_out-requires-clause-stops : goal.handed_out-requires-clause-stops
+handed_out-requires-clause-stops g c =
+    let stops = c.loop-round.invariant.after.stops in
+    let few = c.loop-round.invariant.after.few_stops in
+    let ends = c.loop-round.auto._round-end in
+    omega (arith, stops, few, ends)
 
-pub go_on-requires-clause-stands : goal.go_on-requires-clause-stands
-go_on-requires-clause-stands g c =
-    let counted = c.loop-round.invariant.counts.stands in
-    omega (arith, counted, c.loop-round-test.true)
-
-pub go_on-requires-clause-light : goal.go_on-requires-clause-light
-go_on-requires-clause-light g c =
-    let counted = c.loop-round.invariant.counts.light in
-    let few = c.loop-round.invariant.counts.few_marks in
-    omega (arith, counted, few, c.loop-round-test.true)
-
-pub handed_out-requires : goal.handed_out-requires
-handed_out-requires g c =
-    let stops = c.loop-round.invariant.counts.stops in
-    let few = c.loop-round.invariant.counts.few_stops in
-    omega (arith, stops, few, c.loop-round.auto._round-end)
+pub handed_out-requires-clause-few : goal.handed_out-requires-clause-few
+handed_out-requires-clause-few g c =
+    let i = c.loop-round._round in
+    let three = paired_length (IsNodeAfter g.H.TreeHash.hash c.args.number i
+    (after_rounds i (begun c.args.number))) cosigner_arcs c.loop-round.nodes.cosigners.nodes.items
+    c.loop-round.invariant.after.cosigners in
+    omega (arith, three)
 
 pub returns : goal.returns
 returns g c =
     let all : c.loop-round._round ≡ 16 =
     omega (arith, c.loop-round-test.false, c.loop-round.auto._round-end) in
     let stands : IsStanding g.H.TreeHash.hash c.args.number 16 c.loop-round.dice.number
-    (shown c.loop-round.nodes) =
+    c.loop-round.nodes =
     subst (λ (k : ℕ). IsStanding g.H.TreeHash.hash c.args.number k c.loop-round.dice.number
-    (shown c.loop-round.nodes)) all c.loop-round.invariant.stands in
-    let counts : AddUp g.H.TreeHash.hash c.args.number 16 c.loop-round.nodes =
-    subst (λ (k : ℕ). AddUp g.H.TreeHash.hash c.args.number k c.loop-round.nodes) all
-    c.loop-round.invariant.counts in
+    c.loop-round.nodes) all c.loop-round.invariant in
     is_fleet g.H.TreeHash.hash c.args.number c.loop-round.nodes c.in_ok-made.made stands.after
-    counts c.in_ok-made.ensures
+    c.in_ok-made.ensures

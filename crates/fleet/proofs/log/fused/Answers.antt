@@ -4,7 +4,8 @@ use Rattle.std.specs.Prelude.{Option, IfSome}
 use Rattle.issuance_log.specs.Folds.{LogState, view_in}
 use Rattle.issuance_log.specs.Words.{view_of}
 use Rattle.fleet.specs.LogNodes.{log_shown}
-use Rattle.fleet.specs.Nodes.{IsLogDisk, records_on}
+use Rattle.fleet.specs.Nodes.{IsLogDisk}
+use Rattle.drill_nodes.specs.Disks.{records_on}
 use Rattle.fleet.proofs.log.fused.Goals as goal
 
 pub returns-clause-state : goal.returns-clause-state

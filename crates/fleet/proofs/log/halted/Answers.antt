@@ -10,4 +10,4 @@ returns g c = λ s is. log_left g.H.TreeHash.hash (images_of c.into_inner-left.r
     c.args.call.now c.args.log c.call_log.new.log _ s
     (λ x there. subst (λ (m : MemDisk). images_of m x)
     (c.into_inner-left.ensures ∙ ap inner_of c.into_disks-fuse.ensures.journal) there) is
-    c.in_ok-call_log.ensures
+    c.in_ok-done.ensures

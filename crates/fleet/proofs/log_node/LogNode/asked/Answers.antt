@@ -1,8 +1,8 @@
-use Rattle.std.proofs.Common.{◌≡◌, ◌∙◌, ◌≤◌, arith, ap}
+use Rattle.std.proofs.Common.{◌≡◌, ◌∙◌, ◌≤◌, length, arith, ap}
 use Rattle.issuance_log.specs.Folds.{LogState}
 use Rattle.fleet.specs.Calls.{count_in, log_called}
 use Rattle.fleet.specs.LogNodes.{log_shown}
-use Rattle.fleet.proofs.MadeStops.{none_stopped, one_stopped}
+use Rattle.drill_nodes.proofs.MadeStops.{none_stopped, one_stopped}
 use Rattle.fleet.proofs.Stops.{not_recovered}
 use Rattle.fleet.proofs.log_node.LogNode.asked.Goals as goal
 
@@ -16,7 +16,9 @@ pub returns-then-before-count-clause-stops : goal.returns-then-before-count-clau
 returns-then-before-count-clause-stops g c =
     let stopped = c.in_ok-node.ensures.stops in
     let one = one_stopped c.args.turn c.in-Some.stop c.in-Some.is in
-    omega (arith, stopped, one)
+    let same : length c.recover.new.self.made.items ≡ length c.in_ok-node.node.stops.made.items =
+    ap (λ v. length v.items) c.recover.ensures in
+    omega (arith, stopped, one, same)
 
 pub returns-in_ok-again-clause-state : goal.returns-in_ok-again-clause-state
 returns-in_ok-again-clause-state g c =

@@ -7,7 +7,7 @@ use Rattle.issuance_log.specs.Folds.{log_of, new_log}
 use Rattle.issuance_log.specs.Records.{settings_record}
 use Rattle.issuance_log.specs.Settings.{Settings}
 use Rattle.fleet.specs.Entries.{log_settings}
-use Rattle.fleet.specs.Nodes.{records_on}
+use Rattle.drill_nodes.specs.Disks.{records_on}
 use Rattle.fleet.proofs.log_node.LogNode.create.Goals as goal
 
 some_is : (xs ys : List Text) → Some xs ≡ Some ys → xs ≡ ys

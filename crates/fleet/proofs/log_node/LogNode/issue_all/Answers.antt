@@ -1,10 +1,10 @@
 use Rattle.std.proofs.Common.{◌≡◌, ◌+◌, [], ◌∷◌, List, Option, None, add-one, arith, get_or}
 use Rattle.std.proofs.Common.{subst, suc, take}
 use Rattle.fleet.specs.LogNodes.{log_shown}
-use Rattle.fleet.specs.Rounds.{stops_in}
-use Rattle.fleet.specs.declared.turns.Stop.{Stop}
+use Rattle.drill_nodes.specs.Rounds.{stops_in}
+use Rattle.drill_nodes.specs.declared.turns.Stop.{Stop}
 use Rattle.fleet.proofs.EntryCounts.{issued_next}
-use Rattle.fleet.proofs.MadeStops.{next_stopped}
+use Rattle.drill_nodes.proofs.MadeStops.{next_stopped}
 use Rattle.fleet.proofs.log_node.LogNode.issue_all.Goals as goal
 
 pub loop-turn-preserved : goal.loop-turn-preserved

@@ -1,7 +1,7 @@
 use Rattle.std.proofs.Common.{◌≡◌, ◌+◌, take}
 use Rattle.fleet.specs.LogNodes.{log_shown, log_stops}
 use Rattle.fleet.specs.Played.{issued_to}
-use Rattle.fleet.specs.Rounds.{stops_in}
+use Rattle.drill_nodes.specs.Rounds.{stops_in}
 use Rattle.fleet.proofs.log_node.LogNode.issue_all.Given as goal
 
 abbrev pub invariant-loop-turn : goal.invariant-loop-turn

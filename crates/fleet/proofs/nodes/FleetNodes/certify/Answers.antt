@@ -1,91 +1,77 @@
-use Rattle.std.proofs.Common.{◌≡◌, ◌∙◌, ◌+◌, ℕ, length, ap, subst, sym, refl, arith}
+use Rattle.std.proofs.Common.{◌≡◌, ◌∙◌, ◌+◌, [], ℕ, length, sym, ap, subst, arith, refl}
 use Rattle.byte_forms.specs.Types.{Text}
 use Rattle.issuance_log.specs.Folds.{LogState}
-use Rattle.cosigner_core.specs.declared.checkpoint.Checkpoint.{Checkpoint}
 use Rattle.authority_core.specs.Certificates.{IsWritten}
+use Rattle.drill_nodes.specs.Cosigners.{HaveSigned, IsSigned}
+use Rattle.drill_nodes.specs.CosignerViews.{IsStill}
+use Rattle.drill_nodes.proofs.Pairs.{paired_join, paired_length}
 use Rattle.fleet.specs.AuditViews.{AllStand}
-use Rattle.fleet.specs.CosignerViews.{cosigner_shown}
 use Rattle.fleet.specs.LogNodes.{log_shown}
-use Rattle.fleet.specs.Played.{signatures_by}
+use Rattle.fleet.specs.Played.{log_root}
 use Rattle.fleet.specs.Stores.{StoresAcceptNow}
-use Rattle.fleet.specs.Views.{shown}
-use Rattle.fleet.proofs.Signing.{three_put}
-use Rattle.fleet.proofs.StillTrios.{last_same}
+use Rattle.fleet.proofs.Turns.{all_still, signed_still, still_keys, still_stops}
 use Rattle.fleet.proofs.nodes.FleetNodes.certify.Goals as goal
 
-pub invariant_of-result : goal.invariant_of-result
-invariant_of-result g c =
-    let old = c.args.self.trio in
-    let new = c.in_ok-log.trio in
-    let signed = c.in_ok-log.ensures.signed.signed in
-    let log : length (log_shown c.in_ok-log.log).entries
-    ≡ length (log_shown c.args.self.log).entries =
-    ap (λ (l : LogState). length l.entries) c.in_ok-log.ensures.same in
-    let first : (cosigner_shown new.first).held.size ≡ (cosigner_shown old.first).held.size =
-    ap (λ (k : Checkpoint). k.size) signed.first.has.held in
-    let second : (cosigner_shown new.second).held.size ≡ (cosigner_shown old.second).held.size =
-    ap (λ (k : Checkpoint). k.size) signed.second.has.held in
-    let third : (cosigner_shown new.third).held.size ≡ (cosigner_shown old.third).held.size =
-    ap (λ (k : Checkpoint). k.size) signed.third.has.held in
-    let first_held = c.args.self.first_holds in
-    let second_held = c.args.self.second_holds in
-    let third_held = c.args.self.third_holds in
-    record {
-      first_holds = omega (arith, log, first, first_held);
-      second_holds = omega (arith, log, second, second_held);
-      third_holds = omega (arith, log, third, third_held);
-    }
+pub sign_all-requires : goal.sign_all-requires
+sign_all-requires g c =
+    let three = c.requires.three in let turns = c.requires.turns in omega (arith, three, turns)
 
-pub returns-clause-state : goal.returns-clause-state
-returns-clause-state g c =
+pub returns-clause-certified : goal.returns-clause-certified
+returns-clause-certified g c =
     let h = g.H.TreeHash.hash in
-    let done = c.in_ok-log.ensures.signed in
-    let signed = done.signed in
-    let spelled : done.signatures
-    ≡ signatures_by (shown c.args.self) signed.first.signature signed.second.signature
-    signed.third.signature =
-    three_put _ signed.one signed.two _ _ _ _ refl signed.first.put signed.second.put
-    signed.third.put in
+    let old = c.args.self.now in
+    let s = log_shown old.log in
+    let nodes = old.cosigners.nodes.items in
+    let mid = c.sign_all.new.cosigners.nodes.items in
+    let new = c.audited.new.cosigners.nodes.items in
+    let cert : Text = c.in_ok-bytes.bytes in
+    let one = c.in_ok-sign_all.ensures in
+    let two = c.in_ok-bytes.ensures in
+    let three = c.in_ok-stands.ensures in
+    let long = paired_length (IsSigned (length s.entries) (log_root h s)) nodes mid one.each in
+    let are = c.requires.three in
+    let all_same : log_shown c.certificate.new.log ≡ s = two.same.shown ∙ one.same.shown in
     record {
-      log = c.in_ok-log.ensures.same;
+      log = record {
+        shown = three.log.shown ∙ all_same;
+        stops = three.log.stops ∙ two.same.stops ∙ one.same.stops;
+      };
       store = refl;
-      one = signed.first.signature;
-      two = signed.second.signature;
-      three = signed.third.signature;
-      first = signed.first.has;
-      second = signed.second.has;
-      third = signed.third.has;
-      cert = c.in_ok-log.bytes;
-      certs = c.in_ok-certs.ensures;
-      written = subst (λ (t : Text). IsWritten h (shown c.args.self).log c.args.index 0
-          (length (shown c.args.self).log.entries) t c.in_ok-log.bytes) spelled done.written;
-      accepts = subst (λ (t : Text). StoresAcceptNow h (shown c.args.self).log c.args.index t
-          c.in_ok-log.bytes) spelled done.accepts;
-      verified = ap (λ (n : ℕ). (shown c.args.self).verified + n) c.one_accepted.ensures.value;
+      each = paired_join (IsSigned (length s.entries) (log_root h s)) IsStill
+          (IsSigned (length s.entries) (log_root h s))
+          (signed_still (length s.entries) (log_root h s)) nodes mid new one.each three.still;
+      signatures = c.sign_all.new.signatures;
+      signed = subst (λ (t : Text). HaveSigned (length s.entries) (log_root h s) nodes t
+          c.sign_all.new.signatures) c.new-signatures.ensures one.signed;
+      cert = cert;
+      certs = c.in_ok-push.ensures.items;
+      written = subst (λ (l : LogState). IsWritten h l c.args.index 0 (length l.entries)
+          c.sign_all.new.signatures cert) one.same.shown two.written;
+      accepts = subst (λ (l : LogState). StoresAcceptNow h l c.args.index
+          c.sign_all.new.signatures cert) one.same.shown two.accepts;
+      verified = ap (λ (n : ℕ). old.verified + n) c.one_accepted-accepted.ensures.value;
+      stands = λ all.
+          let count = three.count.0 (all_still h old.store cert (log_shown c.certificate.new.log)
+          mid new three.still (subst (λ (l : LogState). AllStand h old.store cert l new)
+          (sym all_same) all)) in
+          omega (arith, count, long, are);
+      light = refl;
     }
 
-pub returns-clause-records : goal.returns-clause-records
-returns-clause-records g c = c.in_ok-log.ensures.recorded
+pub returns-clause-keys : goal.returns-clause-keys
+returns-clause-keys g c =
+    let keys = c.in_ok-sign_all.ensures.keys in
+    let still = still_keys c.sign_all.new.cosigners.nodes.items
+    c.audited.new.cosigners.nodes.items c.in_ok-stands.ensures.still in
+    let are = c.requires.three in
+    omega (arith, keys, still, are)
 
 pub returns-clause-stops : goal.returns-clause-stops
 returns-clause-stops g c =
-    let signed = c.in_ok-log.ensures.stops in
-    let looked = c.in_ok-log.ensures.no_stop in
-    omega (arith, signed, looked)
-
-pub returns-clause-stands : goal.returns-clause-stands
-returns-clause-stands g c = λ cert certs all.
-    let h = g.H.TreeHash.hash in
-    let store = c.args.self.store in
-    let new = c.in_ok-log.trio in
-    let same : cert ≡ c.in_ok-log.bytes =
-    last_same c.args.self.certs.items cert c.in_ok-log.bytes
-    (sym certs ∙ c.in_ok-certs.ensures) in
-    let here : AllStand h store c.in_ok-log.bytes (log_shown c.args.self.log) new =
-    subst (λ (t : Text). AllStand h store t (log_shown c.args.self.log) new) same
-    (subst (λ (l : LogState). AllStand h store cert l new) c.in_ok-log.ensures.same all) in
-    let three = c.in_ok-log.ensures.stands here in
-    omega (arith, three)
-
-pub returns-clause-light : goal.returns-clause-light
-returns-clause-light g c = refl
+    let stops = c.in_ok-sign_all.ensures.stops in
+    let still = still_stops c.sign_all.new.cosigners.nodes.items
+    c.audited.new.cosigners.nodes.items c.in_ok-stands.ensures.still in
+    let one = c.in_ok-sign_all.ensures.same.stops in
+    let two = c.in_ok-bytes.ensures.same.stops in
+    let three = c.in_ok-stands.ensures.log.stops in
+    omega (arith, stops, still, one, two, three)

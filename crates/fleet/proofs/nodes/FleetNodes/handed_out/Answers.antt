@@ -1,21 +1,16 @@
 use Rattle.std.proofs.Common.{refl}
 use Rattle.fleet.proofs.nodes.FleetNodes.handed_out.Goals as goal
 
-pub stops-stops-requires : goal.stops-stops-requires
-stops-stops-requires g c = c.requires
-
 pub returns : goal.returns
 returns g c = record {
-  log = c.in_ok-out.ensures.disk;
-  fails_none = c.in_ok-out.ensures.fails_none;
-  first = c.in_ok-out.ensures.first;
-  second = c.in_ok-out.ensures.second;
-  third = c.in_ok-out.ensures.third;
+  log = c.in_ok-log.ensures.disk;
+  fails_none = c.in_ok-log.ensures.fails_none;
+  cosigners = c.in_ok-out.ensures.disks;
   certs = c.from_vec.ensures;
   counts = record {
-    entries = c.in_ok-out.ensures.entries;
-    landmarks = c.in_ok-out.ensures.landmarks;
-    signatures = c.in_ok-out.ensures.count;
+    entries = c.in_ok-log.ensures.entries;
+    landmarks = c.in_ok-log.ensures.landmarks;
+    signatures = c.in_ok-out.ensures.signatures;
     stops = c.stops-stops.ensures;
     verified = refl;
     stands = refl;

@@ -1,81 +1,98 @@
-use Rattle.std.proofs.Common.{◌≡◌, ◌∙◌, ◌++◌, ◌∷◌, [], List, ap, subst, sym, arith}
+use Rattle.std.proofs.Common.{◌≡◌, ◌∙◌, ◌+◌, ◌++◌, ◌∷◌, [], ℕ, List, length, ap, subst, sym, arith}
+use Rattle.std.specs.Prelude.{pos}
 use Rattle.byte_forms.specs.Types.{Text}
 use Rattle.issuance_log.specs.Folds.{LogState}
+use Rattle.policy_core.specs.Judgement.{judgement}
 use Rattle.policy_core.specs.declared.store.Store.{Store}
+use Rattle.authority_core.specs.Certificates.{IsWritten}
+use Rattle.drill_nodes.specs.Cosigners.{IsAdvanced}
+use Rattle.drill_nodes.proofs.Pairs.{paired_length}
 use Rattle.fleet.specs.AuditViews.{AllStand}
 use Rattle.fleet.specs.LightStores.{IsDue}
 use Rattle.fleet.specs.LogNodes.{log_shown}
-use Rattle.fleet.specs.Played.{HasCertified, Shown, mark_shown}
-use Rattle.fleet.specs.Views.{shown}
-use Rattle.fleet.proofs.Marked.{as_counted, marked_certs, marked_store}
-use Rattle.fleet.proofs.StillTrios.{grown_recorded}
+use Rattle.fleet.specs.Played.{with_landmark, log_root}
+use Rattle.fleet.specs.Stores.{StoresAcceptNow, one_accepted}
+use Rattle.fleet.proofs.PlayedRounds.{all_signed, each_turned, keys_so}
 use Rattle.fleet.proofs.nodes.FleetNodes.play.Goals as goal
-
-pub certify-requires-clause-verified : goal.certify-requires-clause-verified
-certify-requires-clause-verified g c =
-    let marked : c.in_ok-marked.marked.verified ≡ c.in_ok-grown.grown.verified =
-    ap (λ (p : Shown). p.verified) c.in_ok-marked.ensures.state
-    ∙ as_counted c.args.round.now.landmark (shown c.in_ok-grown.grown) in
-    let grown : c.in_ok-grown.grown.verified ≡ c.args.self.verified =
-    ap (λ (p : Shown). p.verified) c.in_ok-grown.ensures.state in
-    omega (arith, marked, grown, c.requires.verified)
-
-pub certify-requires-clause-stands : goal.certify-requires-clause-stands
-certify-requires-clause-stands g c =
-    let marked = c.in_ok-marked.ensures.stands in
-    let grown = c.in_ok-grown.ensures.stands in
-    omega (arith, marked, grown, c.requires.stands)
 
 pub mark_in-requires : goal.mark_in-requires
 mark_in-requires g c =
-    let grown = c.in_ok-grown.ensures.light in omega (arith, grown, c.requires.light)
+    let grown = c.in_ok-grown.ensures.light in omega (arith, grown, c.requires.ready.light)
 
-pub returns-clause-state : goal.returns-clause-state
-returns-clause-state g c =
-    subst (λ (p : Shown). HasCertified g.H.TreeHash.hash c.args.round.now.index
-    c.args.round.now.signs p (shown c.in_ok-played.played))
-    (c.in_ok-marked.ensures.state
-    ∙ ap (mark_shown c.args.round.now.landmark) c.in_ok-grown.ensures.state)
-    c.in_ok-played.ensures.state
-
-pub returns-clause-counts : goal.returns-clause-counts
-returns-clause-counts g c =
+pub certify-requires-clause-three : goal.certify-requires-clause-three
+certify-requires-clause-three g c =
     let h = g.H.TreeHash.hash in
+    let grown = c.in_ok-grown.grown in
+    let long = paired_length (IsAdvanced (length (log_shown grown.log).entries)
+    (log_root h (log_shown grown.log))) c.args.self.cosigners.nodes.items
+    grown.cosigners.nodes.items c.in_ok-grown.ensures.each in
+    let same : length c.in_ok-played.played.cosigners.nodes.items
+    ≡ length grown.cosigners.nodes.items =
+    ap (λ x. length x.nodes.items) c.in_ok-played.ensures.cosigners in
+    let three = c.requires.ready.three in
+    omega (arith, long, same, three)
+
+pub certify-requires-clause-verified : goal.certify-requires-clause-verified
+certify-requires-clause-verified g c =
+    let grown = c.in_ok-grown.ensures.verified in
+    let marked = c.in_ok-played.ensures.verified in
+    omega (arith, grown, marked, c.requires.ready.verified)
+
+pub certify-requires-clause-stands : goal.certify-requires-clause-stands
+certify-requires-clause-stands g c =
+    let grown = c.in_ok-grown.ensures.stands in
+    let marked = c.in_ok-played.ensures.stands in
+    omega (arith, grown, marked, c.requires.ready.stands)
+
+pub returns : goal.returns
+returns g c =
+    let h = g.H.TreeHash.hash in
+    let r = c.args.round.now in
     let old = c.args.self in
-    let grown = c.in_ok-grown.ensures in
-    let marked = c.in_ok-marked.ensures in
-    let played = c.in_ok-played.ensures in
-    let landmark = c.args.round.now.landmark in
-    let same_certs : c.in_ok-marked.marked.certs.items ≡ old.certs.items =
-    ap (λ (p : Shown). p.certs) marked.state
-    ∙ marked_certs landmark (shown c.in_ok-grown.grown)
-    ∙ ap (λ (p : Shown). p.certs) grown.state in
-    let same_store : c.in_ok-marked.marked.store ≡ old.store =
-    ap (λ (p : Shown). p.store) marked.state
-    ∙ marked_store landmark (shown c.in_ok-grown.grown)
-    ∙ ap (λ (p : Shown). p.store) grown.state in
-    let log : log_shown c.in_ok-played.played.log ≡ log_shown c.in_ok-marked.marked.log =
-    played.state.log in
-    let one = grown.stops in
-    let two = marked.stops in
-    let three = played.stops in
-    let no_audit = grown.stands in
-    let still_none = marked.stands in
-    let no_light = grown.light in
-    let same_light = played.light in
+    let grown = c.in_ok-grown.grown in
+    let marks = c.in_ok-played.played in
+    let new = c.certify.new.self in
+    let one = c.in_ok-grown.ensures in
+    let two = c.in_ok-played.ensures in
+    let three = c.in_ok-certify.ensures in
+    let done = three.certified in
+    let same = ap (λ x. x.nodes.items) two.cosigners in
+    let store = two.store ∙ one.store in
+    let keys = three.keys in
+    let keys_before = keys_so h r old grown marks new one.each two.log same done in
+    let stops_one = one.stops in
+    let stops_two = two.stops in
+    let stops_three = three.stops in
+    let stands_one = one.stands in
+    let stands_two = two.stands in
+    let light_one = one.light in
+    let light_three = done.light in
     record {
-      records = grown_recorded h (log_shown c.in_ok-played.played.log)
-          (log_shown c.in_ok-marked.marked.log) old.trio c.in_ok-grown.grown.trio
-          c.in_ok-marked.marked.trio c.in_ok-played.played.trio log grown.records marked.trio
-          played.records;
-      stops = omega (arith, one, two, three);
-      stands = λ cert certs all.
-          let counted = played.stands cert
-          (certs ∙ ap (λ (list : List Text). list ++ cert ∷ []) (sym same_certs))
-          (subst (λ (s : Store). AllStand h s cert (log_shown c.in_ok-played.played.log)
-          c.in_ok-played.played.trio) (sym same_store) all) in
-          omega (arith, counted, no_audit, still_none);
+      log = done.log.shown ∙ two.log ∙ ap (with_landmark r.landmark) one.log;
+      store = done.store ∙ store;
+      each = each_turned h r old grown marks new one.each two.log same done;
+      signatures = done.signatures;
+      signed = all_signed h r old grown marks new one.each two.log same done;
+      cert = done.cert;
+      certs = done.certs ∙ ap (λ v. v.items ++ done.cert ∷ []) (two.certs ∙ one.certs);
+      written = subst (λ (l : LogState). IsWritten h l r.index 0 (length l.entries) done.signatures
+          done.cert) (sym done.log.shown) done.written;
+      accepts = subst (λ (l : LogState). StoresAcceptNow h l r.index done.signatures done.cert)
+          (sym done.log.shown) done.accepts;
+      verified = done.verified
+          ∙ ap (λ (n : ℕ). n + one_accepted (judgement h done.cert marks.store (pos 1767225600)))
+          (two.verified ∙ one.verified)
+          ∙ ap (λ (s : Store). old.verified
+          + one_accepted (judgement h done.cert s (pos 1767225600))) store;
+      stands = λ all.
+          let counted = done.stands (subst (λ (s : Store). AllStand h s done.cert
+          (log_shown marks.log) new.cosigners.nodes.items) (sym store)
+          (subst (λ (l : LogState). AllStand h old.store done.cert l new.cosigners.nodes.items)
+          done.log.shown all)) in
+          omega (arith, counted, stands_one, stands_two);
       light = λ due.
-          let lit = marked.light (subst (λ (s : LogState). IsDue h s) log due) in
-          omega (arith, lit, no_light, same_light);
+          let lit = two.light (subst (λ (l : LogState). IsDue h l) done.log.shown due) in
+          omega (arith, lit, light_one, light_three);
+      keys = omega (arith, keys, keys_before);
+      stops = omega (arith, stops_one, stops_two, stops_three);
     }

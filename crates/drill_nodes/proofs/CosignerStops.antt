@@ -1,0 +1,187 @@
+-- What a stop within a call of a cosigner leaves.
+use Rattle.std.proofs.Common.{◌≡◌, ◌∙◌, ◌⊎◌, ◌≤◌, ◌<◌, ◌^◌, ℕ, inl, inr, List, [], ◌∷◌, ◌++◌}
+use Rattle.std.proofs.Common.{arith, Option, Some, None, Ok, Err, Bool, subst, sym, ap, refl, drop}
+use Rattle.std.proofs.Common.{append_assoc, length}
+use Rattle.std.specs.List.{Contains}
+use Rattle.std.proofs.lemmas.List.{append-nil}
+use Rattle.std.proofs.lemmas.List.Elements.{Contains-append_left, Contains-push}
+use Rattle.byte_forms.specs.Types.{Hash, Text, HashFunction}
+use Rattle.tls_wire.specs.Spelling.{AreHashes}
+use Rattle.journal_core.specs.Folds.{state_behind}
+use Rattle.journal_core.specs.Format.{StandsFor}
+use Rattle.cosigner_core.specs.Folds.{CosignerState, cosigner_of}
+use Rattle.cosigner_core.specs.Records.{sign_record}
+use Rattle.cosigner_core.specs.declared.requests.AdvanceRequest.{AdvanceRequest}
+use Rattle.cosigner_core.specs.declared.requests.SubtreeRequest.{SubtreeRequest}
+use Rattle.cosigner_core.specs.declared.step.Step.TheVariants.{Sign}
+use Rattle.cosigner_core.proofs.Spelled.{step_again}
+use Rattle.drill_nodes.specs.CosignerCalls.{IsNumbered, IsSignature, body_called, cosigner_behind}
+use Rattle.drill_nodes.specs.CosignerNodes.{HasMore, HasRecorded, HasSign, HasSigned, IsAsBefore}
+use Rattle.drill_nodes.specs.CosignerNodes.{IsBehindCall, IsLeftBy, IsReopened, most_of}
+use Rattle.drill_nodes.specs.declared.cosigner_calls.CosignerCall.{CosignerCall}
+use Rattle.drill_nodes.specs.declared.cosigner_calls.CosignerCall.TheVariants.{Advance, Cosign}
+use Rattle.drill_nodes.specs.declared.turns.Stop.{Stop}
+
+-- the cosigner that is opened again is one of the two, and the latter where the call was done
+pub reopened_by : (h : HashFunction) (call : CosignerCall) (s t : CosignerState)
+    (before after : List Text) (images : Text → Type 0) (bytes out : Text) (done : Bool)
+    → IsLeftBy h call s before images out done → images bytes
+    → ((list : List Text) (u : CosignerState) → StandsFor bytes list → cosigner_of h list ≡ Ok u
+    → (t ≡ u) × (after ≡ list)) → IsReopened call s t before after out done
+reopened_by h call s t before after images bytes out done left image opened =
+    let either : IsAsBefore s t before after ⊎ IsBehindCall call s t before after =
+    elim (left.either bytes image) [
+      | inl stands ↦ inl (opened before s stands left.old)
+      | inr stands ↦ inr (opened (before ++ body_called s call ∷ []) (cosigner_behind s call)
+          stands left.new)
+    ] in
+    record {
+      either = either;
+      all = λ is. opened (before ++ body_called s call ∷ []) (cosigner_behind s call)
+          (left.all is bytes image) left.new;
+      signed = left.signed;
+      numbered = left.numbered;
+    }
+
+-- a cosigner that holds no more than before is that from before
+pub not_advanced : (r : AdvanceRequest) (s t : CosignerState) (before after : List Text)
+    (out : Text) (done : Bool)
+    → IsReopened (Advance r) s t before after out done → s.held.size < r.size
+    → t.held.size ≤ s.held.size → t ≡ s
+not_advanced r s t before after out done is larger few =
+    elim is.either [
+      | inl same ↦ same.0
+      | inr grown ↦
+          let wrong : t.held.size ≡ r.size = ap (λ (u : CosignerState). u.held.size) grown.0 in
+          absurd (omega arith)
+    ]
+
+-- a cosigner that holds more than before is that which the call makes
+pub has_advanced : (r : AdvanceRequest) (s t : CosignerState) (before after : List Text)
+    (out : Text) (done : Bool)
+    → IsReopened (Advance r) s t before after out done → s.held.size < t.held.size
+    → t ≡ cosigner_behind s (Advance r)
+has_advanced r s t before after out done is more =
+    elim is.either [
+      | inl same ↦
+          let wrong : t.held.size ≡ s.held.size = ap (λ (u : CosignerState). u.held.size) same.0 in
+          absurd (omega arith)
+      | inr grown ↦ grown.0
+    ]
+
+-- ---- records
+
+-- the records are those from before, or one more
+pub reopened_more : (call : CosignerCall) (s t : CosignerState) (before after : List Text)
+    (out : Text) (done : Bool) → IsReopened call s t before after out done → HasMore before after
+reopened_more call s t before after out done is =
+    elim is.either [
+      | inl same ↦ ([], same.1 ∙ sym (append-nil before))
+      | inr grown ↦ (body_called s call ∷ [], grown.1)
+    ]
+
+pub more_twice : (a b c : List Text) → HasMore a b → HasMore b c → HasMore a c
+more_twice a b c first second = (
+  first.0 ++ second.0,
+  second.1 ∙ ap (λ (list : List Text). list ++ second.0) first.1
+      ∙ append_assoc a first.0 second.0,
+)
+
+-- what stands behind the first record stays there
+pub stays_behind : (before after : List Text) (body : Text) → HasMore before after
+    → Contains (drop 1 before) body → Contains (drop 1 after) body
+stays_behind [] after body more there = absurd (omega (arith, there.1))
+stays_behind (first ∷ bodies) after body more there =
+    subst (λ (list : List Text). Contains (drop 1 list) body) (sym more.1)
+    (Contains-append_left bodies more.0 body there)
+
+-- records that make a cosigner have a first one
+last_behind : (h : HashFunction) (s : CosignerState) (before : List Text) (body : Text)
+    → cosigner_of h before ≡ Ok s → Contains (drop 1 (before ++ body ∷ [])) body
+unfolding state_behind
+last_behind h s [] body is = let wrong : Err 0 ≡ Ok s = is in absurd cc
+last_behind h s (first ∷ bodies) body is = Contains-push bodies body
+
+-- the Sign of a call that was done stands among the records
+pub recorded_last : (h : HashFunction) (r : SubtreeRequest) (s : CosignerState)
+    (before after : List Text) → cosigner_of h before ≡ Ok s → IsNumbered s (Cosign r)
+    → after ≡ before ++ body_called s (Cosign r) ∷ [] → HasRecorded r after
+recorded_last h r s before after made numbered is = record {
+  index = s.key.next;
+  small = numbered;
+  there = subst (λ (list : List Text). Contains (drop 1 list) (body_called s (Cosign r))) (sym is)
+      (last_behind h s before (body_called s (Cosign r)) made);
+}
+
+-- it says a Sign
+pub says_sign : (r : SubtreeRequest) (list : List Text) → HasRecorded r list
+    → r.start < 2 ^ 64 → r.end < 2 ^ 64 → length r.hash ≡ 32 → AreHashes r.proof.now
+    → HasSign r.start r.end r.hash list
+says_sign r list is start end sized hashes = record {
+  index = is.index;
+  proof = r.proof.now;
+  body = sign_record is.index r.start r.end r.hash r.proof.now;
+  there = is.there;
+  says = step_again (Sign is.index r.start r.end r.hash r.proof.now) (record {
+    short_word = is.small;
+    start_word = start;
+    end_word = end;
+    sized = sized;
+    all_hashes = hashes;
+  });
+}
+
+pub sign_stays : (start end : ℕ) (hash : Hash) (before after : List Text) → HasMore before after
+    → HasSign start end hash before → HasSign start end hash after
+sign_stays start end hash before after more is = record {
+  index = is.index;
+  proof = is.proof;
+  body = is.body;
+  there = stays_behind before after is.body more is.there;
+  says = is.says;
+}
+
+-- ---- signatures
+
+some_most : (turn : Option Stop) → 1 ≤ most_of turn
+some_most None = omega arith
+some_most (Some stop) = omega arith
+
+-- a cosigner that signs once
+pub signed_once : (r : SubtreeRequest) (turn : Option Stop) (s : CosignerState) (out : Text)
+    → IsSignature s (Cosign r) out
+    → HasSigned (Cosign r) turn s (cosigner_behind s (Cosign r)) out
+signed_once r turn s out signed =
+    let most = some_most turn in
+    record {
+      id = refl;
+      log = refl;
+      held = refl;
+      key = refl;
+      more = omega arith;
+      few = omega arith;
+      signed = signed;
+    }
+
+-- a cosigner that signs again behind a stop, and may have signed in it
+pub signed_again : (r : SubtreeRequest) (stop : Stop) (s t : CosignerState)
+    (before after : List Text) (out given : Text) (done : Bool)
+    → IsReopened (Cosign r) s t before after out done → IsSignature t (Cosign r) given
+    → HasSigned (Cosign r) (Some stop) s (cosigner_behind t (Cosign r)) given
+signed_again r stop s t before after out given done is signed =
+    elim is.either [
+      | inl same ↦ subst (λ (u : CosignerState). IsSignature u (Cosign r) given
+          → HasSigned (Cosign r) (Some stop) s (cosigner_behind u (Cosign r)) given) (sym same.0)
+          (signed_once r (Some stop) s given) signed
+      | inr grown ↦ subst (λ (u : CosignerState). IsSignature u (Cosign r) given
+          → HasSigned (Cosign r) (Some stop) s (cosigner_behind u (Cosign r)) given) (sym grown.0)
+          (λ is. record {
+            id = refl;
+            log = refl;
+            held = refl;
+            key = refl;
+            more = omega arith;
+            few = omega arith;
+            signed = is;
+          }) signed
+    ]

@@ -1,0 +1,57 @@
+-- A cosigner of a drill that was looked on.
+use Rattle.std.proofs.Common.{◌≡◌, ◌∙◌, List, Some, Ok, sym, ap, subst, refl, drop}
+use Rattle.byte_forms.specs.Places.{IsBytes}
+use Rattle.byte_forms.specs.Types.{Text, HashFunction}
+use Rattle.disk_core.specs.Memory.{bytes_of, calls_of, images_of}
+use Rattle.disk_core.specs.ReplayLaws.{told_are}
+use Rattle.disk_core.specs.declared.memory.mem_disk.MemDisk.{MemDisk}
+use Rattle.journal_core.specs.Format.{StandsFor, records_of}
+use Rattle.cosigner_core.specs.ExportReading.{export_in, export_of}
+use Rattle.cosigner_core.specs.Exports.{export_text}
+use Rattle.cosigner_core.specs.Folds.{CosignerState, cosigner_of}
+use Rattle.cosigner_core.specs.Progress.{steps_in}
+use Rattle.cosigner_core.specs.declared.step.Step.{Step}
+use Rattle.cosigner_core.proofs.ExportAgain.{export_again}
+use Rattle.cosigner_core.proofs.Tagged.{some_value}
+use Rattle.drill_nodes.specs.CosignerNodes.{IsCosignerDisk}
+use Rattle.drill_nodes.specs.Disks.{records_on}
+
+pub same_text : (x y : Text) → Some x ≡ Some y → x ≡ y
+same_text x y e = cc
+
+pub same_list : (x y : List Text) → Some x ≡ Some y → x ≡ y
+same_list x y e = cc
+
+-- a disk that tells the same, and may leave nothing new
+pub looked_on : (h : HashFunction) (s t : CosignerState) (old new : MemDisk)
+    → bytes_of new ≡ bytes_of old → ((c : Text) → images_of new c → images_of old c) → t ≡ s
+    → IsCosignerDisk h s old → IsCosignerDisk h t new
+looked_on h s t old new bytes images state is =
+    let same : records_on new ≡ records_on old = ap records_of bytes in
+    record {
+      holds = subst (λ (b : Text). StandsFor b (records_of b)) (sym bytes) is.holds;
+      images = λ c there. subst (λ (list : List Text). StandsFor c list) (sym same)
+          (is.images c (images c there));
+      valid = ap (cosigner_of h) same ∙ is.valid ∙ ap Ok (sym state);
+    }
+
+module _ (h : HashFunction) (s : CosignerState) (disk : MemDisk) (is : IsCosignerDisk h s disk)
+  where
+    again : (steps : List Step) × (steps_in (drop 1 (records_on disk)) ≡ Some steps)
+        × (export_in h (export_text s (records_on disk)) ≡ Ok (Some (export_of s steps)))
+    again =
+        let are : IsBytes (bytes_of disk) =
+        told_are disk.past.first (calls_of disk) (bytes_of disk) disk.past.are_bytes refl in
+        let all = export_again h (bytes_of disk) (records_on disk) s are is.holds is.valid in
+        (all.0, all.1, all.2)
+
+    -- the records say steps
+    pub steps_again : (steps : List Step) × (steps_in (drop 1 (records_on disk)) ≡ Some steps)
+    steps_again = (again.0, again.1)
+
+    -- what is exported is read as these
+    pub reads_again : (steps : List Step) → steps_in (drop 1 (records_on disk)) ≡ Some steps
+        → export_in h (export_text s (records_on disk)) ≡ Ok (Some (export_of s steps))
+    reads_again steps said =
+        let same : again.0 ≡ steps = some_value again.0 steps (sym again.1 ∙ said) in
+        again.2 ∙ ap (λ (x : List Step). Ok (Some (export_of s x))) same

@@ -1,0 +1,14 @@
+use Rattle.disk_core.specs.Memory.{bytes_of, images_of}
+use Rattle.drill_nodes.specs.CosignerViews.{cosigner_shown, records_shown}
+use Rattle.drill_nodes.proofs.CosignerStops.{reopened_by}
+use Rattle.drill_nodes.proofs.cosigner.stopped.Goals as goal
+
+pub returns-clause-state : goal.returns-clause-state
+returns-clause-state g c =
+    reopened_by g.H.TreeHash.hash c.args.call.now (cosigner_shown c.args.node)
+    (cosigner_shown c.in_ok-again.again) (records_shown c.args.node)
+    (records_shown c.in_ok-again.again) (images_of c.in_ok-left.left)
+    (bytes_of c.in_ok-image.image) c.halted.new.out c.in_ok-left.done
+    (c.in_ok-left.ensures (cosigner_shown c.args.node) (records_shown c.args.node)
+    c.in_ok-cosigner.ensures.state)
+    c.in_ok-image.ensures.image c.in_ok-again.ensures.state

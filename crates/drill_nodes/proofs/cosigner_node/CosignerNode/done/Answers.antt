@@ -1,0 +1,44 @@
+use Rattle.std.proofs.Common.{◌≡◌, ◌∙◌, List, [], ◌∷◌, ◌++◌, Some, sym, subst, ap}
+use Rattle.byte_forms.specs.Types.{Text}
+use Rattle.disk_core.specs.Memory.{bytes_of}
+use Rattle.cosigner_core.specs.Folds.{CosignerState}
+use Rattle.journal_core.specs.Ends.{settled_of}
+use Rattle.cosigner_core.specs.Words.{cosigner_disk, cosigner_end}
+use Rattle.drill_nodes.specs.CosignerCalls.{body_called, cosigner_behind}
+use Rattle.drill_nodes.specs.CosignerNodes.{IsCosignerDisk}
+use Rattle.drill_nodes.specs.CosignerViews.{cosigner_shown, records_shown}
+use Rattle.drill_nodes.proofs.GrownDisks.{is_disk, records_grown}
+use Rattle.drill_nodes.proofs.cosigner_node.CosignerNode.done.Goals as goal
+
+some_is : (xs ys : List Text) → Some xs ≡ Some ys → xs ≡ ys
+some_is xs ys e = cc
+
+pub invariant_of-self : goal.invariant_of-self
+invariant_of-self g c =
+    let called = c.in_ok-call_cosigner.ensures in
+    let grown = called.grown c.if-branch.true in
+    let disk = cosigner_disk c.call_cosigner.new.cosigner in
+    let list : List Text =
+    settled_of (cosigner_end c.args.self.cosigner) (bytes_of (cosigner_disk c.args.self.cosigner))
+    ++ body_called (cosigner_shown c.args.self) c.args.call.now ∷ [] in
+    record {
+      sound = grown.sound;
+      settled = grown.records
+          ∙ ap Some (sym (records_grown disk list called.reads (called.kept c.if-branch.true)));
+      stands = subst (λ (s : CosignerState). IsCosignerDisk g.H.TreeHash.hash s disk)
+          (sym grown.state)
+          (is_disk g.H.TreeHash.hash (cosigner_behind (cosigner_shown c.args.self) c.args.call.now)
+          disk list called.reads (called.kept c.if-branch.true) called.valid);
+    }
+
+pub returns-then-branch-clause-records : goal.returns-then-branch-clause-records
+returns-then-branch-clause-records g c =
+    let called = c.in_ok-call_cosigner.ensures in
+    let body = body_called (cosigner_shown c.args.self) c.args.call.now in
+    let list : List Text =
+    settled_of (cosigner_end c.args.self.cosigner) (bytes_of (cosigner_disk c.args.self.cosigner))
+    in
+    records_grown (cosigner_disk c.call_cosigner.new.cosigner) (list ++ body ∷ []) called.reads
+    (called.kept c.if-branch.true)
+    ∙ ap (λ (xs : List Text). xs ++ body ∷ [])
+    (some_is list (records_shown c.args.self) c.args.self.settled)

@@ -1,0 +1,219 @@
+//! The cosigners of a drill.
+
+ghost use Rattle.std.specs.Prelude.{◌≡◌, ◌<◌, ◌+◌, List, [], ◌∷◌, ◌++◌, length, Ok, IfOk};
+ghost use Rattle.byte_forms.specs.Types.{Text};
+ghost use Rattle.disk_core.specs.Memory.{bytes_of, images_of};
+ghost use Rattle.journal_core.specs.Format.{StandsFor};
+ghost use Rattle.cosigner_core.specs.Folds.{CosignerState, cosigner_of, holding, new_cosigner};
+ghost use Rattle.drill_nodes.specs.CosignerCalls.{IsCosignerWith, IsNumbered, IsSignature};
+ghost use Rattle.drill_nodes.specs.CosignerCalls.{body_called};
+ghost use Rattle.drill_nodes.specs.CosignerCalls.{cosigner_behind};
+ghost use Rattle.drill_nodes.specs.CosignerNodes.{HasMore, HasRecorded, HasSigned, IsLeftBy};
+ghost use Rattle.drill_nodes.specs.CosignerNodes.{IsReopened};
+ghost use Rattle.drill_nodes.specs.CosignerNodes.{cosigner_settings, secret_of};
+ghost use Rattle.drill_nodes.specs.CosignerViews.{cosigner_shown, cosigner_stops, records_shown};
+ghost use Rattle.drill_nodes.specs.Rounds.{stops_in};
+ghost use Rattle.drill_nodes.specs.declared.cosigner_calls.CosignerCall.TheVariants.{Cosign};
+
+use crate::cosigner_calls::{CosignerCall, call_cosigner, open_cosigner};
+use crate::cosigner_node::CosignerNode;
+use crate::ids::{LOG, id_of};
+use crate::stops::Stops;
+use crate::turns::{Stop, Turn};
+use cosigner_core::{AdvanceRequest, Cosigner, CosignerSettings, SubtreeRequest, create};
+use disk_core::{Fuse, MemDisk};
+use hss_core::{LmsType, OtsType, SigBuf};
+use mtc_io::{Bytes, Memory};
+use std::alloc::Global;
+use tree_core::TreeHash;
+
+// The secret of the cosigner `32473.N` in the drill with this number: 16 bytes of N, and the number
+// four times.
+#[tactic(auto, unfolding(crate::specs::CosignerNodes::secret_of))]
+fn secret_of(alloc: Global, last: u8, number: u64) -> Result<[u8; 48], Memory>
+    ensures { IfOk result (λ secret. secret ≡ secret_of last number) }
+{
+    let bytes = number.to_be_bytes();
+    let mut text = Bytes::copy_of(alloc, &[last; 16])?;
+    text.append_both(&bytes, &bytes)?;
+    text.append_both(&bytes, &bytes)?;
+    let mut secret = [0; 48];
+    secret.copy_from_slice(text.as_slice());
+    Ok(secret)
+}
+
+// A cosigner on a device that stands for its records, with the stops so far.
+fn opened<H: TreeHash>(
+    alloc: Global,
+    disk: MemDisk,
+    stops: Stops,
+) -> Result<CosignerNode<H>, Memory>
+    ensures state { IfOk result (λ it. (list : List Text) (s : CosignerState)
+        → StandsFor (bytes_of disk) list → cosigner_of H.hash list ≡ Ok s
+        → (cosigner_shown it ≡ s) × (records_shown it ≡ list)) }
+    ensures stops { IfOk result (λ it. cosigner_stops it ≡ length stops.made.items) }
+{
+    Ok(CosignerNode {
+        cosigner: open_cosigner(alloc, disk)?,
+        stops,
+    })
+}
+
+// The cosigner behind a fuse, and the stops so far.
+fn fused<H: TreeHash>(
+    alloc: Global,
+    node: CosignerNode<H>,
+    passes: u64,
+) -> Result<(Cosigner<H, Fuse<MemDisk>>, Stops), Memory>
+    ensures state { IfOk result
+        (λ x. IsCosignerWith H.hash (cosigner_shown node) (records_shown node) x.0) }
+    ensures stops { IfOk result (λ x. length x.1.made.items ≡ cosigner_stops node) }
+{
+    let fuse = Fuse::new(node.cosigner.into_disk(), passes);
+    let cosigner = open_cosigner(alloc, fuse)?;
+    Ok((cosigner, node.stops))
+}
+
+// What a call leaves of the device behind the fuse, and whether it was done. It may find no memory.
+fn halted<H: TreeHash>(
+    cosigner: Cosigner<H, Fuse<MemDisk>>,
+    call: &CosignerCall<'_>,
+    out: &mut SigBuf,
+) -> Result<(MemDisk, bool), Memory>
+    ensures { IfOk result (λ left. (s : CosignerState) (list : List Text)
+        → IsCosignerWith H.hash s list cosigner
+        → IsLeftBy H.hash call.now s list (images_of left.0) out.new left.1) }
+{
+    let mut cosigner = cosigner;
+    let done = call_cosigner(&mut cosigner, call, out)?;
+    let left = cosigner.into_disk().into_inner();
+    if left.starved() > 0 {
+        return Err(Memory);
+    }
+    Ok((left, done))
+}
+
+// The call is made behind a fuse, and the cosigner is opened again on an image of what is left:
+// whether the call was done. This is the one place where a stop is counted.
+fn stopped<H: TreeHash>(
+    alloc: Global,
+    node: CosignerNode<H>,
+    call: &CosignerCall<'_>,
+    stop: Stop,
+    out: &mut SigBuf,
+) -> Result<(CosignerNode<H>, bool), Memory>
+    ensures state { IfOk result (λ it. IsReopened call.now (cosigner_shown node)
+        (cosigner_shown it.0) (records_shown node) (records_shown it.0) out.new it.1) }
+    ensures stops { IfOk result (λ it. cosigner_stops it.0 ≡ cosigner_stops node + 1) }
+{
+    let (cosigner, mut stops) = fused(alloc, node, stop.passes)?;
+    let (left, done) = halted(cosigner, call, out)?;
+    let image = left.crash(stop.pick)?;
+    stops.add(stop, done)?;
+    let again = opened(alloc, image, stops)?;
+    Ok((again, done))
+}
+
+impl<H: TreeHash> CosignerNode<H> {
+    /// A new cosigner on an empty device.
+    pub(crate) fn create(alloc: Global, last: u8, number: u64) -> Result<CosignerNode<H>, Memory>
+        ensures state { IfOk result (λ it. cosigner_shown it
+            ≡ new_cosigner H.hash (cosigner_settings last) (secret_of last number)) }
+        ensures stops { IfOk result (λ it. cosigner_stops it ≡ 0) }
+    {
+        let settings = CosignerSettings {
+            id: id_of(alloc, last)?,
+            log: id_of(alloc, LOG)?,
+            lms: LmsType::H5,
+            ots: OtsType::W4,
+        };
+        let secret = secret_of(alloc, last, number)?;
+        let disk = MemDisk::new(alloc, Vec::new(alloc));
+        match create(alloc, disk, &settings, &secret) {
+            Ok(journal) => {
+                let node = opened(alloc, journal.into_disk(), Stops::new(alloc))?;
+                Ok(node)
+            }
+            Err(_) => Err(Memory),
+        }
+    }
+
+    // The call without a stop.
+    fn done(mut self, call: &CosignerCall<'_>, out: &mut SigBuf) -> Result<CosignerNode<H>, Memory>
+        ensures state { IfOk result (λ it. cosigner_shown it
+            ≡ cosigner_behind (cosigner_shown self) call.now) }
+        ensures records { IfOk result (λ it. records_shown it
+            ≡ records_shown self ++ body_called (cosigner_shown self) call.now ∷ []) }
+        ensures signed { IfOk result (λ it. IsSignature (cosigner_shown self) call.now out.new) }
+        ensures numbered { IfOk result (λ it. IsNumbered (cosigner_shown self) call.now) }
+        ensures stops { IfOk result (λ it. cosigner_stops it ≡ cosigner_stops self) }
+    {
+        if call_cosigner(&mut self.cosigner, call, out)? {
+            Ok(self)
+        } else {
+            Err(Memory)
+        }
+    }
+
+    /// Holds the root of a larger log, with a stop or without one. Behind a stop the call is made
+    /// again, unless its record was recovered.
+    pub(crate) fn advance(
+        self,
+        alloc: Global,
+        request: &AdvanceRequest<'_>,
+        turn: Turn,
+    ) -> Result<CosignerNode<H>, Memory>
+        requires { (cosigner_shown self).held.size < request.now.size }
+        ensures state { IfOk result (λ it. cosigner_shown it
+            ≡ holding request.now.size request.now.root (cosigner_shown self)) }
+        ensures grows { IfOk result (λ it. HasMore (records_shown self) (records_shown it)) }
+        ensures stops { IfOk result
+            (λ it. cosigner_stops it ≡ cosigner_stops self + stops_in (turn ∷ [])) }
+    {
+        let call = CosignerCall::Advance(*request);
+        let mut out = SigBuf::new();
+        let Some(stop) = turn else {
+            let done = self.done(&call, &mut out)?;
+            return Ok(done);
+        };
+        let (before, _) = self.cosigner.held();
+        let (mut node, _) = stopped(alloc, self, &call, stop, &mut out)?;
+        if before < node.cosigner.held().0 {
+            node.stops.recover();
+            Ok(node)
+        } else {
+            let again = node.done(&call, &mut out)?;
+            Ok(again)
+        }
+    }
+
+    /// Signs a subtree, with a stop or without one. Behind a stop the call is made again, unless it
+    /// was done. The signature is the whole of `out`.
+    pub(crate) fn cosign(
+        self,
+        alloc: Global,
+        request: &SubtreeRequest<'_>,
+        turn: Turn,
+        out: &mut SigBuf,
+    ) -> Result<CosignerNode<H>, Memory>
+        ensures state { IfOk result (λ it. HasSigned (Cosign request.now) turn (cosigner_shown self)
+            (cosigner_shown it) out.new) }
+        ensures grows { IfOk result (λ it. HasMore (records_shown self) (records_shown it)) }
+        ensures recorded { IfOk result (λ it. HasRecorded request.now (records_shown it)) }
+        ensures stops { IfOk result
+            (λ it. cosigner_stops it ≡ cosigner_stops self + stops_in (turn ∷ [])) }
+    {
+        let call = CosignerCall::Cosign(*request);
+        let Some(stop) = turn else {
+            let signed = self.done(&call, out)?;
+            return Ok(signed);
+        };
+        let (node, done) = stopped(alloc, self, &call, stop, out)?;
+        if done {
+            Ok(node)
+        } else {
+            let again = node.done(&call, out)?;
+            Ok(again)
+        }
+    }
+}

@@ -1,0 +1,53 @@
+//! A cosigner of a drill on its device.
+
+ghost use Rattle.std.specs.Prelude.{◌≡◌, false, Some};
+ghost use Rattle.cosigner_core.specs.Words.{cosigner_broken, cosigner_disk, cosigner_records};
+ghost use Rattle.cosigner_core.specs.Words.{cosigner_state};
+ghost use Rattle.drill_nodes.specs.CosignerNodes.{IsCosignerDisk, IsCosignerDisk-prop};
+ghost use Rattle.drill_nodes.specs.Disks.{records_on};
+
+use crate::stops::Stops;
+use cosigner_core::Cosigner;
+use disk_core::MemDisk;
+use hss_core::PUBLIC_KEY_LEN;
+use mtc_io::Memory;
+use std::alloc::Global;
+use tls_wire::AnchorId;
+use tree_core::TreeHash;
+
+/// A cosigner, open on a device in memory that holds what it shows, whatever stops; and the stops
+/// that were made in its calls.
+#[derive(Drop)]
+pub struct CosignerNode<H: TreeHash> {
+    pub(crate) cosigner: Cosigner<H, MemDisk>,
+    pub(crate) stops: Stops,
+    ghost sound: { cosigner_broken cosigner ≡ false },
+    ghost settled: { cosigner_records cosigner ≡ Some (records_on (cosigner_disk cosigner)) },
+    ghost stands: { IsCosignerDisk H.TreeHash.hash (cosigner_state cosigner)
+        (cosigner_disk cosigner) } by { IsCosignerDisk-prop H.TreeHash.hash
+            (cosigner_state cosigner) (cosigner_disk cosigner) },
+}
+
+impl<H: TreeHash> CosignerNode<H> {
+    ghost use Rattle.hss_core.specs.Hss.{one_level_public};
+    ghost use Rattle.std.specs.Prelude.{IfOk};
+    ghost use Rattle.drill_nodes.specs.CosignerViews.{cosigner_shown};
+
+    /// Its id.
+    pub fn id(&self, alloc: Global) -> Result<AnchorId, Memory>
+        ensures { IfOk result (λ id. id ≡ (cosigner_shown self.now).id) }
+    {
+        match AnchorId::from_bytes(alloc, self.cosigner.id().as_bytes()) {
+            Ok(id) => Ok(id),
+            // These bytes are an anchor id, so memory was refused.
+            Err(_) => Err(Memory),
+        }
+    }
+
+    /// Its public key.
+    pub fn public(&self) -> [u8; PUBLIC_KEY_LEN]
+        ensures { result ≡ one_level_public (cosigner_shown self.now).key.key }
+    {
+        self.cosigner.public()
+    }
+}

@@ -1,0 +1,193 @@
+//! The cosigners of a drill, one behind the other.
+
+ghost use Rattle.std.specs.Prelude.{◌≡◌, ◌<◌, ◌≤◌, ◌+◌, ◌^◌, ℕ, [], ◌∷◌, length, IfOk, OnOk};
+ghost use Rattle.std.specs.List.{AllByRecursion, sum_by};
+ghost use Rattle.drill_nodes.specs.Cosigners.{HaveSigned, IsAdvanced, IsNewNode, IsSigned, Paired};
+ghost use Rattle.drill_nodes.specs.Cosigners.{keys_used, stops_by};
+ghost use Rattle.drill_nodes.specs.CosignerViews.{IsDiskOf, IsExportOf, IsStill, cosigner_shown};
+ghost use Rattle.drill_nodes.specs.Disks.{signs_on};
+ghost use Rattle.drill_nodes.specs.Rounds.{stops_in};
+
+use crate::cosigner_node::CosignerNode;
+use crate::exports::handed_out;
+use crate::signing::{advanced, signed};
+use crate::turns::Turns;
+use disk_core::MemDisk;
+use mtc_io::{Bytes, Memory};
+use std::alloc::Global;
+use tree_core::TreeHash;
+
+/// The cosigners of a drill. Each call takes them from the front of the list, one by one, and puts
+/// them behind the others again: a node that is stopped is gone until it is opened again. Where
+/// memory is refused, the one whose turn it was is lost.
+pub struct Cosigners<H: TreeHash> {
+    nodes: Vec<CosignerNode<H>>,
+}
+
+// A drop in one step: a derived one is proved field by field wherever a value is let go.
+impl<H: TreeHash> Drop for Cosigners<H> {
+    fn drop(self) {
+        let Cosigners { nodes: _ } = self;
+    }
+}
+
+/// What the cosigners hand out: their devices, and how many of their records are Signs.
+#[derive(Debug, Drop)]
+pub struct Devices {
+    pub disks: Vec<MemDisk>,
+    pub signatures: u64,
+}
+
+impl<H: TreeHash> Cosigners<H> {
+    /// New cosigners: `32473.2` to `32473.4` of the drill with this number.
+    pub fn create(alloc: Global, number: u64) -> Result<Cosigners<H>, Memory>
+        ensures state { IfOk result
+            (λ it. Paired (IsNewNode H.hash number) (2 ∷ 3 ∷ 4 ∷ []) it.nodes.items) }
+    {
+        let mut nodes = Vec::new(alloc);
+        nodes.push(CosignerNode::create(alloc, 2, number)?)?;
+        nodes.push(CosignerNode::create(alloc, 3, number)?)?;
+        nodes.push(CosignerNode::create(alloc, 4, number)?)?;
+        Ok(Cosigners { nodes })
+    }
+
+    /// The cosigners, in their order.
+    pub fn as_slice(&self) -> &[CosignerNode<H>]
+        ensures { result.now ≡ self.now.nodes.items }
+    {
+        self.nodes.as_slice()
+    }
+
+    /// How much of the log the first of them holds.
+    pub fn held(&self) -> u64
+        requires { 0 < length self.now.nodes.items }
+        ensures { (size : ℕ) → AllByRecursion (λ node. (cosigner_shown node).held.size < size)
+            self.now.nodes.items → result < size }
+    {
+        self.nodes[0].cosigner.held().0
+    }
+
+    /// Each holds the root of a larger log.
+    pub fn advance(
+        &mut self,
+        alloc: Global,
+        size: u64,
+        root: [u8; 32],
+        proof: &[[u8; 32]],
+        turns: &Turns,
+    ) -> Result<(), Memory>
+        requires larger { AllByRecursion (λ node. (cosigner_shown node).held.size < size)
+            self.old.nodes.items }
+        requires turns { length turns.now ≡ length self.old.nodes.items }
+        ensures each { OnOk result
+            (Paired (IsAdvanced size root) self.old.nodes.items self.new.nodes.items) }
+        ensures stops { OnOk result
+            (stops_by self.new.nodes.items ≡ stops_by self.old.nodes.items + stops_in turns.now) }
+    {
+        for turn in turns.as_slice() {
+            let node = self.nodes.remove(0);
+            let node = advanced(alloc, node, size, root, proof, *turn)?;
+            self.nodes.push(node)?;
+        }
+        Ok(())
+    }
+
+    /// Each signs all of a log of which it holds the root, and puts its signature behind the
+    /// others.
+    pub fn cosign(
+        &mut self,
+        alloc: Global,
+        size: u64,
+        hash: [u8; 32],
+        proof: &[[u8; 32]],
+        turns: &Turns,
+        signatures: &mut Bytes,
+    ) -> Result<(), Memory>
+        requires sized { length hash ≡ 32 }
+        requires few { length proof.now ≤ 128 }
+        requires turns { length turns.now ≡ length self.old.nodes.items }
+        ensures each { OnOk result
+            (Paired (IsSigned size hash) self.old.nodes.items self.new.nodes.items) }
+        ensures signed { OnOk result
+            (HaveSigned size hash self.old.nodes.items signatures.old signatures.new) }
+        ensures keys { OnOk result (keys_used self.new.nodes.items
+            ≤ keys_used self.old.nodes.items + length self.old.nodes.items + stops_in turns.now) }
+        ensures stops { OnOk result
+            (stops_by self.new.nodes.items ≡ stops_by self.old.nodes.items + stops_in turns.now) }
+    {
+        for turn in turns.as_slice() {
+            let node = self.nodes.remove(0);
+            let node = signed(alloc, node, size, hash, proof, *turn, signatures)?;
+            self.nodes.push(node)?;
+        }
+        Ok(())
+    }
+
+    /// Their exports, in their order.
+    pub fn exports(&mut self, alloc: Global) -> Result<Vec<Bytes>, Memory>
+        ensures same { IfOk result (λ texts. Paired IsStill self.old.nodes.items
+            self.new.nodes.items) }
+        ensures read { IfOk result
+            (λ texts. Paired (IsExportOf H.hash) self.old.nodes.items texts.items) }
+    {
+        let mut texts = Vec::new(alloc);
+        let count = self.nodes.len();
+        for _told in 0..count {
+            let mut node = self.nodes.remove(0);
+            let text = node.export(alloc)?;
+            texts.push(text)?;
+            self.nodes.push(node)?;
+        }
+        Ok(texts)
+    }
+
+    /// How many stops were made in their calls.
+    pub fn stops(&self) -> u64
+        requires { stops_by self.now.nodes.items ≤ 2 ^ 32 }
+        ensures { result ≡ stops_by self.now.nodes.items }
+    {
+        self.nodes
+            .iter()
+            .map(|node| node.stops.made.len() as u64)
+            .sum()
+    }
+
+    /// How many of the calls that were stopped did not answer Ok.
+    pub fn unfinished(&self) -> u64 {
+        let mut count = 0u64;
+        for node in &self.nodes {
+            count = count.saturating_add(node.stops.unfinished);
+        }
+        count
+    }
+
+    /// Behind how many of the stops in their advances the record was there.
+    pub fn recovered(&self) -> u64 {
+        let mut count = 0u64;
+        for node in &self.nodes {
+            count = count.saturating_add(node.stops.recovered);
+        }
+        count
+    }
+
+    /// Their devices, and how many records there are Signs.
+    pub fn hand_out(self, alloc: Global) -> Result<Devices, Memory>
+        requires { length self.nodes.items ≤ 3 }
+        ensures disks { IfOk result
+            (λ out. Paired (IsDiskOf H.hash) self.nodes.items out.disks.items) }
+        ensures signatures { IfOk result
+            (λ out. out.signatures ≡ sum_by signs_on out.disks.items) }
+    {
+        let Cosigners { mut nodes } = self;
+        let mut disks = Vec::new(alloc);
+        let mut signatures = 0;
+        let count = nodes.len();
+        for _out in 0..count {
+            let node = nodes.remove(0);
+            let (disk, signs) = handed_out(alloc, node)?;
+            disks.push(disk)?;
+            signatures += signs;
+        }
+        Ok(Devices { disks, signatures })
+    }
+}

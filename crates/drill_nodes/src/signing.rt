@@ -1,0 +1,87 @@
+//! What one cosigner does in a round.
+
+ghost use Rattle.std.specs.Prelude.{◌≡◌, ◌<◌, ◌≤◌, ◌+◌, [], ◌∷◌, length, IfOk};
+ghost use Rattle.tls_wire.specs.Spelling.{AreHashes};
+ghost use Rattle.drill_nodes.specs.Cosigners.{IsAdvanced, IsPut, IsSigned};
+ghost use Rattle.drill_nodes.specs.CosignerNodes.{most_of};
+ghost use Rattle.drill_nodes.specs.CosignerViews.{cosigner_shown, cosigner_stops};
+ghost use Rattle.drill_nodes.specs.Rounds.{stops_in};
+
+use crate::cosigner_node::CosignerNode;
+use crate::ids::{LOG, id_of};
+use crate::turns::Turn;
+use cosigner_core::{AdvanceRequest, SubtreeRequest};
+use hss_core::SigBuf;
+use mtc_io::{Bytes, Memory};
+use std::alloc::Global;
+use tls_wire::{put_vec8, put_vec16};
+use tree_core::TreeHash;
+
+// The type of a proof makes its hashes as long as hashes are: the clause says it, and the call does
+// nothing.
+fn are_hashes(proof: &[[u8; 32]])
+    requires { length proof.now ≤ 128 }
+    ensures { AreHashes proof.now }
+{
+    let _few = proof.len();
+}
+
+/// The cosigner holds the root of a larger log.
+pub(crate) fn advanced<H: TreeHash>(
+    alloc: Global,
+    node: CosignerNode<H>,
+    size: u64,
+    root: [u8; 32],
+    proof: &[[u8; 32]],
+    turn: Turn,
+) -> Result<CosignerNode<H>, Memory>
+    requires { (cosigner_shown node).held.size < size }
+    ensures state { IfOk result (IsAdvanced size root node) }
+    ensures stops { IfOk result
+        (λ it. cosigner_stops it ≡ cosigner_stops node + stops_in (turn ∷ [])) }
+{
+    let id = id_of(alloc, LOG)?;
+    let request = AdvanceRequest {
+        log: id.as_bytes(),
+        size,
+        root,
+        proof,
+    };
+    let node = node.advance(alloc, &request, turn)?;
+    Ok(node)
+}
+
+/// The cosigner signs all of a log, and its signature is put behind the others.
+pub(crate) fn signed<H: TreeHash>(
+    alloc: Global,
+    node: CosignerNode<H>,
+    size: u64,
+    hash: [u8; 32],
+    proof: &[[u8; 32]],
+    turn: Turn,
+    signatures: &mut Bytes,
+) -> Result<CosignerNode<H>, Memory>
+    requires sized { length hash ≡ 32 }
+    requires few { length proof.now ≤ 128 }
+    ensures state { IfOk result (IsSigned size hash node) }
+    ensures put { IfOk result (λ it. IsPut size hash node signatures.old signatures.new) }
+    ensures keys { IfOk result (λ it. (cosigner_shown it).key.next
+        ≤ (cosigner_shown node).key.next + most_of turn) }
+    ensures stops { IfOk result
+        (λ it. cosigner_stops it ≡ cosigner_stops node + stops_in (turn ∷ [])) }
+{
+    let id = id_of(alloc, LOG)?;
+    let request = SubtreeRequest {
+        log: id.as_bytes(),
+        start: 0,
+        end: size,
+        hash,
+        proof,
+    };
+    are_hashes(request.proof);
+    let mut out = SigBuf::new();
+    let node = node.cosign(alloc, &request, turn, &mut out)?;
+    put_vec8(signatures, node.cosigner.id().as_bytes())?;
+    put_vec16(signatures, out.as_slice())?;
+    Ok(node)
+}
