@@ -6,6 +6,8 @@ to print the same bytes. Prints what is wrong, and the longest processor time an
 program, and GNU time; where that isn't there it says that this is left out, and ends with status 0. The gate plays eight.
 Usage: tests/drills.py [COUNT [FIRST]]      so many drills, 100 if nothing is said, from this number on, 0 if nothing is said;
                                      and that of the largest number
+       tests/drills.py --drawn NUMBER ..     plays nothing, and prints of each number what it draws: entries, landmarks, stops,
+                                     and the stopped calls that do not answer Ok, as crates/fleet_tests has them
 """
 
 import re
@@ -20,25 +22,26 @@ LAST = 2**63 - 1
 
 
 class Draws:
-    """The draws of a number, and how many of its calls are stopped."""
+    """The draws of a number, how many of its calls are stopped, and how many of these do not answer Ok."""
 
     def __init__(self, number):
-        self.number, self.stops = number, 0
+        self.number, self.stops, self.unfinished = number, 0, 0
 
     def draw(self, below):
         self.number = (self.number * 6364136223846793005 + 1442695040888963407) % 2**64
         return (self.number >> 33) % below
 
     def call(self):
-        """A call that adds a record. Where it is stopped, the stop takes two draws."""
+        """A call that adds a record. Where it is stopped, the stop takes two draws. An append makes four calls of its
+        device, which all pass where the first of them is 4."""
         if self.draw(8) == 0:
             self.stops += 1
-            self.draw(5)
+            self.unfinished += self.draw(5) < 4
             self.draw(65536)
 
 
 def drawn(number):
-    """How many entries, landmarks and stops a drill has."""
+    """How many entries, landmarks and stops a drill has, and how many calls that do not answer."""
     draws, entries, landmarks = Draws(number), 1, 0
     for _ in range(ROUNDS):
         issued = 1 + draws.draw(3)
@@ -51,12 +54,12 @@ def drawn(number):
         draws.draw(entries - 1)
         for _ in range(3):
             draws.call()
-    return entries, landmarks, draws.stops
+    return entries, landmarks, draws.stops, draws.unfinished
 
 
 def wrong_lines(number, text):
     """What is wrong with the summary of a drill."""
-    entries, landmarks, stops = drawn(number)
+    entries, landmarks, stops, _ = drawn(number)
     found = re.search(r"^signatures (\d+)$", text, re.M)
     signatures = int(found[1]) if found else -1
     wanted = (f"drill {number}\nentries {entries}\nlandmarks {landmarks}\nsignatures {signatures}\nstops {stops}\n"
@@ -79,6 +82,10 @@ def played(number):
 
 
 def main(words):
+    if words[:1] == ["--drawn"]:
+        for number in map(int, words[1:]):
+            print(number, *drawn(number))
+        return 0
     if not TIME.exists():
         print("left out: drills: GNU time isn't here")
         return 0
