@@ -7,7 +7,7 @@ program, and GNU time; where that isn't there it says that this is left out, and
 Usage: tests/drills.py [COUNT [FIRST]]      so many drills, 100 if nothing is said, from this number on, 0 if nothing is said;
                                      and that of the largest number
        tests/drills.py --drawn NUMBER ..     plays nothing, and prints of each number what it draws: entries, landmarks, stops,
-                                     and the stopped calls that do not answer Ok, as crates/fleet_tests has them
+                                     and the stopped calls that do not answer Ok, as crates/run_tests has them
 """
 
 import re

@@ -1,5 +1,5 @@
 //! Tests of the program over a room in memory: the words of commands, and what each command answers
-//! to its files and leaves of them.
+//! to its files and leaves of them. Then drills, and what is counted anew of what they hand out.
 #![tactic(auto)]
 
 #[cfg(test)]
@@ -18,6 +18,12 @@ mod devices;
 mod drills;
 #[cfg(test)]
 mod exports;
+#[cfg(test)]
+mod fleet_audits;
+#[cfg(test)]
+mod fleet_drills;
+#[cfg(test)]
+mod fleet_summary;
 #[cfg(test)]
 mod logs;
 #[cfg(test)]

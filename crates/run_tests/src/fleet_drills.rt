@@ -1,7 +1,7 @@
 //! Drills in numbers, and what is counted anew of one.
 
-use crate::audits::found_entries;
-use crate::summary::recounted;
+use crate::fleet_audits::found_entries;
+use crate::fleet_summary::recounted;
 use fleet::{Counts, fleet};
 use std::test::Fail;
 use tree_core::Sha;

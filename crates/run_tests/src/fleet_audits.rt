@@ -1,6 +1,6 @@
 //! The audits of a drill, made anew.
 
-use crate::summary::{exported, open_log, store_of};
+use crate::fleet_summary::{exported, open_log, store_of};
 use cert_fields::parse;
 use cosigner_core::read_export;
 use disk_core::MemDisk;
