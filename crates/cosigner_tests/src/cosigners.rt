@@ -1,6 +1,8 @@
 //! Cosigners over disks in memory, for the cases beside.
 
-use crate::known::{Known, LOG, NEW, NODE_4_TO_6, NODE_4_TO_8, NODE_6_TO_8, ROOT_OF_4, ROOT_OF_8};
+use crate::known::{
+    Known, LOG, NEW, NODE_4_TO_6, NODE_4_TO_8, NODE_6_TO_8, PUBLIC, ROOT_OF_4, ROOT_OF_8,
+};
 use cosigner_core::{
     AdvanceRequest, CosignError, Cosigner, CosignerOpenError, CosignerSettings, SubtreeRequest,
     create,
@@ -18,8 +20,16 @@ pub(crate) type MemCosigner = Cosigner<Sha, MemDisk>;
 pub(crate) type FusedCosigner = Cosigner<Sha, Fuse<MemDisk>>;
 
 pub(crate) fn disk(alloc: Global, bytes: &[u8], failing: &[u64]) -> Result<MemDisk, Memory> {
-    let bytes = Bytes::copy_of(alloc, bytes)?;
+    disk_of(alloc, Bytes::copy_of(alloc, bytes)?, failing)
+}
+
+fn disk_of(alloc: Global, bytes: Bytes, failing: &[u64]) -> Result<MemDisk, Memory> {
     Ok(MemDisk::over(alloc, bytes, Vec::from_slice(alloc, failing)?))
+}
+
+/// What a crash leaves of a disk by this pick.
+pub(crate) fn left(disk: &MemDisk, pick: u64) -> Result<MemDisk, Memory> {
+    disk.lend()?.crash(pick)
 }
 
 pub(crate) fn open(alloc: Global, disk: MemDisk) -> Result<MemCosigner, CosignerOpenError> {
@@ -29,30 +39,71 @@ pub(crate) fn open(alloc: Global, disk: MemDisk) -> Result<MemCosigner, Cosigner
     }
 }
 
-/// Begins the journal of cosigner 32473.2 of log 32473.1, of height 5 and width 4: 16 bytes of 2
-/// are its identifier, and 32 of 7 its seed.
+/// The cosigner on a disk, where there is one.
+pub(crate) fn opened(alloc: Global, disk: MemDisk) -> Option<MemCosigner> {
+    open(alloc, disk).ok()
+}
+
+/// The cosigner in these bytes, over a disk of which these calls fail, where it is opened.
+pub(crate) fn cosigner_in(
+    alloc: Global,
+    bytes: &[u8],
+    failing: &[u64],
+) -> Result<Option<MemCosigner>, Memory> {
+    Ok(opened(alloc, disk(alloc, bytes, failing)?))
+}
+
+/// The disk of a cosigner.
+pub(crate) fn disk_behind(cosigner: MemCosigner) -> MemDisk {
+    cosigner.into_disk()
+}
+
+/// How many entries a cosigner holds, and their root.
+pub(crate) fn held(cosigner: &MemCosigner) -> (u64, [u8; 32]) {
+    cosigner.held()
+}
+
+/// Whether a cosigner has the known key.
+pub(crate) fn has_the_key(cosigner: &MemCosigner) -> bool {
+    cosigner.public() == PUBLIC
+}
+
+fn id(alloc: Global, text: &str) -> Result<AnchorId, Memory> {
+    match AnchorId::from_text(alloc, text) {
+        Ok(id) => Ok(id),
+        Err(_) => Err(Memory),
+    }
+}
+
+/// The ids of cosigner 32473.2 and of its log 32473.1.
+pub(crate) fn ids(alloc: Global) -> Result<(AnchorId, AnchorId), Memory> {
+    let log = id(alloc, "32473.1")?;
+    Ok((id(alloc, "32473.2")?, log))
+}
+
+// 16 bytes of 2 are the identifier, and 32 of 7 the seed.
+fn secret() -> [u8; 48] {
+    let mut secret = [7; 48];
+    secret[..16].copy_from_slice(&[2; 16]);
+    secret
+}
+
+/// Begins the journal of that cosigner, of height 5 and width 4.
 pub(crate) fn begin<D: Disk + Drop>(
     alloc: Global,
     disk: D,
 ) -> Result<(D, Option<StartError>), Memory> {
-    let (Ok(id), Ok(log)) = (
-        AnchorId::from_text(alloc, "32473.2"),
-        AnchorId::from_text(alloc, "32473.1"),
-    ) else {
-        return Err(Memory);
-    };
+    let (id, log) = ids(alloc)?;
     let settings = CosignerSettings {
         id,
         log,
         lms: LmsType::H5,
         ots: OtsType::W4,
     };
-    let mut secret = [7; 48];
-    secret[..16].copy_from_slice(&[2; 16]);
-    match create(alloc, disk, &settings, &secret) {
-        Ok(journal) => Ok((journal.into_disk(), None)),
-        Err(Refused { disk, why }) => Ok((disk, Some(why))),
-    }
+    Ok(match create(alloc, disk, &settings, &secret()) {
+        Ok(journal) => (journal.into_disk(), None),
+        Err(Refused { disk, why }) => (disk, Some(why)),
+    })
 }
 
 /// So many bytes with this hash.
@@ -109,14 +160,33 @@ pub(crate) fn sign_two(cosigner: &mut MemCosigner, out: &mut SigBuf) -> Result<(
     cosigner.cosign(&request, out)
 }
 
+fn advance_twice(cosigner: &mut MemCosigner) -> bool {
+    advance_to_4(cosigner).is_ok() && advance_to_8(cosigner).is_ok()
+}
+
 /// The cosigner that holds all eight entries, over a disk of which these calls fail. None where it
 /// is not opened, or does not follow.
 pub(crate) fn of_eight(alloc: Global, failing: &[u64]) -> Result<Option<MemCosigner>, Memory> {
-    let Ok(mut cosigner) = open(alloc, disk(alloc, &NEW, failing)?) else {
+    let Some(mut cosigner) = cosigner_in(alloc, &NEW, failing)? else {
         return Ok(None);
     };
-    let held = advance_to_4(&mut cosigner).is_ok() && advance_to_8(&mut cosigner).is_ok();
+    let held = advance_twice(&mut cosigner);
     Ok(if held { Some(cosigner) } else { None })
+}
+
+/// Signs with each of the 32 one-time keys, the second time two entries: whether each signed.
+pub(crate) fn sign_32(cosigner: &mut MemCosigner, out: &mut SigBuf) -> bool {
+    for index in 0..32 {
+        let answer = if index == 1 {
+            sign_two(cosigner, out)
+        } else {
+            sign_all(cosigner, out)
+        };
+        if answer.is_err() {
+            return false;
+        }
+    }
+    true
 }
 
 /// The number of the one-time key in a signature of one level.

@@ -1,17 +1,19 @@
 //! Exports: what is written, what is read again, and what is refused.
 
-use crate::cosigners::{MemCosigner, disk, is_known, of_eight, open, sign_all, sign_two};
+use crate::cosigners::{
+    MemCosigner, cosigner_in, disk, disk_behind, ids, is_known, of_eight, opened, sign_all,
+    sign_two,
+};
 use crate::known::{Known, LOG, PUBLIC};
 use cosigner_core::{
     CosignerSettings, Export, ExportError, ReadExportError, Step, pack, read_export,
 };
 use disk_core::MemDisk;
 use hss_core::{LmsType, OtsType, SigBuf};
-use journal_core::Journal;
+use journal_core::{FirstRecord, Journal};
 use mtc_io::{Bytes, MemSink, Memory};
 use std::alloc::Global;
 use std::test::Fail;
-use tls_wire::AnchorId;
 use tree_core::{Sha, leaf};
 
 // What an implementation that stands apart writes of two Advances and two Signs.
@@ -29,32 +31,47 @@ fn sink(alloc: Global, per_call: usize, failing: &[u64]) -> Result<MemSink, Memo
     Ok(MemSink::new(alloc, per_call.max(1), failing))
 }
 
+fn sign_both(cosigner: &mut MemCosigner, out: &mut SigBuf) -> bool {
+    sign_all(cosigner, out).is_ok() && sign_two(cosigner, out).is_ok()
+}
+
 // The cosigner that has signed twice.
 fn signed(alloc: Global) -> Result<Option<MemCosigner>, Memory> {
     let Some(mut cosigner) = of_eight(alloc, &[])? else {
         return Ok(None);
     };
-    let mut out = SigBuf::new();
-    let done = sign_all(&mut cosigner, &mut out).is_ok()
-        && sign_two(&mut cosigner, &mut out).is_ok();
+    let done = sign_both(&mut cosigner, &mut SigBuf::new());
     Ok(if done { Some(cosigner) } else { None })
 }
 
-// Its export, and its journal.
-fn exported(alloc: Global) -> Result<Option<(Bytes, Bytes)>, Memory> {
-    let Some(mut cosigner) = signed(alloc)? else {
-        return Ok(None);
-    };
-    let mut out = sink(alloc, 7, &[])?;
-    if cosigner.export(&mut out).is_err() {
-        return Ok(None);
-    }
-    let text = Bytes::copy_of(alloc, out.taken())?;
-    Ok(Some((text, Bytes::copy_of(alloc, cosigner.into_disk().bytes())?)))
+fn export(cosigner: &mut MemCosigner, out: &mut MemSink) -> Result<(), ExportError> {
+    cosigner.export(out)
 }
 
-fn is_the_cosigner(export: &Export) -> bool {
-    let last = match export.steps.as_slice().last() {
+// The export of a cosigner, to a sink that takes so much a call.
+fn text_of(
+    alloc: Global,
+    cosigner: &mut MemCosigner,
+    per_call: usize,
+) -> Result<Option<Bytes>, Memory> {
+    let mut out = sink(alloc, per_call, &[])?;
+    if export(cosigner, &mut out).is_err() {
+        return Ok(None);
+    }
+    Ok(Some(Bytes::copy_of(alloc, out.taken())?))
+}
+
+// That of the cosigner that has signed twice.
+fn exported(alloc: Global) -> Result<Option<Bytes>, Memory> {
+    match signed(alloc)? {
+        Some(mut cosigner) => text_of(alloc, &mut cosigner, 7),
+        None => Ok(None),
+    }
+}
+
+// The number of the one-time key in the last step, and the entries that it signed.
+fn last_signed(steps: &[Step]) -> (u32, u64, u64) {
+    match steps.last() {
         Some(
             Step::Sign {
                 index,
@@ -64,16 +81,23 @@ fn is_the_cosigner(export: &Export) -> bool {
             },
         ) => (*index, *start, *end),
         _ => (0, 0, 0),
-    };
+    }
+}
+
+fn is_the_cosigner(export: &Export) -> bool {
     export.log.as_bytes() == LOG.as_slice()
         && export.public == PUBLIC
         && export.steps.as_slice().len() == 4
-        && last == (1, 4, 6)
+        && last_signed(export.steps.as_slice()) == (1, 4, 6)
+}
+
+fn read(alloc: Global, text: &[u8]) -> Result<Option<Export>, ReadExportError> {
+    read_export::<Sha>(alloc, text)
 }
 
 // What an export is read as: the number of its steps, none for no export, or why it is refused.
 fn steps_of(alloc: Global, text: &[u8]) -> Result<Option<usize>, ReadExportError> {
-    match read_export::<Sha>(alloc, text) {
+    match read(alloc, text) {
         Ok(Some(export)) => Ok(Some(export.steps.as_slice().len())),
         Ok(None) => Ok(None),
         Err(why) => Err(why),
@@ -81,7 +105,7 @@ fn steps_of(alloc: Global, text: &[u8]) -> Result<Option<usize>, ReadExportError
 }
 
 fn reads_as_the_cosigner(alloc: Global, text: &[u8]) -> bool {
-    match read_export::<Sha>(alloc, text) {
+    match read(alloc, text) {
         Ok(Some(export)) => is_the_cosigner(&export),
         _ => false,
     }
@@ -89,7 +113,7 @@ fn reads_as_the_cosigner(alloc: Global, text: &[u8]) -> bool {
 
 fn is_written_and_read(alloc: Global) -> Result<bool, Memory> {
     match exported(alloc)? {
-        Some((text, _)) => Ok(
+        Some(text) => Ok(
             is_known(text.as_slice(), EXPORT) && reads_as_the_cosigner(alloc, text.as_slice()),
         ),
         None => Ok(false),
@@ -119,7 +143,7 @@ fn an_export_that_is_cut_is_refused_at_its_form(rt: HostRuntime) -> Result<(), F
         (200, Err(ReadExportError::Short(198))),
         (379, Err(ReadExportError::Short(257))),
     ];
-    let (text, _) = exported(rt.alloc())?.ok_or("the export")?;
+    let text = exported(rt.alloc())?.ok_or("the export")?;
     for (count, wanted) in cases {
         let front = text.as_slice().get(..count).ok_or("its front")?;
         assert!(rt; steps_of(rt.alloc(), front) == wanted, "{count} bytes");
@@ -154,7 +178,7 @@ fn each_part_of_an_export_is_tested(rt: HostRuntime) -> Result<(), Fail> {
         (76, 0x13, ReadExportError::BadRecord(1)),
         (84, 5, ReadExportError::BadRecord(2)),
     ];
-    let (text, _) = exported(rt.alloc())?.ok_or("the export")?;
+    let text = exported(rt.alloc())?.ok_or("the export")?;
     for (place, byte, wanted) in cases {
         let read = steps_with(rt.alloc(), text.as_slice(), place, byte)?;
         assert!(rt; read == Err(wanted), "place {place}");
@@ -162,41 +186,55 @@ fn each_part_of_an_export_is_tested(rt: HostRuntime) -> Result<(), Fail> {
     Ok(())
 }
 
-// The answer of an export, over a disk and a sink that fail at these calls, and what was written.
+// The answer of an export, over a disk of which these calls fail.
 fn export_over(
     alloc: Global,
     journal: &[u8],
     reads: &[u64],
-    writes: &[u64],
-) -> Result<Option<(Result<(), ExportError>, Bytes)>, Memory> {
-    let Ok(mut cosigner) = open(alloc, disk(alloc, journal, reads)?) else {
-        return Ok(None);
-    };
-    let mut out = sink(alloc, 1, writes)?;
-    let answer = cosigner.export(&mut out);
-    Ok(Some((answer, Bytes::copy_of(alloc, out.taken())?)))
+    out: &mut MemSink,
+) -> Result<Option<Result<(), ExportError>>, Memory> {
+    match cosigner_in(alloc, journal, reads)? {
+        Some(mut cosigner) => Ok(Some(export(&mut cosigner, out))),
+        None => Ok(None),
+    }
 }
 
-// Whether an export whose read of this number fails, or whose byte of this number, tells so, with
-// the front of the whole.
+// Whether an export whose read of this number fails tells so, with the front of the whole.
+fn tells_no_read(alloc: Global, journal: &[u8], text: &[u8], read: u64) -> Result<bool, Memory> {
+    let mut out = sink(alloc, 1, &[])?;
+    let answer = export_over(alloc, journal, &[read], &mut out)?;
+    Ok(answer == Some(Err(ExportError::Read)) && text.starts_with(out.taken()))
+}
+
+// The same of one whose byte of this number fails.
+fn tells_no_write(alloc: Global, journal: &[u8], text: &[u8], byte: u64) -> Result<bool, Memory> {
+    let mut out = sink(alloc, 1, &[byte])?;
+    let answer = export_over(alloc, journal, &[], &mut out)?;
+    Ok(answer == Some(Err(ExportError::Write)) && text.get(..byte as usize) == Some(out.taken()))
+}
+
+// Whether both tell so.
+fn tells_both(
+    alloc: Global,
+    journal: &[u8],
+    text: &[u8],
+    read: u64,
+    byte: u64,
+) -> Result<bool, Memory> {
+    Ok(tells_no_read(alloc, journal, text, read)? && tells_no_write(alloc, journal, text, byte)?)
+}
+
+// The same of the journal of the cosigner that has signed twice.
 fn fails_soundly(alloc: Global, read: u64, byte: u64) -> Result<bool, Memory> {
-    let Some((text, journal)) = exported(alloc)? else {
+    let Some(mut cosigner) = signed(alloc)? else {
         return Ok(false);
     };
-    let (Some((no_read, some)), Some((no_write, front))) = (
-        export_over(alloc, journal.as_slice(), &[read], &[])?,
-        export_over(alloc, journal.as_slice(), &[], &[byte])?,
-    ) else {
-        return Ok(false);
-    };
-    let count = front.len();
-    Ok(
-        no_read == Err(ExportError::Read)
-            && text.as_slice().starts_with(some.as_slice())
-            && no_write == Err(ExportError::Write)
-            && text.as_slice().get(..count) == Some(front.as_slice())
-            && count as u64 == byte,
-    )
+    let text = text_of(alloc, &mut cosigner, 7);
+    let journal = disk_behind(cosigner);
+    match text? {
+        Some(text) => tells_both(alloc, journal.bytes(), text.as_slice(), read, byte),
+        None => Ok(false),
+    }
 }
 
 // Four calls open the journal. An export then reads two times of each record but the first.
@@ -222,18 +260,16 @@ fn behind_failure(alloc: Global, call: u64) -> Result<Option<Bytes>, Memory> {
     let Some(mut cosigner) = of_eight(alloc, &[call])? else {
         return Ok(None);
     };
-    let mut signature = SigBuf::new();
-    let mut out = sink(alloc, 9, &[])?;
-    if sign_all(&mut cosigner, &mut signature).is_ok() || cosigner.export(&mut out).is_err() {
+    if sign_all(&mut cosigner, &mut SigBuf::new()).is_ok() {
         return Ok(None);
     }
-    Ok(Some(Bytes::copy_of(alloc, out.taken())?))
+    text_of(alloc, &mut cosigner, 9)
 }
 
 // The record and its gate are written and synced, from call 12 on. The Signs begin at 198.
 #[test]
 fn a_failed_append_is_not_exported(rt: HostRuntime) -> Result<(), Fail> {
-    let (text, _) = exported(rt.alloc())?.ok_or("the export")?;
+    let text = exported(rt.alloc())?.ok_or("the export")?;
     let before = text.as_slice().get(..198).ok_or("its front")?;
     for call in 12..16 {
         let found = behind_failure(rt.alloc(), call)?.ok_or("another export")?;
@@ -242,68 +278,90 @@ fn a_failed_append_is_not_exported(rt: HostRuntime) -> Result<(), Fail> {
     Ok(())
 }
 
-// The body of a Sign of the one entry of a log.
-fn sign_body(alloc: Global, index: u32, hash: &[u8; 32]) -> Result<Bytes, Memory> {
-    let mut body = Bytes::new(alloc);
-    body.append(&[0x13])?;
-    body.append(&index.to_be_bytes())?;
-    body.append(&0_u64.to_be_bytes())?;
-    body.append(&1_u64.to_be_bytes())?;
-    body.append(hash)?;
-    body.append(&[0, 0])?;
-    Ok(body)
+// The body of an Advance to the one entry of a log.
+fn advance_body(hash: &[u8; 32]) -> [u8; 43] {
+    let mut body = [0; 43];
+    body[0] = 0x12;
+    body[8] = 1;
+    body[9..41].copy_from_slice(hash);
+    body
+}
+
+// That of a Sign of it.
+fn sign_body(index: u32, hash: &[u8; 32]) -> [u8; 55] {
+    let mut body = [0; 55];
+    body[0] = 0x13;
+    body[1..5].copy_from_slice(&index.to_be_bytes());
+    body[20] = 1;
+    body[21..53].copy_from_slice(hash);
+    body
 }
 
 // Puts an Advance to one entry and so many Signs of it into a journal: whether all are there.
-fn signs_often(alloc: Global, journal: &mut Journal<MemDisk>, count: u32) -> Result<bool, Memory> {
+fn signs_often(journal: &mut Journal<MemDisk>, count: u32) -> bool {
     let hash = leaf::<Sha>(&[]);
-    let mut body = Bytes::new(alloc);
-    body.append(&[0x12])?;
-    body.append(&1_u64.to_be_bytes())?;
-    body.append(&hash)?;
-    body.append(&[0, 0])?;
-    if journal.append(body.as_slice()).is_err() {
-        return Ok(false);
+    if journal.append(&advance_body(&hash)).is_err() {
+        return false;
     }
     for index in 0..count {
-        let body = sign_body(alloc, index, &hash)?;
-        if body.as_slice().len() != 55 || journal.append(body.as_slice()).is_err() {
-            return Ok(false);
+        if journal.append(&sign_body(index, &hash)).is_err() {
+            return false;
         }
     }
-    Ok(true)
+    true
 }
 
-// The steps of the export of a cosigner of height 10 that has signed so often, and its bytes.
-fn exports_often(alloc: Global, count: u32) -> Result<Option<(usize, usize)>, Memory> {
-    let (Ok(id), Ok(log)) = (
-        AnchorId::from_text(alloc, "32473.2"),
-        AnchorId::from_text(alloc, "32473.1"),
-    ) else {
-        return Err(Memory);
-    };
+// The first record of a cosigner of height 10.
+fn packed(alloc: Global) -> Result<FirstRecord, Memory> {
+    let (id, log) = ids(alloc)?;
     let settings = CosignerSettings {
         id,
         log,
         lms: LmsType::H10,
         ots: OtsType::W1,
     };
-    let Ok(mut journal) = pack(alloc, &settings, &[7; 48])?.start(disk(alloc, &[], &[])?) else {
+    pack(alloc, &settings, &[7; 48])
+}
+
+fn begun(alloc: Global) -> Result<Option<Journal<MemDisk>>, Memory> {
+    let disk = disk(alloc, &[], &[])?;
+    Ok(packed(alloc)?.start(disk).ok())
+}
+
+// The disk of that cosigner, which has signed so often.
+fn signed_often(alloc: Global, count: u32) -> Result<Option<MemDisk>, Memory> {
+    let Some(mut journal) = begun(alloc)? else {
         return Ok(None);
     };
-    if !signs_often(alloc, &mut journal, count)? {
-        return Ok(None);
+    let signed = signs_often(&mut journal, count);
+    let disk = journal.into_disk();
+    Ok(if signed { Some(disk) } else { None })
+}
+
+// The export of the cosigner on a disk.
+fn text_on(alloc: Global, disk: MemDisk) -> Result<Option<Bytes>, Memory> {
+    match opened(alloc, disk) {
+        Some(mut cosigner) => text_of(alloc, &mut cosigner, 65_536),
+        None => Ok(None),
     }
-    let Ok(mut cosigner) = open(alloc, journal.into_disk()) else {
+}
+
+// The steps of an export, and its bytes.
+fn measured(alloc: Global, text: &Bytes) -> Option<(usize, usize)> {
+    match steps_of(alloc, text.as_slice()) {
+        Ok(Some(steps)) => Some((steps, text.len())),
+        _ => None,
+    }
+}
+
+// Those of that of a cosigner that has signed so often.
+fn exports_often(alloc: Global, count: u32) -> Result<Option<(usize, usize)>, Memory> {
+    let Some(disk) = signed_often(alloc, count)? else {
         return Ok(None);
     };
-    let mut out = sink(alloc, 65_536, &[])?;
-    if cosigner.export(&mut out).is_err() {
-        return Ok(None);
-    }
-    match steps_of(alloc, out.taken()) {
-        Ok(Some(steps)) => Ok(Some((steps, out.taken().len()))),
-        _ => Ok(None),
+    match text_on(alloc, disk)? {
+        Some(text) => Ok(measured(alloc, &text)),
+        None => Ok(None),
     }
 }
 

@@ -1,7 +1,9 @@
 //! Disks that fail, and machines that stop.
 
-use crate::cosigners::{MemCosigner, disk, index_of, of_eight, open, sign_all};
-use crate::known::{NEW, PUBLIC};
+use crate::cosigners::{
+    MemCosigner, disk, disk_behind, has_the_key, index_of, left, of_eight, open, opened, sign_all,
+};
+use crate::known::NEW;
 use cosigner_core::{CosignError, CosignerOpenError};
 use disk_core::MemDisk;
 use hss_core::SigBuf;
@@ -12,12 +14,8 @@ use std::test::Fail;
 
 // Whether a disk of which this call fails is not opened.
 fn is_not_opened(alloc: Global, call: u64) -> Result<bool, Memory> {
-    let failed = Err(CosignerOpenError::Open(OpenError::Failed));
-    let answer = match open(alloc, disk(alloc, &NEW, &[call])?) {
-        Ok(_) => Ok(()),
-        Err(why) => Err(why),
-    };
-    Ok(answer == failed)
+    let why = open(alloc, disk(alloc, &NEW, &[call])?).err();
+    Ok(why == Some(CosignerOpenError::Open(OpenError::Failed)))
 }
 
 #[test]
@@ -38,16 +36,35 @@ fn sign_seven(cosigner: &mut MemCosigner, out: &mut SigBuf) -> bool {
     true
 }
 
-// The number of the next one-time key of the cosigner in an image, where its key is the same.
-fn next_of(alloc: Global, image: MemDisk) -> Result<Option<u32>, Memory> {
+// The number of the next one-time key of a cosigner, where its key is the known one.
+fn next_key(cosigner: &mut MemCosigner) -> Option<u32> {
     let mut out = SigBuf::new();
-    match open(alloc, image) {
-        Ok(mut cosigner) => {
-            let same = cosigner.public() == PUBLIC && sign_all(&mut cosigner, &mut out).is_ok();
-            Ok(if same { index_of(out.as_slice()) } else { None })
-        }
-        Err(_) => Ok(None),
+    if has_the_key(cosigner) && sign_all(cosigner, &mut out).is_ok() {
+        index_of(out.as_slice())
+    } else {
+        None
     }
+}
+
+fn next_of(alloc: Global, image: MemDisk) -> Option<u32> {
+    next_key(&mut opened(alloc, image)?)
+}
+
+// Whether an eighth signature is none, and no further one is made.
+fn is_broken(cosigner: &mut MemCosigner, out: &mut SigBuf) -> bool {
+    sign_all(cosigner, out) == Err(CosignError::Append(AppendError::Failed))
+        && out.as_slice().is_empty()
+        && sign_all(cosigner, out) == Err(CosignError::Append(AppendError::Broken))
+}
+
+// Whether each of sixteen images that a crash leaves has seven Sign records or eight.
+fn has_seven_or_eight(alloc: Global, journal: &MemDisk) -> Result<bool, Memory> {
+    for pick in 0..16 {
+        if !matches!(next_of(alloc, left(journal, pick)?), Some(7 | 8)) {
+            return Ok(false);
+        }
+    }
+    Ok(true)
 }
 
 // Whether an eighth signature, in which this call of the disk fails, is none, and a crash leaves
@@ -58,19 +75,8 @@ fn stops_soundly(alloc: Global, call: u64) -> Result<bool, Memory> {
         return Ok(false);
     };
     let mut out = SigBuf::new();
-    let failed = Err(CosignError::Append(AppendError::Failed));
-    let broken = Err(CosignError::Append(AppendError::Broken));
-    let told = sign_seven(&mut cosigner, &mut out)
-        && sign_all(&mut cosigner, &mut out) == failed
-        && out.as_slice().is_empty()
-        && sign_all(&mut cosigner, &mut out) == broken;
-    let left = cosigner.into_disk();
-    for pick in 0..16 {
-        if !matches!(next_of(alloc, left.lend()?.crash(pick)?)?, Some(7 | 8)) {
-            return Ok(false);
-        }
-    }
-    Ok(told)
+    let told = sign_seven(&mut cosigner, &mut out) && is_broken(&mut cosigner, &mut out);
+    Ok(has_seven_or_eight(alloc, &disk_behind(cosigner))? && told)
 }
 
 #[test]

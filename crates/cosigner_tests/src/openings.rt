@@ -1,40 +1,50 @@
 //! Files that are opened as cosigners', or refused.
 
-use crate::cosigners::{disk, of_eight, open, sign_all};
+use crate::cosigners::{disk, disk_behind, held, of_eight, open, sign_all};
 use cosigner_core::CosignerOpenError;
+use disk_core::MemDisk;
 use hss_core::SigBuf;
 use journal_core::OpenError;
 use mtc_io::{Bytes, Memory};
 use std::alloc::Global;
 use std::test::Fail;
 
-// The journal with two Advances and a Sign.
-fn signed(alloc: Global) -> Result<Option<Bytes>, Memory> {
+// The disk with two Advances and a Sign.
+fn signed(alloc: Global) -> Result<Option<MemDisk>, Memory> {
     let Some(mut cosigner) = of_eight(alloc, &[])? else {
         return Ok(None);
     };
-    let mut out = SigBuf::new();
-    if sign_all(&mut cosigner, &mut out).is_err() {
-        return Ok(None);
-    }
-    Ok(Some(Bytes::copy_of(alloc, cosigner.into_disk().bytes())?))
+    let signed = sign_all(&mut cosigner, &mut SigBuf::new()).is_ok();
+    let disk = disk_behind(cosigner);
+    Ok(if signed { Some(disk) } else { None })
 }
 
-// What is held in a journal with another byte, or why it is refused.
+// The bytes with another one at a place.
+fn changed(alloc: Global, bytes: &[u8], place: usize, byte: u8) -> Result<Bytes, Memory> {
+    let mut bytes = Vec::from_slice(alloc, bytes)?;
+    if let Some(old) = bytes.get_mut(place) {
+        *old = byte;
+    }
+    Ok(Bytes::from_vec(bytes))
+}
+
+// How many entries are held by the cosigner on a disk, or why it is refused.
+fn held_on(alloc: Global, disk: MemDisk) -> Result<u64, CosignerOpenError> {
+    match open(alloc, disk) {
+        Ok(cosigner) => Ok(held(&cosigner).0),
+        Err(why) => Err(why),
+    }
+}
+
+// The same of a journal with another byte.
 fn held_with(
     alloc: Global,
     journal: &[u8],
     place: usize,
     byte: u8,
 ) -> Result<Result<u64, CosignerOpenError>, Memory> {
-    let mut bytes = Vec::from_slice(alloc, journal)?;
-    if let Some(old) = bytes.get_mut(place) {
-        *old = byte;
-    }
-    match open(alloc, disk(alloc, &bytes, &[])?) {
-        Ok(cosigner) => Ok(Ok(cosigner.held().0)),
-        Err(why) => Ok(Err(why)),
-    }
+    let bytes = changed(alloc, journal, place, byte)?;
+    Ok(held_on(alloc, disk(alloc, bytes.as_slice(), &[])?))
 }
 
 // Record 0 begins at 16, the Advances at 88 and 136, the Sign at 216.
@@ -62,7 +72,7 @@ fn a_changed_byte_is_told(rt: HostRuntime) -> Result<(), Fail> {
     let journal = signed(rt.alloc())?.ok_or("the journal")?;
     for (place, byte, wanted) in changes {
         assert!(rt;
-            held_with(rt.alloc(), journal.as_slice(), place, byte)? == wanted,
+            held_with(rt.alloc(), journal.bytes(), place, byte)? == wanted,
             "byte {place}"
         );
     }

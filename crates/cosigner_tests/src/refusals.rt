@@ -1,7 +1,8 @@
 //! Requests that are refused, each at its place in the order of the tests.
 
 use crate::cosigners::{
-    MemCosigner, advance_to_4, disk, is_known, of_eight, open, sign_all, sign_two,
+    MemCosigner, advance_to_4, cosigner_in, disk_behind, held, is_known, of_eight, sign_32,
+    sign_all, sign_two,
 };
 use crate::known::{
     JOURNALS, LAST_JOURNAL, LOG, NEW, NODE_4_TO_6, NODE_4_TO_8, NODE_6_TO_8, OTHER, ROOT_OF_4,
@@ -14,11 +15,18 @@ use mtc_io::Memory;
 use std::alloc::Global;
 use std::test::Fail;
 
+fn asked_to_advance(
+    cosigner: &mut MemCosigner,
+    request: &AdvanceRequest<'_>,
+) -> Option<CosignError> {
+    cosigner.advance(request).err()
+}
+
 // What a cosigner answers that holds the eight entries, and still does.
 fn advance(cosigner: &mut MemCosigner, request: &AdvanceRequest<'_>) -> Option<CosignError> {
-    let answer = cosigner.advance(request);
-    if cosigner.held() == (8, ROOT_OF_8) {
-        answer.err()
+    let answer = asked_to_advance(cosigner, request);
+    if held(cosigner) == (8, ROOT_OF_8) {
+        answer
     } else {
         None
     }
@@ -36,6 +44,11 @@ fn cosign(cosigner: &mut MemCosigner, request: &SubtreeRequest<'_>) -> Option<Co
     }
 }
 
+fn fails_to_sign(cosigner: &mut MemCosigner) -> bool {
+    let failed = Err(CosignError::Append(AppendError::Failed));
+    sign_all(cosigner, &mut SigBuf::new()) == failed
+}
+
 // The cosigner that holds the eight entries, also with an append that has failed: call 12 of its
 // disk is the next append's first.
 fn ready(alloc: Global, broken: bool) -> Result<Option<MemCosigner>, Memory> {
@@ -45,18 +58,18 @@ fn ready(alloc: Global, broken: bool) -> Result<Option<MemCosigner>, Memory> {
     let Some(mut cosigner) = of_eight(alloc, &[12])? else {
         return Ok(None);
     };
-    let failed = Err(CosignError::Append(AppendError::Failed));
-    let mut out = SigBuf::new();
-    Ok(if sign_all(&mut cosigner, &mut out) == failed {
-        Some(cosigner)
-    } else {
-        None
-    })
+    let failed = fails_to_sign(&mut cosigner);
+    Ok(if failed { Some(cosigner) } else { None })
 }
 
-// Whether the journal of that cosigner is as it was.
+// Whether a journal is that of this cosigner.
 fn is_kept(cosigner: MemCosigner) -> bool {
-    is_known(cosigner.into_disk().bytes(), JOURNALS[1])
+    is_known(disk_behind(cosigner).bytes(), JOURNALS[1])
+}
+
+// Whether it is that of the new one.
+fn is_new(cosigner: MemCosigner) -> bool {
+    disk_behind(cosigner).bytes() == NEW.as_slice()
 }
 
 #[test]
@@ -119,7 +132,7 @@ fn a_subtree_is_refused_by_the_first_test(rt: HostRuntime) -> Result<(), Fail> {
 
 // What a cosigner that holds nothing answers to a first checkpoint with a proof.
 fn first_with_proof(alloc: Global) -> Result<Option<CosignError>, Memory> {
-    let Ok(mut cosigner) = open(alloc, disk(alloc, &NEW, &[])?) else {
+    let Some(mut cosigner) = cosigner_in(alloc, &NEW, &[])? else {
         return Ok(None);
     };
     let request = AdvanceRequest {
@@ -128,9 +141,8 @@ fn first_with_proof(alloc: Global) -> Result<Option<CosignError>, Memory> {
         root: ROOT_OF_4,
         proof: &[NODE_4_TO_8],
     };
-    let answer = cosigner.advance(&request);
-    let kept = cosigner.into_disk().bytes() == NEW.as_slice();
-    Ok(if kept { answer.err() } else { None })
+    let answer = asked_to_advance(&mut cosigner, &request);
+    Ok(if is_new(cosigner) { answer } else { None })
 }
 
 #[test]
@@ -139,55 +151,41 @@ fn a_first_checkpoint_has_no_proof(rt: HostRuntime) -> Result<(), Fail> {
     Ok(())
 }
 
-// What a journal that is broken by the Advance to four entries, or by a first Sign, answers to the
-// next request that passes its tests. It is as it was, so a call that fails first leaves it so.
-fn told_last(alloc: Global, advances: bool) -> Result<Option<CosignError>, Memory> {
-    let mut out = SigBuf::new();
-    if advances {
-        let Ok(mut cosigner) = open(alloc, disk(alloc, &NEW, &[4])?) else {
-            return Ok(None);
-        };
-        let first = advance_to_4(&mut cosigner).err();
-        let again = advance_to_4(&mut cosigner).err();
-        let kept = cosigner.into_disk().bytes() == NEW.as_slice();
-        let failed = first == Some(CosignError::Append(AppendError::Failed));
-        return Ok(if kept && failed { again } else { None });
-    }
+// What a journal that is broken by the Advance to four entries answers to the same one again. It is
+// as it was, so a call that fails first leaves it so.
+fn told_to_advance(alloc: Global) -> Result<Option<CosignError>, Memory> {
+    let Some(mut cosigner) = cosigner_in(alloc, &NEW, &[4])? else {
+        return Ok(None);
+    };
+    let first = advance_to_4(&mut cosigner).err();
+    let again = advance_to_4(&mut cosigner).err();
+    let failed = first == Some(CosignError::Append(AppendError::Failed));
+    Ok(if is_new(cosigner) && failed {
+        again
+    } else {
+        None
+    })
+}
+
+// What one that is broken by a first Sign answers to another request that passes its tests.
+fn told_to_sign(alloc: Global) -> Result<Option<CosignError>, Memory> {
     let Some(mut cosigner) = ready(alloc, true)? else {
         return Ok(None);
     };
-    let again = sign_two(&mut cosigner, &mut out).err();
+    let again = sign_two(&mut cosigner, &mut SigBuf::new()).err();
     Ok(if is_kept(cosigner) { again } else { None })
 }
 
 #[test]
 fn a_failed_append_is_told_last(rt: HostRuntime) -> Result<(), Fail> {
-    for advances in [false, true] {
-        assert!(rt;
-            told_last(rt.alloc(), advances)? == Some(CosignError::Append(AppendError::Broken)),
-            "advances: {advances}"
-        );
-    }
+    let broken = Some(CosignError::Append(AppendError::Broken));
+    assert!(rt; told_to_advance(rt.alloc())? == broken);
+    assert!(rt; told_to_sign(rt.alloc())? == broken);
     Ok(())
 }
 
-// What a cosigner whose one-time keys have all signed answers to a request with a wrong proof, and
-// to a right one. The second Sign is that of two entries.
-fn exhausted(alloc: Global) -> Result<Option<(CosignError, CosignError)>, Memory> {
-    let Some(mut cosigner) = of_eight(alloc, &[])? else {
-        return Ok(None);
-    };
-    let mut out = SigBuf::new();
-    for index in 0..32 {
-        let answer = if index == 1 {
-            sign_two(&mut cosigner, &mut out)
-        } else {
-            sign_all(&mut cosigner, &mut out)
-        };
-        if answer.is_err() {
-            return Ok(None);
-        }
-    }
+// What a cosigner answers to a request with a wrong proof, and to a right one.
+fn told_behind_the_last(cosigner: &mut MemCosigner) -> (Option<CosignError>, Option<CosignError>) {
     let request = SubtreeRequest {
         log: &LOG,
         start: 0,
@@ -195,18 +193,26 @@ fn exhausted(alloc: Global) -> Result<Option<(CosignError, CosignError)>, Memory
         hash: ROOT_OF_4,
         proof: &[],
     };
-    let wrong = cosign(&mut cosigner, &request);
-    let right = sign_all(&mut cosigner, &mut out).err();
-    let kept = is_known(cosigner.into_disk().bytes(), LAST_JOURNAL);
-    match (wrong, right) {
-        (Some(wrong), Some(right)) if kept => Ok(Some((wrong, right))),
-        _ => Ok(None),
+    let wrong = cosign(cosigner, &request);
+    (wrong, sign_all(cosigner, &mut SigBuf::new()).err())
+}
+
+// The same of one whose one-time keys have all signed. The second Sign is that of two entries.
+fn exhausted(alloc: Global) -> Result<Option<(Option<CosignError>, Option<CosignError>)>, Memory> {
+    let Some(mut cosigner) = of_eight(alloc, &[])? else {
+        return Ok(None);
+    };
+    if !sign_32(&mut cosigner, &mut SigBuf::new()) {
+        return Ok(None);
     }
+    let told = told_behind_the_last(&mut cosigner);
+    let kept = is_known(disk_behind(cosigner).bytes(), LAST_JOURNAL);
+    Ok(if kept { Some(told) } else { None })
 }
 
 #[test]
 fn exhaustion_is_told_behind_the_proof(rt: HostRuntime) -> Result<(), Fail> {
-    let wanted = (CosignError::BadProof, CosignError::Exhausted);
+    let wanted = (Some(CosignError::BadProof), Some(CosignError::Exhausted));
     assert!(rt; exhausted(rt.alloc())? == Some(wanted));
     Ok(())
 }

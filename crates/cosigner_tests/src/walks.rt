@@ -1,8 +1,8 @@
 //! A cosigner from its first record to its last one-time key.
 
 use crate::cosigners::{
-    MemCosigner, advance_to_4, advance_to_8, begin, disk, is_known, of_eight, open, sign_all,
-    sign_two,
+    MemCosigner, advance_to_4, advance_to_8, begin, cosigner_in, disk, disk_behind, has_the_key,
+    held, is_known, of_eight, opened, sign_32, sign_all, sign_two,
 };
 use crate::known::{
     JOURNALS, LAST_JOURNAL, LAST_SIGNATURE, LOG, NEW, PUBLIC, ROOT_OF_4, ROOT_OF_8, SIGNATURES,
@@ -28,15 +28,17 @@ fn begun_twice(alloc: Global) -> Result<(Option<StartError>, bool), Memory> {
     Ok((why, left.bytes() == [9].as_slice()))
 }
 
+fn is_the_new_one(cosigner: &MemCosigner) -> bool {
+    cosigner.id().as_bytes() == [0x81, 0xFD, 0x59, 0x02].as_slice()
+        && has_the_key(cosigner)
+        && held(cosigner).0 == 0
+}
+
 // Whether the new cosigner shows what it is.
 fn shows_itself(alloc: Global) -> Result<bool, Memory> {
-    match open(alloc, disk(alloc, &NEW, &[])?) {
-        Ok(cosigner) => Ok(
-            cosigner.id().as_bytes() == [0x81, 0xFD, 0x59, 0x02].as_slice()
-                && cosigner.public() == PUBLIC
-                && cosigner.held().0 == 0,
-        ),
-        Err(_) => Ok(false),
+    match cosigner_in(alloc, &NEW, &[])? {
+        Some(cosigner) => Ok(is_the_new_one(&cosigner)),
+        None => Ok(false),
     }
 }
 
@@ -59,37 +61,45 @@ fn walk_on(cosigner: &mut MemCosigner, call: usize) -> Result<(), CosignError> {
     }
 }
 
+// Whether a call of the walk is done, and this is held then.
+fn holds_behind(cosigner: &mut MemCosigner, call: usize, wanted: (u64, [u8; 32])) -> bool {
+    walk_on(cosigner, call).is_ok() && held(cosigner) == wanted
+}
+
+// Whether the journal is the one that is known behind a call of the walk.
+fn is_left(journal: &MemDisk, call: usize) -> bool {
+    match JOURNALS.get(call) {
+        Some(known) => is_known(journal.bytes(), *known),
+        None => false,
+    }
+}
+
 // The journal that a call of the walk leaves, by the journal before it, where it is the known one
 // and this is held.
 fn walked(
     alloc: Global,
     journal: MemDisk,
     call: usize,
-    held: (u64, [u8; 32]),
-) -> Result<Option<MemDisk>, Memory> {
-    let Ok(mut cosigner) = open(alloc, journal) else {
-        return Ok(None);
-    };
-    let done = walk_on(&mut cosigner, call).is_ok() && cosigner.held() == held;
-    let left = cosigner.into_disk();
-    let known = match JOURNALS.get(call) {
-        Some(known) => is_known(left.bytes(), *known),
-        None => false,
-    };
-    Ok(if done && known { Some(left) } else { None })
+    wanted: (u64, [u8; 32]),
+) -> Option<MemDisk> {
+    let mut cosigner = opened(alloc, journal)?;
+    let done = holds_behind(&mut cosigner, call, wanted);
+    let left = disk_behind(cosigner);
+    let known = is_left(&left, call);
+    if done && known { Some(left) } else { None }
 }
 
 #[test]
 fn each_call_adds_its_record(rt: HostRuntime) -> Result<(), Fail> {
-    let held = [
+    let steps = [
         (4, ROOT_OF_4),
         (8, ROOT_OF_8),
         (8, ROOT_OF_8),
         (8, ROOT_OF_8),
     ];
     let mut journal = disk(rt.alloc(), &NEW, &[])?;
-    for (call, wanted) in held.into_iter().enumerate() {
-        journal = walked(rt.alloc(), journal, call, wanted)?.ok_or("the journal")?;
+    for (call, wanted) in steps.into_iter().enumerate() {
+        journal = walked(rt.alloc(), journal, call, wanted).ok_or("the journal")?;
     }
     Ok(())
 }
@@ -99,20 +109,27 @@ fn input_of_all(out: &mut InputBuf) {
     signature_input(&[0x81, 0xFD, 0x59, 0x02], &LOG, 0, 8, &ROOT_OF_8, out);
 }
 
-// Whether the two signatures of the walk are the known ones, and the first verifies.
-fn signs(alloc: Global) -> Result<bool, Memory> {
-    let Some(mut cosigner) = of_eight(alloc, &[])? else {
-        return Ok(false);
-    };
+// Whether the first signature of the walk verifies.
+fn verifies(signature: &[u8]) -> bool {
     let mut input = InputBuf::new();
     input_of_all(&mut input);
-    let mut out = SigBuf::new();
-    let first = sign_all(&mut cosigner, &mut out).is_ok()
+    verify(&PUBLIC, input.as_slice(), signature).is_ok()
+}
+
+// Whether both signatures of the walk are the known ones.
+fn signs_both(cosigner: &mut MemCosigner, out: &mut SigBuf) -> bool {
+    sign_all(cosigner, out).is_ok()
         && is_known(out.as_slice(), SIGNATURES[0])
-        && verify(&PUBLIC, input.as_slice(), out.as_slice()).is_ok();
-    let second = sign_two(&mut cosigner, &mut out).is_ok()
-        && is_known(out.as_slice(), SIGNATURES[1]);
-    Ok(first && second)
+        && verifies(out.as_slice())
+        && sign_two(cosigner, out).is_ok()
+        && is_known(out.as_slice(), SIGNATURES[1])
+}
+
+fn signs(alloc: Global) -> Result<bool, Memory> {
+    match of_eight(alloc, &[])? {
+        Some(mut cosigner) => Ok(signs_both(&mut cosigner, &mut SigBuf::new())),
+        None => Ok(false),
+    }
 }
 
 #[test]
@@ -122,25 +139,21 @@ fn signatures_are_those_of_the_standard(rt: HostRuntime) -> Result<(), Fail> {
 }
 
 // Whether a cosigner of 32 one-time keys signs 32 times, and no more: the refusal leaves no
-// signature, and the journal as it was.
+// signature.
+fn signs_32_times(cosigner: &mut MemCosigner, out: &mut SigBuf) -> bool {
+    sign_32(cosigner, out)
+        && is_known(out.as_slice(), LAST_SIGNATURE)
+        && sign_all(cosigner, out) == Err(CosignError::Exhausted)
+        && out.as_slice().is_empty()
+}
+
+// Whether the refusal leaves the journal as it was, too.
 fn is_exhausted(alloc: Global) -> Result<bool, Memory> {
     let Some(mut cosigner) = of_eight(alloc, &[])? else {
         return Ok(false);
     };
-    let mut out = SigBuf::new();
-    let mut signed = true;
-    for index in 0..32 {
-        let answer = if index == 1 {
-            sign_two(&mut cosigner, &mut out)
-        } else {
-            sign_all(&mut cosigner, &mut out)
-        };
-        signed = signed && answer.is_ok();
-    }
-    let last = is_known(out.as_slice(), LAST_SIGNATURE);
-    let refused = sign_all(&mut cosigner, &mut out) == Err(CosignError::Exhausted);
-    let kept = out.as_slice().is_empty() && is_known(cosigner.into_disk().bytes(), LAST_JOURNAL);
-    Ok(signed && last && refused && kept)
+    let signed = signs_32_times(&mut cosigner, &mut SigBuf::new());
+    Ok(is_known(disk_behind(cosigner).bytes(), LAST_JOURNAL) && signed)
 }
 
 #[test]

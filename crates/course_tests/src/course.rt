@@ -1,7 +1,7 @@
 //! A course: runs of the program over a room, and beside them the steps of the nodes that they
 //! were. Behind each run the room is compared with the states of the history of these steps.
 
-use crate::desk::{Desk, Outlet, Ran};
+use crate::desk::{Desk, Outlet, Ran, WHOLE};
 use crate::difference::Difference;
 use crate::draws::Draws;
 use crate::node::{NODES, Node, secret, starts};
@@ -35,7 +35,7 @@ struct Printed {
     is_whole: bool,
 }
 
-#[derive(Drop)]
+/// The room, and the steps and states of the nodes.
 pub struct Course {
     pub alloc: Global,
     pub draws: Draws,
@@ -53,19 +53,48 @@ impl Printed {
     }
 }
 
-// The room with two requests and the secret of the cosigner.
-fn desk(alloc: Global) -> Result<Desk, Difference> {
-    let mut desk = Desk::new(alloc);
-    for name in ["a", "b"] {
-        let request = format!(in alloc;
-            "not_before = \"2026-01-01T00:00:00Z\"\nnot_after = \"2026-01-08T00:00:00Z\"\n\
-             dns = [\"{name}.example\"]\n\
-             key = \"MCowBQYDK2VwAyEAAAAAAAAAAAAAAAAAAAAAAAAAAAAAAAAAAAAAAAAAAAA=\"\n"
-        )?;
-        desk.place(name, Bytes::copy_of(alloc, request.as_bytes())?)?;
+// A drop in one step: a derived one is proved field by field wherever a value is let go.
+impl Drop for Course {
+    fn drop(self) {
+        let Course {
+            alloc: _,
+            draws: _,
+            desk: _,
+            tally: _,
+            starts: _,
+            steps: _,
+            states: _,
+            printed: _,
+        } = self;
     }
-    desk.place("f", Bytes::copy_of(alloc, secret())?)?;
-    Ok(desk)
+}
+
+// Places the request of that name.
+fn place_request(desk: &mut Desk, alloc: Global, name: &str) -> Result<(), Difference> {
+    let request = format!(in alloc;
+        "not_before = \"2026-01-01T00:00:00Z\"\nnot_after = \"2026-01-08T00:00:00Z\"\n\
+         dns = [\"{name}.example\"]\n\
+         key = \"MCowBQYDK2VwAyEAAAAAAAAAAAAAAAAAAAAAAAAAAAAAAAAAAAAAAAAAAAA=\"\n"
+    )?;
+    desk.place(name, request.as_bytes())
+}
+
+// Makes both nodes, by two requests and the secret of the cosigner.
+fn make_nodes(desk: &mut Desk, alloc: Global) -> Result<(), Difference> {
+    for name in ["a", "b"] {
+        place_request(desk, alloc, name)?;
+    }
+    desk.place("f", secret())?;
+    for words in [
+        "init-log j 32473.1 2 16",
+        "init-cosigner s 32473.2 32473.1 5 1 f",
+    ] {
+        let status = desk.run(words, WHOLE)?.status;
+        if status != 0 {
+            return Err(Difference::Status(status));
+        }
+    }
+    Ok(())
 }
 
 // Whether the text begins with what is printed, and is all of it where it is whole.
@@ -101,30 +130,32 @@ fn is_handed(
 }
 
 impl Course {
-    /// A room in which both nodes were made.
-    pub fn begin(alloc: Global, seed: u64, tally: Tally) -> Result<Course, Difference> {
-        let mut desk = desk(alloc)?;
-        for words in [
-            "init-log j 32473.1 2 16",
-            "init-cosigner s 32473.2 32473.1 5 1 f",
-        ] {
-            let status = desk.run(words, Outlet::whole(alloc))?.status;
-            if status != 0 {
-                return Err(Difference::Status(status));
-            }
-        }
-        let mut course = Course {
+    // A room without a file.
+    fn new(alloc: Global, seed: u64, tally: Tally) -> Result<Course, Difference> {
+        let starts = starts(alloc)?;
+        Ok(Course {
             alloc,
             draws: Draws::new(seed),
-            desk,
+            desk: Desk::new(alloc),
             tally,
-            starts: starts(alloc)?,
+            starts,
             steps: Vec::new(alloc),
             states: Vec::new(alloc),
             printed: Vec::new(alloc),
-        };
-        course.replay()?;
-        course.compare()?;
+        })
+    }
+
+    // Both nodes are made.
+    fn start(&mut self) -> Result<(), Difference> {
+        make_nodes(&mut self.desk, self.alloc)?;
+        self.replay()?;
+        self.compare()
+    }
+
+    /// A room in which both nodes were made.
+    pub fn begin(alloc: Global, seed: u64, tally: Tally) -> Result<Course, Difference> {
+        let mut course = Course::new(alloc, seed, tally)?;
+        course.start()?;
         Ok(course)
     }
 
@@ -155,12 +186,18 @@ impl Course {
         self.replay()
     }
 
-    /// Begins a record behind a stop, if the rules allow it.
-    pub fn begin_record(&mut self, node: Node, body: Bytes) -> Result<bool, Difference> {
-        self.restart(node, false)?;
-        let number = self.steps.len() as u64;
+    fn push_begin(&mut self, node: Node, body: &[u8]) -> Result<(), Difference> {
+        let body = Bytes::copy_of(self.alloc, body)?;
         let node = node.number();
         self.steps.push(NodeStep::Begin { node, body })?;
+        Ok(())
+    }
+
+    /// Begins a record behind a stop, if the rules allow it.
+    pub fn begin_record(&mut self, node: Node, body: &[u8]) -> Result<bool, Difference> {
+        self.restart(node, false)?;
+        let number = self.steps.len() as u64;
+        self.push_begin(node, body)?;
         match self.replay() {
             Ok(()) => Ok(true),
             Err(why) if why == Difference::Step(number) => {
@@ -171,28 +208,40 @@ impl Course {
         }
     }
 
-    // The record is settled, and handed out if a byte of it was printed.
-    fn settle(&mut self, node: Node, text: Vec<u8>, is_whole: bool) -> Result<(), Difference> {
-        let number = node.number();
-        self.steps.push(NodeStep::Settle { node: number })?;
-        if text.is_empty() {
-            self.tally.silent = self.tally.silent.saturating_add(1);
-            return if is_whole {
-                Err(Difference::Printed)
-            } else {
-                Ok(())
-            };
+    // The record is settled, and nothing of it was printed.
+    fn settle_silently(&mut self, node: Node, is_whole: bool) -> Result<(), Difference> {
+        let node = node.number();
+        self.steps.push(NodeStep::Settle { node })?;
+        self.tally.silent = self.tally.silent.saturating_add(1);
+        if is_whole {
+            Err(Difference::Printed)
+        } else {
+            Ok(())
         }
+    }
+
+    // The record is settled and handed out.
+    fn hand(&mut self, node: Node, is_whole: bool) -> Result<(), Difference> {
         if !is_whole {
             self.tally.cut = self.tally.cut.saturating_add(1);
         }
-        self.steps.push(NodeStep::Hand { node: number })?;
+        let node = node.number();
+        self.steps.push(NodeStep::Settle { node })?;
+        self.steps.push(NodeStep::Hand { node })?;
+        Ok(())
+    }
+
+    // The record is settled, and handed out if a byte of it was printed.
+    fn settle(&mut self, node: Node, text: Vec<u8>, is_whole: bool) -> Result<(), Difference> {
+        if text.is_empty() {
+            return self.settle_silently(node, is_whole);
+        }
         self.printed.push(Printed {
             node,
             text,
             is_whole,
         })?;
-        Ok(())
+        self.hand(node, is_whole)
     }
 
     // How a run ended. Where its device failed, the record stays pending.
@@ -212,19 +261,29 @@ impl Course {
         }
     }
 
+    // Whether a file has the records of a node's state, with the pending one or without it.
+    fn is_of(&self, node: Node, bytes: &[u8]) -> Result<bool, Difference> {
+        Ok(kept_in(self.alloc, bytes, node, self.state(node)?)?.is_some())
+    }
+
+    fn compare_image(&mut self, node: Node) -> Result<(), Difference> {
+        let pick = self.draws.below(65_536);
+        let image = self.desk.image(node.file(), pick)?;
+        if self.is_of(node, image.as_slice())? {
+            Ok(())
+        } else {
+            Err(Difference::Image)
+        }
+    }
+
     // The records of a node's journal are those of its state, with the pending one or without it;
     // and so are those of some images that a crash may leave.
     fn compare_records(&mut self, node: Node) -> Result<(), Difference> {
-        let bytes = self.desk.bytes(node.file())?;
-        if kept_in(self.alloc, bytes, node, self.state(node)?)?.is_none() {
+        if !self.is_of(node, self.desk.bytes(node.file())?)? {
             return Err(Difference::Records);
         }
         for _ in 0..4 {
-            let pick = self.draws.below(65_536);
-            let image = self.desk.image(node.file(), pick)?;
-            if kept_in(self.alloc, image.as_slice(), node, self.state(node)?)?.is_none() {
-                return Err(Difference::Image);
-            }
+            self.compare_image(node)?;
         }
         Ok(())
     }
@@ -256,51 +315,69 @@ impl Course {
         Ok(())
     }
 
-    // Numbers of calls that fail: one below the limit, or none.
-    fn failing(&mut self, limit: u64, chance: u64) -> Result<Vec<u64>, Difference> {
-        let mut failing = Vec::new(self.alloc);
+    // The number of the call that fails, below the limit; or none.
+    fn failing(&mut self, limit: u64, chance: u64) -> Option<u64> {
         if self.draws.below(chance) == 0 {
-            failing.push(self.draws.below(limit))?;
+            Some(self.draws.below(limit))
+        } else {
+            None
         }
-        Ok(failing)
+    }
+
+    fn outlet(&mut self) -> Outlet {
+        Outlet {
+            per_call: (self.draws.below(8) as usize).saturating_add(1),
+            failing: self.failing(2, 4),
+        }
+    }
+
+    // Runs a command that adds a record, if the rules allow it: the status.
+    fn run_and_end(
+        &mut self,
+        plan: &Plan,
+        outlet: Outlet,
+        allowed: bool,
+    ) -> Result<u8, Difference> {
+        let ran = self.desk.run(plan.words, outlet)?;
+        let status = ran.status;
+        self.end(plan.node, allowed, ran)?;
+        Ok(status)
     }
 
     // Runs a command that adds a record, and compares what it leaves: whether its device failed.
-    fn perform(&mut self, plan: Plan) -> Result<bool, Difference> {
+    fn perform(&mut self, plan: &Plan) -> Result<bool, Difference> {
         let node = plan.node;
-        let failing = self.failing(10, 3)?;
-        let outlet = Outlet {
-            per_call: (self.draws.below(8) as usize).saturating_add(1),
-            failing: self.failing(2, 4)?,
-        };
-        let (may_fail, may_break) = (!failing.is_empty(), !outlet.failing.is_empty());
+        let failing = self.failing(10, 3);
+        let outlet = self.outlet();
         self.desk.renew(node.file(), failing)?;
-        let allowed = self.begin_record(node, plan.body)?;
-        let ran = self.desk.run(plan.words.as_str(), outlet)?;
-        let status = ran.status;
-        if status == 5 && !may_fail || status == 6 && !may_break {
+        let allowed = self.begin_record(node, plan.body.as_slice())?;
+        let status = self.run_and_end(plan, outlet, allowed)?;
+        if status == 5 && failing.is_none() || status == 6 && outlet.failing.is_none() {
             return Err(Difference::Status(status));
         }
-        self.end(node, allowed, ran)?;
         self.replay()?;
         self.compare()?;
         Ok(status == 5)
     }
 
-    /// One run of a drawn command, and a stop behind it where it failed, or by chance; or one in
-    /// which the machine stops.
-    pub fn turn(&mut self) -> Result<(), Difference> {
-        let plan = self.plan()?;
+    // One run of a command, and a stop behind it where it failed, or by chance; or one in which the
+    // machine stops.
+    fn follow(&mut self, plan: &Plan) -> Result<(), Difference> {
         if self.draws.below(10) == 0 {
             return self.stop_within(plan);
         }
-        let node = plan.node;
         if self.perform(plan)? {
-            self.stop_behind(node)
+            self.stop_behind(plan.node)
         } else if self.draws.below(6) == 0 {
             self.stop_machine()
         } else {
             Ok(())
         }
+    }
+
+    /// The same of a drawn command.
+    pub fn turn(&mut self) -> Result<(), Difference> {
+        let plan = self.plan()?;
+        self.follow(&plan)
     }
 }

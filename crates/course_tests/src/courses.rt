@@ -5,18 +5,23 @@ use crate::difference::Difference;
 use std::alloc::Global;
 use std::test::Fail;
 
-// What came about in a course and before it; or the number of the turn in which the course and its
-// history differ, and in what.
-fn played(alloc: Global, seed: u64, tally: Tally) -> Result<Tally, (u64, Difference)> {
-    let mut course = match Course::begin(alloc, seed, tally) {
-        Ok(course) => course,
-        Err(why) => return Err((0, why)),
-    };
+// Eighty turns; or the number of the turn in which the course and its history differ, and in what.
+fn play(course: &mut Course) -> Result<(), (u64, Difference)> {
     for turn in 1..81 {
         if let Err(why) = course.turn() {
             return Err((turn, why));
         }
     }
+    Ok(())
+}
+
+// What came about in a course and before it, or where it differs.
+fn played(alloc: Global, seed: u64, tally: Tally) -> Result<Tally, (u64, Difference)> {
+    let mut course = match Course::begin(alloc, seed, tally) {
+        Ok(course) => course,
+        Err(why) => return Err((0, why)),
+    };
+    play(&mut course)?;
     Ok(course.tally)
 }
 

@@ -9,21 +9,26 @@ use mtc_top::{MemRoom, Room, run, stop_leaving};
 use std::alloc::Global;
 use tree_core::Sha;
 
-/// How standard output behaves in a run: so many bytes a call, and the calls that fail.
-#[derive(Drop)]
+/// How standard output behaves in a run: so many bytes a call, and the call that fails.
+#[derive(Clone, Copy)]
 pub struct Outlet {
     pub per_call: usize,
-    pub failing: Vec<u64>,
+    pub failing: Option<u64>,
 }
 
-impl Outlet {
-    /// One that doesn't fail.
-    pub fn whole(alloc: Global) -> Outlet {
-        Outlet {
-            per_call: 100,
-            failing: Vec::new(alloc),
-        }
+/// One that doesn't fail.
+pub const WHOLE: Outlet = Outlet {
+    per_call: 100,
+    failing: None,
+};
+
+// The list of the call that fails.
+fn listed(alloc: Global, failing: Option<u64>) -> Result<Vec<u64>, Difference> {
+    let mut list = Vec::new(alloc);
+    if let Some(call) = failing {
+        list.push(call)?;
     }
+    Ok(list)
 }
 
 /// How a run ended.
@@ -50,10 +55,17 @@ impl Desk {
         }
     }
 
-    /// Puts a file with these bytes in its place.
-    pub fn place(&mut self, name: &str, bytes: Bytes) -> Result<(), Difference> {
-        self.room.place(name, bytes, Vec::new(self.alloc))?;
+    // Puts a file with these bytes in its place, on a device that fails these calls.
+    fn put(&mut self, name: &str, bytes: Bytes, failing: Option<u64>) -> Result<(), Difference> {
+        let failing = listed(self.alloc, failing)?;
+        self.room.place(name, bytes, failing)?;
         Ok(())
+    }
+
+    /// The same of a copy, on a device that doesn't fail.
+    pub fn place(&mut self, name: &str, bytes: &[u8]) -> Result<(), Difference> {
+        let bytes = Bytes::copy_of(self.alloc, bytes)?;
+        self.put(name, bytes, None)
     }
 
     /// What a read of a file gives.
@@ -64,11 +76,10 @@ impl Desk {
         }
     }
 
-    /// The same file on a new device, which fails these calls.
-    pub fn renew(&mut self, name: &str, failing: Vec<u64>) -> Result<(), Difference> {
+    /// The same file on a new device, which fails this call.
+    pub fn renew(&mut self, name: &str, failing: Option<u64>) -> Result<(), Difference> {
         let bytes = Bytes::copy_of(self.alloc, self.bytes(name)?)?;
-        self.room.place(name, bytes, failing)?;
-        Ok(())
+        self.put(name, bytes, failing)
     }
 
     // A copy of a file's device.
@@ -102,18 +113,22 @@ impl Desk {
         Ok(words)
     }
 
+    // Runs the program with these words.
+    fn run_words(&mut self, words: &[String], out: &mut MemSink) -> u8 {
+        let mut err = MemSink::new(self.alloc, 100, Vec::new(self.alloc));
+        run::<Sha, _, _, _>(self.alloc, words, &mut self.room, out, &mut err)
+    }
+
+    fn run_to(&mut self, text: &str, out: &mut MemSink) -> Result<u8, Difference> {
+        let words = self.words(text)?;
+        Ok(self.run_words(words.as_slice(), out))
+    }
+
     /// Runs the program.
     pub fn run(&mut self, text: &str, outlet: Outlet) -> Result<Ran, Difference> {
-        let words = self.words(text)?;
-        let mut out = MemSink::new(self.alloc, outlet.per_call.max(1), outlet.failing);
-        let mut err = MemSink::new(self.alloc, 100, Vec::new(self.alloc));
-        let status = run::<Sha, _, _, _>(
-            self.alloc,
-            words.as_slice(),
-            &mut self.room,
-            &mut out,
-            &mut err,
-        );
+        let failing = listed(self.alloc, outlet.failing)?;
+        let mut out = MemSink::new(self.alloc, outlet.per_call.max(1), failing);
+        let status = self.run_to(text, &mut out)?;
         Ok(Ran {
             status,
             out: Vec::from_slice(self.alloc, out.taken())?,

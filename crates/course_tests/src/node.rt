@@ -77,21 +77,29 @@ fn id(alloc: Global, text: &str) -> Result<AnchorId, Difference> {
     }
 }
 
-/// How both begin.
-pub fn starts(alloc: Global) -> Result<[NodeStart; 2], Difference> {
-    let log = NodeStart::Log(LogSettings {
+fn start_of_log(alloc: Global) -> Result<NodeStart, Difference> {
+    Ok(NodeStart::Log(LogSettings {
         id: id(alloc, "32473.1")?,
         max_active: 2,
         limit: 16,
-    });
-    let cosigner = NodeStart::Cosigner {
+    }))
+}
+
+fn start_of_cosigner(alloc: Global) -> Result<NodeStart, Difference> {
+    let log = id(alloc, "32473.1")?;
+    Ok(NodeStart::Cosigner {
         settings: CosignerSettings {
             id: id(alloc, "32473.2")?,
-            log: id(alloc, "32473.1")?,
+            log,
             lms: LmsType::H5,
             ots: OtsType::W1,
         },
         public: PUBLIC,
-    };
-    Ok([log, cosigner])
+    })
+}
+
+/// How both begin.
+pub fn starts(alloc: Global) -> Result<[NodeStart; 2], Difference> {
+    let log = start_of_log(alloc)?;
+    Ok([log, start_of_cosigner(alloc)?])
 }

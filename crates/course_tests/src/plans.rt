@@ -1,17 +1,18 @@
 //! Which command comes next, and the record that it asks for.
 
 use crate::course::Course;
-use crate::desk::Outlet;
+use crate::desk::WHOLE;
 use crate::difference::Difference;
 use crate::node::Node;
 use crate::records::{ADVANCE, ENTRY, LANDMARK, SIGN, TILES, count, last_size};
 use mtc_io::Bytes;
+use std::alloc::Global;
 
 /// A command on a node's journal, and the body of its record.
 #[derive(Drop)]
 pub struct Plan {
     pub node: Node,
-    pub words: String,
+    pub words: &'static str,
     pub body: Bytes,
 }
 
@@ -40,6 +41,37 @@ const ROOT: usize = 13;
 
 const HASH: usize = 21;
 
+// Two pieces, one behind the other.
+fn joined(alloc: Global, front: &[u8], behind: &[u8]) -> Result<Bytes, Difference> {
+    let mut bytes = Bytes::copy_of(alloc, front)?;
+    bytes.append(behind)?;
+    Ok(bytes)
+}
+
+// The body of the record of an entry for a name of one byte.
+fn body_of_entry(alloc: Global, name: u8) -> Result<Bytes, Difference> {
+    let mut body = joined(alloc, &BEFORE_NAME, &[name])?;
+    body.append(&BEHIND_NAME)?;
+    Ok(body)
+}
+
+// That of a record of which a request says all behind the log's id, behind this head.
+fn body_behind(alloc: Global, head: &[u8], request: &[u8]) -> Result<Bytes, Difference> {
+    match request.split_at_checked(5) {
+        Some((_, rest)) => joined(alloc, head, rest),
+        None => Err(Difference::Printed),
+    }
+}
+
+// Changes one byte, where one is named.
+fn spoil(bytes: &mut Vec<u8>, spoilt: Option<usize>) {
+    if let Some(place) = spoilt {
+        if let Some(byte) = bytes.get_mut(place) {
+            *byte ^= 1;
+        }
+    }
+}
+
 impl Course {
     // The number of the log's entries, with the null entry.
     fn size(&self) -> Result<u64, Difference> {
@@ -55,42 +87,42 @@ impl Course {
     /// Runs a command that only reads a node's journal, and has to answer.
     pub fn ask(&mut self, node: Node, words: &str) -> Result<Vec<u8>, Difference> {
         self.restart(node, false)?;
-        let ran = self.desk.run(words, Outlet::whole(self.alloc))?;
-        if ran.status != 0 {
-            return Err(Difference::Status(ran.status));
+        let ran = self.desk.run(words, WHOLE)?;
+        if ran.status == 0 {
+            Ok(ran.out)
+        } else {
+            Err(Difference::Status(ran.status))
         }
-        Ok(ran.out)
     }
 
     fn issue(&mut self) -> Result<Plan, Difference> {
-        let name = if self.draws.below(2) == 0 { "a" } else { "b" };
-        let mut body = Bytes::copy_of(self.alloc, &BEFORE_NAME)?;
-        body.append_both(name.as_bytes(), &BEHIND_NAME)?;
+        let (name, words) = if self.draws.below(2) == 0 {
+            (b'a', "issue j a")
+        } else {
+            (b'b', "issue j b")
+        };
         Ok(Plan {
             node: Node::Log,
-            words: format!(in self.alloc; "issue j {name}")?,
-            body,
+            words,
+            body: body_of_entry(self.alloc, name)?,
         })
     }
 
     fn landmark(&self) -> Result<Plan, Difference> {
-        let mut body = Bytes::copy_of(self.alloc, &[LANDMARK])?;
-        body.append(&self.size()?.to_be_bytes())?;
+        let size = self.size()?;
         Ok(Plan {
             node: Node::Log,
-            words: String::from_str(self.alloc, "landmark j")?,
-            body,
+            words: "landmark j",
+            body: joined(self.alloc, &[LANDMARK], &size.to_be_bytes())?,
         })
     }
 
     // No course has a full tile: there is nothing to store.
     fn tile(&self) -> Result<Plan, Difference> {
-        let mut body = Bytes::copy_of(self.alloc, &[TILES])?;
-        body.append(&0u64.to_be_bytes())?;
         Ok(Plan {
             node: Node::Log,
-            words: String::from_str(self.alloc, "tile j")?,
-            body,
+            words: "tile j",
+            body: joined(self.alloc, &[TILES], &0u64.to_be_bytes())?,
         })
     }
 
@@ -98,28 +130,18 @@ impl Course {
     fn request(
         &mut self,
         asked: &str,
-        words: &str,
+        words: &'static str,
         head: &[u8],
         spoilt: Option<usize>,
     ) -> Result<Plan, Difference> {
-        self.desk.renew("j", Vec::new(self.alloc))?;
+        self.desk.renew("j", None)?;
         let mut request = self.ask(Node::Log, asked)?;
-        if let Some(place) = spoilt {
-            if let Some(byte) = request.get_mut(place) {
-                *byte ^= 1;
-            }
-        }
-        // What stands behind the log's id is what the record has behind its head.
-        let Some((_, rest)) = request.as_slice().split_at_checked(5) else {
-            return Err(Difference::Printed);
-        };
-        let mut body = Bytes::copy_of(self.alloc, head)?;
-        body.append(rest)?;
-        self.desk.place("q", Bytes::from_vec(request))?;
+        spoil(&mut request, spoilt);
+        self.desk.place("q", &request)?;
         Ok(Plan {
             node: Node::Cosigner,
-            words: String::from_str(self.alloc, words)?,
-            body,
+            words,
+            body: body_behind(self.alloc, head, &request)?,
         })
     }
 
@@ -144,12 +166,11 @@ impl Course {
             return self.advance(is_spoilt);
         }
         let end = self.draws.below(held).saturating_add(1);
-        let asked = format!(in self.alloc; "subtree j 0 {end} {held}")?;
         let index = count(self.state(Node::Cosigner)?.settled.as_slice(), SIGN);
-        let mut head = Bytes::copy_of(self.alloc, &[SIGN])?;
-        head.append(&((index & 0xFFFF_FFFF) as u32).to_be_bytes())?;
+        let [a, b, c, d] = ((index & 0xFFFF_FFFF) as u32).to_be_bytes();
+        let asked = format!(in self.alloc; "subtree j 0 {end} {held}")?;
         let spoilt = if is_spoilt { Some(HASH) } else { None };
-        self.request(asked.as_str(), "cosign s q", head.as_slice(), spoilt)
+        self.request(asked.as_str(), "cosign s q", &[SIGN, a, b, c, d], spoilt)
     }
 
     /// The next command.

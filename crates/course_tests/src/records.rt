@@ -21,21 +21,49 @@ pub const SIGN: u8 = 0x13;
 // What a signature of the cosigner begins with, up to the number of the one-time key.
 const SIGNATURE: [u8; 11] = [4, 0x81, 0xFD, 0x59, 2, 0x21, 0xF0, 0, 0, 0, 0];
 
-// The bodies of the records that a file is read as.
-fn bodies_in(alloc: Global, bytes: &[u8]) -> Result<Vec<Bytes>, Difference> {
+fn opened(alloc: Global, bytes: &[u8]) -> Result<Opening<MemDisk>, Difference> {
     let bytes = Bytes::copy_of(alloc, bytes)?;
-    let Ok(mut opening) = Opening::begin(alloc, MemDisk::over(alloc, bytes, Vec::new(alloc))) else {
-        return Err(Difference::Journal);
-    };
-    let mut bodies = Vec::new(alloc);
+    match Opening::begin(alloc, MemDisk::over(alloc, bytes, Vec::new(alloc))) {
+        Ok(opening) => Ok(opening),
+        Err(_) => Err(Difference::Journal),
+    }
+}
+
+// Puts the body of the next record behind the others: whether there is one.
+fn read_next(
+    alloc: Global,
+    opening: &mut Opening<MemDisk>,
+    bodies: &mut Vec<Bytes>,
+) -> Result<bool, Difference> {
+    match opening.next() {
+        Ok(Some(body)) => {
+            bodies.push(Bytes::copy_of(alloc, body)?)?;
+            Ok(true)
+        }
+        Ok(None) => Ok(false),
+        Err(_) => Err(Difference::Journal),
+    }
+}
+
+fn read_on(
+    alloc: Global,
+    opening: &mut Opening<MemDisk>,
+    bodies: &mut Vec<Bytes>,
+) -> Result<(), Difference> {
     for _ in 0..1000 {
-        match opening.next() {
-            Ok(Some(body)) => bodies.push(Bytes::copy_of(alloc, body)?)?,
-            Ok(None) => return Ok(bodies),
-            Err(_) => return Err(Difference::Journal),
+        if !read_next(alloc, opening, bodies)? {
+            return Ok(());
         }
     }
     Err(Difference::Journal)
+}
+
+// The bodies of the records that a file is read as.
+fn bodies_in(alloc: Global, bytes: &[u8]) -> Result<Vec<Bytes>, Difference> {
+    let mut opening = opened(alloc, bytes)?;
+    let mut bodies = Vec::new(alloc);
+    read_on(alloc, &mut opening, &mut bodies)?;
+    Ok(bodies)
 }
 
 // Whether these bodies are the settled ones with the pending one, or without it. None where they
@@ -122,6 +150,14 @@ fn signature(alloc: Global, number: u64) -> Result<Text, Difference> {
     })
 }
 
+// A text of one line.
+fn line(alloc: Global, line: &str) -> Result<Text, Difference> {
+    Ok(Text {
+        front: Vec::from_slice(alloc, line.as_bytes())?,
+        length: line.len(),
+    })
+}
+
 /// What is printed of the last of these records. The number of an entry, of a landmark and of a
 /// one-time key says how many records of its kind there are.
 pub fn text_of(alloc: Global, bodies: &[Bytes]) -> Result<Text, Difference> {
@@ -130,13 +166,13 @@ pub fn text_of(alloc: Global, bodies: &[Bytes]) -> Result<Text, Difference> {
     };
     let tag = body.as_slice().first().copied().unwrap_or(0);
     let (number, size) = (count(bodies, tag), size_in(body));
-    let line = match tag {
-        ENTRY => format!(in alloc; "issued {number}\n")?,
-        LANDMARK => format!(in alloc; "landmark {number} {size}\n")?,
-        ADVANCE => format!(in alloc; "advanced {size}\n")?,
-        _ => return signature(alloc, number.saturating_sub(1)),
-    };
-    let front = Vec::from_slice(alloc, line.as_bytes())?;
-    let length = front.len();
-    Ok(Text { front, length })
+    match tag {
+        ENTRY => line(alloc, format!(in alloc; "issued {number}\n")?.as_str()),
+        LANDMARK => line(
+            alloc,
+            format!(in alloc; "landmark {number} {size}\n")?.as_str(),
+        ),
+        ADVANCE => line(alloc, format!(in alloc; "advanced {size}\n")?.as_str()),
+        _ => signature(alloc, number.saturating_sub(1)),
+    }
 }

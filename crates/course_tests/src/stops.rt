@@ -1,12 +1,11 @@
 //! Stops: what the journals hold behind one says which step it was, and the next run opens them.
 
 use crate::course::Course;
-use crate::desk::Outlet;
+use crate::desk::WHOLE;
 use crate::difference::Difference;
 use crate::node::{NODES, Node};
 use crate::plans::Plan;
 use crate::records::{ENTRY, count, kept_in};
-use mtc_io::Bytes;
 
 impl Course {
     // Whether the journal holds the pending record of its state.
@@ -52,22 +51,23 @@ impl Course {
         self.open(node)
     }
 
-    // The machine stops, and leaves one of the images of each file that it may leave; of the node's
-    // journal this one, where there is one.
-    fn leave_images(&mut self, given: Option<(Node, Bytes)>) -> Result<(), Difference> {
-        let mut names = Vec::from_slice(self.alloc, &["j", "s"])?;
-        if self.desk.bytes("j.tiles").is_ok() {
-            names.push("j.tiles")?;
+    // Leaves one of the images of a file that a stop may leave.
+    fn leave_image(&mut self, name: &str) -> Result<(), Difference> {
+        let pick = self.draws.below(65_536);
+        let image = self.desk.image(name, pick)?;
+        self.desk.leave(name, image)
+    }
+
+    // The machine stops, and leaves an image of each file.
+    fn leave_images(&mut self) -> Result<(), Difference> {
+        let is_tiled = self.desk.bytes("j.tiles").is_ok();
+        for name in ["j", "s"] {
+            self.leave_image(name)?;
         }
-        for name in names {
-            let pick = self.draws.below(65_536);
-            let image = self.desk.image(name, pick)?;
-            self.desk.leave(name, image)?;
+        if is_tiled {
+            self.leave_image("j.tiles")?;
         }
-        match given {
-            Some((node, image)) => self.desk.leave(node.file(), image),
-            None => Ok(()),
-        }
+        Ok(())
     }
 
     fn stop_all(&mut self) -> Result<(), Difference> {
@@ -80,27 +80,30 @@ impl Course {
     /// The machine stops. Of each file it leaves a drawn image.
     pub fn stop_machine(&mut self) -> Result<(), Difference> {
         self.tally.stops = self.tally.stops.saturating_add(1);
-        self.leave_images(None)?;
+        self.leave_images()?;
         self.stop_all()
+    }
+
+    // A run, and images behind it: whether one of before it is left of the node's journal.
+    fn run_and_leave(&mut self, plan: &Plan) -> Result<bool, Difference> {
+        self.begin_record(plan.node, plan.body.as_slice())?;
+        self.desk.run(plan.words, WHOLE)?;
+        let is_before = self.draws.below(2) == 0;
+        self.leave_images()?;
+        Ok(is_before)
     }
 
     /// The machine stops in the middle of a run, before a byte of it goes out: of the node's
     /// journal it leaves an image of before the run, or of behind it.
-    pub fn stop_within(&mut self, plan: Plan) -> Result<(), Difference> {
+    pub fn stop_within(&mut self, plan: &Plan) -> Result<(), Difference> {
         self.tally.within = self.tally.within.saturating_add(1);
-        let node = plan.node;
-        self.desk.renew(node.file(), Vec::new(self.alloc))?;
+        let name = plan.node.file();
+        self.desk.renew(name, None)?;
         let pick = self.draws.below(65_536);
-        let before = self.desk.image(node.file(), pick)?;
-        self.begin_record(node, plan.body)?;
-        self.desk
-            .run(plan.words.as_str(), Outlet::whole(self.alloc))?;
-        let given = if self.draws.below(2) == 0 {
-            Some((node, before))
-        } else {
-            None
-        };
-        self.leave_images(given)?;
+        let before = self.desk.image(name, pick)?;
+        if self.run_and_leave(plan)? {
+            self.desk.leave(name, before)?;
+        }
         self.stop_all()
     }
 
