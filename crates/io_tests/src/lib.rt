@@ -14,8 +14,6 @@ mod readings;
 #[cfg(test)]
 mod rooms;
 #[cfg(test)]
-mod stops;
-#[cfg(test)]
 mod streams;
 #[cfg(test)]
 mod system;
