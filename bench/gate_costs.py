@@ -7,8 +7,9 @@ Usage: bench/gate_costs.py [COMMAND WORD..]              runs rt ci, or this com
        bench/gate_costs.py --again                       makes what follows from that table's numbers anew
 
 What the command writes goes to standard error. --write refuses all but the whole gate from nothing: another command, one
-that failed, and a run in which a crate has no seconds of a part that it has. --again runs nothing and changes no number
-that was measured: it counts again what stands above each crate, by crates.txt, and the sums below the table.
+that failed, a run in which a crate has no seconds of a part that it has, and one whose table has less than nine tenths
+of what the system counted. --again runs nothing and changes no number that was measured: it counts again what stands
+above each crate, by crates.txt, and the sums below the table.
 
 Two runs are compared by the sum of their proofs, which is the same work on each machine. Every half second the script
 looks at the provers that the command has started; what a prover used in its last half second is in no row, and only in
@@ -28,6 +29,8 @@ TICK = os.sysconf("SC_CLK_TCK")
 KINDS = ("proof", "tests", "edits")
 # What the whole may be: so many times the sum of the proofs, and so many processor minutes when the program is finished.
 RATIO, FINISHED = 1.9, 300
+# What the table has to have of the whole run: with less the script has looked too seldom, and the rows are too small.
+LEAST = 0.9
 BEGIN, END = "<!-- costs: begin -->\n", "<!-- costs: end -->"
 COLUMNS = ("Crate", "Lines", "Proof, s", "Tests, s", "Edits, s", "All, s", "Minutes for 1,000 lines")
 ABOVE = "With what stands above, minutes"
@@ -193,8 +196,11 @@ def sentence(rows, whole, clock):
     )
 
 
-def gaps(costs):
-    """What each crate has, and this run has no seconds of."""
+def gaps(costs, whole):
+    """What each crate has, and this run has no seconds of; and whether the table has too little of the whole minutes."""
+    minutes = sum(sum(by.values()) for by in costs.values()) / 60
+    if minutes < LEAST * whole:
+        yield f"the table has {minutes:.0f} of {whole} processor minutes, less than {LEAST} of them"
     for crate in needs():
         folder = f"{ROOT}/crates/{crate}"
         sources = glob.glob(f"{folder}/src/**/*.rt", recursive=True)
@@ -259,7 +265,7 @@ def main(command, writes):
     told = "\n".join([*table(rows), "", summary(rows, whole, clock)])
     print(told)
     if writes:
-        wrong = [f"the command ended with status {status}"] * (status != 0) + list(gaps(costs))
+        wrong = [f"the command ended with status {status}"] * (status != 0) + list(gaps(costs, whole))
         if wrong:
             sys.exit("\n".join(["nothing is written:", *wrong]))
         write(GATE, told)
