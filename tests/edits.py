@@ -6,13 +6,15 @@ a function wrong. It stands in crates/CRATE/must-fail, where the gate tries it a
 where only this script does. Both are tried here, on a copy of the sources.
 
 An edit counts as refused only where the check says of the changed function itself that a clause is not proved: what it
-ensures, what a function that it calls requires, the invariant of its loop, or the invariant of a type. An edit that is
-refused for anything else, as for a sum that may be too large, a limit of the prover, or a proof that names what is no
-longer there, doesn't count, and neither does one that doesn't compile. Then the crate gets no line, and the script
-ends with status 1.
+ensures, what a function of these crates that it calls requires, the invariant of its loop, or the invariant of a type.
+An edit that is refused for anything else, as for a sum that may be too large, a call of std, a limit of the prover, or
+a proof that names what is no longer there, doesn't count, and neither does one that doesn't compile. Then the crate
+gets no line, and the script ends with status 1.
 
-A clause stands open in one of two ways: the search for its proof fails, or the proof of it that was written by hand
-doesn't fit any longer. Both are told apart below, since the second says less: another proof might fit.
+A clause stands open in one of two ways. The search for its proof fails. Or what was written by hand doesn't fit any
+longer: the proof of the clause, or the invariant of a loop, which stands in a proof. Both are told apart below, since
+the second says less: another one might fit. A search that gives up at a limit of its own has failed like one that has
+tried all, so the first doesn't show either that the clause is false.
 
 Edits of different functions are made in one copy, and one check tells of each: a function is proved by the contracts of
 those that it calls, so a wrong body elsewhere changes nothing for it. Edits of one function, and those that didn't
@@ -40,15 +42,19 @@ from checks import ledger
 from checks.sources import ROOT
 
 PARTS = ("src", "specs", "proofs")
-OPEN = re.compile(r"note: (src/\S+?):(\d+):\d+: it is not proved that (.*?)(?:; .*)?$", re.M)
-UNFIT = re.compile(r"^(?:\./)?proofs/(\S+)/(Answers|Proof)\.antt:\d+:\d+: error: `(\S+?)`: (.*)$", re.M)
-CLAUSES = ("what the function ensures", "the invariant of the loop", "the struct's ghost fields", "the `invariant`")
+OPEN = re.compile(r"note: (src/\S+?):(\d+):\d+: it is not proved that (.*?)(; .*)?$", re.M)
+UNFIT = re.compile(r"^(?:\./)?proofs/(\S+)/(?:Answers|Proof)\.antt:\d+:\d+: error: `(\S+?)`: (.*(?:\n .*)*)", re.M)
+CLAUSES = ("what the function ensures", "the struct's ghost fields", "the `invariant`")
+LOOP = "the invariant of the loop"
 REQUIRED = re.compile(r"what `(\w+)` requires")
-GONE = re.compile(r"has no field|is not in scope|has no `|was not admitted")
-LIMIT = re.compile(r"antt ran out of|outgrew the memory limit|stopped at the step limit")
+REQUIRED_GOAL = re.compile(r"(\w+?)(?:-\d+)?-requires")
+# Functions of std have these names too, and what those require is safety.
+OF_STD = {"add", "advance", "append", "make_room", "new", "next", "push", "put", "read", "read_at", "split", "take", "write"}
+GONE = re.compile(r"has no field|is not in scope|has no `|was not admitted|unknown name|unexpected")
+LIMIT = re.compile(r"antt ran out of|outgrew the memory limit|stopped at the step limit|stopped at its own limit|may hold")
 PROVED = re.compile(r"^fn (\S+): proved$", re.M)
 
-Function = collections.namedtuple("Function", "name owner file begin end")
+Function = collections.namedtuple("Function", "file begin end places")
 Found = collections.namedtuple("Found", "counts by_search what")
 
 
@@ -58,6 +64,23 @@ def begin_of(function, lines):
     while begin > 1 and lines[begin - 2].strip().startswith(("#[", "//")):
         begin -= 1
     return begin
+
+
+def modules_of(crate, file):
+    """The modules of a file, as a folder."""
+    parts = file.path.relative_to(crate.folder).with_suffix("").parts[1:]
+    return "/".join(it for it in parts if it not in ("lib", "main", "mod"))
+
+
+def places_of(crate, function, file):
+    """The folders that a function's proofs may have: its modules or those of its type, its type with its trait, its name."""
+    if not function.owner:
+        return (f"{modules_of(crate, file)}/{function.name}".removeprefix("/"),)
+    declared = re.compile(rf"\b(?:struct|enum|trait) +{function.owner}\b")
+    homes = {modules_of(crate, it) for it in crate.files if it is file or declared.search(it.bare)}
+    traits = re.findall(rf"^impl\b[^{{;]*?\b(\w+)(?:<[^{{;]*?>)? for {function.owner}\b", file.bare, re.M)
+    return tuple(sorted(f"{home}/{function.owner}{trait}/{function.name}".removeprefix("/")
+                        for home in homes for trait in {"", *traits}))
 
 
 class Edit:
@@ -78,7 +101,7 @@ class Edit:
         ends = [*begins[1:], file.text.count("\n") + 2]
         for one, begin, end in zip(file.functions, begins, ends):
             if begin <= line < end:
-                return Function(one.name, one.owner, name, begin, end)
+                return Function(name, begin, end, places_of(self.crate, one, file))
         return None
 
     @property
@@ -106,17 +129,20 @@ class Copy:
             shutil.copy(ROOT / name, self.room)
         self.lines = {name: ledger.line_of(name) for name in ledger.with_edits()}
         for crate in ledger.CRATES:
+            for part in PARTS:
+                if (ROOT / "crates" / crate / part).is_dir():
+                    shutil.copytree(ROOT / "crates" / crate / part, self.room / "begun" / crate / part)
             self.renew(crate)
 
     def folder(self, crate):
         return self.room / "crates" / crate
 
     def renew(self, crate):
-        """Puts the sources of a crate as they stand in the repository."""
+        """Puts the sources of a crate as they stood in the repository when the script began."""
         for part in PARTS:
             shutil.rmtree(self.folder(crate) / part, ignore_errors=True)
-            if (ROOT / "crates" / crate / part).is_dir():
-                shutil.copytree(ROOT / "crates" / crate / part, self.folder(crate) / part)
+            if (self.room / "begun" / crate / part).is_dir():
+                shutil.copytree(self.room / "begun" / crate / part, self.folder(crate) / part)
 
     def check(self, crate, functions=()):
         """What `rt check` prints of a crate, or of these functions of it alone."""
@@ -158,48 +184,50 @@ def linked(folder, to):
 
 
 def is_of(function, place):
-    """Whether proofs/PLACE is a function's folder: its modules, its type with its trait, its name, `+` if it recurs."""
-    parts = place.replace("/+", "/").split("/")
-    modules = [it for it in pathlib.Path(function.file).with_suffix("").parts[1:] if it not in ("lib", "main", "mod")]
-    rest = parts[len(modules):]
-    if parts[:len(modules)] != modules or len(rest) != (2 if function.owner else 1):
-        return False
-    return rest[-1] == function.name and rest[0].startswith(function.owner or function.name)
+    """Whether proofs/PLACE is a function's folder; a `+` stands before the name of one that calls itself."""
+    return f"/{place}".replace("/+", "/")[1:] in function.places
 
 
 @functools.cache
-def has_own_requires(name):
-    """Whether a function of this repository has that name and requires something; what std requires is safety."""
+def has_own_requires(crate, name):
+    """Whether a function that a crate can call, of itself or of those that it names, has that name and requires something."""
     head = re.compile(rf"\bfn {name}\b[^;{{]*\brequires\b")
-    return any(head.search(file.bare) for crate in ledger.CRATES.values() for file in crate.files)
+    near = [ledger.CRATES[one] for one in (crate, *ledger.CRATES[crate].needs) if one in ledger.CRATES]
+    return name not in OF_STD and any(head.search(file.bare) for one in near for file in one.files)
 
 
-def is_clause(what):
+def is_clause(crate, what):
     required = REQUIRED.match(what)
-    return has_own_requires(required[1]) if required else what.startswith(CLAUSES)
+    return has_own_requires(crate, required[1]) if required else what.startswith(CLAUSES)
 
 
-def is_clause_goal(goal):
+def is_clause_goal(crate, goal):
     """Whether a goal that has a proof by hand is one of a clause, by its name."""
-    return goal.startswith(("returns", "invariant_of")) or goal.endswith("-preserved") or "-requires" in goal
+    required = REQUIRED_GOAL.search(goal)
+    if required:
+        return has_own_requires(crate, required[1])
+    return goal.startswith(("returns", "invariant_of")) or goal.endswith("-preserved")
 
 
 def found_of(edit, said):
     """What a check says of the functions that an edit changes; of all functions, where it changes none."""
-    own = [it for it in edit.functions if it]
-    alone = edit.stands_alone
-    notes = [(what, f"{file}:{line}") for file, line, what in OPEN.findall(said)
-             if alone or any(it.file == file and it.begin <= int(line) < it.end for it in own)]
-    unfit = [(goal, why) for place, _, goal, why in UNFIT.findall(said)
-             if alone or any(is_of(it, place) for it in own)]
-    for what, place in notes:
-        if is_clause(what):
+    own, crate = [it for it in edit.functions if it], edit.crate.name
+    notes = [(what, tail, f"{file}:{line}") for file, line, what, tail in OPEN.findall(said)
+             if edit.stands_alone or any(it.file == file and it.begin <= int(line) < it.end for it in own)]
+    unfit = [(goal, why) for place, goal, why in UNFIT.findall(said)
+             if edit.stands_alone or any(is_of(it, place) for it in own)]
+    whole = [(what, place) for what, tail, place in notes if not LIMIT.search(tail)]
+    for what, place in whole:
+        if is_clause(crate, what):
             return Found(True, True, f"{what}, {place}")
     for goal, why in unfit:
-        if is_clause_goal(goal) and not GONE.search(why):
-            return Found(True, False, f"the proof by hand of `{goal}` doesn't fit: {why}")
+        if is_clause_goal(crate, goal) and not GONE.search(why) and not LIMIT.search(why):
+            return Found(True, False, f"the proof by hand of `{goal}` doesn't fit: {why}".split("\n")[0])
+    for what, place in whole:
+        if what.startswith(LOOP):
+            return Found(True, False, f"{what}, {place}")
     if notes or unfit:
-        what = notes[0][0] if notes else f"`{unfit[0][0]}`: {unfit[0][1]}"
+        what = "".join(notes[0][:2]) if notes else f"`{unfit[0][0]}`: {unfit[0][1]}"
         return Found(False, False, f"refused, and no clause: {what}")
     return Found(False, False, "")
 
