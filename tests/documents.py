@@ -35,7 +35,7 @@ REMARKS = {"ledger": ledger.remarks}
 
 
 def run(names):
-    """Prints each check and what is wrong; what has only to be looked at fails nothing."""
+    """Prints each check and what is wrong; what is left out fails nothing, and .ci/run lists it."""
     status = 0
     for check in CHECKS:
         name = check.__name__.removeprefix("check_")
@@ -43,7 +43,8 @@ def run(names):
             continue
         wrong = list(check())
         remarks = REMARKS.get(name, list)()
-        print(f"{'wrong' if wrong else 'ok'}: {name}: {check.__doc__}", *wrong, *remarks, sep="\n    ")
+        print(f"{'wrong' if wrong else 'ok'}: {name}: {check.__doc__}", *wrong, sep="\n    ")
+        print(*remarks, sep="\n", end="\n" if remarks else "")
         status |= bool(wrong)
     return status
 

@@ -70,8 +70,26 @@ def fault_of(crate, edit):
     return None if texts else "it has no change"
 
 
+def strays():
+    """What stands beside the edits: a file that is none, or the folder of no crate."""
+    for folder in (folder for name in CRATES for folder in ledger.folders_of(name) if folder.is_dir()):
+        yield from (path for path in sorted(folder.iterdir()) if path.suffix != ".edit" or not path.is_file())
+    for path in sorted(ledger.TOLD.iterdir()):
+        if path != ledger.LEDGER and not (path.is_dir() and path.name in CRATES):
+            yield path
+
+
+def counts_wrong(name):
+    """Why a crate has too many edits."""
+    count, in_the_gate = len(ledger.edits_of(name)), len(list(ledger.folders_of(name)[0].glob("*.edit")))
+    if count > ledger.MOST:
+        yield f"{name}: has {count} edits, and {ledger.MOST} are the most"
+    if in_the_gate > ledger.MOST_IN_THE_GATE:
+        yield f"{name}: has {in_the_gate} edits in must-fail/, and {ledger.MOST_IN_THE_GATE} is the most"
+
+
 def check_edits():
-    """each edit, of must-fail/ and of tests/edits, can be made: what it takes away stands once in its file"""
+    """each edit of the two folders can be made: what it takes away stands once in its file; a crate has few"""
     for name, crate in CRATES.items():
         names = set()
         for edit in ledger.edits_of(name):
@@ -79,9 +97,8 @@ def check_edits():
             names.add(edit.name)
             if why:
                 yield f"{edit.relative_to(ROOT)}: {why}"
-    for folder in sorted(ledger.TOLD.iterdir()):
-        if folder.is_dir() and folder.name not in CRATES:
-            yield f"{folder.relative_to(ROOT)}: is of no crate"
+        yield from counts_wrong(name)
+    yield from (f"{path.relative_to(ROOT)}: is no edit of a crate" for path in strays())
 
 
 # ---- what is let through as yet: its numbers may not grow
