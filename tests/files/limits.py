@@ -5,6 +5,7 @@ import signal
 import subprocess
 import sys
 
+from .commands import LOG
 from .folder import DATES, KEY, NEW_LOG, ROOT, unlike
 from .streams import MOMENT
 
@@ -107,12 +108,15 @@ def check_extensions(scene, _kills):
 
 
 def check_long_entries(scene, _kills):
-    """The entries of an `audit` may have more than 16,777,216 bytes, and those of another input may not"""
+    """The entries of an `audit` and of `trust-landmarks` may have more than 16,777,216 bytes, and those of another input may not"""
     # An entry that isn't in its form is taken as it is, without a key.
     more = b"\xff\xff" + b"\xff" * 0xFFFF + b"\0\0"
     scene.write("long", scene.bytes("entries") + more * (MOST // len(more) + 1))
     yield from unlike("they are longer", len(scene.bytes("long")) > MOST, True)
     yield from unlike("audit", scene.run(f"audit light trusting {MOMENT} long none"), (0, "stands 1\n", ""))
+    # The store of the scene has the tables of the same log's first entries.
+    head, tables = f'[log]\nid = "{LOG}"\n', scene.bytes("trusting").decode()
+    yield from unlike("trust-landmarks", scene.run("trust-landmarks list 2 long"), (0, tables.removeprefix(head), ""))
     yield from unlike("cert", scene.run("cert j 1 0 4 long"), (9, "", "mtc: cert: long: TooLong\n"))
     yield from unlike("a certificate", scene.run(f"audit long trusting {MOMENT} entries none"),
                       (9, "", "mtc: audit: long: TooLong\n"))
