@@ -1,6 +1,6 @@
 #!/bin/bash
 # Tests how `mtc` builds the program: on a copy of the crates' names alone, with a stand-in for rt that proves nothing and
-# notes what it is asked. It takes some seconds.
+# notes what it is asked. It takes half a minute.
 # Usage: tests/first_run.sh
 set -u
 root=$(cd "$(dirname "$0")/.." && pwd)
@@ -20,20 +20,29 @@ for crate in $(sed 's/#.*//; s/:.*//' "$root/crates.txt"); do
     touch "$folder/crates/$crate/src/lib.rt"
 done
 
+# The program that is built: it prints its words, adds what the files among them hold to the file read, and ends with status 3.
+cat >"$folder/program" <<END
+#!/bin/bash
+echo "\$@"
+for word; do [ ! -f "\$word" ] && [ ! -p "\$word" ] || timeout 5 cat "\$word" >>"$folder/read"; done
+exit 3
+END
+
 # It notes the crate, and each crate of this repository that it names and that isn't proved yet. A crate with a file src/broken
-# isn't proved. Of one that is proved it prints the prover's line, but nothing where it was proved before. `rt run` makes a
-# program that prints its words and ends with status 3. `rt try` notes its words. It answers as rt does, of a program that prints
-# two lines, the bytes of the files that it is given, and a line on standard error; or it fails, or goes on for ever.
+# isn't proved. Of one that is proved it prints the prover's line, but nothing where it was proved before. `rt run` makes the
+# program above. `rt try` notes its words. It answers as rt does, of a program that prints two lines, the bytes of the files that
+# it is given or that its words name from the root, and a line on standard error; or it fails. A try or a proof may go on for ever.
 cat >"$folder/bin/rt" <<'END'
 #!/bin/bash
 name=${PWD##*/} root=${PWD%/crates/*}
 if [ "$1" = try ]; then
     echo "$name $*" >>"$root/tried"
-    [ ! -e "$root/tries_hang" ] || { echo $$ >"$root/hanging"; sleep 1000; }
+    [ ! -e "$root/tries_hang" ] || { echo $$ >>"$root/hanging"; sleep 1000; }
     [ ! -e "$root/tries_fail" ] || { echo "mtc: half" >&2; echo "run=none proved=no" >&2; exit 2; }
     printf 'one\n two\n'
     while [ $# -gt 0 ]; do
         [ "$1" != --data ] || cat "${2#*=}"
+        [[ $1 != /* ]] || timeout 5 cat "$1" 2>/dev/null
         shift
     done
     printf 'mtc: aside\nchecked: ended status=3\nrun=ended status=3 runners=1 proved=no\n' >&2
@@ -44,12 +53,13 @@ for need in $(sed -n "s/^$name: *//p" "$root/crates.txt"); do
 done
 echo "asked $name" >>"$root/asked"
 sleep 0.0$((RANDOM % 9))
+[ ! -e "$root/proofs_hang" ] || { echo $$ >>"$root/hanging"; sleep 1000; }
 [ ! -e src/broken ] || { echo "a goal is open"; exit 1; }
 [ -e proved ] || echo "crate $name: modules loaded=2 checked=10"
 touch proved
-[ "$1" != run ] || { mkdir -p out && printf '#!/bin/bash\necho "$@"\nexit 3\n' >out/mtc_main && chmod +x out/mtc_main; }
+[ "$1" != run ] || { mkdir -p out && cp "$root/program" out/mtc_main; }
 END
-chmod +x "$folder/bin/rt"
+chmod +x "$folder/bin/rt" "$folder/program"
 
 # Runs mtc with these words, or with `a b`, in the folder examples: what it prints, what it says, its status, and which crates rt
 # was asked for.
@@ -135,6 +145,8 @@ for command in $reading; do
     grep "^| \`$command " "$root/docs/COMMANDS.md" | grep -qvE '\b(journal|secret)\b' || complain "$command isn't told as one that only reads files"
 done
 
+# What is run before the proofs shows with one crate as with all.
+echo "mtc_main:" >"$folder/crates.txt"
 echo three >"$folder/examples/x"
 run_first member x /no_such_place 17
 [ "$(cat "$folder/tried")" = "mtc_main try --data x=$folder/examples/x -- member x /no_such_place 17" ] ||
@@ -149,10 +161,43 @@ run_mtc member x
 
 # A command that writes, words that are none, and files of which rt try has another view than the program.
 mkdir "$folder/examples/sub" "$folder/crates/mtc_main/data"
-for words in "issue x x" "keygen 5 8 x" "landmarks x" "members x" "a b" "member ../examples/x" "member sub" "member data" "member x=y"; do
+long=$(printf 'x%.0s' {1..300})
+ln -s x "$folder/examples/link"
+ln -s loop "$folder/examples/loop"
+ln -s . "$folder/examples/here"
+for words in "issue x x" "keygen 5 8 x" "landmarks x" "members x" "a b" "member ../examples/x" "member sub" "member data" "member x=y" \
+    "member link" "member $folder/examples/link" "member here/x" "member $folder/examples/here/x" "member loop" "member x/y" \
+    "member x $long" "member /$long" "member /dev/null" "member /dev/none" "member /proc/uptime" "member //proc/uptime"; do
     # shellcheck disable=SC2086
     run_first $words
     [ ! -s "$folder/tried" ] && ! grep -q unproved "$folder/said" || complain "$words: it is run before it is proved"
+done
+
+# Runs mtc with these words, one of which leads to the bytes `four` that may be read once: they are left to the proved program.
+run_once() {
+    : >"$folder/read"
+    run_first "$@"
+    [ ! -s "$folder/tried" ] && [ "$(cat "$folder/read")" = four ] || complain "$*: it is read before the program is proved"
+}
+
+mkfifo "$folder/examples/pipe"
+echo four >"$folder/four"
+ln -s /dev/stdin "$folder/examples/in"
+for pipe in pipe "$folder/examples/pipe"; do
+    timeout 20 cp "$folder/four" /dev/stdout >"$folder/examples/pipe" &
+    run_once member "$pipe"
+    wait "$!"
+done
+run_once member <(echo four)
+for word in /dev/stdin /dev/fd/0 /proc/self/fd/0 in "$folder/examples/in"; do
+    run_once member "$word" < <(echo four)
+    run_once member "$word" <"$folder/four"
+done
+
+for seconds in 0 00 -1 0.0 x; do
+    MTC_TRY_SECONDS=$seconds run_first member x
+    [ ! -s "$folder/tried" ] && grep -q "not run unproved first, as MTC_TRY_SECONDS is $seconds$" "$folder/said" ||
+        complain "with $seconds seconds a command is tried, or nothing says that it isn't"
 done
 
 touch "$folder/tries_fail"
@@ -164,19 +209,33 @@ grep -q "run=none" "$folder/crates/mtc_main/out/build.log" || complain "the log 
 touch "$folder/tries_hang"
 MTC_TRY_SECONDS=1 run_first member x
 grep -q "gave no answer" "$folder/said" && ! grep -q "not proved yet" "$folder/said" || complain "a try that goes on for ever isn't told"
+# Whether what was asked of rt goes on; one that ended, and that nobody has waited for, doesn't.
 is_hanging() {
-    kill -0 "$(cat "$folder/hanging")" 2>/dev/null
+    local pid
+    for pid in $(cat "$folder/hanging"); do grep -qsE '^State:[[:space:]]+[^ZX[:space:]]' "/proc/$pid/status" && return; done
+    return 1
 }
 is_hanging && complain "a try that goes on for ever is left behind"
 
-rm -rf "$folder/crates/mtc_main/out" "$folder/hanging"
-(cd "$folder/examples" && PATH="$folder/bin:$PATH" exec ../mtc member x >../printed 2>../said) &
-until [ -s "$folder/hanging" ]; do sleep 0.1; done
-kill "$!"
-wait "$!"
-[ $? -eq 130 ] && [ ! -s "$folder/printed" ] || complain "mtc that is told to end in a try goes on"
-for _ in 1 2 3 4 5 6 7 8 9 10; do is_hanging && sleep 0.1; done
-is_hanging && complain "mtc that is told to end leaves its try behind"
+# Runs mtc with the words behind the signal, and sends it that signal once a try or a proof goes on.
+run_ended() {
+    rm -rf "$folder/crates/mtc_main/out" "$folder/hanging"
+    (cd "$folder/examples" && PATH="$folder/bin:$PATH" exec env --default-signal=HUP ../mtc "${@:2}" >../printed 2>../said) &
+    until [ -s "$folder/hanging" ]; do sleep 0.1; done
+    kill -s "$1" "$!"
+    wait "$!"
+    [ $? -eq 130 ] && [ ! -s "$folder/printed" ] || complain "$*: mtc that is told to end goes on"
+    for _ in 1 2 3 4 5 6 7 8 9 10; do is_hanging && sleep 0.1; done
+    is_hanging && complain "$*: mtc that is told to end leaves behind what it has started"
+}
+
+cp "$root/crates.txt" "$folder/"
+touch "$folder/proofs_hang"
+rm -f "$folder"/crates/*/proved
+for signal in TERM HUP; do
+    run_ended "$signal" member x
+    run_ended "$signal" a b
+done
 
 ls "$folder"/crates/mtc_main/out/build.log.* >/dev/null 2>&1 && complain "files of a build are left"
 exit "$wrong"
