@@ -5,7 +5,7 @@ With --compare it says whether crates/reference_tables/stdout ends with them. A 
 its hash, and the SHA-256 of the inclusion paths of its entries one behind the other. For each beginning of the list
 and each subtree in that, a line has the length of its consistency proof, and the first digits of the proof's SHA-256.
 It uses nothing of the crates. It shows that the program makes these hashes and proofs, and not that proofs of other
-lists are refused: for that there are the tests of tree_core and tree_proofs. It takes less than a second.
+lists are refused: for that there are the tests of tree_tests. It takes less than a second.
 Usage: tests/list_table.py [--compare]
 """
 

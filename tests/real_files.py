@@ -48,8 +48,11 @@ def tried(kind, check, killed):
     except Exception as why:
         # So that the other checks are tried too.
         wrong.append(f"{type(why).__name__}: {why}")
-    if folder:
-        shutil.rmtree(folder.path)
+    try:
+        if folder:
+            shutil.rmtree(folder.path)
+    except OSError as why:
+        wrong.append(f"the folder can't be removed: {why}")
     if lacks and not wrong:
         print(f"left out: {name}: {lacks}")
         return False

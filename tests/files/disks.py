@@ -19,13 +19,18 @@ def wants_mounts():
         raise LeftOut("mount isn't here")
 
 
+def mount(*words):
+    """Mounts something, or leaves the check out where that fails."""
+    ended = subprocess.run(["mount", *words], capture_output=True, text=True)
+    if ended.returncode:
+        raise LeftOut(f"root may not mount here: {ended.stderr.strip()}")
+
+
 @contextlib.contextmanager
 def mounted(folder, *options):
     """Mounts something at the folder, for as long as it is used."""
     folder.mkdir(exist_ok=True)
-    ended = subprocess.run(["mount", *options, folder], capture_output=True, text=True)
-    if ended.returncode:
-        raise LeftOut(f"root may not mount here: {ended.stderr.strip()}")
+    mount(*options, folder)
     try:
         yield
     finally:
@@ -135,7 +140,7 @@ def check_read_only(scene, _kills):
     scene.own(disk)
     before = {path.name: path.read_bytes() for path in disk.iterdir()}
     with mounted(disk, "--bind", disk):
-        subprocess.run(["mount", "-o", "remount,bind,ro", disk], check=True)
+        mount("-o", "remount,bind,ro", disk)
         for command in COMMANDS:
             words = [f"d/{word}" if word in before or word == "new" else word for word in command.words]
             yield from unlike(command.name, scene.run(words), failed(command.name, words[1]))

@@ -1,8 +1,10 @@
 """A folder in which the program runs, and what the checks say."""
 
+import contextlib
 import os
 import re
 import shutil
+import signal
 import subprocess
 import sys
 import tempfile
@@ -12,6 +14,8 @@ ROOT = Path(__file__).resolve().parent.parent.parent
 NOBODY = 65534
 KEY = "MCowBQYDK2VwAyEAAAAAAAAAAAAAAAAAAAAAAAAAAAAAAAAAAAAAAAAAAAA="
 DATES = 'not_before = "2026-01-01T00:00:00Z"\nnot_after = "2026-01-08T00:00:00Z"\n'
+# How many seconds a command may take, also beside much other work; the slowest one takes some twenty.
+LONGEST = 600
 NEW_LOG = ["init-log", "j", "32473.1", "2", "100000"]
 
 
@@ -47,11 +51,12 @@ class Folder:
     def start(self, words, before=(), **options):
         streams = {"stdin": subprocess.DEVNULL, "stdout": subprocess.PIPE, "stderr": subprocess.PIPE}
         line = [*before, self.program, *words]
-        return subprocess.Popen(line, cwd=self.path, **{**streams, **self.owner, **options})
+        # In a session of its own, so that all that it has started can be ended.
+        return subprocess.Popen(line, cwd=self.path, start_new_session=True, **{**streams, **self.owner, **options})
 
-    def run(self, words, **options):
+    def run(self, words, seconds=LONGEST, **options):
         """The status, standard output and standard error of a command, whose words may be one text."""
-        return ended(self.start(words.split() if isinstance(words, str) else words, **options))
+        return ended(self.start(words.split() if isinstance(words, str) else words, **options), seconds)
 
     def said(self, words):
         """What a command writes to standard output; it has to end with status 0."""
@@ -94,10 +99,18 @@ class Folder:
         return sorted(path.name for path in self.path.iterdir())
 
 
-def ended(process):
-    """The status, standard output and standard error."""
-    out, err = process.communicate()
-    return process.returncode, (out or b"").decode("latin-1"), (err or b"").decode("latin-1")
+def ended(process, seconds=LONGEST):
+    """The status, standard output and standard error. Where the command, or what it has started, doesn't end in time, all of it
+    is killed, and the status says so."""
+    late = None
+    try:
+        out, err = process.communicate(timeout=seconds)
+    except subprocess.TimeoutExpired:
+        late = f"not ended after {seconds} s"
+        with contextlib.suppress(ProcessLookupError):
+            os.killpg(process.pid, signal.SIGKILL)
+        out, err = process.communicate()
+    return late or process.returncode, (out or b"").decode("latin-1"), (err or b"").decode("latin-1")
 
 
 def unlike(what, found, wanted):

@@ -3,7 +3,7 @@
 import fcntl
 
 from .commands import COMMANDS, COSIGNER, LOG, OPENING, SIGN, records
-from .folder import NEW_LOG, failed, unlike
+from .folder import NEW_LOG, ended, failed, unlike
 
 ROUNDS = 60
 AT_ONCE = 4
@@ -85,23 +85,22 @@ def check_at_once(folder, _kills):
     """Of `issue` given several times at once, each is acknowledged under its own index, or answers status 5"""
     folder.new_log()
     told, tries = [], 0
-    for _ in range(ROUNDS):
-        running = []
+    for number in range(ROUNDS):
+        running, before = [], len(told)
         for _ in range(AT_ONCE):
             tries += 1
             folder.request(f"r{tries}", f"n{tries}.example")
             running.append((f"n{tries}.example", folder.start(["issue", "j", f"r{tries}"])))
         for name, process in running:
-            out, err = (text.decode() for text in process.communicate())
-            index = acknowledged(out)
+            ending = ended(process)
+            index = acknowledged(ending[1])
             if index is not None:
                 told.append((index, name))
-            else:
-                yield from unlike(name, (process.returncode, out, err), failed("issue", "j"))
+            yield from unlike(name, ending, failed("issue", "j") if index is None else (0, f"issued {index}\n", ""))
+        yield from unlike(f"one was acknowledged in round {number}", len(told) > before, True)
     size = folder.size()
     yield from unlike("the size and the indexes", sorted(index for index, _ in told), [*range(1, size)])
     yield from misplaced(folder.entries(size), told)
-    yield from unlike("a round without an entry", len(told) >= ROUNDS, True)
     folder.notes.append(f"{tries} times, {len(told)} acknowledged")
 
 
@@ -117,16 +116,15 @@ def check_keys_at_once(scene, _kills):
     scene.said(f"init-cosigner tall {COSIGNER} {LOG} 10 1 secret")
     scene.said("advance tall first")
     told = []
-    for _ in range(ROUNDS):
-        running = [scene.start(["cosign", "tall", "part"]) for _ in range(AT_ONCE)]
-        for process in running:
-            out, err = process.communicate()
-            if process.returncode == 0 and out:
-                told.append(number_in(out))
+    for number in range(ROUNDS):
+        before, running = len(told), [scene.start(["cosign", "tall", "part"]) for _ in range(AT_ONCE)]
+        for status, out, err in [ended(process) for process in running]:
+            if (status, err) == (0, "") and out:
+                told.append(number_in(out.encode("latin-1")))
             else:
-                yield from unlike("cosign", (process.returncode, out.decode("latin-1"), err.decode()), failed("cosign", "tall"))
+                yield from unlike("cosign", (status, out, err), failed("cosign", "tall"))
+        yield from unlike(f"one was acknowledged in round {number}", len(told) > before, True)
     signed = [int.from_bytes(body[1:5], "big") for body in records(scene.bytes("tall")) if body[0] == SIGN]
     yield from unlike("the one-time keys of the signatures", sorted(told), [*range(len(told))])
     yield from unlike("those of the records", signed, sorted(told))
-    yield from unlike("a round without a signature", len(told) >= ROUNDS, True)
     scene.notes.append(f"{ROUNDS * AT_ONCE} times, {len(told)} acknowledged")

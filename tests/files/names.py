@@ -3,7 +3,7 @@
 import fcntl
 import shutil
 
-from .commands import COSIGNER, LOG, records
+from .commands import COMMANDS, COSIGNER, LOG, records
 from .folder import failed, unlike
 from .tracing import traced, wants_trace
 
@@ -107,13 +107,28 @@ def check_tiles_that_lead_back(scene, _kills):
     for link in ((scene.path / "j.tiles").symlink_to, (scene.path / "j.tiles").hardlink_to):
         (scene.path / "j.tiles").unlink()
         link(scene.path / "j")
-        for words in ("checkpoint j", "issue j r", "tile j"):
-            status, out, _ = scene.run(words)
-            yield from unlike(words, (status in (2, 5), out, scene.bytes("j") == before), (True, "", True))
+        for command in (command for command in COMMANDS if command.tiles):
+            wanted = failed(command.name, command.tiles)
+            yield from unlike(command.name, (scene.run(command.words), scene.bytes("j") == before), (wanted, True))
+
+
+def without_room(scene):
+    """A log whose name leaves no room for that of its tiles is made, and answers no command until it is renamed."""
+    for length in (LONGEST_LOG + 1, LONGEST):
+        log = "m" * length
+        yield from unlike(f"init-log, {length} bytes", scene.run(f"init-log {log} 32473.1 2 9"), (0, "log 32473.1\n", ""))
+        before = scene.bytes(log)
+        for command in (command for command in COMMANDS if command.tiles):
+            found = scene.run([command.name, log, *command.words[2:]])
+            yield from unlike(f"{command.name}, {length} bytes", found, failed(command.name, f"{log}.tiles"))
+        yield from unlike(f"the log of {length} bytes", scene.bytes(log) == before, True)
+        (scene.path / log).rename(scene.path / "renamed")
+        yield from unlike(f"the log of {length} bytes, renamed", scene.size("renamed"), 1)
 
 
 def check_long_names(scene, _kills):
     """A name is as long as the system takes it, and that of a log leaves room for its tiles; a longer one is `Failed`"""
+    yield from without_room(scene)
     log, cosigner, over = "l" * LONGEST_LOG, "c" * LONGEST, "o" * (LONGEST + 1)
     new = f"{COSIGNER} {LOG} 5 4 secret"
     for words, says in ((f"init-log {log} 32473.1 2 9", "log 32473.1\n"), (f"issue {log} r", "issued 1\n")):

@@ -110,7 +110,8 @@ READING = [
     ("advance s forward", "advanced 257\n"), ("cosign s part", None), ("cert j 1 0 4 none", None),
     ("trust-landmarks list 2 entries", None), (f"audit light trusting {MOMENT} entries none", "stands 1\n"),
 ]
-# A file given as a pipe, in a shell.
+# A file given as a pipe, in a shell. Where the program doesn't open it, the writer waits for ever: so many seconds are enough.
+AWAITED = 120
 WAYS = {"<(..)": "./mtc {front} <(cat {file}) {back}", "/dev/stdin": "cat {file} | ./mtc {front} /dev/stdin {back}",
         "a FIFO": "mkfifo pipe && {{ cat {file} >pipe & }} && ./mtc {front} pipe {back}; status=$?; rm pipe; exit $status"}
 
@@ -119,7 +120,7 @@ def given_by_pipe(scene, words, place, way):
     """How a command ends whose input at this place of its words comes through a pipe."""
     front, back = shlex.join(words[:place]), shlex.join(words[place + 1:])
     line = WAYS[way].format(front=front, file=words[place], back=back)
-    return scene.run([], before=["bash", "-c", line])
+    return scene.run([], seconds=AWAITED, before=["bash", "-c", line])
 
 
 def check_pipes(scene, _kills):
@@ -147,9 +148,9 @@ def check_no_files(scene, _kills):
         for words in ("init-log {} 32473.1 2 9", f"init-cosigner {{}} {COSIGNER} {LOG} 5 4 secret"):
             name = words.split()[0]
             wanted = (7, "", f"mtc: {name}: {journal}: Exists\n")
-            yield from unlike(f"{name} {journal}", scene.run(words.format(journal)), wanted)
+            yield from unlike(f"{name} {journal}", scene.run(words.format(journal), seconds=AWAITED), wanted)
         for words in ("checkpoint {}", "issue {} r", "tile {}", "export {}", "cosign {} part", "advance {} forward"):
             name = words.split()[0]
-            yield from unlike(f"{name} {journal}", scene.run(words.format(journal)), failed(name, journal))
+            yield from unlike(f"{name} {journal}", scene.run(words.format(journal), seconds=AWAITED), failed(name, journal))
     yield from unlike("the folder", scene.names(), before)
     yield from unlike("the FIFO", stat.S_ISFIFO((scene.path / "pipe").stat().st_mode), True)

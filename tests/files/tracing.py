@@ -7,7 +7,10 @@ from pathlib import Path
 
 from .folder import LeftOut
 
-CALLS = "flock,fsync,fdatasync,sync_file_range,pwrite64,pwritev,pwritev2,write,writev,ftruncate,fallocate,rename,unlink"
+# The calls that lock, sync or change a file, and those that change what stands in a folder, but the opening of a file.
+CALLS = ("flock,fsync,fdatasync,sync_file_range,syncfs,sync,pwrite64,pwritev,pwritev2,write,writev,ftruncate,truncate,fallocate,"
+         "copy_file_range,sendfile,splice,rename,renameat,renameat2,unlink,unlinkat,rmdir,link,linkat,symlink,symlinkat,"
+         "mkdir,mkdirat,mknod,mknodat")
 # The last bytes of a journal are written again in pieces.
 PIECE, PIECES = 4096, 33
 TAIL = PIECES * PIECE
@@ -28,19 +31,30 @@ def new_trace(folder):
     return trace
 
 
+def read_trace(folder, text):
+    """The calls of a trace, each as `CALL FILE` and with its descriptor. The folder itself is `.`, and a stream `out` or `err`;
+    calls on end that write to one stream are told as one. A call on no descriptor, or a line that is no whole call, stands there
+    as the whole line, without a number: so nothing that is in a trace is passed over."""
+    found = []
+    for line in text.splitlines():
+        parts = re.match(r"(\w+)\((\d+)(?:<([^>]*)>)?(?:, .*)?\) += (?:-?\d|\?)", line)
+        if not parts:
+            found.append((line, None))
+            continue
+        call, number, file = parts[1], int(parts[2]), parts[3] or ""
+        name = "." if Path(file) == folder.path.resolve() else Path(file).name
+        if call == "write" and number in (1, 2):
+            name = {1: "out", 2: "err"}[number]
+        if call != "write" or found[-1:] != [(f"{call} {name}", number)]:
+            found.append((f"{call} {name}", number))
+    return found
+
+
 def traced(folder, words, *more):
-    """The calls that write or sync files and streams, each as `CALL FILE` and with its descriptor, and the command's status.
-    The folder itself is `.`, and a stream `out` or `err`; calls on end that write to one stream are told as one."""
+    """The command's status, and its calls that write, sync or change files, streams and folders."""
     trace = new_trace(folder)
     status, _, _ = folder.run(words, before=["strace", "-y", "-qq", "-o", trace, "-e", f"trace={CALLS}", *more])
-    found = []
-    for call, number, file in re.findall(r"^(\w+)\((\d+)(?:<([^>]*)>)?", trace.read_text(), re.M):
-        name = "." if Path(file) == folder.path.resolve() else Path(file).name
-        if call == "write" and number in ("1", "2"):
-            name = {"1": "out", "2": "err"}[number]
-        if call != "write" or found[-1:] != [(f"{call} {name}", int(number))]:
-            found.append((f"{call} {name}", int(number)))
-    return status, found
+    return status, read_trace(folder, trace.read_text())
 
 
 def at_fault(folder, words, fault):
