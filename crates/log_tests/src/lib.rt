@@ -8,9 +8,9 @@ mod histories;
 #[cfg(test)]
 mod journals;
 #[cfg(test)]
-mod landmarks;
-#[cfg(test)]
 mod logs;
+#[cfg(test)]
+mod marks;
 #[cfg(test)]
 mod openings;
 #[cfg(test)]
