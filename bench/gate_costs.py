@@ -189,7 +189,7 @@ def sentence(rows, whole, clock):
     return (
         "The first has two waits. Within some three minutes it shows on standard error what the program answers, unproved: "
         "`mtc: not proved yet: member 0`. Then it proves and builds the program, once, and prints the answer. "
-        "It shows each crate as it is proved, as many side by side as there are processors and memory. "
+        "It shows each crate as it is proved; the prover takes up to four processors for one. "
         f"On the machine of the last whole run the proofs add up to {proofs:.0f} processor minutes, of which {chain:.0f} follow one another, "
         "along the longest chain of crates, where no check has kept anything there. "
         f"The second took {whole} processor minutes, and {clock} ([GATE](docs/GATE.md))."
