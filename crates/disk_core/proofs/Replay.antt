@@ -79,7 +79,7 @@ quiet_pushed first calls next made quiet is =
 -- Behind a write, done or refused, each image is one from before, torn.
 pub torn_pushed : (first : List ℕ) (calls next : List Made) (place : ℕ) (piece : List ℕ) (ok : Bool)
     → next ≡ calls ++ record { call = Write place piece; ok = ok } ∷ []
-    → Follows (Torn place (length piece)) (IsImage (state_now first calls))
+    → Follows (Torn place piece) (IsImage (state_now first calls))
     (IsImage (state_now first next))
 torn_pushed first calls next place piece ok is =
     λ c now.
@@ -88,13 +88,14 @@ torn_pushed first calls next place piece ok is =
     (state_pushed first calls next made is) now in
     (d, was, torn)
 
-pub torn_same : (first : List ℕ) (calls next : List Made) (place count : ℕ) → next ≡ calls
-    → Follows (Torn place count) (IsImage (state_now first calls)) (IsImage (state_now first next))
-torn_same first calls next place count is =
+pub torn_same : (first : List ℕ) (calls next : List Made) (place : ℕ) (piece : List ℕ)
+    → next ≡ calls
+    → Follows (Torn place piece) (IsImage (state_now first calls)) (IsImage (state_now first next))
+torn_same first calls next place piece is =
     λ c now. (
       c,
       subst (λ (kept : List Made). IsImage (state_now first kept) c) is now,
-      torn_none place count c,
+      torn_none place piece c,
     )
 
 -- Behind a sync a crash leaves what is seen.
@@ -151,7 +152,7 @@ bytes_noted first calls next call ok true is writes holds = rw is (record {
 })
 bytes_noted first calls next call ok false is writes holds = rw is holds
 
-is_some_write : (write : ℕ × ℕ) → write ∷ [] ≡ [] → ⊥
+is_some_write : (write : ℕ × List ℕ) → write ∷ [] ≡ [] → ⊥
 is_some_write write is = cc
 
 -- a call that leaves each state alone writes nothing
@@ -160,6 +161,6 @@ pub quiet_writes : (call : Call) (ok : Bool) → ((s : State) → after_call s c
 quiet_writes Len ok quiet = tt
 quiet_writes (Read place size) ok quiet = tt
 quiet_writes (Write place piece) ok quiet =
-    absurd (is_some_write (place, length piece)
+    absurd (is_some_write (place, piece)
     (ap (λ (s : State). s.writes) (quiet (settled []))))
 quiet_writes Sync ok quiet = tt

@@ -1,96 +1,226 @@
 -- A torn write in the words of single bytes.
-use Rattle.std.proofs.Common.{◌≡◌, inl, inr, ℕ, ◌+◌, ◌-◌, ◌<◌, ◌≤◌, min, Bool, true, false, nat_lt}
-use Rattle.std.proofs.Common.{if◌then◌else◌, List, [], ◌∷◌, length, map, take, drop, get_or}
-use Rattle.std.proofs.Common.{slice_index, refl, ap, sym, ◌∙◌, subst, arith}
+use Rattle.std.proofs.Common.{◌≡◌, ◌⊎◌, inl, inr, ℕ, ◌+◌, ◌-◌, ◌<◌, ◌≤◌, ◌++◌, min, List, [], ◌∷◌}
+use Rattle.std.proofs.Common.{length, map, take, drop, slice_index, refl, ap, sym, ◌∙◌}
+use Rattle.std.proofs.Common.{subst, arith}
 use Rattle.std.specs.List.{range_with_len}
-use Rattle.std.proofs.lemmas.Bool.{cases_lt, lt-ltb, le-ltb}
+use Rattle.std.proofs.lemmas.Bool.{cases_lt, cases_eq}
 use Rattle.std.proofs.lemmas.List.{length-take, length-drop, get_or-take, get_or-drop, get_or_past}
-use Rattle.std.proofs.lemmas.List.{ext_get_or}
+use Rattle.std.proofs.lemmas.List.{ext_get_or, drop-drop, take-append-drop, append_assoc}
 use Rattle.std.proofs.lemmas.List.FromFn.{length-map-range_with_len, get_or-map-range_with_len}
 use Rattle.byte_forms.specs.Places.{IsBytes}
-use Rattle.disk_core.specs.Disk.{Torn}
+use Rattle.disk_core.specs.Disk.{overwritten, part, Torn, Follows}
+use Rattle.disk_core.specs.Moments.{LeavesOnly}
 use Rattle.disk_core.specs.Replay.{IsImageOf}
-use Rattle.disk_core.specs.Torn.{IsOutside, KeepsOthers}
+use Rattle.disk_core.specs.Torn.{LeavesByte, AllLeaveByte, KeepsOthers, Extends, EachHas}
+use Rattle.disk_core.specs.Writes.{over_front, over_within, over_behind}
+use Rattle.disk_core.specs.declared.disk.Disk.{Ghosts}
+use Rattle.disk_core.proofs.Moments.{weaker}
 
--- one write keeps the other bytes
-torn_byte : (place count : ℕ) (old new : List ℕ) → Torn place count old new → (i : ℕ)
-    → i < length old → IsOutside i (place, count) → slice_index new i ≡ slice_index old i
-torn_byte place count old new torn i there (inl before) =
-    let front : get_or (take (min place (length old)) new) i 0 ≡ get_or (take place old) i 0 =
-    ap (λ (t : List ℕ). get_or t i 0) torn.before in
-    sym (get_or-take (min place (length old)) new i 0 (omega arith)) ∙ front
-    ∙ get_or-take place old i 0 before
-torn_byte place count old new torn i there (inr behind) =
-    let split : (place + count) + (i - (place + count)) ≡ i = omega arith in
-    let back : get_or (take (length old - (place + count)) (drop (place + count) new))
-    (i - (place + count)) 0 ≡ get_or (drop (place + count) old) (i - (place + count)) 0
-    = ap (λ (t : List ℕ). get_or t (i - (place + count)) 0) torn.after in
-    let shifted : (bytes : List ℕ) → get_or (drop (place + count) bytes) (i - (place + count)) 0
-    ≡ get_or bytes i 0
-    = λ bytes. get_or-drop (place + count) bytes (i - (place + count)) 0
-    ∙ ap (λ (n : ℕ). get_or bytes n 0) split in
-    sym (shifted new) ∙ sym (get_or-take (length old - (place + count)) (drop (place + count) new)
-    (i - (place + count)) 0 (omega arith)) ∙ back ∙ shifted old
+-- A write leaves a byte as it was exactly where it is the same behind the write.
+leaves_same : (old : List ℕ) (i : ℕ) (write : ℕ × List ℕ) → i < length old
+    → LeavesByte old i write
+    → slice_index (overwritten write.0 write.1 old) i ≡ slice_index old i
+leaves_same old i write there (inl (inl front)) = over_front write.0 write.1 old i there front
+leaves_same old i write there (inl (inr behind)) = over_behind write.0 write.1 old i there behind
+leaves_same old i write there (inr same) =
+    elim (cases_lt i write.0) [
+      | inl front ↦ over_front write.0 write.1 old i there front
+      | inr from ↦ elim (cases_lt i (write.0 + length write.1)) [
+        | inl within ↦ over_within write.0 write.1 old i there from within ∙ same
+        | inr behind ↦ over_behind write.0 write.1 old i there behind
+      ]
+    ]
 
--- what keeps the other bytes is a torn write
-byte_torn : (place count : ℕ) (old new : List ℕ) → length old ≤ length new
-    → ((i : ℕ) → i < length old → IsOutside i (place, count)
-    → slice_index new i ≡ slice_index old i) → Torn place count old new
-byte_torn place count old new longer others = record {
-  no_shorter = longer;
-  before = ext_get_or 0 (take (min place (length old)) new) (take place old)
-      (simp length-take (omega arith)) (λ i within.
-      let below : i < min place (length old) = let size : length (take (min place (length old)) new)
-      ≡ min (min place (length old)) (length new) =
-      length-take (min place (length old)) new in omega arith in
-      get_or-take (min place (length old)) new i 0 below
-      ∙ others i (omega arith) (inl (omega arith))
-      ∙ sym (get_or-take place old i 0 (omega arith)));
-  after = ext_get_or 0 (take (length old - (place + count)) (drop (place + count) new))
-      (drop (place + count) old) (simp (length-take, length-drop) (omega arith)) (λ i within.
-      let below : i < length old - (place + count)
-      = let size : length (take (length old - (place + count)) (drop (place + count) new))
-      ≡ min (length old - (place + count)) (length (drop (place + count) new))
-      = length-take (length old - (place + count)) (drop (place + count) new) in omega arith in
-      get_or-take (length old - (place + count)) (drop (place + count) new) i 0 below
-      ∙ get_or-drop (place + count) new i 0
-      ∙ others ((place + count) + i) (omega arith) (inr (omega arith))
-      ∙ sym (get_or-drop (place + count) old i 0));
-}
+same_leaves : (old : List ℕ) (i : ℕ) (write : ℕ × List ℕ) → i < length old
+    → slice_index (overwritten write.0 write.1 old) i ≡ slice_index old i
+    → LeavesByte old i write
+same_leaves old i write there same =
+    elim (cases_lt i write.0) [
+      | inl front ↦ inl (inl front)
+      | inr from ↦ elim (cases_lt i (write.0 + length write.1)) [
+        | inl within ↦ inr (sym (over_within write.0 write.1 old i there from within) ∙ same)
+        | inr behind ↦ inl (inr behind)
+      ]
+    ]
 
-pub torn_keeps : (place count : ℕ) (old new : List ℕ) → Torn place count old new
-    → KeepsOthers ((place, count) ∷ []) old new
-torn_keeps place count old new torn = record {
+pub torn_keeps : (place : ℕ) (piece old new : List ℕ) → Torn place piece old new
+    → KeepsOthers ((place, piece) ∷ []) old new
+torn_keeps place piece old new torn = record {
   no_shorter = torn.no_shorter;
-  others = λ i there outside. torn_byte place count old new torn i there outside.0;
+  others = λ i there leaves. torn.stays i there (leaves_same old i (place, piece) there leaves.0);
 }
 
-pub keeps_torn : (place count : ℕ) (old new : List ℕ) → KeepsOthers ((place, count) ∷ []) old new
-    → Torn place count old new
-keeps_torn place count old new keeps =
-    byte_torn place count old new keeps.no_shorter (λ i there outside. keeps.others i there
-    (outside, tt))
+pub keeps_torn : (place : ℕ) (piece old new : List ℕ) → KeepsOthers ((place, piece) ∷ []) old new
+    → Torn place piece old new
+keeps_torn place piece old new keeps = record {
+  no_shorter = keeps.no_shorter;
+  stays = λ i there same. keeps.others i there (same_leaves old i (place, piece) there same, tt);
+}
 
--- every image keeps what no write since the last sync reached
-pub image_keeps : (base : List ℕ) (writes : List (ℕ × ℕ)) (image : List ℕ)
+-- all in front of the range
+pub torn_before : (place : ℕ) (piece old new : List ℕ) → Torn place piece old new
+    → take (min place (length old)) new ≡ take place old
+torn_before place piece old new torn =
+    let longer = torn.no_shorter in
+    ext_get_or 0 (take (min place (length old)) new) (take place old)
+    (simp length-take (omega arith)) (λ i within.
+    let size : length (take (min place (length old)) new)
+    ≡ min (min place (length old)) (length new) =
+    length-take (min place (length old)) new in
+    get_or-take (min place (length old)) new i 0 (omega arith)
+    ∙ torn.stays i (omega arith) (over_front place piece old i (omega arith) (omega arith))
+    ∙ sym (get_or-take place old i 0 (omega arith)))
+
+-- and all behind it, below the old end
+pub torn_after : (place : ℕ) (piece old new : List ℕ) → Torn place piece old new
+    → take (length old - (place + length piece)) (drop (place + length piece) new)
+    ≡ drop (place + length piece) old
+torn_after place piece old new torn =
+    let longer = torn.no_shorter in
+    let end = place + length piece in
+    ext_get_or 0 (take (length old - end) (drop end new)) (drop end old)
+    (simp (length-take, length-drop) (omega arith)) (λ i within.
+    let size : length (take (length old - end) (drop end new))
+    ≡ min (length old - end) (length (drop end new))
+    = length-take (length old - end) (drop end new) in
+    get_or-take (length old - end) (drop end new) i 0 (omega arith)
+    ∙ get_or-drop end new i 0
+    ∙ torn.stays (end + i) (omega arith)
+    (over_behind place piece old (end + i) (omega arith) (omega arith))
+    ∙ sym (get_or-drop end old i 0))
+
+-- What is there is written: nothing changes.
+over_same : (place : ℕ) (piece old : List ℕ) → part place (length piece) old ≡ piece
+    → overwritten place piece old ≡ old
+over_same place piece old there =
+    ap (λ (bytes : List ℕ). take place old ++ bytes ++ drop (place + length piece) old) (sym there)
+    ∙ append_assoc (take place old) (take (length piece) (drop place old))
+    (drop (place + length piece) old)
+    ∙ ap (λ (bytes : List ℕ). take place old ++ (take (length piece) (drop place old) ++ bytes))
+    (sym (drop-drop (length piece) place old))
+    ∙ ap (λ (bytes : List ℕ). take place old ++ bytes)
+    (take-append-drop (length piece) (drop place old))
+    ∙ take-append-drop place old
+
+pub same_extends : (place : ℕ) (piece old new : List ℕ) → part place (length piece) old ≡ piece
+    → Torn place piece old new → Extends old new
+same_extends place piece old new there torn =
+    let longer = torn.no_shorter in
+    ext_get_or 0 (take (length old) new) old (simp length-take (omega arith)) (λ i within.
+    let size : length (take (length old) new) ≡ min (length old) (length new)
+    = length-take (length old) new in
+    get_or-take (length old) new i 0 (omega arith)
+    ∙ torn.stays i (omega arith)
+    (ap (λ (bytes : List ℕ). slice_index bytes i) (over_same place piece old there)))
+
+pub extends_torn : (place : ℕ) (piece old new : List ℕ) → Extends old new
+    → Torn place piece old new
+extends_torn place piece old new extends = record {
+  no_shorter =
+      let size = length-take (length old) new in
+      let same = ap length extends in
+      omega arith;
+  stays = λ i there same. sym (get_or-take (length old) new i 0 there)
+      ∙ ap (λ (bytes : List ℕ). slice_index bytes i) extends;
+}
+
+-- the same where a crash at any moment leaves an image of such a write
+pub same_moments : {D : Type 0} (g : Ghosts D) (old new : D) (place : ℕ) (piece : List ℕ)
+    → ((d : List ℕ) → g.may_leave old d → part place (length piece) d ≡ piece)
+    → LeavesOnly g old new (λ c. (d : List ℕ) × g.may_leave old d × Torn place piece d c)
+    → LeavesOnly g old new (λ c. (d : List ℕ) × g.may_leave old d × Extends d c)
+same_moments g old new place piece there run =
+    weaker g old new _ _ (λ c (d, was, torn).
+    (d, was, same_extends place piece d c (there d was) torn)) run
+
+-- a byte that each image has, and that is written again
+pub each_has_still : (place : ℕ) (piece : List ℕ) (old new : List ℕ → Type 0) (k : ℕ)
+    → Follows (Torn place piece) old new → k < length piece
+    → EachHas (place + k) (slice_index piece k) old
+    → EachHas (place + k) (slice_index piece k) new
+each_has_still place piece old new k follows within has image now =
+    let (before, was, torn) = follows image now in
+    let (there, is) = has before was in
+    let longer = torn.no_shorter in
+    let split : (place + k) - place ≡ k = omega arith in
+    let same : slice_index (overwritten place piece before) (place + k)
+    ≡ slice_index before (place + k)
+    = over_within place piece before (place + k) there (omega arith) (omega arith)
+    ∙ ap (λ (n : ℕ). slice_index piece n) split ∙ sym is in
+    (omega arith, torn.stays (place + k) there same ∙ is)
+
+-- every image keeps what each write since the last sync leaves as it was
+pub image_keeps : (base : List ℕ) (writes : List (ℕ × List ℕ)) (image : List ℕ)
     → IsImageOf base writes image → KeepsOthers writes base image
 image_keeps base [] image is = subst (λ (c : List ℕ). KeepsOthers [] base c) (sym is)
-    (record { no_shorter = omega arith; others = λ i there outside. refl })
+    (record { no_shorter = omega arith; others = λ i there leaves. refl })
 image_keeps base (write ∷ writes) image (are, before, was, torn) =
     let kept = image_keeps base writes before was in
     let longer = kept.no_shorter in
     record {
       no_shorter = let more = torn.no_shorter in omega arith;
-      others = λ i there outside. torn_byte write.0 write.1 before image torn i
-          (omega arith) outside.0 ∙ kept.others i there outside.1;
+      others = λ i there leaves.
+          let same : slice_index before i ≡ slice_index base i
+          = kept.others i there leaves.1 in
+          torn.stays i (omega arith) (leaves_same before i write (omega arith)
+          (leaves_alike base before i write same leaves.0)) ∙ same;
     }
+  where
+    leaves_alike : (base before : List ℕ) (i : ℕ) (write : ℕ × List ℕ)
+        → slice_index before i ≡ slice_index base i → LeavesByte base i write
+        → LeavesByte before i write
+    leaves_alike base before i write same (inl outside) = inl outside
+    leaves_alike base before i write same (inr is) = inr (is ∙ sym same)
 
--- The image before a write: within the write as it was at the sync, elsewhere as the image after
--- the write.
-module _ (write : ℕ × ℕ) (base image : List ℕ) where
+-- whether a write leaves a byte as it was, and whether all of some do
+one_leaves : (old : List ℕ) (i : ℕ) (write : ℕ × List ℕ)
+    → LeavesByte old i write ⊎ (LeavesByte old i write → ⊥)
+one_leaves old i write =
+    elim (cases_lt i write.0) [
+      | inl front ↦ inl (inl (inl front))
+      | inr from ↦ elim (cases_lt i (write.0 + length write.1)) [
+        | inl within ↦ elim (cases_eq (slice_index write.1 (i - write.0)) (slice_index old i)) [
+          | inl same ↦ inl (inr same)
+          | inr other ↦ inr (changed from within other)
+        ]
+        | inr behind ↦ inl (inl (inr behind))
+      ]
+    ]
+  where
+    changed : write.0 ≤ i → i < write.0 + length write.1
+        → (slice_index write.1 (i - write.0) ≡ slice_index old i → ⊥)
+        → LeavesByte old i write → ⊥
+    changed from within other (inl (inl front)) = omega arith
+    changed from within other (inl (inr behind)) = omega arith
+    changed from within other (inr same) = other same
+
+all_leave : (old : List ℕ) (i : ℕ) (writes : List (ℕ × List ℕ))
+    → AllLeaveByte old i writes ⊎ (AllLeaveByte old i writes → ⊥)
+all_leave old i [] = inl tt
+all_leave old i (write ∷ writes) = go (one_leaves old i write) (all_leave old i writes)
+  where
+    go : LeavesByte old i write ⊎ (LeavesByte old i write → ⊥)
+        → AllLeaveByte old i writes ⊎ (AllLeaveByte old i writes → ⊥)
+        → AllLeaveByte old i (write ∷ writes) ⊎ (AllLeaveByte old i (write ∷ writes) → ⊥)
+    go (inl one) (inl all) = inl (one, all)
+    go (inr changed) all = inr (λ both. changed both.0)
+    go (inl one) (inr changed) = inr (λ both. changed both.1)
+
+-- the first number where something holds, and the second where it doesn't
+abbrev where_so : {P : Type 0} → P ⊎ (P → ⊥) → ℕ → ℕ → ℕ
+where_so (inl holds) a b = a
+where_so (inr fails) a b = b
+
+so : {P : Type 0} (either : P ⊎ (P → ⊥)) (a b : ℕ) → P → where_so either a b ≡ a
+so (inl holds) a b p = refl
+so (inr fails) a b p = absurd (fails p)
+
+-- The image before the newest write: as at the sync where all the older ones leave it so, and
+-- elsewhere as the image behind it.
+module _ (base image : List ℕ) (writes : List (ℕ × List ℕ)) where
   abbrev byte_before : ℕ → ℕ
-  byte_before i = if nat_lt i write.0 then slice_index image i
-      else (if nat_lt i (write.0 + write.1) then slice_index base i else slice_index image i)
+  byte_before i =
+      where_so (all_leave base i writes) (slice_index base i) (slice_index image i)
 
   abbrev image_before : List ℕ
   image_before = map byte_before (range_with_len 0 (length base))
@@ -102,24 +232,13 @@ module _ (write : ℕ × ℕ) (base image : List ℕ) where
   before_at i there =
       get_or-map-range_with_len byte_before 0 (length base) i i 0 there (omega arith)
 
-  before_outside : (i : ℕ) → IsOutside i write → byte_before i ≡ slice_index image i
-  before_outside i (inl front) = rw (lt-ltb i write.0 front) refl
-  before_outside i (inr back) =
-      rw (le-ltb i write.0 (omega arith), le-ltb i (write.0 + write.1) back) refl
-
-  before_within : (i : ℕ) → write.0 ≤ i → i < write.0 + write.1 → byte_before i ≡ slice_index base i
-  before_within i front back =
-      rw (le-ltb i write.0 front, lt-ltb i (write.0 + write.1) back) refl
-
   before_is_one : IsBytes base → IsBytes image → (i : ℕ) → byte_before i < 256
-  before_is_one base_are image_are i =
-      go (nat_lt i write.0) (nat_lt i (write.0 + write.1))
+  before_is_one base_are image_are i = go (all_leave base i writes)
     where
-      go : (a b : Bool) → (if a then slice_index image i
-          else (if b then slice_index base i else slice_index image i)) < 256
-      go true b = image_are i
-      go false true = base_are i
-      go false false = image_are i
+      go : (either : AllLeaveByte base i writes ⊎ (AllLeaveByte base i writes → ⊥))
+          → where_so either (slice_index base i) (slice_index image i) < 256
+      go (inl all) = base_are i
+      go (inr changed) = image_are i
 
   before_are : IsBytes base → IsBytes image → IsBytes image_before
   before_are base_are image_are i =
@@ -128,35 +247,50 @@ module _ (write : ℕ × ℕ) (base image : List ℕ) where
         | inr past ↦ rw (get_or_past image_before i 0 (omega (arith, before_length))) (omega arith)
       ]
 
-  before_torn : length base ≤ length image → Torn write.0 write.1 image_before image
-  before_torn longer = byte_torn write.0 write.1 image_before image (omega (arith, before_length))
-      (λ i there outside. sym (before_at i (omega (arith, before_length))
-      ∙ before_outside i outside))
-
-  before_keeps : (writes : List (ℕ × ℕ)) → KeepsOthers (write ∷ writes) base image
-      → KeepsOthers writes base image_before
-  before_keeps writes keeps = record {
+  before_keeps : length base ≤ length image → KeepsOthers writes base image_before
+  before_keeps longer = record {
     no_shorter = omega (arith, before_length);
-    others = λ i there outside. before_at i there ∙ elim (cases_lt i write.0) [
-      | inl front ↦ before_outside i (inl front) ∙ keeps.others i there (inl front, outside)
-      | inr behind ↦ elim (cases_lt i (write.0 + write.1)) [
-        | inl within ↦ before_within i behind within
-        | inr back ↦ before_outside i (inr back) ∙ keeps.others i there (inr back, outside)
-      ]
-    ];
+    others = λ i there all. before_at i there
+        ∙ so (all_leave base i writes) (slice_index base i) (slice_index image i) all;
   }
 
+  -- the newest write leaves a byte of it as it is: so it is in the image behind it
+  behind_it : (write : ℕ × List ℕ) → KeepsOthers (write ∷ writes) base image → (i : ℕ)
+      → i < length base → LeavesByte image_before i write
+      → slice_index image i ≡ slice_index image_before i
+  behind_it write keeps i there leaves = go (all_leave base i writes) (before_at i there) leaves
+    where
+      go : (either : AllLeaveByte base i writes ⊎ (AllLeaveByte base i writes → ⊥))
+          → slice_index image_before i
+          ≡ where_so either (slice_index base i) (slice_index image i)
+          → LeavesByte image_before i write → slice_index image i ≡ slice_index image_before i
+      go (inl all) is (inl outside) = keeps.others i there (inl outside, all) ∙ sym is
+      go (inl all) is (inr same) = keeps.others i there (inr (same ∙ is), all) ∙ sym is
+      go (inr changed) is leaves = sym is
+
+  before_torn : (write : ℕ × List ℕ) → KeepsOthers (write ∷ writes) base image
+      → Torn write.0 write.1 image_before image
+  before_torn write keeps =
+      let longer = keeps.no_shorter in
+      record {
+        no_shorter = omega (arith, before_length);
+        stays = λ i there same.
+            let within : i < length base = omega (arith, before_length) in
+            behind_it write keeps i within (same_leaves image_before i write there same);
+      }
+
 -- what keeps the other bytes is an image
-pub keeps_image : (base : List ℕ) (write : ℕ × ℕ) (writes : List (ℕ × ℕ)) (image : List ℕ)
+pub keeps_image : (base : List ℕ) (write : ℕ × List ℕ) (writes : List (ℕ × List ℕ))
+    (image : List ℕ)
     → IsBytes base → IsBytes image → KeepsOthers (write ∷ writes) base image
     → IsImageOf base (write ∷ writes) image
 keeps_image base write [] image base_are image_are keeps =
     (image_are, base, refl, keeps_torn write.0 write.1 base image keeps)
 keeps_image base write (next ∷ writes) image base_are image_are keeps = (
   image_are,
-  image_before write base image,
-  keeps_image base next writes (image_before write base image) base_are
-      (before_are write base image base_are image_are)
-      (before_keeps write base image (next ∷ writes) keeps),
-  before_torn write base image keeps.no_shorter,
+  image_before base image (next ∷ writes),
+  keeps_image base next writes (image_before base image (next ∷ writes)) base_are
+      (before_are base image (next ∷ writes) base_are image_are)
+      (before_keeps base image (next ∷ writes) keeps.no_shorter),
+  before_torn base image (next ∷ writes) write keeps,
 )

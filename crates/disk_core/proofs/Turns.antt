@@ -1,9 +1,9 @@
 -- What a call of a disk in memory did, by what its parts ensure.
-use Rattle.std.proofs.Common.{◌≡◌, ◌+◌, ℕ, Bool, true, false, true≢false, List, [], ◌∷◌, ◌++◌}
-use Rattle.std.proofs.Common.{length, Contains, ◌↔◌, IsTrue, refl, sym, subst}
+use Rattle.std.proofs.Common.{◌≡◌, ℕ, true, false, true≢false, [], ◌∷◌, ◌++◌}
+use Rattle.std.proofs.Common.{length, Contains, refl, sym, subst}
 use Rattle.mtc_io.specs.Counts.{with_count}
 use Rattle.disk_core.specs.Noted.{made_calls}
-use Rattle.disk_core.specs.Plan.{IsMade, IsStarved}
+use Rattle.disk_core.specs.Plan.{IsMade}
 use Rattle.disk_core.specs.declared.memory.call.Made.{Made}
 use Rattle.disk_core.specs.declared.memory.history.History.{History}
 use Rattle.disk_core.specs.declared.memory.plan.Plan.{Plan}

@@ -1,5 +1,5 @@
 -- What the calls of a disk do to its bytes, and what a crash may leave of them.
-use Rattle.std.specs.Prelude.{◌≡◌, ◌⊎◌, ℕ, ◌+◌, ◌-◌, ◌≤◌, min, ◌++◌, length, take, drop}
+use Rattle.std.specs.Prelude.{◌≡◌, ◌⊎◌, ℕ, ◌+◌, ◌<◌, ◌≤◌, ◌++◌, length, take, drop, slice_index}
 use Rattle.byte_forms.specs.Types.{Text}
 
 -- the bytes after a piece is written over them at a place
@@ -10,14 +10,15 @@ overwritten place piece old = take place old ++ piece ++ drop (place + length pi
 abbrev pub part : ℕ → ℕ → Text → Text
 part place count bytes = take count (drop place bytes)
 
--- An image before a write of so many bytes at a place, and one after it. Below the old end and
--- outside of the range each byte stays. The range, and all that lies past the old end, may hold any
--- bytes, and the new image may end anywhere from the old end on.
-pub record Torn (place count : ℕ) (old new : Text) : Type 0 where
+-- An image before a piece is written at a place, and one after it. Below the old end each byte
+-- stays that the write leaves as it was: one outside of the range, and one that is written as it
+-- was. The others, and all that lies past the old end, may be any bytes, and the new image may end
+-- anywhere from the old end on.
+pub record Torn (place : ℕ) (piece old new : Text) : Type 0 where
   pub no_shorter : length old ≤ length new
-  pub before : take (min place (length old)) new ≡ take place old
-  pub after : take (length old - (place + count)) (drop (place + count) new)
-      ≡ drop (place + count) old
+  pub stays : (i : ℕ) → i < length old
+      → slice_index (overwritten place piece old) i ≡ slice_index old i
+      → slice_index new i ≡ slice_index old i
 
 -- each image now comes from an image before, by a step
 abbrev pub Follows : (Text → Text → Type 0) → (Text → Type 0) → (Text → Type 0) → Type 0

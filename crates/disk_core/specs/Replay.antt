@@ -8,12 +8,12 @@ use Rattle.disk_core.specs.declared.memory.call.Call.{Call}
 use Rattle.disk_core.specs.declared.memory.call.Call.TheVariants.{Len, Read, Write, Sync}
 use Rattle.disk_core.specs.declared.memory.call.Made.{Made}
 
--- what a read gives, what was there at the last sync, and the place and length of each write since,
--- the newest first
+-- what a read gives, what was there at the last sync, and the place and the bytes of each write
+-- since, the newest first
 pub record State : Type 0 where
   pub seen : Text
   pub base : Text
-  pub writes : List (ℕ × ℕ)
+  pub writes : List (ℕ × Text)
 
 -- all of it is on the disk
 abbrev pub settled : Text → State
@@ -27,7 +27,7 @@ after_call s (Read place size) ok = s
 after_call s (Write place piece) ok =
     record s {
       seen = if ok then overwritten place piece s.seen else s.seen;
-      writes = (place, length piece) ∷ s.writes;
+      writes = (place, piece) ∷ s.writes;
     }
 after_call s Sync ok = if ok then settled s.seen else s
 
@@ -50,7 +50,7 @@ state_at first calls count = run (settled first) (take count calls)
 
 -- what a crash may leave: what was there at the last sync, with each write since torn in some way
 -- that leaves bytes
-abbrev pub IsImageOf : Text → List (ℕ × ℕ) → Text → Type 0
+abbrev pub IsImageOf : Text → List (ℕ × Text) → Text → Type 0
 IsImageOf base [] c = c ≡ base
 IsImageOf base (write ∷ writes) c =
     IsBytes c × (d : Text) × IsImageOf base writes d × Torn write.0 write.1 d c

@@ -43,7 +43,7 @@ call_seen s Len ok are is = is
 call_seen s (Read place size) ok are is = is
 call_seen s (Write place piece) true are is = (are.seen, s.seen, is, torn_all place piece s.seen)
 call_seen s (Write place piece) false are is =
-    (are.seen, s.seen, is, torn_none place (length piece) s.seen)
+    (are.seen, s.seen, is, torn_none place piece s.seen)
 call_seen s Sync true are is = refl
 call_seen s Sync false are is = is
 
@@ -61,7 +61,7 @@ now_seen first calls holds =
     run_seen (settled first) calls holds.written_are (first_bytes first holds.first_are) refl
 
 -- an image is bytes
-image_bytes : (base : Text) (writes : List (ℕ × ℕ)) (c : Text) → IsBytes base
+image_bytes : (base : Text) (writes : List (ℕ × Text)) (c : Text) → IsBytes base
     → IsImageOf base writes c → IsBytes c
 image_bytes base [] c are is = subst IsBytes (sym is) are
 image_bytes base (write ∷ writes) c are is = is.0

@@ -2,11 +2,10 @@
 -- over bytes are bytes.
 use Rattle.std.specs.Prelude.{◌≡◌, ℕ, ◌+◌, ◌-◌, ◌<◌, ◌≤◌, min, max, ◌++◌, length, take, drop}
 use Rattle.std.specs.Prelude.{slice_index, refl}
-use Rattle.std.proofs.Common.{arith, inl, inr, subst}
-use Rattle.std.proofs.lemmas.List.{length-take, length-drop, length-append, take-append-le}
-use Rattle.std.proofs.lemmas.List.{take_all, drop_all, take_at, drop_at, drop-drop, append-nil}
-use Rattle.std.proofs.lemmas.List.{append_assoc, take_min, take_rest}
-use Rattle.std.proofs.lemmas.List.{get_or_append_left, get_or-append-add}
+use Rattle.std.proofs.Common.{◌∙◌, ap, arith, inl, inr, subst, sym}
+use Rattle.std.proofs.lemmas.List.{length-take, length-drop, length-append, get_or-take}
+use Rattle.std.proofs.lemmas.List.{get_or-drop, get_or_append_left, get_or-append-add}
+use Rattle.std.proofs.lemmas.List.{get_or-append_right}
 use Rattle.std.proofs.lemmas.Bool.{cases_lt}
 use Rattle.byte_forms.specs.Types.{Text}
 use Rattle.byte_forms.specs.Places.{IsBytes}
@@ -14,78 +13,99 @@ use Rattle.byte_forms.proofs.Steps.{IsBytes-take, IsBytes-drop}
 use Rattle.disk_core.specs.Disk.{overwritten, Torn}
 
 -- nothing of it
-pub torn_none : (place count : ℕ) (bytes : Text) → Torn place count bytes bytes
-torn_none place count bytes = record {
-  no_shorter = omega arith;
-  before = take_min place bytes;
-  after = take_rest bytes (place + count);
-}
+pub torn_none : (place : ℕ) (piece bytes : Text) → Torn place piece bytes bytes
+torn_none place piece bytes = record { no_shorter = omega arith; stays = λ i there same. refl }
 
 pub length-overwritten : (place : ℕ) (piece old : Text) → place ≤ length old
     → length (overwritten place piece old) ≡ max (place + length piece) (length old)
 length-overwritten place piece old within =
     simp (length-append, length-take, length-drop) (omega arith)
 
--- a write that begins past the end adds its bytes at the end
-past_end : (place : ℕ) (piece old : Text) → length old ≤ place
-    → overwritten place piece old ≡ old ++ piece
-past_end place piece old past =
-    rw (take_all place old past, drop_all (place + length piece) old (omega arith))
-    (append-nil (old ++ piece))
+-- no byte is lost
+over_no_shorter : (place : ℕ) (piece old : Text)
+    → length old ≤ length (overwritten place piece old)
+over_no_shorter place piece old = simp (length-append, length-take, length-drop) (omega arith)
 
--- behind the range nothing changes
-behind : (place count : ℕ) (piece old : Text) → length piece ≤ count → place ≤ length old
-    → drop (place + count) (overwritten place piece old) ≡ drop (place + count) old
-behind place count piece old few within =
+-- a byte in front of the range
+pub over_front : (place : ℕ) (piece old : Text) (i : ℕ) → i < length old → i < place
+    → slice_index (overwritten place piece old) i ≡ slice_index old i
+over_front place piece old i there front =
+    let kept : i < length (take place old) = simp length-take (omega arith) in
+    let both : i < length (take place old ++ piece) = simp length-append (omega arith) in
+    get_or_append_left (take place old ++ piece) (drop (place + length piece) old) 0 i both
+    ∙ get_or_append_left (take place old) piece 0 i kept ∙ get_or-take place old i 0 front
+
+-- one in it
+pub over_within : (place : ℕ) (piece old : Text) (i : ℕ) → i < length old → place ≤ i
+    → i < place + length piece
+    → slice_index (overwritten place piece old) i ≡ slice_index piece (i - place)
+over_within place piece old i there from within =
+    let front : length (take place old) ≡ place = simp length-take (omega arith) in
+    let both : i < length (take place old ++ piece) = simp length-append (omega arith) in
+    get_or_append_left (take place old ++ piece) (drop (place + length piece) old) 0 i both
+    ∙ get_or-append_right (take place old) piece place i 0 front from
+
+-- one behind it
+pub over_behind : (place : ℕ) (piece old : Text) (i : ℕ) → i < length old
+    → place + length piece ≤ i
+    → slice_index (overwritten place piece old) i ≡ slice_index old i
+over_behind place piece old i there behind =
     let front : length (take place old ++ piece) ≡ place + length piece
     = simp (length-append, length-take) (omega arith) in
-    let split : place + count ≡ (place + length piece) + (count - length piece) = omega arith in
-    rw (
-      split,
-      ← drop-drop (count - length piece) (place + length piece) (overwritten place piece old),
-      drop_at (take place old ++ piece) (drop (place + length piece) old) (place + length piece)
-          front,
-    )
-    (drop-drop (count - length piece) (place + length piece) old)
+    let split : (place + length piece) + (i - (place + length piece)) ≡ i = omega arith in
+    get_or-append_right (take place old ++ piece) (drop (place + length piece) old)
+    (place + length piece) i 0 front behind
+    ∙ get_or-drop (place + length piece) old (i - (place + length piece)) 0
+    ∙ ap (λ (n : ℕ). slice_index old n) split
 
--- other bytes over the front of the range, or over all of it
-pub torn_piece : (place count : ℕ) (piece old : Text) → length piece ≤ count
-    → Torn place count old (overwritten place piece old)
-torn_piece place count piece old few =
-    elim (cases_lt (length old) place) [
-      | inl past ↦ record {
-        no_shorter = rw (past_end place piece old (omega arith)) (simp length-append (omega arith));
-        before = rw (past_end place piece old (omega arith))
-            (let same : min place (length old) ≡ length old = omega arith in
-            rw (same, take_all place old (omega arith)) (take_at old piece (length old) refl));
-        after = let none : length old - (place + count) ≡ 0 = omega arith in
-            rw (none, drop_all (place + count) old (omega arith)) refl;
-      }
-      | inr within ↦ record {
-        no_shorter = let l = length-overwritten place piece old within in omega arith;
-        before = let same : min place (length old) ≡ place = omega arith in
-            let front : length (take place old) ≡ place = simp length-take (omega arith) in
-            rw (same, append_assoc (take place old) piece (drop (place + length piece) old))
-            (take_at (take place old) (piece ++ drop (place + length piece) old) place front);
-        after = rw (behind place count piece old few within) (take_rest old (place + count));
-      }
+-- Other bytes over the front of the range, or over all of it: none over one that is written as it
+-- was.
+pub torn_other : (place : ℕ) (piece other old : Text) → length other ≤ length piece
+    → ((k : ℕ) → k < length other → place + k < length old
+    → slice_index piece k ≡ slice_index old (place + k)
+    → slice_index other k ≡ slice_index old (place + k))
+    → Torn place piece old (overwritten place other old)
+torn_other place piece other old few same_there = record {
+  no_shorter = over_no_shorter place other old;
+  stays = λ i there same. elim (cases_lt i place) [
+    | inl front ↦ over_front place other old i there front
+    | inr from ↦ elim (cases_lt i (place + length other)) [
+      | inl within ↦
+          let split : place + (i - place) ≡ i = omega arith in
+          let at : slice_index old (place + (i - place)) ≡ slice_index old i
+          = ap (λ (n : ℕ). slice_index old n) split in
+          over_within place other old i there from within
+          ∙ same_there (i - place) (omega arith) (omega arith)
+          (sym (over_within place piece old i there from (omega arith)) ∙ same ∙ sym at) ∙ at
+      | inr behind ↦ over_behind place other old i there behind
     ]
+  ];
+}
+
+-- its front
+pub torn_front : (place count : ℕ) (piece old : Text) → count ≤ length piece
+    → Torn place piece old (overwritten place (take count piece) old)
+torn_front place count piece old few =
+    torn_other place piece (take count piece) old (simp length-take (omega arith))
+    (λ k within there same.
+    let size : length (take count piece) ≡ min count (length piece) = length-take count piece in
+    get_or-take count piece k 0 (omega arith) ∙ same)
 
 -- all of it
-pub torn_all : (place : ℕ) (piece old : Text)
-    → Torn place (length piece) old (overwritten place piece old)
-torn_all place piece old = torn_piece place (length piece) piece old (omega arith)
+pub torn_all : (place : ℕ) (piece old : Text) → Torn place piece old (overwritten place piece old)
+torn_all place piece old = record {
+  no_shorter = over_no_shorter place piece old;
+  stays = λ i there same. same;
+}
 
--- other bytes behind it, where the range reaches the end
-pub torn_longer : (place count : ℕ) (old new more : Text) → length old ≤ place + count
-    → Torn place count old new → Torn place count old (new ++ more)
-torn_longer place count old new more reaches torn = record {
-  no_shorter = let a = torn.no_shorter in simp length-append (omega arith);
-  before = let within : min place (length old) ≤ length new
-      = let longer = torn.no_shorter in omega arith in
-      rw (take-append-le (min place (length old)) new more within) torn.before;
-  after = let none : length old - (place + count) ≡ 0 = omega arith in
-      rw (none, drop_all (place + count) old (omega arith)) refl;
+-- other bytes behind the end
+pub torn_longer : (place : ℕ) (piece old new more : Text) → Torn place piece old new
+    → Torn place piece old (new ++ more)
+torn_longer place piece old new more torn = record {
+  no_shorter = let longer = torn.no_shorter in simp length-append (omega arith);
+  stays = λ i there same.
+      let longer = torn.no_shorter in
+      get_or_append_left new more 0 i (omega arith) ∙ torn.stays i there same;
 }
 
 IsBytes-append : (a b : Text) → IsBytes a → IsBytes b → IsBytes (a ++ b)

@@ -14,8 +14,10 @@ use mtc_io::Failed;
 
 /// One file that keeps bytes over a crash of the machine, or doesn't.
 ///
-/// Between two calls of [`Disk::sync`] nothing is certain: a crash may leave any bytes in each
-/// written range and past the old end. After a `sync` that answers Ok it leaves what a read gives.
+/// Between two calls of [`Disk::sync`] nothing is certain: a crash may leave any bytes where a
+/// write changed one, and past the old end. All other bytes stay, also those that are written again
+/// as they were: a disk that keeps this rule never spoils a sector into which it writes the same
+/// bytes once more. After a `sync` that answers Ok a crash leaves what a read gives.
 pub trait Disk {
     /// The bytes that a read gives, where the disk tells them.
     ghost told: { Self → Option Text };
@@ -77,7 +79,7 @@ pub trait Disk {
             ≡ max (place + length bytes.now) (known self.old)) }
         ensures known_err { OnErr result (known self.new ≡ known self.old) }
         ensures told_err { OnErr result (is_some (told self.new) ≡ is_some (told self.old)) }
-        ensures crash { Follows (Torn place (length bytes.now)) (may_leave self.old)
+        ensures crash { Follows (Torn place bytes.now) (may_leave self.old)
             (may_leave self.new) }
         ensures time { Elapses (moment self.old) (moment self.new) (left_since self.old)
             (left_since self.new) (may_leave self.new) }

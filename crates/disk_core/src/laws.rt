@@ -1,26 +1,50 @@
 //! Laws of what a crash leaves: the clauses are the laws, and the functions do nothing.
 
-ghost use Rattle.std.specs.Prelude.{◌↔◌, ℕ, List, [], ◌∷◌};
+ghost use Rattle.std.specs.Prelude.{◌≡◌, ◌↔◌, ℕ, ◌+◌, ◌<◌, List, [], ◌∷◌, length, slice_index};
 ghost use Rattle.byte_forms.specs.Types.{Text};
 ghost use Rattle.byte_forms.specs.Places.{IsBytes};
-ghost use Rattle.disk_core.specs.Disk.{Torn};
+ghost use Rattle.disk_core.specs.Disk.{part, Torn, Follows};
+ghost use Rattle.disk_core.specs.Moments.{LeavesOnly};
 ghost use Rattle.disk_core.specs.Replay.{IsImageOf};
-ghost use Rattle.disk_core.specs.Torn.{KeepsOthers};
+ghost use Rattle.disk_core.specs.Torn.{KeepsOthers, Extends, EachHas};
 
-/// The law of a write that is torn: its images are exactly those that keep each byte outside of its
-/// range and below the old end. The range and all past the old end may hold any bytes, and the
-/// image may end anywhere from there on.
+use crate::disk::Disk;
+
+/// The law of a write that is torn: its images are exactly those that keep each byte below the old
+/// end that it leaves as it was, since it lies outside of the range or is written again. All other
+/// bytes may be any, and the image may end anywhere from the old end on.
 pub fn a_torn_write_keeps_others()
-    ensures { (place count : ℕ) (old new : Text)
-        → Torn place count old new ↔ KeepsOthers ((place, count) ∷ []) old new }
+    ensures { (place : ℕ) (piece old new : Text)
+        → Torn place piece old new ↔ KeepsOthers ((place, piece) ∷ []) old new }
 {}
 
 /// The law of one or more writes since a sync: the images of the disk in memory are exactly the
-/// bytes that keep each byte outside of all of them and below the end at the sync.
+/// bytes that keep each byte below the end at the sync that all of them leave as it was there.
 pub fn torn_writes_keep_others()
-    ensures kept { (base : Text) (writes : List (ℕ × ℕ)) (image : Text)
+    ensures kept { (base : Text) (writes : List (ℕ × Text)) (image : Text)
         → IsImageOf base writes image → KeepsOthers writes base image }
-    ensures all { (base : Text) (write : ℕ × ℕ) (writes : List (ℕ × ℕ)) (image : Text)
+    ensures all { (base : Text) (write : ℕ × Text) (writes : List (ℕ × Text)) (image : Text)
         → IsBytes base → IsBytes image → KeepsOthers (write ∷ writes) base image
         → IsImageOf base (write ∷ writes) image }
+{}
+
+/// The law of a write of what is there: its images are exactly the old one with anything behind its
+/// end (`exact`). So where each image of a disk has the written bytes, a crash leaves no image but
+/// one from before, with anything behind its end: behind the write (`images`), and at any moment of
+/// it (`moments`). And a byte of it that each image has is in each image behind it (`byte`).
+pub fn bytes_written_again_stay<D: Disk>()
+    ensures exact { (place : ℕ) (piece old new : Text) → part place (length piece) old ≡ piece
+        → (Torn place piece old new ↔ Extends old new) }
+    ensures images { (place : ℕ) (piece : Text) (old new : D)
+        → ((d : Text) → D.may_leave old d → part place (length piece) d ≡ piece)
+        → Follows (Torn place piece) (D.may_leave old) (D.may_leave new)
+        → Follows Extends (D.may_leave old) (D.may_leave new) }
+    ensures moments { (place : ℕ) (piece : Text) (old new : D)
+        → ((d : Text) → D.may_leave old d → part place (length piece) d ≡ piece)
+        → LeavesOnly D.Disk old new (λ c. (d : Text) × D.may_leave old d × Torn place piece d c)
+        → LeavesOnly D.Disk old new (λ c. (d : Text) × D.may_leave old d × Extends d c) }
+    ensures byte { (place : ℕ) (piece : Text) (old new : D) (k : ℕ) → k < length piece
+        → EachHas (place + k) (slice_index piece k) (D.may_leave old)
+        → Follows (Torn place piece) (D.may_leave old) (D.may_leave new)
+        → EachHas (place + k) (slice_index piece k) (D.may_leave new) }
 {}

@@ -26,7 +26,7 @@ pub fn write_synced<D: Disk>(disk: &mut D, place: u64, bytes: &[u8]) -> Result<(
     ensures reach { D.known disk.new ≤ max (place + length bytes.now) (D.known disk.old) }
     ensures told { is_some (D.told disk.new) ≡ is_some (D.told disk.old) }
     ensures any_moment { LeavesOnly D.Disk disk.old disk.new
-        (λ c. (d : Text) × D.may_leave disk.old d × Torn place (length bytes.now) d c) }
+        (λ c. (d : Text) × D.may_leave disk.old d × Torn place bytes.now d c) }
     ensures clock { OnOk result (Rose (D.moment disk.old) (D.moment disk.new)) }
     ensures cause { HasCause (D.faults disk.old) (D.faults disk.new) result }
 {

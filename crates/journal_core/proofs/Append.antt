@@ -9,20 +9,21 @@ use Rattle.std.proofs.lemmas.List.{length-take, length-drop, take-append-le}
 use Rattle.std.proofs.lemmas.Bool.{cases_eq}
 use Rattle.disk_core.specs.Disk.{overwritten, part, Torn}
 use Rattle.disk_core.specs.Writes.{torn_all}
+use Rattle.disk_core.proofs.Torn.{torn_after, torn_before}
 use Rattle.journal_core.specs.Format.{behind, IsClosedAt, StandsFor, StandsForEither, tail_of}
 use Rattle.journal_core.specs.Format.{new_file_of}
 use Rattle.journal_core.proofs.Records.{part_kept, byte_kept, records_kept, header_kept}
 use Rattle.journal_core.proofs.Records.{stands_kept, behind_later, behind-append, records-append}
 
 -- The write behind the closed gate leaves the list as it was, however it is torn.
-pub torn_behind : (end count : ℕ) (records : List (List ℕ)) (old new : List ℕ)
-    → end ≡ behind 16 records + 1 → Torn end count old new
+pub torn_behind : (end : ℕ) (piece : List ℕ) (records : List (List ℕ)) (old new : List ℕ)
+    → end ≡ behind 16 records + 1 → Torn end piece old new
     → StandsFor old records → StandsFor new records
-torn_behind end count records old new end_is torn is =
+torn_behind end piece records old new end_is torn is =
     let there = is.ends.there in
     let longer = torn.no_shorter in
     let whole : min end (length old) ≡ end = omega arith in
-    let same : take end new ≡ take end old = rw whole at torn.before in
+    let same : take end new ≡ take end old = rw whole at (torn_before end piece old new torn) in
     stands_kept end records old new same (omega arith) (omega arith) is
 
 -- The list stands, and behind its closed gate lie the length of a body, the body and a closed gate.
@@ -48,7 +49,7 @@ staged end records body old new end_is is new_is =
     = rw behind_front (take_at (tail_of body) back (5 + length body) (length-tail body)) in
     record {
       stands = subst (λ (bytes : List ℕ). StandsFor bytes records) (sym new_is)
-          (torn_behind end (length (tail_of body)) records old _ end_is
+          (torn_behind end (tail_of body) records old _ end_is
           (torn_all end (tail_of body) old) is);
       tail = subst (λ (bytes : List ℕ). part (behind 16 records + 1) (5 + length body) bytes
           ≡ tail_of body) (sym new_is)
@@ -153,12 +154,12 @@ module _ (bytes : List ℕ) (records : List (List ℕ)) (body : List ℕ)
       ∙ ap (λ (t : List ℕ). get_or t (4 + length body) 0) is.tail
       ∙ get_or_at (to_be_bytes w32 (length body) ++ body) 0 [] 0 (4 + length body) size_and_body
 
-  module _ (new : List ℕ) (torn : Torn (behind 16 records) 1 bytes new) where
+  module _ (new : List ℕ) (torn : Torn (behind 16 records) (1 ∷ []) bytes new) where
     front_same : take (behind 16 records) new ≡ take (behind 16 records) bytes
     front_same =
         let there = is.stands.ends.there in
         let whole : min (behind 16 records) (length bytes) ≡ behind 16 records = omega arith in
-        rw whole at torn.before
+        rw whole at (torn_before (behind 16 records) (1 ∷ []) bytes new torn)
 
     -- the gate is still closed
     pub gate_shut : slice_index new (behind 16 records) ≡ 0 → StandsFor new records
@@ -181,6 +182,8 @@ module _ (bytes : List ℕ) (records : List (List ℕ)) (body : List ℕ)
         let gate = behind 16 records in
         let there : gate + (5 + length body) < length bytes = staged_length in
         let longer = torn.no_shorter in
+        let after : take (length bytes - (gate + 1)) (drop (gate + 1) new) ≡ drop (gate + 1) bytes
+        = torn_after gate (1 ∷ []) bytes new torn in
         record {
           begins = header_kept gate bytes new front_same (behind_later 16 records) is.stands.begins;
           holds = records-append new 16 records body
@@ -189,15 +192,15 @@ module _ (bytes : List ℕ) (records : List (List ℕ)) (body : List ℕ)
                 some = some;
                 few = few;
                 open_gate = opened;
-                size = part_after (gate + 1) (gate + 1) 4 bytes new torn.after (omega arith)
+                size = part_after (gate + 1) (gate + 1) 4 bytes new after (omega arith)
                     (omega arith) ∙ staged_size;
-                body_is = part_after (gate + 1) (gate + 5) (length body) bytes new torn.after
+                body_is = part_after (gate + 1) (gate + 5) (length body) bytes new after
                     (omega arith) (omega arith) ∙ staged_body;
               });
           ends = subst (λ (place : ℕ). IsClosedAt new place) (sym (behind-append 16 records body))
               (record {
                 there = omega arith;
-                shut = byte_after (gate + 1) (gate + 5 + length body) bytes new torn.after
+                shut = byte_after (gate + 1) (gate + 5 + length body) bytes new after
                     (omega arith) (omega arith) ∙ staged_end;
               });
         }

@@ -21,28 +21,29 @@ module _ {D : Type 0} (g : Ghosts D) (old mid new : D) (bytes : List ℕ) (body 
     (end : ℕ) where
   -- the first write, at any moment
   pub first_step : (records : List (List ℕ)) → Only bytes (g.may_leave old)
-      → StandsFor bytes records → end ≡ behind 16 records + 1 → (count : ℕ)
-      → LeavesOnly g old mid (λ c. (d : List ℕ) × g.may_leave old d × Torn end count d c)
+      → StandsFor bytes records → end ≡ behind 16 records + 1 → (piece : List ℕ)
+      → LeavesOnly g old mid (λ c. (d : List ℕ) × g.may_leave old d × Torn end piece d c)
       → LeavesOnly g old mid (StandsForEither records body)
-  first_step records only is end_is count run =
+  first_step records only is end_is piece run =
       weaker g old mid _ _ (λ c (
         d,
         was,
         torn,
-      ). inl (torn_behind end count records d c end_is torn
+      ). inl (torn_behind end piece records d c end_is torn
       (subst (λ (b : List ℕ). StandsFor b records) (sym (only d was)) is))) run
 
   -- the second write, at any moment
   pub second_step : (records : List (List ℕ)) (staged_bytes : List ℕ)
       → Only staged_bytes (g.may_leave mid) → IsStaged staged_bytes records body
       → 1 ≤ length body → length body ≤ 131072 → end ≡ behind 16 records + 1
-      → LeavesOnly g mid new (λ c. (d : List ℕ) × g.may_leave mid d × Torn (end - 1) 1 d c)
+      → LeavesOnly g mid new
+      (λ c. (d : List ℕ) × g.may_leave mid d × Torn (end - 1) (1 ∷ []) d c)
       → LeavesOnly g mid new (StandsForEither records body)
   second_step records staged_bytes only is some few end_is run =
       let gate : end - 1 ≡ behind 16 records = omega arith in
       weaker g mid new _ _ (λ c (d, was, torn). torn_gate d records body
       (subst (λ (b : List ℕ). IsStaged b records body) (sym (only d was)) is) c
-      (subst (λ (n : ℕ). Torn n 1 d c) gate torn) some few) run
+      (subst (λ (n : ℕ). Torn n (1 ∷ []) d c) gate torn) some few) run
 
 -- An append whose two writes are done.
 module _ {D : Type 0} (g : Ghosts D) (old mid new : D) (body piece : List ℕ) (end : ℕ)
@@ -141,24 +142,24 @@ module _ {D : Type 0} (g : Ghosts D) (old mid new : D) (body piece : List ℕ) (
     (settled : (b : List ℕ) → g.told old ≡ Some b → IsSettled b (g.may_leave old) end)
     (piece_is : piece ≡ tail_of body) (some : 1 ≤ length body) (few : length body ≤ 131072) where
   -- in the first write
-  pub one_step : (count : ℕ) → LeavesOnly g old mid (λ c. (d : List ℕ) × g.may_leave old d
-      × Torn end count d c)
+  pub one_step : LeavesOnly g old mid (λ c. (d : List ℕ) × g.may_leave old d × Torn end piece d c)
       → IfSome (option_map records_of (g.told old))
       (λ list. LeavesOnly g old mid (StandsForEither list body))
-  one_step count run = of_records (λ list. LeavesOnly g old mid (StandsForEither list body))
+  one_step run = of_records (λ list. LeavesOnly g old mid (StandsForEither list body))
       (g.told old) (λ b told.
       let was = settled b told in
-      first_step g old mid new b body end (records_of b) was.only was.stands was.end_is count run)
+      first_step g old mid new b body end (records_of b) was.only was.stands was.end_is piece run)
 
   -- in the second write
-  pub both_steps : (count : ℕ) → LeavesOnly g old mid (λ c. (d : List ℕ) × g.may_leave old d
-      × Torn end count d c)
+  pub both_steps : LeavesOnly g old mid
+      (λ c. (d : List ℕ) × g.may_leave old d × Torn end piece d c)
       → g.told mid ≡ option_map (overwritten end piece) (g.told old)
       → IfSome (g.told mid) (λ b. Only b (g.may_leave mid))
-      → LeavesOnly g mid new (λ c. (d : List ℕ) × g.may_leave mid d × Torn (end - 1) 1 d c)
+      → LeavesOnly g mid new
+      (λ c. (d : List ℕ) × g.may_leave mid d × Torn (end - 1) (1 ∷ []) d c)
       → IfSome (option_map records_of (g.told old))
       (λ list. LeavesOnly g old new (StandsForEither list body))
-  both_steps count run written durable run_on =
+  both_steps run written durable run_on =
       of_records (λ list. LeavesOnly g old new (StandsForEither list body)) (g.told old) (λ b told.
       let was = settled b told in
       let now : List ℕ = overwritten end piece b in
@@ -171,7 +172,7 @@ module _ {D : Type 0} (g : Ghosts D) (old mid new : D) (body piece : List ℕ) (
       = staged end (records_of b) body b now was.end_is was.stands
       (ap (λ (p : List ℕ). overwritten end p b) piece_is) in
       joined g old mid new _ (first_step g old mid new b body end (records_of b) was.only was.stands
-      was.end_is count run)
+      was.end_is piece run)
       (second_step g old mid new b body end (records_of b) now only is_staged some few
       was.end_is run_on))
 

@@ -4,16 +4,17 @@ use Rattle.std.proofs.Common.{arith}
 use Rattle.std.proofs.lemmas.List.{take_min, take-take}
 use Rattle.disk_core.specs.Disk.{Torn}
 use Rattle.disk_core.specs.declared.disk.Disk.{Ghosts}
+use Rattle.disk_core.proofs.Torn.{torn_before}
 use Rattle.tile_store.specs.Writing.{IsImageBehind, KeepsFront}
 
 pub front-same : (place : ℕ) (bytes : List ℕ) → KeepsFront place bytes bytes
 front-same place bytes = record { no_shorter = omega arith; front = take_min place bytes }
 
-pub front-torn : (place count : ℕ) (old new : List ℕ) → Torn place count old new
+pub front-torn : (place : ℕ) (piece old new : List ℕ) → Torn place piece old new
     → KeepsFront place old new
-front-torn place count old new torn = record {
+front-torn place piece old new torn = record {
   no_shorter = torn.no_shorter;
-  front = torn.before;
+  front = torn_before place piece old new torn;
 }
 
 -- a place further on, and one step behind another

@@ -1,6 +1,7 @@
 //! What is left of a disk in memory after a crash.
 
-ghost use Rattle.std.specs.Prelude.{◌≡◌, ◌≤◌, ◌/◌, ℕ, length, OnOk, IfOk};
+ghost use Rattle.std.specs.Prelude.{◌≡◌, ◌↔◌, ◌≤◌, ◌<◌, ◌/◌, ℕ, length, slice_index, OnOk, IfOk};
+ghost use Rattle.std.specs.Prelude.{IsTrue};
 ghost use Rattle.disk_core.specs.Calls.{calls_in};
 ghost use Rattle.disk_core.specs.Disk.{Torn};
 ghost use Rattle.disk_core.specs.Replay.{State, step, state_now, IsImage};
@@ -11,10 +12,10 @@ use mtc_io::Memory;
 use std::alloc::{AllocError, Global};
 
 // What becomes of a write, by the lowest bits of the choice: nothing of it is left, all, its front
-// alone, or its front with other bytes behind it. The next bits say how long the front is, in
-// quarters.
+// alone, or its front with other bytes behind it, but where it is written as it was. The next bits
+// say how long the front is, in quarters.
 fn tear(image: &mut Vec<u8>, place: u64, piece: &[u8], choice: u64) -> Result<(), Memory>
-    ensures { OnOk result (Torn place (length piece.now) image.old.items image.new.items) }
+    ensures { OnOk result (Torn place piece.now image.old.items image.new.items) }
 {
     let front = piece.len() / 4 * (choice / 4 % 4) as usize;
     match choice % 4 {
@@ -28,36 +29,58 @@ fn tear(image: &mut Vec<u8>, place: u64, piece: &[u8], choice: u64) -> Result<()
 // The front of the piece alone: where it reaches past the end, the file is cut short behind it.
 fn put_front(image: &mut Vec<u8>, place: u64, piece: &[u8], front: usize) -> Result<(), Memory>
     requires { front ≤ length piece.now }
-    ensures { OnOk result (Torn place (length piece.now) image.old.items image.new.items) }
+    ensures { OnOk result (Torn place piece.now image.old.items image.new.items) }
 {
     overwrite(image, place, &piece[..front])?;
     Ok(())
 }
 
 // The front of the piece and other bytes behind it, also past the end of the file where the piece
-// reaches it.
+// reaches it. A byte that is written as it was stays.
 fn spoil(image: &mut Vec<u8>, place: u64, piece: &[u8], front: usize) -> Result<(), Memory>
     requires { front ≤ length piece.now }
-    ensures { OnOk result (Torn place (length piece.now) image.old.items image.new.items) }
+    ensures { OnOk result (Torn place piece.now image.old.items image.new.items) }
 {
     let reaches = image.len() <= piece.len() || place as usize >= image.len() - piece.len();
-    let spoilt = spoilt(*image.allocator(), piece, front)?;
-    overwrite(image, place, &spoilt)?;
+    put_spoilt(image, place, piece, front)?;
     if reaches {
         image.extend_from_slice(&piece[..front])?;
     }
     Ok(())
 }
 
-// The piece with each byte from a place on turned into another.
-fn spoilt(alloc: Global, piece: &[u8], front: usize) -> Result<Vec<u8>, AllocError>
-    ensures { IfOk result (λ v. length v.items ≡ length piece.now) }
+// The piece with other bytes behind its front, over what is there.
+fn put_spoilt(image: &mut Vec<u8>, place: u64, piece: &[u8], front: usize) -> Result<(), Memory>
+    ensures { OnOk result (Torn place piece.now image.old.items image.new.items) }
 {
-    piece
-        .iter()
-        .enumerate()
-        .map(|(i, byte)| if i < front { *byte } else { 255 - *byte })
-        .collect(alloc)
+    let start = image.len().min(place as usize);
+    let bytes = spoilt(*image.allocator(), &image[start..], piece, front)?;
+    overwrite(image, place, &bytes)?;
+    Ok(())
+}
+
+// The bytes have this one at an index.
+fn has_at(bytes: &[u8], index: usize, byte: u8) -> bool
+    ensures { IsTrue result
+        ↔ (index < length bytes.now) × (slice_index bytes.now index ≡ byte) }
+{
+    index < bytes.len() && bytes[index] == byte
+}
+
+// The piece with each byte from an index on turned into another, but where it is there already.
+fn spoilt(alloc: Global, there: &[u8], piece: &[u8], front: usize) -> Result<Vec<u8>, AllocError>
+    ensures size { IfOk result (λ v. length v.items ≡ length piece.now) }
+    ensures same { IfOk result (λ v. (k : ℕ) → k < length piece.now → k < length there.now
+        → slice_index piece.now k ≡ slice_index there.now k
+        → slice_index v.items k ≡ slice_index there.now k) }
+{
+    let mut bytes = Vec::from_slice(alloc, piece)?;
+    for index in front..piece.len() {
+        if !has_at(there, index, piece[index]) {
+            bytes[index] = 255 - piece[index];
+        }
+    }
+    Ok(bytes)
 }
 
 // A copy of what is seen, for a sync; a torn write; or nothing.

@@ -67,7 +67,7 @@ fn write_noted(
     ensures err { OnErr result (live.new.items ≡ live.old.items) }
     ensures seen { (first : Text) → live.old.items ≡ (state_now first (made_calls calls.old)).seen
         → live.new.items ≡ (state_now first (made_calls calls.new)).seen }
-    ensures crash { (first : Text) → Follows (Torn place (length piece.now))
+    ensures crash { (first : Text) → Follows (Torn place piece.now)
         (IsImage (state_now first (made_calls calls.old)))
         (IsImage (state_now first (made_calls calls.new))) }
     ensures time { (first : Text) → Elapses (length (made_calls calls.old))
@@ -195,7 +195,7 @@ impl History {
         ensures calls { made_calls self.new.calls
             ≡ noted (is_ok result) (Call.Write place piece.now) false (made_calls self.old.calls) }
         ensures seen { seen_of self.new ≡ seen_of self.old }
-        ensures crash { Follows (Torn place (length piece.now)) (left_of self.old)
+        ensures crash { Follows (Torn place piece.now) (left_of self.old)
             (left_of self.new) }
         ensures time { Elapses (moment_of self.old) (moment_of self.new) (since_of self.old)
             (since_of self.new) (left_of self.new) }
@@ -212,7 +212,7 @@ impl History {
         ensures ok { OnOk result (seen_of self.new
             ≡ overwritten place piece.now (seen_of self.old)) }
         ensures err { OnErr result (seen_of self.new ≡ seen_of self.old) }
-        ensures crash { Follows (Torn place (length piece.now)) (left_of self.old)
+        ensures crash { Follows (Torn place piece.now) (left_of self.old)
             (left_of self.new) }
         ensures time { Elapses (moment_of self.old) (moment_of self.new) (since_of self.old)
             (since_of self.new) (left_of self.new) }

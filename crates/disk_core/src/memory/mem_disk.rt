@@ -95,7 +95,7 @@ fn settle(plan: &mut Plan, past: &mut History) -> Result<(), Failed>
 fn write(plan: &mut Plan, past: &mut History, place: u64, piece: &[u8]) -> Result<(), Failed>
     ensures ok { OnOk result (seen_of past.new ≡ overwritten place piece.now (seen_of past.old)) }
     ensures err { OnErr result (seen_of past.new ≡ seen_of past.old) }
-    ensures crash { Follows (Torn place (length piece.now)) (left_of past.old) (left_of past.new) }
+    ensures crash { Follows (Torn place piece.now) (left_of past.old) (left_of past.new) }
     ensures time { Elapses (moment_of past.old) (moment_of past.new) (since_of past.old)
         (since_of past.new) (left_of past.new) }
     ensures clock { OnOk result (moment_of past.old < moment_of past.new) }
@@ -162,9 +162,10 @@ impl MemDisk {
 
     /// A disk over one image that a crash now may leave, chosen by `pick`. Of each write since the
     /// last sync that was answered Ok nothing is left, all of it, its front alone, or its front
-    /// with other bytes behind: two bits of `pick` choose, for each write the two above those of
-    /// the one before it, and the two above these say the length of the front, in quarters. They
-    /// are those that choose for the next write. The same pick gives the same image.
+    /// with other bytes behind, but where it wrote what was there: two bits of `pick` choose, for
+    /// each write the two above those of the one before it, and the two above these say the length
+    /// of the front, in quarters. They are those that choose for the next write. The same pick
+    /// gives the same image.
     pub fn crash(self, pick: u64) -> Result<MemDisk, Memory>
         ensures image { IfOk result (λ it. images_of self (bytes_of it)) }
         ensures fresh { IfOk result (λ it. IsFresh (bytes_of it) it) }

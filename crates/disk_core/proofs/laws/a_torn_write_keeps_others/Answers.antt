@@ -2,4 +2,4 @@ use Rattle.disk_core.proofs.Torn.{torn_keeps, keeps_torn}
 use Rattle.disk_core.proofs.laws.a_torn_write_keeps_others.Goals as goal
 
 pub returns : goal.returns
-returns c = λ place count old new. (torn_keeps place count old new, keeps_torn place count old new)
+returns c = λ place piece old new. (torn_keeps place piece old new, keeps_torn place piece old new)

@@ -1,4 +1,4 @@
-use Rattle.std.proofs.Common.{length, subst, arith}
+use Rattle.std.proofs.Common.{subst, arith}
 use Rattle.disk_core.specs.Disk.{Torn}
 use Rattle.disk_core.proofs.Moments.{goes_on, started}
 use Rattle.tile_store.proofs.Fronts.{behind-now, front-torn}
@@ -36,7 +36,7 @@ returns-clause-any_moment g c =
     record {
       before = step.0;
       left = step.1;
-      keeps = front-torn place (length c.tile_bytes.result.now) step.0 image
-          (subst (λ p. Torn p (length c.tile_bytes.result.now) step.0 image)
+      keeps = front-torn place c.tile_bytes.result.now step.0 image
+          (subst (λ p. Torn p c.tile_bytes.result.now step.0 image)
           c.place_of.ensures step.2);
     })

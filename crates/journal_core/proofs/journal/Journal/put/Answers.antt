@@ -27,7 +27,6 @@ invariant_of-self g c = record {
       (take (length c.args.body.now + 5) c.deref.result.now) c.args.self.now.end
       (c.args.self.now.settled c.if-self.false)
       (piece_is _ _ _ c.deref.ensures.value c.pack.ensures.tail) c.requires.some c.requires.few
-      (length (take (length c.args.body.now + 5) c.deref.result.now))
       c.write_synced.ensures.any_moment);
   settled = λ sound. absurd (true≢false sound);
 }
@@ -47,7 +46,6 @@ invariant_of-self-in-Break-branch-2 g c = record {
       (take (length c.args.body.now + 5) c.deref.result.now) c.args.self.now.end
       (c.args.self.now.settled c.if-self.false)
       (piece_is _ _ _ c.deref.ensures.value c.pack.ensures.tail) c.requires.some c.requires.few
-      (length (take (length c.args.body.now + 5) c.deref.result.now))
       c.write_synced.ensures.any_moment
       c.in_ok-write_synced.ensures.written c.in_ok-write_synced.ensures.durable
       c.write_synced-2.ensures.any_moment);
@@ -116,7 +114,6 @@ returns-in_err-write_synced-clause-any_moment g c = λ sound.
     (take (length c.args.body.now + 5) c.deref.result.now) c.args.self.now.end
     (c.args.self.now.settled c.if-self.false)
     (piece_is _ _ _ c.deref.ensures.value c.pack.ensures.tail) c.requires.some c.requires.few
-    (length (take (length c.args.body.now + 5) c.deref.result.now))
     c.write_synced.ensures.any_moment
 
 pub returns-in_err-write_synced-2-clause-any_moment
@@ -127,7 +124,6 @@ returns-in_err-write_synced-2-clause-any_moment g c = λ sound.
     (take (length c.args.body.now + 5) c.deref.result.now) c.args.self.now.end
     (c.args.self.now.settled c.if-self.false)
     (piece_is _ _ _ c.deref.ensures.value c.pack.ensures.tail) c.requires.some c.requires.few
-    (length (take (length c.args.body.now + 5) c.deref.result.now))
     c.write_synced.ensures.any_moment
     c.in_ok-write_synced.ensures.written c.in_ok-write_synced.ensures.durable
     c.write_synced-2.ensures.any_moment
@@ -139,7 +135,6 @@ returns-clause-any_moment g c = λ sound.
     (take (length c.args.body.now + 5) c.deref.result.now) c.args.self.now.end
     (c.args.self.now.settled c.if-self.false)
     (piece_is _ _ _ c.deref.ensures.value c.pack.ensures.tail) c.requires.some c.requires.few
-    (length (take (length c.args.body.now + 5) c.deref.result.now))
     c.write_synced.ensures.any_moment
     c.in_ok-write_synced.ensures.written c.in_ok-write_synced.ensures.durable
     c.write_synced-2.ensures.any_moment

@@ -1,4 +1,4 @@
-use Rattle.std.proofs.Common.{refl, sym, false, is_ok, subst, List, ℕ, length, ◌∙◌}
+use Rattle.std.proofs.Common.{refl, sym, false, is_ok, subst, List, ℕ, ◌∙◌}
 use Rattle.byte_forms.specs.Places.{IsBytes}
 use Rattle.disk_core.specs.Disk.{Torn, Follows}
 use Rattle.disk_core.specs.History.{left_of}
@@ -27,7 +27,7 @@ returns-in_err-note-clause-crash c = torn_same _ _ _ _ _ c.in_err-note.ensures
 
 pub returns-clause-crash : goal.returns-clause-crash
 returns-clause-crash c =
-    subst (λ (piece : List ℕ). Follows (Torn c.args.place (length piece)) (left_of c.args.self.now)
+    subst (λ (piece : List ℕ). Follows (Torn c.args.place piece) (left_of c.args.self.now)
     (IsImage (state_now c.args.self.now.first (made_calls c.note.new.self))))
     c.in_ok-piece.ensures (torn_pushed _ _ _ _ _ _ c.in_ok-note.ensures)
 
