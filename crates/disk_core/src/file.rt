@@ -1,41 +1,49 @@
 //! An open file as a disk.
 
-ghost use Rattle.std.specs.Prelude.{◌≡◌, ◌≤◌, None, if◌then◌else◌, is_err, IfOk, OnOk};
+ghost use Rattle.std.specs.Prelude.{◌≡◌, ◌≤◌, None, false, if◌then◌else◌, is_err, IfOk, OnOk};
 ghost use Rattle.byte_forms.specs.Places.{IsBytes};
 ghost use Rattle.mtc_io.specs.Counts.{Rose, HasCause, with_count};
 ghost use Rattle.disk_core.specs.File.{open_file, file_faults, file_known, file_moment, FileTurn};
+ghost use Rattle.disk_core.specs.File.{is_file_lost};
 
 use crate::disk::Disk;
+use crate::refusing::refuse_if;
 use mtc_io::Failed;
 use std::fs::{File, OpenFile};
 use std::io;
 use std::os::unix::fs::FileExt;
 
 /// An open file. It tells nothing of its bytes, nor of what a crash leaves but that it is bytes:
-/// that the operating system keeps the rules of [`Disk`] is taken on trust. It keeps the known
-/// length, a clock and a count of its faults.
+/// that the operating system keeps the rules of [`Disk`] until a sync of the file fails is taken on
+/// trust. Behind a sync that failed the file is lost, since the system may have forgotten what it
+/// couldn't write: each later call fails, and reaches no file. The file is to be opened anew, and
+/// what is read of it to be written again. It keeps the known length, a clock and a count of its
+/// faults.
 #[derive(Debug, Drop)]
 pub struct FileDisk<F = File> {
     file: F,
     known: u64,
     clock: u64,
     faults: u64,
+    lost: bool,
 }
 
 impl<F: OpenFile + FileExt> FileDisk<F> {
-    /// The file as it stands, with a known length of 0, no fault so far, and the clock at its
-    /// start.
+    /// The file as it stands, with a known length of 0, no fault so far, not lost, and the clock at
+    /// its start.
     pub fn new(file: F) -> FileDisk<F>
         ensures file { open_file result ≡ file }
         ensures known { file_known result ≡ 0 }
         ensures moment { file_moment result ≡ 0 }
         ensures faults { file_faults result ≡ 0 }
+        ensures kept { is_file_lost result ≡ false }
     {
         FileDisk {
             file,
             known: 0,
             clock: 0,
             faults: 0,
+            lost: false,
         }
     }
 
@@ -91,20 +99,23 @@ impl<F: OpenFile + FileExt> Disk for FileDisk<F> {
 
     ghost faults = { λ d. d.faults };
 
-    ghost turn = { λ d _ ok e. FileTurn d ok e };
+    ghost turn = { λ d call ok e. FileTurn d call ok e };
 
     fn len(&mut self) -> Result<u64, Failed> {
+        refuse_if(self.lost, &mut self.faults)?;
         let length = count(&mut self.clock, &mut self.faults, measure(&self.file))?;
         self.known = self.known.max(length);
         Ok(length)
     }
 
     fn read_at(&mut self, place: u64, out: &mut [u8]) -> Result<(), Failed> {
+        refuse_if(self.lost, &mut self.faults)?;
         let answer = self.file.read_exact_at(out, place);
         count(&mut self.clock, &mut self.faults, answer)
     }
 
     fn write_at(&mut self, place: u64, bytes: &[u8]) -> Result<(), Failed> {
+        refuse_if(self.lost, &mut self.faults)?;
         let answer = self.file.write_all_at(bytes, place);
         count(&mut self.clock, &mut self.faults, answer)?;
         self.known = self.known.max(place + bytes.len() as u64);
@@ -112,8 +123,10 @@ impl<F: OpenFile + FileExt> Disk for FileDisk<F> {
     }
 
     fn sync(&mut self) -> Result<(), Failed> {
-        let answer = self.file.sync_all();
-        count(&mut self.clock, &mut self.faults, answer)
+        refuse_if(self.lost, &mut self.faults)?;
+        let answer = count(&mut self.clock, &mut self.faults, self.file.sync_all());
+        self.lost = answer.is_err();
+        answer
     }
 
     ghost reads_image = { λ _ _ is. Prim.cc };

@@ -5,6 +5,7 @@ ghost use Rattle.std.specs.Prelude.{is_err, OnOk, OnErr, IsErr, IsTrue};
 ghost use Rattle.mtc_io.specs.Counts.{HasCause, with_count};
 
 use crate::disk::Disk;
+use crate::refusing::refuse_if;
 use mtc_io::Failed;
 
 /// Passes so many calls of `write_at` and `sync` to the disk inside, and every `len` and `read_at`
@@ -55,21 +56,6 @@ impl<D: Disk> Fuse<D> {
     }
 }
 
-// A call that only looks: it passes unless the fuse is blown.
-fn look(blown: bool, refused: &mut u64) -> Result<(), Failed>
-    ensures burnt { IsErr result ↔ IsTrue blown }
-    ensures ok { OnOk result (refused.new ≡ refused.old) }
-    ensures cause { HasCause refused.old refused.new result }
-    ensures counted { refused.new
-        ≡ (if is_err result then with_count refused.old 1 else refused.old) }
-{
-    if blown {
-        *refused = refused.saturating_add(1);
-        return Err(Failed);
-    }
-    Ok(())
-}
-
 // A call that changes the disk: it takes one of the passes, and where none is left the fuse blows.
 fn spend(passes: &mut u64, blown: &mut bool, refused: &mut u64) -> Result<(), Failed>
     ensures burnt { IsErr result ↔ IsTrue (blown.old || passes.old == 0) }
@@ -109,12 +95,12 @@ impl<D: Disk> Disk for Fuse<D> {
     ghost turn = { λ f call ok h. FuseTurn D.Disk f call ok h };
 
     fn len(&mut self) -> Result<u64, Failed> {
-        look(self.blown, &mut self.refused)?;
+        refuse_if(self.blown, &mut self.refused)?;
         self.disk.len()
     }
 
     fn read_at(&mut self, place: u64, out: &mut [u8]) -> Result<(), Failed> {
-        look(self.blown, &mut self.refused)?;
+        refuse_if(self.blown, &mut self.refused)?;
         self.disk.read_at(place, out)
     }
 

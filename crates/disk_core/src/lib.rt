@@ -4,7 +4,7 @@
 //! hold after a crash of the machine, now or at some moment since an earlier one. [`MemDisk`]
 //! stands in memory, tells all of this, and can crash. [`Fuse`] stops a disk at some call, as a
 //! machine does. [`FileDisk`] is an open file, which tells nothing: that the operating system keeps
-//! the rules is taken on trust.
+//! the rules until a sync of it fails is taken on trust.
 //!
 //! A user takes three kinds of step: it looks ([`look_len`], [`look_at`]), it makes certain what is
 //! there ([`settle`]), or it writes and syncs ([`write_synced`]). What these ensure is all that a
@@ -16,6 +16,7 @@ mod file;
 mod fuse;
 mod laws;
 mod memory;
+mod refusing;
 mod steps;
 
 pub use disk::Disk;

@@ -55,7 +55,8 @@ pub enum AppendError {
     /// The file would pass 2^31 bytes.
     Full,
     /// The disk failed: the journal holds the old records, or these and the new one, and is to be
-    /// opened again.
+    /// opened again, over a disk that is lent anew. An open file whose sync failed answers nothing
+    /// any more.
     Failed,
 }
 
