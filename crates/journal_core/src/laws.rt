@@ -3,6 +3,7 @@
 ghost use Rattle.std.specs.Prelude.{◌≡◌, ◌≤◌, ℕ, List, length, take, Ok};
 ghost use Rattle.byte_forms.specs.Types.{Text};
 ghost use Rattle.byte_forms.specs.Places.{IsBytes};
+ghost use Rattle.disk_core.specs.Disk.{part, Torn};
 ghost use Rattle.journal_core.specs.Folds.{Fold, Found, state_behind, read_by};
 ghost use Rattle.journal_core.specs.Format.{StandsFor, new_file_of, record_bytes};
 ghost use Rattle.journal_core.specs.Words.{AllStandFor};
@@ -14,6 +15,13 @@ use disk_core::Disk;
 pub fn a_file_stands_for_one_list_at_most()
     ensures { (bytes : Text) (one other : List Text) → StandsFor bytes one
         → StandsFor bytes other → one ≡ other }
+{}
+
+/// What is written again of a file, as the end of a journal is before it is read, puts no record at
+/// stake: however that write is torn, the file stands for the records that it stood for.
+pub fn records_stay_that_are_written_again()
+    ensures { (place : ℕ) (piece old new : Text) (list : List Text) → StandsFor old list
+        → part place (length piece) old ≡ piece → Torn place piece old new → StandsFor new list }
 {}
 
 /// Each file that stands for records begins with the header. Neither the bytes of a new file's

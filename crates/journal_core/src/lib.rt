@@ -30,6 +30,6 @@ pub use format::{HEADER, LONGEST_WRITE, MAX_BODY};
 pub use journal::Journal;
 pub use laws::{
     a_file_stands_for_one_list_at_most, files_are_read_by_their_records,
-    images_are_read_by_their_records, writes_have_a_longest,
+    images_are_read_by_their_records, records_stay_that_are_written_again, writes_have_a_longest,
 };
 pub use opening::Opening;
