@@ -80,17 +80,19 @@ mapped-some f (Some x) y is = (x, (refl, cc))
 
 module _ {T : Type 0} (g : Ghosts T) where
   -- what was written so far, from one number on up to another
-  pub record HavePut (h : HashFunction) (rows : List RowState) (from number : ℕ) (old now : T)
+  pub record HavePut (h : HashFunction) (rows : List RowState) (from to number : ℕ) (old now : T)
       : Type 0 where
+    pub most : number ≤ max from to
     pub behind : WritesBehind g (8192 * from) old now
     pub written : TilesAreWritten g h rows from number old now
     pub faults : g.faults now ≡ g.faults old
 
   -- nothing was written yet
-  pub put-none : (h : HashFunction) (rows : List RowState) (from : ℕ) (disk : T)
+  pub put-none : (h : HashFunction) (rows : List RowState) (from to : ℕ) (disk : T)
       → ((c : Text) → g.left_since disk (g.moment disk) c → g.may_leave disk c)
-      → 8192 * from ≤ g.known disk → HavePut h rows from from disk disk
-  put-none h rows from disk only_now reach = record {
+      → 8192 * from ≤ g.known disk → HavePut h rows from to from disk disk
+  put-none h rows from to disk only_now reach = record {
+    most = omega arith;
     behind = record {
       any_moment = started g disk (IsImageBehind g disk (8192 * from)) only_now
           (behind-now g disk (8192 * from));
@@ -98,7 +100,7 @@ module _ {T : Type 0} (g : Ghosts T) where
       known = omega arith;
     };
     written = record {
-      reach = reach;
+      known = omega arith;
       holds = λ before after told_old told_now leaves are first.
           let same : before ≡ after = cc in
           subst (HoldsFirst h leaves from) same first;
@@ -146,23 +148,26 @@ module _ {T : Type 0} (g : Ghosts T) where
         known = omega arith;
       }
 
-  pub put-on : (h : List ℕ → List ℕ) (rows : RowsState) (from number l p : ℕ) (old mid new : T)
+  pub put-on : (h : List ℕ → List ℕ) (rows : RowsState) (from to number l p : ℕ)
+      (old mid new : T)
       → ((t : ℕ) (c : List ℕ) → t ≤ g.moment mid → g.may_leave mid c → g.left_since mid t c)
       → ((b : List ℕ) → g.told mid ≡ Some b → g.known mid ≤ length b)
-      → from ≤ number → l ≤ 2 → tile_number l p ≡ number → HavePut h rows.rows from number old mid
+      → from ≤ number → number < to → l ≤ 2 → tile_number l p ≡ number
+      → HavePut h rows.rows from to number old mid
       → LeavesOnly g mid new (IsImageBehind g mid (tile_at l p))
       → is_some (g.told new) ≡ is_some (g.told mid)
       → g.known new ≡ max (tile_at l p + 8192) (g.known mid) → g.faults new ≡ g.faults mid
       → IsTileWritten h rows l p (g.told mid) (g.told new)
-      → HavePut h rows.rows from (number + 1) old new
-  put-on h rows from number l p old mid new counts_now there order low is sofar moments told known
-      faults written =
-      let reach = sofar.written.reach in
+      → HavePut h rows.rows from to (number + 1) old new
+  put-on h rows from to number l p old mid new counts_now there order less low is sofar moments told
+      known faults written =
+      let sofar_known = sofar.written.known in
       record {
+        most = omega arith;
         behind = behind-put old mid new from (tile_at l p) counts_now (omega arith) sofar.behind
             moments told (omega arith);
         written = record {
-          reach = omega arith;
+          known = omega arith;
           holds = λ first after told_old told_new leaves are held.
               let at = mapped-some (overwritten (tile_at l p) written.tile) (g.told mid) after
               (sym told_new ∙ written.told) in

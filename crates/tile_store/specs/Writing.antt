@@ -1,6 +1,6 @@
 -- What writing tiles leaves of a file.
-use Rattle.std.specs.Prelude.{◌≡◌, ℕ, ◌*◌, ◌^◌, ◌≤◌, ◌<◌, min, List, length, take, Option, Some}
-use Rattle.std.specs.Prelude.{is_some, option_map}
+use Rattle.std.specs.Prelude.{◌≡◌, ℕ, ◌*◌, ◌^◌, ◌≤◌, ◌<◌, min, max, List, length, take, Option}
+use Rattle.std.specs.Prelude.{Some, is_some, option_map}
 use Rattle.byte_forms.specs.Types.{Hash, HashFunction, Text}
 use Rattle.disk_core.specs.Disk.{overwritten, part}
 use Rattle.disk_core.specs.Moments.{LeavesOnly}
@@ -50,11 +50,11 @@ HoldsFirst h leaves count bytes = (level place : ℕ) → level ≤ 2
     → tile_number level place < count → IsFull (length leaves) level place
     → IsTile h leaves level place (part (tile_at level place) 8192 bytes)
 
--- The tiles of the numbers from one on up to another were written: where the file had those before
--- them, it has all up to there.
+-- The tiles of the numbers from one on up to another were written, and the known length comes to
+-- their end: where the file had those before them, it has all up to there.
 pub record TilesAreWritten {T : Type 0} (g : Ghosts T) (h : HashFunction) (rows : List RowState)
     (from to : ℕ) (old new : T) : Type 0 where
-  pub reach : 8192 * to ≤ g.known new
+  pub known : g.known new ≡ max (8192 * to) (g.known old)
   pub holds : (before after : Text) → g.told old ≡ Some before → g.told new ≡ Some after
       → (leaves : List Hash) → AreRowsOf h leaves rows → HoldsFirst h leaves from before
       → HoldsFirst h leaves to after

@@ -115,6 +115,7 @@ impl<H: TreeHash, T: Disk> Tiles<H, T> {
         ensures disk { tiles_disk self.new ≡ tiles_disk self.old }
         ensures adopted { tiles_adopted self.new ≡ tiles_adopted self.old }
         ensures stored { tiles_stored self.new ≡ tiles_stored self.old }
+        ensures pool { tiles_pool self.new ≡ tiles_pool self.old }
         ensures spare { OnOk result (count ≤ tiles_spare self.new) }
         ensures kept { tiles_spare self.old ≤ tiles_spare self.new }
         ensures full { OnErr result (tiles_spare self.old < count) }
@@ -134,6 +135,7 @@ impl<H: TreeHash, T: Disk> Tiles<H, T> {
         ensures disk { tiles_disk self.new ≡ tiles_disk self.old }
         ensures adopted { tiles_adopted self.new ≡ tiles_adopted self.old }
         ensures stored { tiles_stored self.new ≡ tiles_stored self.old }
+        ensures pool { tiles_pool self.new ≡ tiles_pool self.old }
         ensures spare { tiles_spare self.old ≤ tiles_spare self.new + 1 }
         ensures full { OnErr result (tiles_spare self.old ≡ 0) }
     {
@@ -214,7 +216,8 @@ impl<H: TreeHash, T: Disk> Tiles<H, T> {
 
     /// Writes each tile that the first `size` leaves fill and that is not stored yet, and makes
     /// all certain. At any moment a crash leaves what it might have left before, but for what lies
-    /// behind the stored tiles. It adopts none, and takes no memory.
+    /// behind the stored tiles. Whatever it answers, the known length comes no further than the end
+    /// of the tiles of `size` leaves. It adopts none, and takes no memory.
     pub fn store(&mut self, size: u64) -> Result<(), Failed>
         requires { size ≤ tiles_count self.old }
         ensures list { tiles_leaves self.new ≡ tiles_leaves self.old }
@@ -223,6 +226,11 @@ impl<H: TreeHash, T: Disk> Tiles<H, T> {
         ensures adopted { tiles_adopted self.new ≡ tiles_adopted self.old }
         ensures stored { OnOk result (tiles_stored self.new ≡ max size (tiles_stored self.old)) }
         ensures stored_err { OnErr result (tiles_stored self.new ≡ tiles_stored self.old) }
+        ensures pool { tiles_pool self.new ≡ tiles_pool self.old }
+        ensures known { OnOk result (T.known (tiles_disk self.new)
+            ≡ max (tiles_end size) (T.known (tiles_disk self.old))) }
+        ensures reach { T.known (tiles_disk self.new)
+            ≤ max (tiles_end size) (T.known (tiles_disk self.old)) }
         ensures holds { OnOk result (IfSome (tiles_leaves self.old) (λ leaves. (c : Text)
             → T.may_leave (tiles_disk self.new) c → HoldsTiles H.hash leaves size c)) }
         ensures any_moment { LeavesOnly T.Disk (tiles_disk self.old) (tiles_disk self.new)
@@ -243,7 +251,11 @@ impl<H: TreeHash, T: Disk> Tiles<H, T> {
         ensures spare { tiles_spare self.new ≡ tiles_spare self.old }
         ensures adopted { tiles_adopted self.new ≡ tiles_adopted self.old }
         ensures stored { tiles_stored self.new ≡ tiles_stored self.old }
-        ensures reach { OnOk result (tiles_end size ≤ T.known (tiles_disk self.new)) }
+        ensures pool { tiles_pool self.new ≡ tiles_pool self.old }
+        ensures known { OnOk result (T.known (tiles_disk self.new)
+            ≡ max (tiles_end size) (T.known (tiles_disk self.old))) }
+        ensures reach { T.known (tiles_disk self.new)
+            ≤ max (tiles_end size) (T.known (tiles_disk self.old)) }
         ensures holds { OnOk result (IfSome (tiles_leaves self.old) (λ leaves. (c : Text)
             → T.may_leave (tiles_disk self.new) c → HoldsTiles H.hash leaves size c)) }
         ensures any_moment { LeavesOnly T.Disk (tiles_disk self.old) (tiles_disk self.new)

@@ -73,6 +73,7 @@ fn put_all<H: TreeHash, T: Disk>(
     ensures written { OnOk result
         (TilesAreWritten T.Disk H.hash rows.now.rows from to disk.old disk.new) }
     ensures behind { WritesBehind T.Disk (8192 * from) disk.old disk.new }
+    ensures reach { T.known disk.new ≤ max (8192 * to) (T.known disk.old) }
     ensures cause { HasCause (T.faults disk.old) (T.faults disk.new) result }
 {
     for number in from..to {
@@ -97,6 +98,7 @@ pub(crate) fn write_tiles<H: TreeHash, T: Disk>(
     ensures front { (before after : Text) → T.told disk.old ≡ Some before
         → T.told disk.new ≡ Some after → KeepsFront (8192 * from) before after }
     ensures behind { WritesBehind T.Disk (8192 * from) disk.old disk.new }
+    ensures reach { T.known disk.new ≤ max (8192 * to) (T.known disk.old) }
     ensures cause { HasCause (T.faults disk.old) (T.faults disk.new) result }
 {
     settle(disk)?;

@@ -7,7 +7,7 @@ use Rattle.tile_store.proofs.writing.put_all.Goals as goal
 
 pub loop-number-init : goal.loop-number-init
 loop-number-init g c =
-    put-none g.T.Disk g.H.TreeHash.hash c.args.rows.now.rows c.args.from c.args.disk.now
+    put-none g.T.Disk g.H.TreeHash.hash c.args.rows.now.rows c.args.from c.args.to c.args.disk.now
     (g.met.T.Disk.only_now c.args.disk.now) c.requires.place
 
 pub put-requires-clause-full : goal.put-requires-clause-full
@@ -43,11 +43,12 @@ returns-in_err-put-clause-behind g c =
 
 pub loop-number-preserved : goal.loop-number-preserved
 loop-number-preserved g c =
-    put-on g.T.Disk g.H.TreeHash.hash c.args.rows.now c.args.from c.loop-number.number
-    c.tile_with.result.level c.tile_with.result.place c.args.disk.now c.loop-number.disk
-    c.put.new.disk (g.met.T.Disk.counts_now c.loop-number.disk)
+    put-on g.T.Disk g.H.TreeHash.hash c.args.rows.now c.args.from c.args.to
+    c.loop-number.number c.tile_with.result.level c.tile_with.result.place c.args.disk.now
+    c.loop-number.disk c.put.new.disk (g.met.T.Disk.counts_now c.loop-number.disk)
     (g.met.T.Disk.known_there c.loop-number.disk) c.loop-number.auto.number
-    c.tile_with.ensures.low c.tile_with.ensures.number c.loop-number.invariant
+    c.loop-number-test.true c.tile_with.ensures.low c.tile_with.ensures.number
+    c.loop-number.invariant
     c.put.ensures.any_moment c.put.ensures.told c.in_ok-put.ensures.known
     c.in_ok-put.ensures.cause.fine c.in_ok-put.ensures.written
 
@@ -55,9 +56,11 @@ pub returns-clause-written : goal.returns-clause-written
 returns-clause-written g c =
     let past = c.loop-number-test.false in
     let written = c.loop-number.invariant.written in
-    let reach = written.reach in
+    let known = written.known in
+    let most = c.loop-number.invariant.most in
+    let place = c.requires.place in
     record {
-      reach = omega arith;
+      known = omega arith;
       holds = λ before after told_old told_now leaves are first level place low below full.
           written.holds before after told_old told_now leaves are first level place low
           (omega arith) full;

@@ -26,9 +26,10 @@ pub returns-clause-written : goal.returns-clause-written
 returns-clause-written g c =
     let known = c.settle-2.ensures.known in
     let written = c.in_ok-put_all.ensures.written in
-    let reach = written.reach in
+    let before = c.settle.ensures.known in
+    let wrote = written.known in
     on-ok c.settle-2.result (record {
-      reach = omega arith;
+      known = omega arith;
       holds = λ before after told_old told_new leaves are first.
           written.holds before after (c.settle.ensures.looks.told ∙ told_old)
           (sym c.settle-2.ensures.looks.told ∙ told_new) leaves are first;

@@ -23,8 +23,8 @@ invariant_of-self g c =
       written = omega arith;
       within = omega arith;
       reach = let old = tiles.reach in
-          let new : tiles_end c.args.size ≤ g.T.Disk.known tiles.disk =
-          c.in_ok-write.ensures.reach in
+          let known = c.in_ok-write.ensures.known in
+          let new : tiles_end c.args.size ≤ g.T.Disk.known tiles.disk = omega arith in
           ⊎_elim
           (λ (more : tiles.stored < c.args.size).
           let is : c.max-self.result ≡ c.args.size = omega arith in
