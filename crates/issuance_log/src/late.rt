@@ -187,6 +187,10 @@ impl<H: TreeHash, T: Disk> LateTiles<H, T> {
             ≡ max size (tiles_stored (late_tiles self.old))) }
         ensures stored_err { OnErr result (tiles_stored (late_tiles self.new)
             ≡ tiles_stored (late_tiles self.old)) }
+        ensures known { OnOk result (T.known (tiles_disk (late_tiles self.new))
+            ≡ max (tiles_end size) (T.known (tiles_disk (late_tiles self.old)))) }
+        ensures reach { T.known (tiles_disk (late_tiles self.new))
+            ≤ max (tiles_end size) (T.known (tiles_disk (late_tiles self.old))) }
         ensures holds { OnOk result (IfSome (late_leaves self.old) (λ leaves. (c : Text)
             → T.may_leave (tiles_disk (late_tiles self.new)) c
             → HoldsTiles H.hash leaves size c)) }

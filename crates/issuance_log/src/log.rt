@@ -2,6 +2,7 @@
 
 ghost use Rattle.std.specs.Prelude.{◌≡◌, ◌↔◌, ℕ, ◌≤◌, ◌+◌, ◌*◌, ◌^◌, ◌++◌, [], ◌∷◌, length, true};
 ghost use Rattle.std.specs.Prelude.{false, None, Ok, IfSome, IfOk, IfErr, IsErrOf, OnOk, OnErr};
+ghost use Rattle.std.specs.Prelude.{max};
 ghost use Rattle.std.proofs.Props.{props};
 ghost use Rattle.disk_core.specs.Moments.{Looks};
 ghost use Rattle.frame_pool.specs.Frames.{HoldsKey};
@@ -10,6 +11,7 @@ ghost use Rattle.journal_core.specs.Format.{StandsFor, end_behind};
 ghost use Rattle.journal_core.specs.Words.{end_of, is_broken, records, AllStandFor};
 ghost use Rattle.log_entry.specs.Matching.{matches};
 ghost use Rattle.mtc_io.specs.Counts.{HasCause};
+ghost use Rattle.tile_store.specs.Layout.{tiles_end};
 ghost use Rattle.tile_store.specs.Store.{tiles_stored};
 ghost use Rattle.tree_proofs.specs.Told.{IsRootOf};
 ghost use Rattle.issuance_log.specs.Entries.{LogCounts};
@@ -232,7 +234,8 @@ impl<H: TreeHash, D: Disk, T: Disk> Log<H, D, T> {
     /// Stores the tiles that the entries fill, makes them certain, and then appends the greatest
     /// multiple of 256 that isn't above the size, which it answers. The next opening adopts them.
     /// At any moment a crash leaves the tiles that it would have left before. Where it leaves the
-    /// new record it leaves all tiles of the new size, unless an append had failed before.
+    /// new record it leaves all tiles of the new size, unless an append had failed before. Whatever
+    /// it answers, the known length of their disk comes no further than the end of these tiles.
     ///
     /// Errors, in the order of the tests: `NothingNew` where this number isn't above the last size
     /// of tiles; `Memory`; `Failed` of the disk of the tiles; and what [`Journal::append`] refuses.
@@ -255,6 +258,10 @@ impl<H: TreeHash, D: Disk, T: Disk> Log<H, D, T> {
         ensures keeps { KeepsTiles (view_of self.old).tiled self.old self.new }
         ensures behind { TilesStandBehind (tiles_record (full_size (view_of self.old)))
             (full_size (view_of self.old)) self.old self.new }
+        ensures known { OnOk result (T.known (log_tiles_disk self.new)
+            ≡ max (tiles_end (full_size (view_of self.old))) (T.known (log_tiles_disk self.old))) }
+        ensures reach { T.known (log_tiles_disk self.new)
+            ≤ max (tiles_end (full_size (view_of self.old))) (T.known (log_tiles_disk self.old)) }
         ensures cause { LogCounts (T.faults (log_tiles_disk self.old))
             (T.faults (log_tiles_disk self.new)) result }
     {

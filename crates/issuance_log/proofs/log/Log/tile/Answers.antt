@@ -1,9 +1,10 @@
 use Rattle.std.proofs.Common.{refl, ap, sym, subst, ◌≡◌, ◌<◌, ◌≤◌, ◌∙◌, ◌^◌, ◌%◌, ◌*◌, ◌/◌, ℕ, List}
-use Rattle.std.proofs.Common.{length, arith, rules, false, Some, IfSome}
+use Rattle.std.proofs.Common.{length, max, arith, rules, false, Some, IfSome}
 use Rattle.std.specs.Prelude.{is_ok}
 use Rattle.byte_forms.specs.Types.{Text}
 use Rattle.journal_core.specs.Words.{end_of, is_broken, records}
 use Rattle.tile_store.specs.Contents.{HoldsTiles}
+use Rattle.tile_store.specs.Layout.{tiles_end}
 use Rattle.tile_store.specs.Store.{tiles_disk}
 use Rattle.issuance_log.specs.Entries.{LogCounts}
 use Rattle.issuance_log.specs.Folds.{LogView, tiled_to, with_tiles}
@@ -211,6 +212,33 @@ returns-in_err-append-clause-cause g c =
     (g.T.Disk.faults (tiles_disk (items_tiles c.store.new.self))))
     (err_is c.from_residual-in_err-append.result (Append c.in_err-append.field-0.0)
     c.from_residual-in_err-append.ensures.1) c.in_ok-store.ensures.cause.fine
+
+-- how far the known length of the tiles' disk comes, by the size that they are stored to
+in_reach : (size to : ℕ) (old new : ℕ) → size ≡ to → new ≤ max (tiles_end size) old
+    → new ≤ max (tiles_end to) old
+in_reach size to old new is within = subst (λ (n : ℕ). new ≤ max (tiles_end n) old) is within
+
+pub returns-clause-known : goal.returns-clause-known
+returns-clause-known g c =
+    let size_is = ap (λ (n : ℕ). n / 256 * 256) c.size.ensures.value in
+    subst (λ (n : ℕ). g.T.Disk.known (tiles_disk (items_tiles c.store.new.self))
+    ≡ max (tiles_end n) (g.T.Disk.known (log_tiles_disk c.args.self.now))) size_is
+    c.in_ok-store.ensures.known
+
+pub returns-clause-reach : goal.returns-clause-reach
+returns-clause-reach g c =
+    in_reach _ (full_size (view_of c.args.self.now)) _ _
+    (ap (λ (n : ℕ). n / 256 * 256) c.size.ensures.value) c.store.ensures.reach
+
+pub returns-in_err-append-clause-reach : goal.returns-in_err-append-clause-reach
+returns-in_err-append-clause-reach g c =
+    in_reach _ (full_size (view_of c.args.self.now)) _ _
+    (ap (λ (n : ℕ). n / 256 * 256) c.size.ensures.value) c.store.ensures.reach
+
+pub returns-in_err-store-clause-reach : goal.returns-in_err-store-clause-reach
+returns-in_err-store-clause-reach g c =
+    in_reach _ (full_size (view_of c.args.self.now)) _ _
+    (ap (λ (n : ℕ). n / 256 * 256) c.size.ensures.value) c.store.ensures.reach
 
 pub returns-clause-keeps : goal.returns-clause-keeps
 returns-clause-keeps g c =
