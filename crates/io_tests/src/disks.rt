@@ -59,6 +59,35 @@ fn a_crash_leaves_an_image(rt: HostRuntime) -> Result<(), Fail> {
     Ok(())
 }
 
+// Whether a crash leaves this image, by this pick, of eight bytes over which these were written
+// from the fourth on.
+fn is_left_of_four(
+    alloc: Global,
+    piece: &[u8; 4],
+    pick: u64,
+    image: &[u8],
+) -> Result<bool, Memory> {
+    let mut disk = disk(alloc, EIGHT, &[])?;
+    let written = write(&mut disk, 4, piece) == Ok(());
+    Ok(leaves(disk, pick, image)? && written)
+}
+
+#[test]
+fn bytes_that_are_written_again_stay(rt: HostRuntime) -> Result<(), Fail> {
+    let images: [(u64, &[u8; 4], &[u8]); 6] = [
+        (1, b"eXgY", b"abcdeXgY"),
+        (3, b"eXgY", b"abcde\xa7g\xa6"),
+        (7, b"eXgY", b"abcde\xa7g\xa6e"),
+        (15, b"eXgY", b"abcdeXg\xa6eXg"),
+        (3, b"efgh", EIGHT),
+        (11, b"efgh", b"abcdefghef"),
+    ];
+    for (pick, piece, image) in images {
+        assert!(rt; is_left_of_four(rt.alloc(), piece, pick, image)?, "by pick {pick}");
+    }
+    Ok(())
+}
+
 // Whether two bytes are written, and a sync between them fails.
 fn are_written(disk: &mut MemDisk) -> bool {
     write(disk, 0, b"W") == Ok(()) && sync(disk) == Err(Failed) && write(disk, 1, b"X") == Ok(())

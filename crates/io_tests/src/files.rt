@@ -9,14 +9,23 @@ use std::os::unix::fs::FileExt;
 use std::rt::Files;
 use std::test::Fail;
 
-// A file that keeps nothing but the order of the calls that change it, a digit for each: 1 a write,
-// 2 a sync.
+// A file that keeps nothing but the order of its calls, a digit for each: 1 a write, 2 a sync, 4 a
+// read, 5 one for its length. Its first sync may fail; each later one is answered Ok, as by a
+// system that forgets what it couldn't write.
 #[derive(Drop)]
 struct Counted {
     calls: Cell<u32>,
+    fails: Cell<bool>,
 }
 
 impl Counted {
+    fn new(fails: bool) -> Counted {
+        Counted {
+            calls: Cell::new(0),
+            fails: Cell::new(fails),
+        }
+    }
+
     fn note(&self, digit: u32) {
         let calls = self.calls.get();
         self.calls
@@ -26,6 +35,7 @@ impl Counted {
 
 impl OpenFile for Counted {
     fn metadata(&self) -> io::Result<Metadata> {
+        self.note(5);
         Err(io::Error::from(ErrorKind::Unsupported))
     }
 
@@ -36,6 +46,10 @@ impl OpenFile for Counted {
 
     fn sync_all(&self) -> io::Result<()> {
         self.note(2);
+        if self.fails.get() {
+            self.fails.set(false);
+            return Err(io::Error::from(ErrorKind::StorageFull));
+        }
         Ok(())
     }
 
@@ -46,8 +60,9 @@ impl OpenFile for Counted {
 }
 
 impl FileExt for Counted {
-    fn read_at(&self, _buf: &mut [u8], _offset: u64) -> io::Result<usize> {
-        Ok(0)
+    fn read_at(&self, buf: &mut [u8], _offset: u64) -> io::Result<usize> {
+        self.note(4);
+        Ok(buf.len())
     }
 
     fn write_at(&self, buf: &[u8], _offset: u64) -> io::Result<usize> {
@@ -65,9 +80,7 @@ fn write_thrice(disk: &mut FileDisk<Counted>) -> Result<(), Failed> {
 
 // The calls that these make.
 fn calls_of_writes() -> u32 {
-    let mut disk = FileDisk::new(Counted {
-        calls: Cell::new(0),
-    });
+    let mut disk = FileDisk::new(Counted::new(false));
     let written = write_thrice(&mut disk);
     let calls = disk.into_inner().calls.get();
     if written == Ok(()) { calls } else { 0 }
@@ -76,6 +89,35 @@ fn calls_of_writes() -> u32 {
 #[test]
 fn each_write_is_followed_by_its_sync(rt: HostRuntime) {
     assert!(rt; calls_of_writes() == 12121);
+}
+
+// Whether each call of a lost file fails, behind two that failed.
+fn is_lost(disk: &mut FileDisk<Counted>) -> bool {
+    disk.len() == Err(Failed)
+        && disk.write_at(0, b"a") == Err(Failed)
+        && disk.sync() == Err(Failed)
+        && disk.faults() == 5
+}
+
+// Whether a sync behind a write fails, and then all calls.
+fn is_lost_by_a_sync(disk: &mut FileDisk<Counted>) -> bool {
+    if disk.write_at(0, b"abcd") != Ok(()) || disk.sync() != Err(Failed) {
+        return false;
+    }
+    disk.read_at(0, &mut [0; 4]) == Err(Failed) && is_lost(disk)
+}
+
+// The calls that reach a file whose first sync fails.
+fn calls_of_a_lost_file() -> u32 {
+    let mut disk = FileDisk::new(Counted::new(true));
+    let lost = is_lost_by_a_sync(&mut disk);
+    let calls = disk.into_inner().calls.get();
+    if lost { calls } else { 0 }
+}
+
+#[test]
+fn behind_a_failed_sync_no_call_reaches_the_file(rt: HostRuntime) {
+    assert!(rt; calls_of_a_lost_file() == 12);
 }
 
 fn opened<R: Files<File = File>>(rt: &R, path: &str) -> io::Result<File> {
