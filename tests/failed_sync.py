@@ -18,6 +18,9 @@ import tempfile
 import time
 from pathlib import Path
 
+from files.commands import COSIGNER, LOG, numbers_of
+from files.locks import number_in
+
 ROOT = Path(__file__).resolve().parent.parent
 ZRAM = Path("/sys/class/zram-control")
 KEY = "MCowBQYDK2VwAyEAAAAAAAAAAAAAAAAAAAAAAAAAAAAAAAAAAAAAAAAAAAA="
@@ -27,8 +30,12 @@ SYSTEMS = {"ext2": (["mkfs.ext2", "-q"], 32 << 20), "ext4": (["mkfs.ext4", "-q"]
            "xfs": (["mkfs.xfs", "-q"], 400 << 20)}
 # The syncs of a command that adds a record to a log: those of its journal and the folder, of its file of tiles and the folder,
 # and of the journal once more; that of the record, that of its gate. `tile` makes two between, about the writes of the tiles.
-# `init-log` makes two at its opening, so its fourth is that of the gate.
-RECORD, GATE, TILES, FIRST = 6, 7, 7, 4
+# `init-log` makes two at its opening, so its fourth is that of the gate. A cosigner has no file of tiles: of `cosign` the fifth
+# is that of the gate.
+RECORD, GATE, TILES, FIRST, SIGNED = 6, 7, 7, 4, 5
+PAGE = 4096
+# How many one-time keys a cosigner of height 5 has.
+KEYS = 32
 
 
 def done(*words, **options):
@@ -178,6 +185,50 @@ def check_tiles(program, disk):
                       (4, "", "mtc: tile: NothingNew\n"))
 
 
+def signed(program, folder):
+    """The number of the one-time key of one more signature by the cosigner, or what is wrong."""
+    status, out, err = run(program, folder, "cosign", "s", "part")
+    return number_in(out.encode("latin-1")) if status == 0 else f"cosign: {status} {err}"
+
+
+def used(program, folder):
+    """The numbers of the one-time keys that have signed, by the cosigner's records, or what is wrong."""
+    status, out, err = run(program, folder, "export", "s")
+    return numbers_of(out.encode("latin-1")) if status == 0 else f"export: {status} {err}"
+
+
+def new_cosigner(program, disk):
+    """A cosigner of a log of 600 entries, and a request to it. A record of its signature has some 300 bytes."""
+    for name in ("s", "j", "j.tiles"):
+        (disk.path / name).unlink(missing_ok=True)
+    subprocess.run([sys.executable, ROOT / "bench/log/make_journal.py", "600", disk.path / "j"], check=True)
+    (disk.path / "secret").write_bytes(os.urandom(48))
+    for file, words in (("all", ["consist", "j", "0", "600"]), ("part", ["subtree", "j", "0", "4", "600"])):
+        (disk.path / file).write_bytes(run(program, disk.path, *words)[1].encode("latin-1"))
+    yield from unlike("init-cosigner", run(program, disk.path, "init-cosigner", "s", COSIGNER, LOG, "5", "1", "secret")[0], 0)
+    yield from unlike("advance", run(program, disk.path, "advance", "s", "all"), (0, "advanced 600\n", ""))
+
+
+def check_key(program, disk):
+    """The sync of the gate of a signature's record fails, and no one-time key is given twice"""
+    yield from new_cosigner(program, disk)
+    journal, gate = disk.path / "s", 0
+    # On to a record whose gate lies in another page than the next one's, so that this one doesn't carry it to the disk.
+    for keys in range(1, KEYS):
+        yield from unlike("the key of a signature", signed(program, disk.path), keys - 1)
+        before, gate = gate, journal.stat().st_size - 1
+        if keys > 1 and gate // PAGE != (2 * gate - before) // PAGE:
+            break
+    os.sync()
+    words = ["cosign", "s", "part"]
+    yield from unlike("the cosign that is stopped", stopped(program, disk, SIGNED, words), (5, "", "mtc: cosign: s: Failed\n"))
+    # The system's memory has the record, and the disk hasn't.
+    yield from unlike("the keys behind a power cut now", disk.cut(lambda copy: used(program, copy)), [*range(keys)])
+    yield from unlike("the key of the next signature", signed(program, disk.path), keys + 1)
+    yield from unlike("the keys behind a power cut", disk.cut(lambda copy: used(program, copy)), [*range(keys + 2)])
+    yield from unlike("the next key behind a power cut", disk.cut(lambda copy: signed(program, copy)), keys + 2)
+
+
 def missing():
     """What isn't there and is needed."""
     if os.getuid() != 0:
@@ -199,7 +250,7 @@ def main(words):
         if not shutil.which(make[0]):
             print(f"left out: failed_sync of {system}: {make[0]} isn't here")
             continue
-        for check in (check_gate, check_record, check_first, check_tiles):
+        for check in (check_gate, check_record, check_first, check_tiles, check_key):
             folder = Path(tempfile.mkdtemp())
             disk = Disk(folder, system)
             try:

@@ -13,7 +13,7 @@ import subprocess
 import sys
 import time
 
-from files.commands import COSIGNER, LOG, SIGN
+from files.commands import COSIGNER, LOG, numbers_of
 from files.folder import ROOT, Folder, unlike
 from files.kills import killed, next_span
 from files.locks import number_in
@@ -41,14 +41,7 @@ class Cosigned(Folder):
 
     def numbers(self, journal):
         """The numbers of the Sign records of an export, in its order."""
-        export, found = self.said(["export", journal]), []
-        place = 2 + export[0] + export[1 + export[0]] + 62
-        while place < len(export):
-            length = int.from_bytes(export[place:place + 4], "big")
-            if export[place + 4] == SIGN:
-                found.append(int.from_bytes(export[place + 5:place + 9], "big"))
-            place += 4 + length
-        return found
+        return numbers_of(self.said(["export", journal]))
 
 
 def check(folder, kills):

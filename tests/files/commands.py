@@ -100,6 +100,17 @@ def records(text):
     return found
 
 
+def numbers_of(export):
+    """The numbers of the one-time keys in the Sign records of an export (docs/FORMATS.md, "Export"), in its order."""
+    found, place = [], 2 + export[0] + export[1 + export[0]] + 62
+    while place < len(export):
+        length = int.from_bytes(export[place:place + 4], "big")
+        if export[place + 4] == SIGN:
+            found.append(int.from_bytes(export[place + 5:place + 9], "big"))
+        place += 4 + length
+    return found
+
+
 def added(scene, command):
     """The tags of the records that the command's journal has now and hadn't at the beginning; None where it isn't the old
     journal with records behind it."""
