@@ -7,7 +7,7 @@ ghost use Rattle.hss_core.specs.Hss.{one_level_public, one_level_signature, Veri
 
 use crate::checking::PUBLIC_KEY_LEN;
 use lmots_core::{OtsType, SigBuf, put};
-use lms_core::{LmsType, Tree};
+use lms_core::{LmsType, Secret, Tree};
 use mtc_io::Memory;
 use std::alloc::Global;
 use std::marker::Model;
@@ -33,8 +33,8 @@ impl Model for Key {
 }
 
 impl Key {
-    /// Makes the key of a secret, 16 bytes of identifier and 32 of seed, at height 5 or 10, of
-    /// which the one-time keys below `next` are used.
+    /// Makes the key of a secret, at height 5 or 10, of which the one-time keys below `next` are
+    /// used.
     ///
     /// # Errors
     /// `Memory`, where there is no room for the tree.
@@ -42,7 +42,7 @@ impl Key {
         alloc: Global,
         lms: LmsType,
         ots: OtsType,
-        secret: &[u8; 48],
+        secret: &Secret,
         next: u32,
     ) -> Result<Key, Memory>
         requires height { height lms ≤ 10 }

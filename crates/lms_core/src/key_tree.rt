@@ -9,6 +9,7 @@ use crate::climbing::put_path;
 use crate::growing::{fill_inner, fill_leaves};
 use crate::heights::LmsType;
 use crate::private_key::PrivateKey;
+use crate::secret::Secret;
 use lmots_core::{OtsType, SigBuf, put};
 use mtc_io::Memory;
 use std::alloc::Global;
@@ -36,17 +37,11 @@ impl Model for Tree {
 }
 
 impl Tree {
-    /// Makes the tree of a secret: 16 bytes of identifier and 32 of seed, at height 5 or 10. It
-    /// hashes every chain of every one-time key.
+    /// Makes the tree of a secret, at height 5 or 10. It hashes every chain of every one-time key.
     ///
     /// # Errors
     /// `Memory`, where there is no room for the nodes.
-    pub fn make(
-        alloc: Global,
-        lms: LmsType,
-        ots: OtsType,
-        secret: &[u8; 48],
-    ) -> Result<Tree, Memory>
+    pub fn make(alloc: Global, lms: LmsType, ots: OtsType, secret: &Secret) -> Result<Tree, Memory>
         requires { height lms ≤ 10 }
         ensures { IfOk result (λ t. t ≡ private_key lms ots secret.now) }
     {
@@ -69,10 +64,10 @@ impl Tree {
     }
 
     /// Its private key.
-    pub fn key(&self) -> PrivateKey
-        ensures { result ≡ self.now }
+    pub fn key(&self) -> &PrivateKey
+        ensures { result.now ≡ self.now }
     {
-        self.key
+        &self.key
     }
 
     /// The number of its one-time keys.

@@ -2,12 +2,10 @@
 
 ghost use Rattle.std.specs.Prelude.{◌≡◌, ◌+◌, ◌<◌, ◌^◌};
 ghost use Rattle.lms_core.specs.Heights.{height};
-ghost use Rattle.lms_core.specs.Trees.{inner_node, leaf_node, parent, private_key, sibling};
-ghost use Rattle.lms_core.specs.Trees.{tree_value};
+ghost use Rattle.lms_core.specs.Trees.{inner_node, leaf_node, parent, sibling, tree_value};
 
-use crate::heights::LmsType;
 use crate::private_key::PrivateKey;
-use lmots_core::{OtsType, marked_hasher, public, read_32};
+use lmots_core::{marked_hasher, public};
 use sha2::Digest;
 
 // D_LEAF: the hash that is a leaf goes on with these two bytes (RFC 8554, section 5.3).
@@ -57,20 +55,6 @@ pub fn sibling(place: u32) -> u32
 }
 
 impl PrivateKey {
-    /// The private key of a secret: 16 bytes of identifier and 32 of seed.
-    pub fn of_secret(lms: LmsType, ots: OtsType, secret: &[u8; 48]) -> PrivateKey
-        ensures { result ≡ private_key lms ots secret.now }
-    {
-        let mut id = [0; 16];
-        id.copy_from_slice(&secret[..16]);
-        PrivateKey {
-            lms,
-            ots,
-            id,
-            seed: read_32(secret, 16),
-        }
-    }
-
     // The leaf of one-time key q.
     #[tactic(auto, unfolding(crate::specs::Trees::tree_value))]
     pub(crate) fn leaf(&self, q: u32) -> [u8; 32]
