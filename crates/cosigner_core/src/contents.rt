@@ -9,7 +9,7 @@ use crate::progress::Progress;
 use crate::record::{read_settings, read_step};
 use crate::settings::CosignerSettings;
 use crate::signer::Signer;
-use hss_core::Key;
+use hss_core::{Key, Secret};
 use mtc_io::Memory;
 use std::alloc::Global;
 use std::marker::Model;
@@ -20,7 +20,7 @@ use tree_core::TreeHash;
 #[derive(Drop)]
 pub(crate) struct Contents {
     settings: CosignerSettings,
-    secret: [u8; 48],
+    secret: Secret,
     progress: Progress,
 }
 

@@ -12,6 +12,7 @@ ghost use Rattle.cosigner_core.specs.Records.{cosigner_record};
 use crate::settings::CosignerSettings;
 use crate::step_record::cosigner_record;
 use disk_core::Disk;
+use hss_core::Secret;
 use journal_core::{FirstRecord, Journal, Refused, StartError};
 use mtc_io::Memory;
 use std::alloc::Global;
@@ -22,7 +23,7 @@ use std::alloc::Global;
 pub fn pack(
     alloc: Global,
     settings: &CosignerSettings,
-    secret: &[u8; 48],
+    secret: &Secret,
 ) -> Result<FirstRecord, Memory>
     requires { height settings.now.lms ≤ 10 }
     ensures body { IfOk result (λ it. first_body it ≡ cosigner_record settings.now secret.now) }
@@ -43,7 +44,7 @@ pub fn create<D: Disk>(
     alloc: Global,
     disk: D,
     settings: &CosignerSettings,
-    secret: &[u8; 48],
+    secret: &Secret,
 ) -> Result<Journal<D>, Refused<D, StartError>>
     requires { height settings.now.lms ≤ 10 }
     ensures ok { IfOk result (HasStarted (cosigner_record settings.now secret.now) disk) }

@@ -15,7 +15,7 @@ use crate::error::RecordError;
 use crate::fault::FormError;
 use crate::settings::CosignerSettings;
 use crate::step::StepRef;
-use hss_core::{LmsType, OtsType};
+use hss_core::{LmsType, OtsType, SECRET_LEN, Secret};
 use std::alloc::Global;
 use tls_wire::{AnchorId, Cursor, Short};
 
@@ -26,20 +26,21 @@ pub(crate) const ADVANCE: u8 = 0x12;
 pub(crate) const SIGN: u8 = 0x13;
 
 // The secret of a key.
-fn secret(cursor: &mut Cursor<'_>) -> Result<[u8; 48], Short>
+fn secret(cursor: &mut Cursor<'_>) -> Result<Secret, Short>
     ensures { Moves (λ secret. secret) (bytes_at 48) cursor.old result cursor.new }
 {
-    let bytes = cursor.bytes(48)?;
-    let mut secret = [0; 48];
-    secret.copy_from_slice(bytes);
-    Ok(secret)
+    let bytes = cursor.bytes(SECRET_LEN)?;
+    match Secret::from_slice(bytes) {
+        Some(secret) => Ok(secret),
+        None => unreachable!(),
+    }
 }
 
 // The two ids, the two typecodes and the secret behind the tag, in their order.
 #[tactic(auto, unfolding(crate::specs::Records::cosigner_at))]
 fn cosigner_fields<'a>(
     cursor: &mut Cursor<'a>,
-) -> Result<(&'a [u8], &'a [u8], u32, u32, [u8; 48]), Short>
+) -> Result<(&'a [u8], &'a [u8], u32, u32, Secret), Short>
     ensures { Moves (λ x. (x.0.now, (x.1.now, (x.2, (x.3, x.4))))) cosigner_at cursor.old
         result cursor.new }
 {
@@ -159,10 +160,7 @@ fn settings_with(
 }
 
 // The settings and the secret behind the tag of a Cosigner, where nothing else stands there.
-fn founded(
-    alloc: Global,
-    mut cursor: Cursor<'_>,
-) -> Result<(CosignerSettings, [u8; 48]), RecordError>
+fn founded(alloc: Global, mut cursor: Cursor<'_>) -> Result<(CosignerSettings, Secret), RecordError>
     ensures found { CosignerFinds (λ x. x) (option_and_then founded
         (whole_of (cosigner_at cursor.entry)))
         result }
@@ -181,7 +179,7 @@ fn founded(
 pub(crate) fn read_settings(
     alloc: Global,
     body: &[u8],
-) -> Result<(CosignerSettings, [u8; 48]), RecordError>
+) -> Result<(CosignerSettings, Secret), RecordError>
     ensures found { CosignerFinds (λ x. x) (cosigner_in body.now) result }
     ensures small { IfOk result (λ x. height x.0.lms ≤ 10) }
 {

@@ -8,6 +8,7 @@ ghost use Rattle.cosigner_core.specs.Records.{cosigner_record, sign_record};
 
 use crate::record::{ADVANCE, COSIGNER, SIGN};
 use crate::settings::CosignerSettings;
+use hss_core::Secret;
 use mtc_io::{Bytes, Memory};
 use std::alloc::Global;
 use std::marker::Model;
@@ -116,7 +117,7 @@ impl StepRecord {
 pub(crate) fn cosigner_record(
     alloc: Global,
     settings: &CosignerSettings,
-    secret: &[u8; 48],
+    secret: &Secret,
 ) -> Result<Bytes, Memory>
     requires { height settings.now.lms ≤ 10 }
     ensures value { IfOk result (λ body. body ≡ cosigner_record settings.now secret.now) }
@@ -124,6 +125,7 @@ pub(crate) fn cosigner_record(
 {
     let id = settings.id.as_bytes();
     let log = settings.log.as_bytes();
+    let secret = secret.as_bytes();
     let mut body = Bytes::new(alloc);
     put_u8(&mut body, COSIGNER)?;
     put_vec8(&mut body, id)?;

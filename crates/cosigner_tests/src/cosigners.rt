@@ -8,7 +8,7 @@ use cosigner_core::{
     create,
 };
 use disk_core::{Disk, Fuse, MemDisk};
-use hss_core::{LmsType, OtsType, SigBuf};
+use hss_core::{LmsType, OtsType, SECRET_LEN, Secret, SigBuf};
 use journal_core::{Refused, StartError};
 use mtc_io::{Bytes, Memory};
 use std::alloc::Global;
@@ -82,10 +82,10 @@ pub(crate) fn ids(alloc: Global) -> Result<(AnchorId, AnchorId), Memory> {
 }
 
 // 16 bytes of 2 are the identifier, and 32 of 7 the seed.
-fn secret() -> [u8; 48] {
-    let mut secret = [7; 48];
-    secret[..16].copy_from_slice(&[2; 16]);
-    secret
+fn secret() -> Option<Secret> {
+    let mut bytes = [7; SECRET_LEN];
+    bytes[..16].copy_from_slice(&[2; 16]);
+    Secret::from_slice(&bytes)
 }
 
 /// Begins the journal of that cosigner, of height 5 and width 4.
@@ -93,6 +93,7 @@ pub(crate) fn begin<D: Disk + Drop>(
     alloc: Global,
     disk: D,
 ) -> Result<(D, Option<StartError>), Memory> {
+    let secret = secret().ok_or(Memory)?;
     let (id, log) = ids(alloc)?;
     let settings = CosignerSettings {
         id,
@@ -100,7 +101,7 @@ pub(crate) fn begin<D: Disk + Drop>(
         lms: LmsType::H5,
         ots: OtsType::W4,
     };
-    Ok(match create(alloc, disk, &settings, &secret()) {
+    Ok(match create(alloc, disk, &settings, &secret) {
         Ok(journal) => (journal.into_disk(), None),
         Err(Refused { disk, why }) => (disk, Some(why)),
     })

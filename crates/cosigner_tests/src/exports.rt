@@ -9,7 +9,7 @@ use cosigner_core::{
     CosignerSettings, Export, ExportError, ReadExportError, Step, pack, read_export,
 };
 use disk_core::MemDisk;
-use hss_core::{LmsType, OtsType, SigBuf};
+use hss_core::{LmsType, OtsType, SECRET_LEN, Secret, SigBuf};
 use journal_core::{FirstRecord, Journal};
 use mtc_io::{Bytes, MemSink, Memory};
 use std::alloc::Global;
@@ -313,6 +313,7 @@ fn signs_often(journal: &mut Journal<MemDisk>, count: u32) -> bool {
 
 // The first record of a cosigner of height 10.
 fn packed(alloc: Global) -> Result<FirstRecord, Memory> {
+    let secret = Secret::from_slice(&[7; SECRET_LEN]).ok_or(Memory)?;
     let (id, log) = ids(alloc)?;
     let settings = CosignerSettings {
         id,
@@ -320,7 +321,7 @@ fn packed(alloc: Global) -> Result<FirstRecord, Memory> {
         lms: LmsType::H10,
         ots: OtsType::W1,
     };
-    pack(alloc, &settings, &[7; 48])
+    pack(alloc, &settings, &secret)
 }
 
 fn begun(alloc: Global) -> Result<Option<Journal<MemDisk>>, Memory> {

@@ -11,8 +11,9 @@ ghost use Rattle.mtc_answers.specs.Works.{TellsNew};
 ghost use Rattle.mtc_cosigner.specs.InitOutcome.{init_cosigner_outcome, init_says};
 ghost use Rattle.mtc_cosigner.specs.Works.{IsCosigner};
 
-use crate::keygen::{SECRET_LENGTH, chains_of_width, line_of_key, refuse_secret, tree_of_height};
+use crate::keygen::{chains_of_width, line_of_key, refuse_secret, tree_of_height};
 use cosigner_core::{CosignerSettings, pack};
+use hss_core::Secret;
 use mtc_answers::{Answer, INPUT_LIMIT, Stop, make_journal, read_input};
 use mtc_room::Room;
 use std::alloc::Global;
@@ -38,13 +39,13 @@ fn init_with<'a, R: Room>(
         room.old room.new }
     ensures begins { TellsNew R.Room R.Dsk.Disk journal.now room.old room.new (ending_of result) }
 {
-    match <[u8; SECRET_LENGTH]>::try_from(secret) {
-        Ok(secret) => {
+    match Secret::from_slice(secret) {
+        Some(secret) => {
             let text = line_of_key(alloc, settings.lms, settings.ots, &secret)?;
             let first = pack(alloc, settings, &secret)?;
             make_journal(room, journal, first, text)
         }
-        Err(_) => Err(refuse_secret(file, secret.len())),
+        None => Err(refuse_secret(file, secret.len())),
     }
 }
 

@@ -14,14 +14,11 @@ ghost use Rattle.mtc_answers.specs.Endings.{Replies};
 ghost use Rattle.mtc_answers.specs.Served.{HasAnswered};
 
 use base64::engine::general_purpose::STANDARD;
-use hss_core::{Key, LmsType, OtsType};
+use hss_core::{Key, LmsType, OtsType, SECRET_LEN, Secret};
 use mtc_answers::{Answer, INPUT_LIMIT, Reason, Said, Stop, Stopped, read_input, refuse_file};
 use mtc_io::{Bytes, Memory};
 use mtc_room::Room;
 use std::alloc::{AllocError, Global};
-
-/// A secret file has so many bytes: 16 of identifier and 32 of seed.
-pub(crate) const SECRET_LENGTH: usize = 48;
 
 pub(crate) fn tree_of_height(height: u64) -> LmsType
     requires { is_height height ≡ true }
@@ -59,7 +56,7 @@ pub(crate) fn line_of_key(
     alloc: Global,
     tree: LmsType,
     chains: OtsType,
-    secret: &[u8; SECRET_LENGTH],
+    secret: &Secret,
 ) -> Result<Bytes, Memory>
     requires { height_of tree ≤ 10 }
     ensures { IfOk result (λ text. text ≡ public_line tree chains secret.now) }
@@ -74,7 +71,7 @@ pub(crate) fn refuse_secret<'a>(file: &'a str, length: usize) -> Stop<'a>
     ensures { stop_ending result ≡ replied (refused Stopped.BadForm (Some file.now)
         (if nat_lt length 48 then codes "Short " ++ decimal 0 else codes "Trailing")) }
 {
-    let reason = if length < SECRET_LENGTH {
+    let reason = if length < SECRET_LEN {
         Reason::with_number("Short", 0)
     } else {
         Reason::named("Trailing")
@@ -94,12 +91,12 @@ fn answer_of<'a>(
     ensures { Replies (keygen_says height width file.now secret.now).answer (ending_of result) }
 {
     let (tree, chains) = (tree_of_height(height), chains_of_width(width));
-    match <[u8; SECRET_LENGTH]>::try_from(secret) {
-        Ok(secret) => Ok(Answer {
+    match Secret::from_slice(secret) {
+        Some(secret) => Ok(Answer {
             status: Said::Done,
             text: line_of_key(alloc, tree, chains, &secret)?,
         }),
-        Err(_) => Err(refuse_secret(file, secret.len())),
+        None => Err(refuse_secret(file, secret.len())),
     }
 }
 

@@ -6,7 +6,7 @@ ghost use Rattle.lms_core.specs.Heights.{height};
 use crate::verifying::name_of;
 use crate::words::bytes_of;
 use anyhow::{Context, Result, bail, ensure};
-use hss_core::{Key, LmsType, OtsType, SigBuf, verify};
+use hss_core::{Key, LmsType, OtsType, Secret, SigBuf, verify};
 use lms_core::Tree;
 use sha2::{Digest, Sha256};
 use std::alloc::Global;
@@ -32,13 +32,10 @@ fn width_of(word: &str) -> Option<OtsType> {
     }
 }
 
-// The bytes of a secret.
-fn secret_of(alloc: Global, word: &str) -> Result<[u8; 48]> {
+// The secret of a word.
+fn secret_of(alloc: Global, word: &str) -> Result<Secret> {
     let bytes = bytes_of(alloc, word)?;
-    ensure!(bytes.len() == 48, "no secret of 48 bytes");
-    let mut secret = [0; 48];
-    secret.copy_from_slice(&bytes);
-    Ok(secret)
+    Secret::from_slice(&bytes).context("no secret of 48 bytes")
 }
 
 // The key that the words describe.
