@@ -22,7 +22,7 @@ use crate::stops::Stops;
 use crate::turns::{Stop, Turn};
 use cosigner_core::{AdvanceRequest, Cosigner, CosignerSettings, SubtreeRequest, create};
 use disk_core::{Fuse, MemDisk};
-use hss_core::{LmsType, OtsType, SigBuf};
+use hss_core::{LmsType, OtsType, Secret, SigBuf};
 use mtc_io::{Bytes, Memory};
 use std::alloc::Global;
 use tree_core::TreeHash;
@@ -30,16 +30,17 @@ use tree_core::TreeHash;
 // The secret of the cosigner `32473.N` in the drill with this number: 16 bytes of N, and the number
 // four times.
 #[tactic(auto, unfolding(crate::specs::CosignerNodes::secret_of))]
-fn secret_of(alloc: Global, last: u8, number: u64) -> Result<[u8; 48], Memory>
+fn secret_of(alloc: Global, last: u8, number: u64) -> Result<Secret, Memory>
     ensures { IfOk result (λ secret. secret ≡ secret_of last number) }
 {
     let bytes = number.to_be_bytes();
     let mut text = Bytes::copy_of(alloc, &[last; 16])?;
     text.append_both(&bytes, &bytes)?;
     text.append_both(&bytes, &bytes)?;
-    let mut secret = [0; 48];
-    secret.copy_from_slice(text.as_slice());
-    Ok(secret)
+    match Secret::from_slice(text.as_slice()) {
+        Some(secret) => Ok(secret),
+        None => unreachable!(),
+    }
 }
 
 // A cosigner on a device that stands for its records, with the stops so far.
