@@ -1,15 +1,12 @@
 -- What others may know of a cosigner: its name, that of its log, its public key, and the records of
 -- its journal behind the first one, which holds the secret.
-use Rattle.std.specs.Prelude.{◌≡◌, ℕ, ◌++◌, List, drop, Result, Ok, Err}
+use Rattle.std.specs.Prelude.{◌++◌, List, drop}
 use Rattle.std.specs.List.{flat_map}
 use Rattle.std.specs.Int.{w8, w16, w32}
 use Rattle.byte_forms.specs.Types.{Text}
-use Rattle.mtc_io.specs.Counts.{Rose}
 use Rattle.hss_core.specs.Hss.{one_level_public}
 use Rattle.tls_wire.specs.Spelling.{vector}
 use Rattle.cosigner_core.specs.Folds.{CosignerState}
-use Rattle.cosigner_core.specs.declared.error.ExportError.{ExportError}
-use Rattle.cosigner_core.specs.declared.error.ExportError.TheVariants.{Read, Write}
 
 -- the ids of the cosigner and of its log, each behind its length of one byte, and the public key
 -- behind its length of two bytes
@@ -24,10 +21,3 @@ records_text bodies = flat_map (vector w32) bodies
 abbrev pub export_text : CosignerState → List Text → Text
 export_text s list =
     front_text s.id s.log (one_level_public s.key.key) ++ records_text (drop 1 list)
-
--- The counts of faults of the disk and of the sink, before a call and after it. An error comes only
--- where the count of its object rose, and no other count did.
-abbrev pub HasExportCause : {T : Type 0} → ℕ → ℕ → ℕ → ℕ → Result T ExportError → Type 0
-HasExportCause disk sink read written (Ok x) = (read ≡ disk) × (written ≡ sink)
-HasExportCause disk sink read written (Err Read) = Rose disk read × (written ≡ sink)
-HasExportCause disk sink read written (Err Write) = (read ≡ disk) × Rose sink written

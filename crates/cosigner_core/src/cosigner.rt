@@ -6,11 +6,12 @@ ghost use Rattle.std.proofs.Props.{props};
 ghost use Rattle.std.specs.Io.KnownBytes.{Appends};
 ghost use Rattle.mtc_io.specs.Streams.{AppendsPrefix};
 ghost use Rattle.disk_core.specs.Moments.{Looks};
+ghost use Rattle.journal_core.specs.Copies.{HasCopyCause};
 ghost use Rattle.journal_core.specs.Format.{StandsFor, end_behind, records_of};
 ghost use Rattle.journal_core.specs.Words.{disk_of, end_of, AllStandFor};
 ghost use Rattle.hss_core.specs.Hss.{Verifies, one_level_public};
 ghost use Rattle.mtc_proof.specs.Inputs.{signed_text};
-ghost use Rattle.cosigner_core.specs.Exports.{HasExportCause, export_text};
+ghost use Rattle.cosigner_core.specs.Exports.{export_text};
 ghost use Rattle.cosigner_core.specs.Folds.{cosigner_of, having_signed, holding};
 ghost use Rattle.cosigner_core.specs.SettledRecords.{IsSettledAs, IsSettledAs-prop};
 ghost use Rattle.cosigner_core.specs.Openings.{CosignerCountsNoOther, HasCosignerCause};
@@ -20,15 +21,15 @@ ghost use Rattle.cosigner_core.specs.Refusals.{CosignKeepsTo, advance_refused, c
 ghost use Rattle.cosigner_core.specs.Signatures.{signature_by};
 ghost use Rattle.cosigner_core.specs.Views.{advance_parts, subtree_parts};
 
-use crate::error::{CosignError, CosignerOpenError, ExportError, hand_back};
-use crate::export::{first_size, write_front, write_rest};
+use crate::error::{CosignError, CosignerOpenError, hand_back};
+use crate::export::{first_size, write_front};
 use crate::opening::read_signer;
 use crate::requests::{AdvanceRequest, SubtreeRequest};
 use crate::signer::Signer;
 use crate::step_record::StepRecord;
 use disk_core::Disk;
 use hss_core::{PUBLIC_KEY_LEN, SigBuf};
-use journal_core::{Journal, Opening, Refused};
+use journal_core::{CopyError, Journal, Opening, Refused, copy_behind};
 use mtc_io::{Failed, Sink};
 use std::alloc::Global;
 use std::marker::PhantomData;
@@ -194,7 +195,7 @@ impl<H: TreeHash, D: Disk> Cosigner<H, D> {
     ///
     /// Errors: `Read` where the disk fails, and `Write` where the sink does. A prefix of the export
     /// is written then.
-    pub fn export<O: Sink>(&mut self, out: &mut O) -> Result<(), ExportError>
+    pub fn export<O: Sink>(&mut self, out: &mut O) -> Result<(), CopyError>
         ensures written { OnOk result (IfSome (cosigner_records self.old)
             (λ list. Appends (O.taken out.old) (O.taken out.new)
             (export_text (cosigner_state self.old) list))) }
@@ -203,15 +204,15 @@ impl<H: TreeHash, D: Disk> Cosigner<H, D> {
             (export_text (cosigner_state self.old) list)) }
         ensures looks { Looks D.Disk (cosigner_disk self.old) (cosigner_disk self.new) }
         ensures same { IsShown self.old self.new }
-        ensures cause { HasExportCause (D.faults (cosigner_disk self.old)) (O.faults out.old)
+        ensures cause { HasCopyCause (D.faults (cosigner_disk self.old)) (O.faults out.old)
             (D.faults (cosigner_disk self.new)) (O.faults out.new) result }
     {
         match write_front(&self.signer, out) {
             Ok(()) => {}
-            Err(Failed) => return Err(ExportError::Write),
+            Err(Failed) => return Err(CopyError::Write),
         }
         let from = self.journal.end_behind_first(first_size(&self.signer));
-        write_rest(&mut self.journal, from, out)
+        copy_behind(&mut self.journal, from, out)
     }
 
     /// The size of the log that is held, and its root.

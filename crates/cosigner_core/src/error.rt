@@ -50,15 +50,6 @@ pub enum CosignError {
     Append(AppendError),
 }
 
-/// Why an export was not written to its end.
-#[derive(Clone, Copy, Debug, PartialEq, Eq)]
-pub enum ExportError {
-    /// The disk failed.
-    Read,
-    /// The sink failed.
-    Write,
-}
-
 /// Why bytes are no export. They are read from the left, and the first fault is answered.
 #[derive(Clone, Copy, Debug, PartialEq, Eq)]
 pub enum ReadExportError {

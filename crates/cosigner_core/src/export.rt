@@ -1,22 +1,14 @@
 //! Writing what others may know of a cosigner: all but the first record of its journal, which holds
 //! the secret.
 
-ghost use Rattle.std.specs.Prelude.{◌≡◌, ◌≤◌, ◌+◌, [], length, List, IfSome, OnOk};
+ghost use Rattle.std.specs.Prelude.{◌≡◌, ◌≤◌, ◌+◌, length, OnOk};
 ghost use Rattle.std.specs.Io.KnownBytes.{Appends};
-ghost use Rattle.byte_forms.specs.Types.{Text};
 ghost use Rattle.mtc_io.specs.Counts.{HasCause};
 ghost use Rattle.mtc_io.specs.Streams.{AppendsPrefix};
-ghost use Rattle.journal_core.specs.Copies.{IsLookedOn, sized_text};
-ghost use Rattle.journal_core.specs.Ends.{StandBetween};
-ghost use Rattle.journal_core.specs.Format.{end_behind};
-ghost use Rattle.journal_core.specs.Words.{disk_of, end_of};
 ghost use Rattle.hss_core.specs.Hss.{one_level_public};
-ghost use Rattle.cosigner_core.specs.Exports.{HasExportCause, front_text};
+ghost use Rattle.cosigner_core.specs.Exports.{front_text};
 
-use crate::error::ExportError;
 use crate::signer::Signer;
-use disk_core::Disk;
-use journal_core::{CopyError, Journal, copy_behind};
 use mtc_io::{Failed, Sink, write_pieces};
 
 // The length of the first record without the ids in it: the tag, the lengths of the ids, the two
@@ -31,31 +23,6 @@ pub(crate) fn first_size(signer: &Signer) -> u64
 {
     let ids = signer.id().as_bytes().len() + signer.log().as_bytes().len();
     FIRST_FIELDS + ids as u64
-}
-
-/// Writes the records behind an end of the journal, each behind its length.
-pub(crate) fn write_rest<D: Disk, O: Sink>(
-    journal: &mut Journal<D>,
-    from: u64,
-    out: &mut O,
-) -> Result<(), ExportError>
-    requires begun { end_behind [] ≤ from }
-    requires within { from ≤ end_of journal.old }
-    ensures ok { OnOk result (IfSome (D.told (disk_of journal.old)) (λ bytes.
-        (bodies : List Text) → StandBetween bytes from (end_of journal.old) bodies
-        → Appends (O.taken out.old) (O.taken out.new) (sized_text bodies))) }
-    ensures prefix { IfSome (D.told (disk_of journal.old)) (λ bytes.
-        (bodies : List Text) → StandBetween bytes from (end_of journal.old) bodies
-        → AppendsPrefix (O.taken out.old) (O.taken out.new) (sized_text bodies)) }
-    ensures kept { IsLookedOn journal.old journal.new }
-    ensures cause { HasExportCause (D.faults (disk_of journal.old)) (O.faults out.old)
-        (D.faults (disk_of journal.new)) (O.faults out.new) result }
-{
-    match copy_behind(journal, from, out) {
-        Ok(()) => Ok(()),
-        Err(CopyError::Read) => Err(ExportError::Read),
-        Err(CopyError::Write) => Err(ExportError::Write),
-    }
 }
 
 /// Writes the ids of a cosigner and of its log, and its public key.

@@ -42,10 +42,11 @@ mod writing;
 pub use checkpoint::Checkpoint;
 pub use cosigner::Cosigner;
 pub use creation::{create, pack};
-pub use error::{CosignError, CosignerOpenError, ExportError, ReadExportError};
+pub use error::{CosignError, CosignerOpenError, ReadExportError};
 pub use export_reading::read_export;
 pub use fault::FormError;
 pub use following::may_follow;
+pub use journal_core::CopyError as ExportError;
 pub use laws::{
     advance_requests_are_read_as_spelled, cosigners_are_read_from_their_journals,
     cosigners_begin_with_their_settings, exports_are_read_as_spelled,

@@ -14,13 +14,13 @@ returns-in-Err-clause-prefix g c =
 pub returns-clause-written : goal.returns-clause-written
 returns-clause-written g c =
     let it = c.args.self.now in
-    when_ok c.write_rest.result _ _ (export_whole g.H.TreeHash.hash (cosigner_state it)
+    when_ok c.copy_behind.result _ _ (export_whole g.H.TreeHash.hash (cosigner_state it)
     c.end_behind_first-from.result (cosigner_end it)
     (λ first long. c.end_behind_first-from.ensures.end first
     (long ∙ sym c.first_size.ensures.value))
     (g.D.Disk.told (cosigner_disk it)) (g.O.Sink.taken c.args.out.now)
-    (g.O.Sink.taken c.write_front.new.out) (g.O.Sink.taken c.write_rest.new.out) it.settled
-    (g.met.D.Disk.told_bytes (cosigner_disk it)) c.in-Ok.ensures.ok) c.write_rest.ensures.ok
+    (g.O.Sink.taken c.write_front.new.out) (g.O.Sink.taken c.copy_behind.new.out) it.settled
+    (g.met.D.Disk.told_bytes (cosigner_disk it)) c.in-Ok.ensures.ok) c.copy_behind.ensures.ok
 
 pub returns-clause-prefix : goal.returns-clause-prefix
 returns-clause-prefix g c =
@@ -30,8 +30,8 @@ returns-clause-prefix g c =
     (λ first long. c.end_behind_first-from.ensures.end first
     (long ∙ sym c.first_size.ensures.value))
     (g.D.Disk.told (cosigner_disk it)) (g.O.Sink.taken c.args.out.now)
-    (g.O.Sink.taken c.write_front.new.out) (g.O.Sink.taken c.write_rest.new.out) it.settled
-    (g.met.D.Disk.told_bytes (cosigner_disk it)) c.in-Ok.ensures.ok c.write_rest.ensures.prefix
+    (g.O.Sink.taken c.write_front.new.out) (g.O.Sink.taken c.copy_behind.new.out) it.settled
+    (g.met.D.Disk.told_bytes (cosigner_disk it)) c.in-Ok.ensures.ok c.copy_behind.ensures.prefix
 
 pub returns-in-Err-clause-looks : goal.returns-in-Err-clause-looks
 returns-in-Err-clause-looks g c = no_look g.D.Disk _ (g.met.D.Disk.only_now _)
