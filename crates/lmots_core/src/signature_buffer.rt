@@ -39,7 +39,8 @@ impl SigBuf {
 
     /// The bytes so far.
     pub fn as_slice(&self) -> &[u8]
-        ensures { result.now ≡ self.now }
+        ensures value { result.now ≡ self.now }
+        ensures short { length result.now ≤ 17748 }
     {
         &self.bytes[..self.length]
     }

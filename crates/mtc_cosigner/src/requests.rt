@@ -30,8 +30,8 @@ use std::alloc::{AllocError, Global};
 use tls_wire::AnchorId;
 use tree_core::TreeHash;
 
-// The room for the text of a signature, whose bytes are fewer than this.
-const ROOM: usize = 16_384;
+// The room for a signature: a buffer holds no more.
+const ROOM: usize = 17_748;
 
 // Why a file is no request.
 fn reason_of(why: FormError) -> Reason
@@ -100,7 +100,7 @@ pub(crate) fn advance_on<'a, H: TreeHash, D: Disk>(
 // The id of a cosigner behind its length, with room for a signature behind it.
 fn begun_with(alloc: Global, id: &AnchorId) -> Result<Vec<u8>, AllocError>
     ensures text { IfOk result (λ text. text.items ≡ vector w8 id.now) }
-    ensures room { IfOk result (λ text. vec_len text + 2 + 2 ^ 14 ≤ vec_capacity text) }
+    ensures room { IfOk result (λ text. vec_len text + 2 + 17748 ≤ vec_capacity text) }
 {
     let id = id.as_bytes();
     let mut text = Vec::with_capacity(alloc, 1 + id.len() + 2 + ROOM)?;
@@ -111,8 +111,8 @@ fn begun_with(alloc: Global, id: &AnchorId) -> Result<Vec<u8>, AllocError>
 
 // The same with the signature behind its length.
 fn with_signature(mut text: Vec<u8>, signature: &[u8]) -> Bytes
-    requires short { length signature.now < 2 ^ 14 }
-    requires room { vec_len text + 2 + 2 ^ 14 ≤ vec_capacity text }
+    requires short { length signature.now ≤ 17748 }
+    requires room { vec_len text + 2 + 17748 ≤ vec_capacity text }
     ensures { result ≡ text.items ++ vector w16 signature.now }
 {
     let length = (signature.len() as u16).to_be_bytes();

@@ -37,7 +37,7 @@ returns-clause-put g c =
       };
       signed = record { cosigner = refl; verifies = has.signed.0; short = has.signed.1 };
       put = c.in_ok-put_vec16.ensures.ok
-          ∙ ap (λ (t : Text). c.put_vec8.new.out ++ vector w16 t) c.as_slice.ensures
+          ∙ ap (λ (t : Text). c.put_vec8.new.out ++ vector w16 t) c.as_slice.ensures.value
           ∙ ap (λ (t : Text). t ++ vector w16 c.cosign.new.out) (c.in_ok-put_vec8.ensures.ok
           ∙ ap (λ (t : Text). c.args.signatures.now ++ vector w8 t)
           (c.as_bytes-2.ensures.value ∙ c.id-2.ensures ∙ has.id))

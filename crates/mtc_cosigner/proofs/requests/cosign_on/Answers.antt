@@ -34,7 +34,7 @@ returns-in-Ok-clause-works g c =
     ∙ ap (λ (t : Text). t ++ vector w16 c.as_slice.result.now)
     (c.in_ok-text.ensures.text ∙ ap (vector w8) c.id.ensures)
     ∙ ap (λ (t : Text). vector w8 (cosigner_state old).id ++ vector w16 t)
-    (c.as_slice.ensures ∙ c.in-Ok.ensures.signature)))
+    (c.as_slice.ensures.value ∙ c.in-Ok.ensures.signature)))
     (step_made name old new c.requires
     (sign_record (cosigner_state old).key.next r.start r.end r.hash r.proof)
     (cosigned_text (cosigner_state old) r) (having_signed (cosigner_state old))
