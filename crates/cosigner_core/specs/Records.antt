@@ -1,6 +1,6 @@
 -- The records of a cosigner's journal: a tag of one byte, and what it says. Numbers have their
 -- highest byte first.
-use Rattle.std.specs.Prelude.{◌≡◌, ℕ, ◌^◌, ◌<◌, ◌≤◌, ◌==◌, List, ◌++◌, length, Option, Some, None}
+use Rattle.std.specs.Prelude.{◌≡◌, ℕ, ◌^◌, ◌<◌, ◌==◌, List, ◌++◌, length, Option, Some, None}
 use Rattle.std.specs.Prelude.{option_map, option_and_then, Result, Ok, Err, if◌then◌else◌}
 use Rattle.std.specs.Int.{w8, w32, w64}
 use Rattle.byte_forms.specs.Types.{Hash, Text}
@@ -8,7 +8,7 @@ use Rattle.byte_forms.specs.Places.{At, at}
 use Rattle.byte_forms.specs.Readings.{Reading, both_at, lifted_at, whole_of}
 use Rattle.lmots_core.specs.Parameters.{typecode, type_of_code}
 use Rattle.lmots_core.specs.declared.parameters.OtsType.{OtsType}
-use Rattle.lms_core.specs.Heights.{height, lms_code}
+use Rattle.lms_core.specs.Heights.{IsSigningHeight, lms_code}
 use Rattle.lms_core.specs.declared.heights.LmsType.{LmsType}
 use Rattle.lms_core.specs.declared.heights.LmsType.TheVariants.{H5, H10}
 use Rattle.tls_wire.specs.Anchors.{anchor_of}
@@ -138,5 +138,5 @@ FitsStep (Sign index start end hash proof) = FitsSign index start end hash proof
 pub record FitsCosigner (s : CosignerSettings) (secret : Text) : Type 0 where
   pub id : IsAnchorId s.id
   pub log : IsAnchorId s.log
-  pub small : height s.lms ≤ 10
+  pub small : IsSigningHeight s.lms
   pub sized : length secret ≡ 48

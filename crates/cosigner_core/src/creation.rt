@@ -1,11 +1,11 @@
 //! The journal of a new cosigner.
 
-ghost use Rattle.std.specs.Prelude.{◌≡◌, ◌≢◌, ◌≤◌, [], ◌∷◌, Ok, IfSome, IfOk, IfErr};
+ghost use Rattle.std.specs.Prelude.{◌≡◌, ◌≢◌, [], ◌∷◌, Ok, IfSome, IfOk, IfErr};
 ghost use Rattle.byte_forms.specs.Types.{HashFunction};
 ghost use Rattle.disk_core.specs.Moments.{Looks};
 ghost use Rattle.journal_core.specs.Packed.{first_body};
 ghost use Rattle.journal_core.specs.Starts.{HasStarted, IsNotStarted};
-ghost use Rattle.lms_core.specs.Heights.{height};
+ghost use Rattle.lms_core.specs.Heights.{IsSigningHeight};
 ghost use Rattle.cosigner_core.specs.Folds.{cosigner_of, new_cosigner};
 ghost use Rattle.cosigner_core.specs.Records.{cosigner_record};
 
@@ -25,7 +25,7 @@ pub fn pack(
     settings: &CosignerSettings,
     secret: &Secret,
 ) -> Result<FirstRecord, Memory>
-    requires { height settings.now.lms ≤ 10 }
+    requires { IsSigningHeight settings.now.lms }
     ensures body { IfOk result (λ it. first_body it ≡ cosigner_record settings.now secret.now) }
     ensures valid { (h : HashFunction)
         → cosigner_of h (cosigner_record settings.now secret.now ∷ [])
@@ -46,7 +46,7 @@ pub fn create<D: Disk>(
     settings: &CosignerSettings,
     secret: &Secret,
 ) -> Result<Journal<D>, Refused<D, StartError>>
-    requires { height settings.now.lms ≤ 10 }
+    requires { IsSigningHeight settings.now.lms }
     ensures ok { IfOk result (HasStarted (cosigner_record settings.now secret.now) disk) }
     ensures err { IfErr result (λ e. IsNotStarted D.Disk disk e.disk e.why) }
     ensures spared { IfErr result (λ e. IfSome (D.told disk)

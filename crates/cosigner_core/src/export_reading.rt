@@ -29,7 +29,7 @@ fn signing_keys(public: &[u8]) -> Option<u32>
     ensures length { IfSome result (λ keys. length public.now ≡ 60) }
 {
     match read_key(public) {
-        Some((1, lms, _)) if lms.height() <= 10 => Some(lms.leaves()),
+        Some((1, lms, _)) if lms.is_signing_height() => Some(lms.leaves()),
         _ => None,
     }
 }

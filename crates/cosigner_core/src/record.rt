@@ -1,8 +1,8 @@
 //! Reading the bodies of a cosigner's records.
 
-ghost use Rattle.std.specs.Prelude.{◌≡◌, ◌≢◌, ◌≤◌, Err, option_map, option_and_then, IfSome, IfOk};
+ghost use Rattle.std.specs.Prelude.{◌≡◌, ◌≢◌, Err, option_map, option_and_then, IfSome, IfOk};
 ghost use Rattle.byte_forms.specs.Readings.{Moves, whole_of};
-ghost use Rattle.lms_core.specs.Heights.{height};
+ghost use Rattle.lms_core.specs.Heights.{IsSigningHeight};
 ghost use Rattle.tls_wire.specs.Reading.{bytes_at};
 ghost use Rattle.cosigner_core.specs.Records.{advance_step_at, cosigner_at, cosigner_in, founded};
 ghost use Rattle.cosigner_core.specs.Records.{cosigner_settings_with, sign_step_at, signing_type};
@@ -129,7 +129,7 @@ pub(crate) fn read_step(body: &[u8]) -> Result<StepRef<'_>, RecordError>
 // The height that a typecode names, where a key of that height signs.
 fn signing_type(code: u32) -> Option<LmsType>
     ensures exact { result ≡ signing_type code }
-    ensures small { IfSome result (λ lms. height lms ≤ 10) }
+    ensures signs { IfSome result IsSigningHeight }
 {
     match code {
         5 => Some(LmsType::H5),
@@ -146,7 +146,7 @@ fn settings_with(
     ots: u32,
 ) -> Result<CosignerSettings, RecordError>
     ensures found { CosignerFinds (λ s. s) (cosigner_settings_with id.now log.now lms ots) result }
-    ensures small { IfOk result (λ s. height s.lms ≤ 10) }
+    ensures signs { IfOk result (λ s. IsSigningHeight s.lms) }
 {
     let Some(lms) = signing_type(lms) else {
         return Err(RecordError::Unfit);
@@ -164,7 +164,7 @@ fn founded(alloc: Global, mut cursor: Cursor<'_>) -> Result<(CosignerSettings, S
     ensures found { CosignerFinds (λ x. x) (option_and_then founded
         (whole_of (cosigner_at cursor.entry)))
         result }
-    ensures small { IfOk result (λ x. height x.0.lms ≤ 10) }
+    ensures signs { IfOk result (λ x. IsSigningHeight x.0.lms) }
 {
     let (id, log, lms, ots, secret) = cosigner_fields(&mut cursor)?;
     if cursor.left() != 0 {
@@ -181,7 +181,7 @@ pub(crate) fn read_settings(
     body: &[u8],
 ) -> Result<(CosignerSettings, Secret), RecordError>
     ensures found { CosignerFinds (λ x. x) (cosigner_in body.now) result }
-    ensures small { IfOk result (λ x. height x.0.lms ≤ 10) }
+    ensures signs { IfOk result (λ x. IsSigningHeight x.0.lms) }
 {
     let mut cursor = Cursor::new(body);
     if cursor.u8()? != COSIGNER {

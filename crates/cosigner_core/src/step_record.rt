@@ -1,7 +1,7 @@
 //! The bodies of records, as they are written.
 
 ghost use Rattle.std.specs.Prelude.{◌≡◌, ◌+◌, ◌*◌, ◌≤◌, ◌++◌, [], length, IfOk};
-ghost use Rattle.lms_core.specs.Heights.{height};
+ghost use Rattle.lms_core.specs.Heights.{IsSigningHeight};
 ghost use Rattle.tls_wire.specs.Spelling.{hashes};
 ghost use Rattle.cosigner_core.specs.Records.{FitsAdvance, FitsCosigner, FitsSign, advance_record};
 ghost use Rattle.cosigner_core.specs.Records.{cosigner_record, sign_record};
@@ -119,7 +119,7 @@ pub(crate) fn cosigner_record(
     settings: &CosignerSettings,
     secret: &Secret,
 ) -> Result<Bytes, Memory>
-    requires { height settings.now.lms ≤ 10 }
+    requires { IsSigningHeight settings.now.lms }
     ensures value { IfOk result (λ body. body ≡ cosigner_record settings.now secret.now) }
     ensures fits { FitsCosigner settings.now secret.now }
 {

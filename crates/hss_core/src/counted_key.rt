@@ -1,7 +1,7 @@
 //! A key of one level that counts its one-time keys.
 
 ghost use Rattle.std.specs.Prelude.{◌≡◌, ◌+◌, ◌-◌, ◌<◌, ◌≤◌, ◌^◌, length, IfOk};
-ghost use Rattle.lms_core.specs.Heights.{height, lms_signature_length};
+ghost use Rattle.lms_core.specs.Heights.{IsSigningHeight, height, lms_signature_length};
 ghost use Rattle.lms_core.specs.Trees.{private_key};
 ghost use Rattle.hss_core.specs.Hss.{one_level_public, one_level_signature, Verifies};
 
@@ -45,7 +45,7 @@ impl Key {
         secret: &Secret,
         next: u32,
     ) -> Result<Key, Memory>
-        requires height { height lms ≤ 10 }
+        requires signs { IsSigningHeight lms }
         requires index { next ≤ 2 ^ height lms }
         ensures { let key = private_key lms ots secret.now in
             IfOk result (λ k. k ≡ record { key = key; next = next }) }

@@ -1,5 +1,5 @@
 -- The five heights of LMS trees with SHA-256 and 32-byte values (RFC 8554, 5.1).
-use Rattle.std.specs.Prelude.{ℕ, ◌+◌, ◌*◌, ◌==◌, if◌then◌else◌, Option, Some, None}
+use Rattle.std.specs.Prelude.{ℕ, ◌+◌, ◌*◌, ◌≤◌, ◌==◌, if◌then◌else◌, Option, Some, None}
 use Rattle.lmots_core.specs.declared.parameters.OtsType.{OtsType}
 use Rattle.lmots_core.specs.Parameters.{signature_length}
 use Rattle.lms_core.specs.declared.heights.LmsType.{LmsType}
@@ -12,6 +12,10 @@ height H10 = 10
 height H15 = 15
 height H20 = 20
 height H25 = 25
+
+-- Trees of height 5 and 10 are made and sign. The higher ones are only verified.
+abbrev pub IsSigningHeight : LmsType → Type 0
+IsSigningHeight l = height l ≤ 10
 
 -- The number by which keys and signatures name the height.
 abbrev pub lms_code : LmsType → ℕ

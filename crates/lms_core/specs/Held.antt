@@ -2,7 +2,7 @@
 use Rattle.std.specs.Prelude.{◌≡◌, ℕ, ◌-◌, ◌*◌, ◌^◌, ◌<◌, ◌≤◌, List, [], length, slice_index_or}
 use Rattle.byte_forms.specs.Types.{Hash}
 use Rattle.lms_core.specs.declared.private_key.PrivateKey.{PrivateKey}
-use Rattle.lms_core.specs.Heights.{height}
+use Rattle.lms_core.specs.Heights.{IsSigningHeight, height}
 use Rattle.lms_core.specs.Trees.{tree_value}
 
 -- From place p on the list has the values of the tree's nodes: those d levels above the leaves are
@@ -13,7 +13,7 @@ HoldsFrom key p nodes = (d k : ℕ) → d ≤ height key.lms → 2 ^ (height key
 
 -- The list has the values of all nodes of a tree of height 5 or 10; nothing is said of its place 0.
 pub record HoldsNodes (key : PrivateKey) (nodes : List Hash) : Type 0 where
-  pub low : height key.lms ≤ 10
+  pub low : IsSigningHeight key.lms
   pub id : length key.id ≡ 16
   pub count : length nodes ≡ 2 * 2 ^ height key.lms
   pub each : HoldsFrom key 1 nodes

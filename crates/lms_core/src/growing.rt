@@ -1,7 +1,7 @@
 //! The nodes of a tree, filled from the leaves to the root.
 
-ghost use Rattle.std.specs.Prelude.{◌≡◌, ◌*◌, ◌≤◌, ◌^◌, length};
-ghost use Rattle.lms_core.specs.Heights.{height};
+ghost use Rattle.std.specs.Prelude.{◌≡◌, ◌*◌, ◌^◌, length};
+ghost use Rattle.lms_core.specs.Heights.{IsSigningHeight, height};
 ghost use Rattle.lms_core.specs.Held.{HoldsFrom};
 
 use crate::nodes::inner_node;
@@ -9,7 +9,7 @@ use crate::private_key::PrivateKey;
 
 // Fills the places of the leaves.
 pub fn fill_leaves(key: &PrivateKey, leaves: u32, nodes: &mut [[u8; 32]])
-    requires low { height key.now.lms ≤ 10 }
+    requires signs { IsSigningHeight key.now.lms }
     requires leaves { leaves ≡ 2 ^ height key.now.lms }
     requires count { length nodes.old ≡ 2 * leaves }
     ensures { HoldsFrom key.now leaves nodes.new }
@@ -21,7 +21,7 @@ pub fn fill_leaves(key: &PrivateKey, leaves: u32, nodes: &mut [[u8; 32]])
 
 // Fills the places above the leaves, from the lowest level to the root.
 pub fn fill_inner(key: &PrivateKey, leaves: u32, nodes: &mut [[u8; 32]])
-    requires low { height key.now.lms ≤ 10 }
+    requires signs { IsSigningHeight key.now.lms }
     requires leaves { leaves ≡ 2 ^ height key.now.lms }
     requires count { length nodes.old ≡ 2 * leaves }
     requires below { HoldsFrom key.now leaves nodes.old }

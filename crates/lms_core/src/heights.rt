@@ -1,7 +1,8 @@
 //! The five heights of trees.
 
-ghost use Rattle.std.specs.Prelude.{◌≡◌, ◌^◌};
-ghost use Rattle.lms_core.specs.Heights.{height, lms_code, lms_signature_length, lms_type_of_code};
+ghost use Rattle.std.specs.Prelude.{◌≡◌, ◌^◌, ◌↔◌, IsTrue};
+ghost use Rattle.lms_core.specs.Heights.{IsSigningHeight, height, lms_code, lms_signature_length};
+ghost use Rattle.lms_core.specs.Heights.{lms_type_of_code};
 
 use lmots_core::OtsType;
 
@@ -45,6 +46,13 @@ impl LmsType {
             LmsType::H20 => 1_048_576,
             LmsType::H25 => 33_554_432,
         }
+    }
+
+    /// Whether trees of this height are made and sign: those of height 5 and 10 are.
+    pub fn is_signing_height(self) -> bool
+        ensures { IsTrue result ↔ IsSigningHeight self }
+    {
+        self.height() <= 10
     }
 
     /// The number that names the height in keys and signatures.

@@ -1,7 +1,7 @@
 //! A tree with its nodes, which signs.
 
 ghost use Rattle.std.specs.Prelude.{◌≡◌, ◌+◌, ◌*◌, ◌<◌, ◌≤◌, ◌^◌, ◌++◌, length, IfOk};
-ghost use Rattle.lms_core.specs.Heights.{height, lms_signature_length};
+ghost use Rattle.lms_core.specs.Heights.{IsSigningHeight, height, lms_signature_length};
 ghost use Rattle.lms_core.specs.Trees.{lms_public, lms_signature, private_key};
 
 use crate::checking::PUBLIC_KEY_LEN;
@@ -42,7 +42,7 @@ impl Tree {
     /// # Errors
     /// `Memory`, where there is no room for the nodes.
     pub fn make(alloc: Global, lms: LmsType, ots: OtsType, secret: &Secret) -> Result<Tree, Memory>
-        requires { height lms ≤ 10 }
+        requires { IsSigningHeight lms }
         ensures { IfOk result (λ t. t ≡ private_key lms ots secret.now) }
     {
         Tree::of_key(alloc, PrivateKey::of_secret(lms, ots, secret))
@@ -53,7 +53,7 @@ impl Tree {
     /// # Errors
     /// `Memory`, where there is no room for the nodes.
     pub fn of_key(alloc: Global, key: PrivateKey) -> Result<Tree, Memory>
-        requires { height key.lms ≤ 10 }
+        requires { IsSigningHeight key.lms }
         ensures { IfOk result (λ t. t ≡ key) }
     {
         let leaves = key.lms.leaves();

@@ -1,8 +1,8 @@
 //! The command `init-cosigner`: a new cosigner.
 
-ghost use Rattle.std.specs.Prelude.{◌≡◌, ◌<◌, ◌≤◌, ◌^◌, true, [], ◌∷◌};
+ghost use Rattle.std.specs.Prelude.{◌≡◌, ◌<◌, ◌^◌, true, [], ◌∷◌};
 ghost use Rattle.byte_forms.specs.Types.{HashFunction};
-ghost use Rattle.lms_core.specs.Heights.{height};
+ghost use Rattle.lms_core.specs.Heights.{IsSigningHeight};
 ghost use Rattle.mtc_words.specs.Commands.{is_height, is_width};
 ghost use Rattle.mtc_answers.specs.Answers.{ending_of};
 ghost use Rattle.mtc_answers.specs.Served.{HasServed};
@@ -29,7 +29,7 @@ fn init_with<'a, R: Room>(
     secret: &[u8],
 ) -> Result<Answer, Stop<'a>>
     requires lent { R.lent room.old < 2 ^ 32 }
-    requires small { height settings.now.lms ≤ 10 }
+    requires signs { IsSigningHeight settings.now.lms }
     ensures serves { HasServed R.Room R.Dsk.Disk (journal.now ∷ (file.now ∷ [])) journal.now
         (init_says journal.now settings.now file.now (R.file room.old journal.now) secret.now)
         room.old room.new (ending_of result) }

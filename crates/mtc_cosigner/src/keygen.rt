@@ -1,11 +1,11 @@
 //! The command `keygen`: the public key of a secret.
 
-ghost use Rattle.std.specs.Prelude.{◌≡◌, ◌<◌, ◌≤◌, ◌^◌, true, [], ◌∷◌, ◌++◌, IfOk, codes, nat_lt};
+ghost use Rattle.std.specs.Prelude.{◌≡◌, ◌<◌, ◌^◌, true, [], ◌∷◌, ◌++◌, IfOk, codes, nat_lt};
 ghost use Rattle.std.specs.Prelude.{if◌then◌else◌, string_bytes};
 ghost use Rattle.std.specs.Fmt.{decimal};
 ghost use Rattle.base64.specs.GeneralPurpose.{encode_of};
 ghost use Rattle.base64.specs.Engines.{standard};
-ghost use Rattle.lms_core.specs.Heights.{height as height_of};
+ghost use Rattle.lms_core.specs.Heights.{IsSigningHeight};
 ghost use Rattle.mtc_words.specs.Commands.{is_height, is_width};
 ghost use Rattle.mtc_cosigner.specs.KeygenOutcome.{lms_type, ots_type, public_line, keygen_says};
 ghost use Rattle.mtc_cosigner.specs.KeygenOutcome.{keygen_outcome};
@@ -23,7 +23,7 @@ use std::alloc::{AllocError, Global};
 pub(crate) fn tree_of_height(height: u64) -> LmsType
     requires { is_height height ≡ true }
     ensures is { result ≡ lms_type height }
-    ensures small { height_of result ≤ 10 }
+    ensures signs { IsSigningHeight result }
 {
     match height {
         5 => LmsType::H5,
@@ -58,7 +58,7 @@ pub(crate) fn line_of_key(
     chains: OtsType,
     secret: &Secret,
 ) -> Result<Bytes, Memory>
-    requires { height_of tree ≤ 10 }
+    requires { IsSigningHeight tree }
     ensures { IfOk result (λ text. text ≡ public_line tree chains secret.now) }
 {
     let key = Key::make(alloc, tree, chains, secret, 0)?;

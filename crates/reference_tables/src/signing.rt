@@ -1,7 +1,7 @@
 //! Keys and signatures made here, as their SHA-256.
 
-ghost use Rattle.std.specs.Prelude.{◌≤◌, IfSome, length};
-ghost use Rattle.lms_core.specs.Heights.{height};
+ghost use Rattle.std.specs.Prelude.{IfSome};
+ghost use Rattle.lms_core.specs.Heights.{IsSigningHeight};
 
 use crate::verifying::name_of;
 use crate::words::bytes_of;
@@ -13,7 +13,7 @@ use std::alloc::Global;
 
 // A height of which keys are made.
 fn height_of(word: &str) -> Option<LmsType>
-    ensures { IfSome result (λ l. height l ≤ 10) }
+    ensures { IfSome result IsSigningHeight }
 {
     match word {
         "5" => Some(LmsType::H5),
