@@ -9,9 +9,8 @@ use denote.Ref.{Bor}
 use Rattle.byte_forms.specs.Types.{Text}
 use Rattle.cert_fields.specs.Views.{texts}
 use Rattle.byte_forms.specs.Places.{At}
-use Rattle.byte_forms.specs.Readings.{discarded, both_at, mapped_at, tested_at, Reading}
+use Rattle.byte_forms.specs.Readings.{both_at, mapped_at, tested_at, Reading}
 use Rattle.byte_forms.specs.Lists.{value_then}
-use Rattle.byte_forms.proofs.Loops.{WalksEach, each_from, each_more, each_fails, each_end}
 use Rattle.byte_forms.proofs.Steps.{guard_ok, pass_ok, ok_is}
 use Rattle.der_core.specs.Items.{Item, inside}
 use Rattle.der_core.specs.Reading.{element_at}
@@ -24,7 +23,7 @@ use Rattle.der_core.specs.declared.fault.CertError.TheVariants.{BadExtension, Re
 use Rattle.cert_fields.specs.AltNames.{dns_name, name_then, names_from, names_left}
 use Rattle.cert_fields.specs.Extensions.{ExtensionFields, is_among, new_identifier_at, critical_at}
 use Rattle.cert_fields.specs.Extensions.{to_extension, has_its_form, identifier_of, extension_at}
-use Rattle.cert_fields.specs.Extensions.{extension_list_at, head_at, identifiers}
+use Rattle.cert_fields.specs.Extensions.{head_at, identifiers}
 use Rattle.cert_fields.specs.Extensions.{extensions_from, extensions_left}
 use Rattle.cert_fields.proofs.Forward.{element_forward}
 use Rattle.cert_fields.proofs.Steps.{inside_ok, first_ok, mapped_ok, tested_ok, decoded_ok}
@@ -196,49 +195,6 @@ taken_ends old zero slices a fault so_far step same n =
     ap (λ (m : ℕ). identifiers m old) e ∙ (so_far n ∙ identifiers_end n a fault step)
 taken_ends old (suc k) slices a fault so_far step same n = absurd (omega (arith, same))
 
--- ---- how many identifiers stand before a place
-
--- This place is behind the first `count` identifiers from the old place on.
-abbrev pub IsBehind : At → ℕ → At → Type 0
-IsBehind old count a =
-    (n : ℕ) → length (identifiers (count + n) old) ≡ count + length (identifiers n a)
-
-pub behind_none : (old a : At) → a ≡ old → IsBehind old 0 a
-behind_none old a same n =
-    let e : 0 + n ≡ n = omega arith in
-    ap (λ (m : ℕ). length (identifiers m old)) e
-    ∙ (ap (λ (c : At). length (identifiers n c)) (sym same) ∙ omega arith)
-
-pub behind_more : (old : At) (count : ℕ) (a : At) (identifier : Text) (b : At)
-    → head_at a ≡ Ok (identifier, b) → IsBehind old count a → IsBehind old (count + 1) b
-behind_more old count a identifier b step so_far n =
-    let e : count + 1 + n ≡ count + suc n = omega arith in
-    let one : count + suc (length (identifiers n b)) ≡ count + 1 + length (identifiers n b) =
-    omega arith in
-    ap (λ (m : ℕ). length (identifiers m old)) e
-    ∙ (so_far (suc n) ∙ (ap (λ (ids : List Text). count + length ids)
-    (identifiers_more n a identifier b step) ∙ one))
-
--- A list in which no more than 64 identifiers read has no more than 64.
-pub behind_ends : (old : At) (count : ℕ) (a : At) (fault : DerError) → head_at a ≡ Err fault
-    → count ≤ 64 → IsBehind old count a → length (identifiers 65 old) ≤ 64
-behind_ends old count a fault step le so_far =
-    let e : 65 ≡ count + (65 - count) = omega arith in
-    let all : length (identifiers 65 old) ≡ count + length (identifiers (65 - count) a) =
-    ap (λ (m : ℕ). length (identifiers m old)) e ∙ so_far (65 - count) in
-    let none : length (identifiers (65 - count) a) ≡ 0 =
-    ap (λ (ids : List Text). length ids) (identifiers_end (65 - count) a fault step) in
-    omega (arith, le, all, none)
-
--- In a list that has no more than 64 identifiers none is behind the 65th.
-pub behind_few : (old : At) (count : ℕ) (a : At) → length (identifiers 65 old) ≤ 64
-    → count ≤ 65 → IsBehind old count a → count ≤ 64
-behind_few old count a few le so_far =
-    let e : 65 ≡ count + (65 - count) = omega arith in
-    let all : length (identifiers 65 old) ≡ count + length (identifiers (65 - count) a) =
-    ap (λ (m : ℕ). length (identifiers m old)) e ∙ so_far (65 - count) in
-    omega (arith, few, all)
-
 -- ---- the list of extensions
 
 pub oid_same : (place : ℕ) (contents x : Text) → oid_of place contents ≡ Ok x → contents ≡ x
@@ -269,55 +225,6 @@ head_of seen a x b h =
     let same : d.0.contents ≡ x.identifier = oid_same d.0.place d.0.contents m.0.0 d.2
     ∙ ap identifier_of m.2 in
     rw (s.1, d.1) (ap (λ (t : Text). Ok (t, b)) same)
-
--- Behind so many extensions of a list: those that are left read on as the whole list does, and the
--- first ones are known.
-pub record Passes (total : Result At CertError) (list : At) (count : ℕ) (a : At) : Type 0 where
-  pub seen : List Text
-  pub walks : WalksEach identifier_of extension_at total seen a
-  pub passed : Taken list count seen a
-  pub behind : IsBehind list count a
-  pub few : count ≤ 64
-
-pub passes_from : (a list : At) → list ≡ a → Passes (discarded (extension_list_at a)) list 0 a
-unfolding extension_list_at
-passes_from a list same = record {
-  seen = [];
-  walks = each_from identifier_of extension_at [] a;
-  passed = taken_none list a (sym same);
-  behind = behind_none list a (sym same);
-  few = omega arith;
-}
-
-pub passes_more : (total : Result At CertError) (list : At) (count : ℕ) (a : At)
-    (x : ExtensionFields) (b : At)
-    → extension_at (identifiers count list) a ≡ Ok (x, b) → length b.rest < length a.rest
-    → length (identifiers 65 list) ≤ 64
-    → Passes total list count a → Passes total list (count + 1) b
-passes_more total list count a x b step less few p =
-    let head = head_of (identifiers count list) a x b step in
-    let behind = behind_more list count a x.identifier b head p.behind in
-    let all = sym (all_taken list count p.seen a p.passed) in record {
-      seen = p.seen ++ x.identifier ∷ [];
-      walks = each_more identifier_of extension_at total p.seen a x b
-          (ap (λ (seen : List Text). extension_at seen a) all ∙ step) less p.walks;
-      passed = taken_more list count p.seen a x.identifier b head p.passed;
-      behind = behind;
-      few = behind_few list (count + 1) b few (omega (arith, p.few)) behind;
-    }
-
-pub passes_fails : (total : Result At CertError) (list : At) (count : ℕ) (a : At) (e : CertError)
-    → extension_at (identifiers count list) a ≡ Err e → (length a.rest == 0) ≡ false
-    → Passes total list count a → total ≡ Err e
-passes_fails total list count a e step other p =
-    each_fails identifier_of extension_at total p.seen a e
-    (ap (λ (seen : List Text). extension_at seen a)
-    (sym (all_taken list count p.seen a p.passed)) ∙ step) other p.walks
-
-pub passes_end : (total : Result At CertError) (list : At) (count : ℕ) (a : At)
-    → (length a.rest == 0) ≡ true → Passes total list count a → total ≡ Ok a
-passes_end total list count a none p =
-    each_end identifier_of extension_at total p.seen a none p.walks
 
 -- ---- looking for an extension
 

@@ -1,10 +1,10 @@
 //! Extensions (RFC 5280, sections 4.1.2.9 and 4.2).
 
-ghost use Rattle.std.specs.Prelude.{◌≡◌, ◌^◌, ◌<◌, ◌≤◌, [], length, Ok, Err, OnOk, IfErr, IsTrue};
+ghost use Rattle.std.specs.Prelude.{◌≡◌, ◌^◌, ◌<◌, [], length, Ok, Err, OnOk, IfErr};
 ghost use Rattle.std.specs.Prelude.{if◌then◌else◌};
 ghost use Rattle.std.specs.List.{list_any};
 ghost use Rattle.byte_forms.specs.Readings.{Reads, Moves, Gives, discarded};
-ghost use Rattle.cert_fields.specs.Extensions.{is_among, new_identifier_at, critical_at};
+ghost use Rattle.cert_fields.specs.Extensions.{new_identifier_at, critical_at};
 ghost use Rattle.cert_fields.specs.Extensions.{has_its_form, extension_at, extension_list_at};
 ghost use Rattle.cert_fields.specs.Extensions.{extension_sequence_at, extensions_at, identifiers};
 ghost use Rattle.cert_fields.specs.Extensions.{are_repeated, extensions_left, list_in};
@@ -16,13 +16,10 @@ ghost use Rattle.der_core.specs.declared.fault.CertError.TheVariants.{RepeatedEx
 use crate::alt_names::{DnsNames, is_general_names};
 use crate::cert::Cert;
 use crate::identifiers::{is_known, is_subject_alt_name};
-use crate::repeats::{has_repeats, head};
+use crate::repeats::has_repeats;
 use crate::tags::EXTENSIONS;
 use der_core::tags::{BOOLEAN, OBJECT_IDENTIFIER, OCTET_STRING, SEQUENCE};
 use der_core::{CertError, DerError, Reader, boolean, oid};
-
-// Up to so many extensions each is compared with all before it.
-const FEW: usize = 64;
 
 /// One extension.
 #[derive(Clone, Copy)]
@@ -32,45 +29,13 @@ pub struct Extension<'a> {
     pub octets: &'a [u8],
 }
 
-// One of the first `count` extensions in the list has this identifier.
-fn is_repeated(identifier: &[u8], list: &Reader, count: usize) -> bool
-    requires few { count ≤ 64 }
-    ensures { result ≡ is_among identifier.now (identifiers count list.now) }
-{
-    let mut reader = list.fork();
-    let mut left = count;
-    while left > 0 {
-        match head(&mut reader) {
-            Ok(other) => {
-                if other == identifier {
-                    return true;
-                }
-                left -= 1;
-            }
-            Err(_) => return false,
-        }
-    }
-    false
-}
-
-// An identifier that none of the first `count` extensions in the list has.
+// The identifier of an extension, whatever came before it.
 #[tactic(auto, unfolding(crate::specs::Extensions::new_identifier_at))]
-fn new_identifier<'a>(
-    reader: &mut Reader<'a>,
-    list: &Reader,
-    count: usize,
-) -> Result<&'a [u8], CertError>
-    requires few { count ≤ 64 }
-    ensures { Moves (λ bytes. bytes.now) (new_identifier_at (identifiers count list.now))
-        reader.old result reader.new }
+fn identifier<'a>(reader: &mut Reader<'a>) -> Result<&'a [u8], CertError>
+    ensures { Moves (λ bytes. bytes.now) (new_identifier_at []) reader.old result reader.new }
 {
     let element = reader.wanted(OBJECT_IDENTIFIER)?;
-    let identifier = oid(&element)?;
-    if is_repeated(identifier, list, count) {
-        Err(CertError::RepeatedExtension)
-    } else {
-        Ok(identifier)
-    }
+    Ok(oid(&element)?)
 }
 
 // Whether the extension is marked as critical. `BadExtension` where it is marked as not critical.
@@ -96,21 +61,15 @@ fn has_form(extension: &Extension) -> bool
     !is_subject_alt_name(extension.identifier) || is_general_names(extension.octets)
 }
 
-// An extension behind the first `count` ones of the list.
+// The next extension, whatever came before it.
 #[tactic(auto, unfolding(crate::specs::Extensions::extension_at))]
-fn one_extension<'a>(
-    reader: &mut Reader<'a>,
-    list: &Reader,
-    count: usize,
-) -> Result<Extension<'a>, CertError>
-    requires few { count ≤ 64 }
-    ensures exact { Moves extension_fields (extension_at (identifiers count list.now))
-        reader.old result reader.new }
+fn next_extension<'a>(reader: &mut Reader<'a>) -> Result<Extension<'a>, CertError>
+    ensures exact { Moves extension_fields (extension_at []) reader.old result reader.new }
     ensures forward { OnOk result (length reader.new.rest < length reader.old.rest) }
 {
     let outer = reader.wanted(SEQUENCE)?;
     let mut inner = Reader::inside(&outer);
-    let identifier = new_identifier(&mut inner, list, count)?;
+    let identifier = identifier(&mut inner)?;
     let critical = critical(&mut inner)?;
     let octets = inner.wanted(OCTET_STRING)?.contents;
     let extension = Extension {
@@ -125,25 +84,22 @@ fn one_extension<'a>(
     Ok(extension)
 }
 
-// A few extensions with different identifiers, up to the end: each is compared with all before it.
-fn few_extensions(reader: &mut Reader) -> Result<(), CertError>
-    requires few { length (identifiers 65 reader.old) ≤ 64 }
-    ensures ok { OnOk result (discarded (extension_list_at reader.old) ≡ Ok reader.new) }
-    ensures err { IfErr result (λ e. discarded (extension_list_at reader.old) ≡ Err e) }
+// The fault of the last of `count` extensions, unless one of them has the identifier of another.
+fn first_fault(list: &Reader, count: usize, fault: CertError) -> CertError
+    ensures { result ≡
+        (if are_repeated (identifiers count list.now) then RepeatedExtension else fault) }
 {
-    let list = reader.fork();
-    let mut count: usize = 0;
-    while !reader.is_at_end() {
-        one_extension(reader, &list, count)?;
-        count += 1;
+    if has_repeats(list, count) {
+        CertError::RepeatedExtension
+    } else {
+        fault
     }
-    Ok(())
 }
 
-// The same of many extensions. First each is read, whatever its identifier, up to the first fault;
-// then the identifiers are compared, that of the fault's extension too, since a repetition is told
-// before what stands behind the identifier.
-fn many_extensions(reader: &mut Reader) -> Result<(), CertError>
+// Extensions with different identifiers, up to the end. First each is read, whatever its
+// identifier, up to the first fault; then the identifiers are compared, that of the fault's
+// extension too, since a repetition is told before what stands behind the identifier.
+fn extension_list(reader: &mut Reader) -> Result<(), CertError>
     requires { length reader.old.rest < 2 ^ 64 }
     ensures ok { OnOk result (discarded (extension_list_at reader.old) ≡ Ok reader.new) }
     ensures err { IfErr result (λ e. discarded (extension_list_at reader.old) ≡ Err e) }
@@ -161,46 +117,6 @@ fn many_extensions(reader: &mut Reader) -> Result<(), CertError>
     } else {
         Ok(())
     }
-}
-
-// The fault of the last of `count` extensions, unless one of them has the identifier of another.
-fn first_fault(list: &Reader, count: usize, fault: CertError) -> CertError
-    ensures { result ≡
-        (if are_repeated (identifiers count list.now) then RepeatedExtension else fault) }
-{
-    if has_repeats(list, count) {
-        CertError::RepeatedExtension
-    } else {
-        fault
-    }
-}
-
-// Extensions with different identifiers, up to the end.
-fn extension_list(reader: &mut Reader) -> Result<(), CertError>
-    requires { length reader.old.rest < 2 ^ 64 }
-    ensures ok { OnOk result (discarded (extension_list_at reader.old) ≡ Ok reader.new) }
-    ensures err { IfErr result (λ e. discarded (extension_list_at reader.old) ≡ Err e) }
-{
-    if are_few(reader) {
-        few_extensions(reader)
-    } else {
-        many_extensions(reader)
-    }
-}
-
-// Whether fewer extensions stand here than pay for a block.
-fn are_few(list: &Reader) -> bool
-    ensures few { IsTrue result → length (identifiers 65 list.now) ≤ 64 }
-{
-    let mut reader = list.fork();
-    let mut count = 0;
-    while count <= FEW {
-        match head(&mut reader) {
-            Ok(_) => count += 1,
-            Err(_) => return true,
-        }
-    }
-    false
 }
 
 // The list in its SEQUENCE. `BadExtension` where it is empty.
@@ -234,16 +150,6 @@ pub fn read_extensions<'a>(reader: &mut Reader<'a>) -> Result<&'a [u8], CertErro
     inner.end()?;
     *reader = ahead;
     Ok(outer.whole)
-}
-
-// The next extension, whatever came before it.
-#[tactic(auto, unfolding(crate::specs::Extensions::identifiers))]
-fn next_extension<'a>(reader: &mut Reader<'a>) -> Result<Extension<'a>, CertError>
-    ensures exact { Moves extension_fields (extension_at []) reader.old result reader.new }
-    ensures forward { OnOk result (length reader.new.rest < length reader.old.rest) }
-{
-    let before = reader.fork();
-    one_extension(reader, &before, 0)
 }
 
 // The first extension in the bytes of the field.

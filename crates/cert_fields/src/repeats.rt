@@ -1,8 +1,10 @@
 //! Whether extensions have one identifier twice. The identifiers are taken in blocks: a block is
-//! sorted, and what stands behind it is looked up there, so that no memory is taken, and the time
-//! grows with the square of the number of blocks alone.
+//! sorted, and what stands behind it is looked up there, so that no memory is taken. A list of few
+//! extensions pays for a small block. The time grows with the square of the number of blocks alone,
+//! and there are more than four only where they are as large as blocks get.
 
-ghost use Rattle.std.specs.Prelude.{◌≡◌, ℕ, ◌+◌, ◌<◌, ◌≤◌, ◌++◌, [], length, take, OnOk};
+ghost use Rattle.std.specs.Prelude.{◌≡◌, ℕ, ◌+◌, ◌*◌, ◌<◌, ◌≤◌, ◌⊎◌, ◌++◌, []};
+ghost use Rattle.std.specs.Prelude.{length, take, OnOk};
 ghost use Rattle.std.specs.List.Sorted.{IsPermutation};
 ghost use Rattle.byte_forms.specs.Readings.{Moves};
 ghost use Rattle.cert_fields.specs.Extensions.{is_among, head_at, identifiers, are_repeated};
@@ -12,12 +14,19 @@ ghost use Rattle.cert_fields.specs.Views.{texts, AreSorted};
 use der_core::tags::{OBJECT_IDENTIFIER, SEQUENCE};
 use der_core::{DerError, Reader};
 
-// The identifiers of a block: slices of 512 KiB together, on the stack.
-const BLOCK: usize = 32768;
+// How many identifiers a block has: slices of 1, 32 and 512 KiB together, on the stack.
+const SMALL: usize = 64;
 
-/// The identifier of the next extension, whose other parts aren't looked into.
+const MIDDLE: usize = 2048;
+
+const LARGE: usize = 32768;
+
+// A list of more blocks than these is taken in larger ones.
+const FEW_BLOCKS: usize = 4;
+
+// The identifier of the next extension, whose other parts aren't looked into.
 #[tactic(auto, unfolding(crate::specs::Extensions::head_at))]
-pub fn head<'a>(reader: &mut Reader<'a>) -> Result<&'a [u8], DerError>
+fn head<'a>(reader: &mut Reader<'a>) -> Result<&'a [u8], DerError>
     ensures exact { Moves (λ bytes. bytes.now) head_at reader.old result reader.new }
     ensures forward { OnOk result (length reader.new.rest < length reader.old.rest) }
 {
@@ -106,15 +115,17 @@ fn is_met(block: &[&[u8]], list: &Reader, count: usize) -> bool
     false
 }
 
-/// Whether two of the first `count` extensions of the list have the same identifier.
-pub fn has_repeats(list: &Reader, count: usize) -> bool
+// Whether two of the first `count` extensions of the list have the same identifier, by the block
+// that is lent.
+fn has_repeats_by<'a>(list: &Reader<'a>, count: usize, block: &mut [&'a [u8]]) -> bool
+    requires some { 0 < length block.old }
+    requires few_or_large { (count ≤ 4 * length block.old) ⊎ (length block.old ≡ 32768) }
     ensures { result ≡ are_repeated (identifiers count list.now) }
 {
-    let mut block: [&[u8]; BLOCK] = [&[]; BLOCK];
     let mut reader = list.fork();
     let mut left = count;
     while left > 0 {
-        let taken = take_block(&mut reader, &mut block, left);
+        let taken = take_block(&mut reader, block, left);
         if taken == 0 {
             return false;
         }
@@ -124,4 +135,45 @@ pub fn has_repeats(list: &Reader, count: usize) -> bool
         }
     }
     false
+}
+
+// The same by small blocks. Each of these three clears a block, and its frame stays out of those of
+// its callers.
+#[inline(never)]
+fn has_repeats_by_small(list: &Reader, count: usize) -> bool
+    requires { count ≤ 256 }
+    ensures { result ≡ are_repeated (identifiers count list.now) }
+{
+    let mut block: [&[u8]; SMALL] = [&[]; SMALL];
+    has_repeats_by(list, count, &mut block)
+}
+
+#[inline(never)]
+fn has_repeats_by_middle(list: &Reader, count: usize) -> bool
+    requires { count ≤ 8192 }
+    ensures { result ≡ are_repeated (identifiers count list.now) }
+{
+    let mut block: [&[u8]; MIDDLE] = [&[]; MIDDLE];
+    has_repeats_by(list, count, &mut block)
+}
+
+#[inline(never)]
+fn has_repeats_by_large(list: &Reader, count: usize) -> bool
+    ensures { result ≡ are_repeated (identifiers count list.now) }
+{
+    let mut block: [&[u8]; LARGE] = [&[]; LARGE];
+    has_repeats_by(list, count, &mut block)
+}
+
+/// Whether two of the first `count` extensions of the list have the same identifier.
+pub fn has_repeats(list: &Reader, count: usize) -> bool
+    ensures { result ≡ are_repeated (identifiers count list.now) }
+{
+    if count <= FEW_BLOCKS * SMALL {
+        has_repeats_by_small(list, count)
+    } else if count <= FEW_BLOCKS * MIDDLE {
+        has_repeats_by_middle(list, count)
+    } else {
+        has_repeats_by_large(list, count)
+    }
 }

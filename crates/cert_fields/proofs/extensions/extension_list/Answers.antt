@@ -1,7 +1,7 @@
 use Rattle.std.proofs.Common.{Err, sym, ap, ◌∙◌}
 use Rattle.cert_fields.proofs.Many.{reaches_from, reaches_more, reaches_fails, reaches_end}
 use Rattle.cert_fields.proofs.Many.{reaches_repeated}
-use Rattle.cert_fields.proofs.extensions.many_extensions.Goals as goal
+use Rattle.cert_fields.proofs.extensions.extension_list.Goals as goal
 
 pub loop-count-init : goal.loop-count-init
 loop-count-init c = reaches_from _ _ c.fork-list.ensures

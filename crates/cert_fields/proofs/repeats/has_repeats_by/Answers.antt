@@ -3,9 +3,9 @@ use Rattle.cert_fields.specs.Extensions.{are_repeated, identifiers}
 use Rattle.cert_fields.specs.Views.{texts}
 use Rattle.cert_fields.proofs.Walks.{taken_of, identifiers_none}
 use Rattle.cert_fields.proofs.Twice.{repeated_front, repeated_across, repeated_behind, among_front}
-use Rattle.cert_fields.proofs.repeats.has_repeats.Goals.{then-sort_block-via-then-sort_block}
-use Rattle.cert_fields.proofs.repeats.has_repeats.Goals.{then-sort_block-via-else-sort_block+then-is_met}
-use Rattle.cert_fields.proofs.repeats.has_repeats.Goals as goal
+use Rattle.cert_fields.proofs.repeats.has_repeats_by.Goals.{then-sort_block-via-then-sort_block}
+use Rattle.cert_fields.proofs.repeats.has_repeats_by.Goals.{then-sort_block-via-else-sort_block+then-is_met}
+use Rattle.cert_fields.proofs.repeats.has_repeats_by.Goals as goal
 
 pub returns-then-sort_block : goal.returns-then-sort_block
 returns-then-sort_block c =

@@ -2,7 +2,7 @@ use Rattle.std.proofs.Common.{length}
 use Rattle.byte_forms.specs.Readings.{discarded}
 use Rattle.cert_fields.specs.Extensions.{extension_list_at}
 use Rattle.cert_fields.proofs.Many.{Reaches}
-use Rattle.cert_fields.proofs.extensions.many_extensions.Given as goal
+use Rattle.cert_fields.proofs.extensions.extension_list.Given as goal
 
 -- Behind the first extensions of the list, the others decide as the whole list does, unless an
 -- identifier stood twice.
