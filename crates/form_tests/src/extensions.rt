@@ -29,37 +29,78 @@ fn extension(number: u32) -> [u8; 9] {
     [0x30, 0x07, 0x06, 0x03, high, middle, low, 0x04, 0x00]
 }
 
-// The extensions field with the extensions of the numbers below 32,769, and that of this number
-// behind them, up to offset 294,940.
-fn long_field(alloc: Global, last: u32) -> Result<Bytes, Memory> {
-    let mut out = Bytes::copy_of(
-        alloc,
-        &[0xA3, 0x83, 0x04, 0x80, 0x17, 0x30, 0x83, 0x04, 0x80, 0x12],
-    )?;
-    for number in 0..32_769 {
-        out.append(&extension(number))?;
+// A field of so many extensions of nine bytes: the tags and lengths before the first, and the
+// offset behind the last.
+struct Listed {
+    count: u32,
+    head: &'static [u8],
+    end: usize,
+}
+
+// The extensions field with the extensions of the numbers below the count less one, and that of
+// this number behind them.
+fn long_field(alloc: Global, listed: &Listed, last: u32) -> Result<Bytes, Memory> {
+    let mut out = Bytes::copy_of(alloc, listed.head)?;
+    for number in 1..listed.count {
+        out.append(&extension(number - 1))?;
     }
     out.append(&extension(last))?;
     Ok(out)
 }
 
-fn end_of_long_field(alloc: Global, last: u32) -> Result<Result<usize, CertError>, Memory> {
-    Ok(check_extensions(long_field(alloc, last)?.as_slice(), 0))
+fn end_of_long_field(
+    alloc: Global,
+    listed: &Listed,
+    last: u32,
+) -> Result<Result<usize, CertError>, Memory> {
+    Ok(check_extensions(long_field(alloc, listed, last)?.as_slice(), 0))
 }
 
+// Lists of one block of each length and of the next larger one, and of more than a block.
+const LISTS: [Listed; 5] = [
+    Listed {
+        count: 256,
+        head: &[0xA3, 0x82, 0x09, 0x04, 0x30, 0x82, 0x09, 0x00],
+        end: 2312,
+    },
+    Listed {
+        count: 257,
+        head: &[0xA3, 0x82, 0x09, 0x0D, 0x30, 0x82, 0x09, 0x09],
+        end: 2321,
+    },
+    Listed {
+        count: 8192,
+        head: &[0xA3, 0x83, 0x01, 0x20, 0x05, 0x30, 0x83, 0x01, 0x20, 0x00],
+        end: 73738,
+    },
+    Listed {
+        count: 8193,
+        head: &[0xA3, 0x83, 0x01, 0x20, 0x0E, 0x30, 0x83, 0x01, 0x20, 0x09],
+        end: 73747,
+    },
+    Listed {
+        count: 32_770,
+        head: &[0xA3, 0x83, 0x04, 0x80, 0x17, 0x30, 0x83, 0x04, 0x80, 0x12],
+        end: 294_940,
+    },
+];
+
 #[test]
-fn a_repetition_is_told_over_more_than_a_block(rt: HostRuntime) -> Result<(), Fail> {
-    let cases: [(u32, Result<usize, CertError>); 4] = [
-        (32_769, Ok(294_940)),
-        (0, Err(CertError::RepeatedExtension)),
-        (32_767, Err(CertError::RepeatedExtension)),
-        (32_768, Err(CertError::RepeatedExtension)),
-    ];
-    for (last, wanted) in cases {
-        assert!(rt;
-            end_of_long_field(rt.alloc(), last)? == wanted,
-            "behind {last}"
-        );
+fn a_repetition_is_told_over_blocks_of_each_length(rt: HostRuntime) -> Result<(), Fail> {
+    for listed in &LISTS {
+        let count = listed.count;
+        let cases = [
+            (count, Ok(listed.end)),
+            (0, Err(CertError::RepeatedExtension)),
+            (count.saturating_sub(3), Err(CertError::RepeatedExtension)),
+            (count.saturating_sub(2), Err(CertError::RepeatedExtension)),
+        ];
+        for (last, wanted) in cases {
+            assert!(rt;
+                end_of_long_field(rt.alloc(), listed, last)? == wanted,
+                "{count} extensions, behind {last}"
+            );
+        }
     }
     Ok(())
 }
