@@ -24,6 +24,6 @@ pub use laws::{
     entries_are_of_their_certificates, entries_are_read_as_spelled, entries_have_one_spelling,
     entries_of_certificates, written_entries_match_their_keys,
 };
-pub use matching::key_matches;
+pub use matching::{is_key_of_tbs, key_matches};
 pub use reading::read_entry;
 pub use writing::{entry_of, write_entry};
