@@ -9,19 +9,19 @@ ghost use Rattle.entry_list.specs.declared.error.ItemsError.TheVariants.{Memory 
 
 use crate::error::ItemsError;
 use crate::items::{Item, Items};
-use log_entry::{Entry, key_matches, read_entry};
+use log_entry::{Entry, is_key_of_tbs, read_entry};
 use mtc_io::Memory as NoMemory;
 use std::alloc::Global;
 use tls_wire::Cursor;
 use tree_core::TreeHash;
 
 // Whether the key is the one that has to stand beside the entry.
-#[tactic(auto, unfolding(crate::specs::Items::is_key_of))]
+#[tactic(auto, unfolding(crate::specs::Items::is_key_of, log_entry::specs::Matching::matches))]
 fn is_key_of<H: TreeHash>(entry: &[u8], spki: &[u8]) -> bool
     ensures { result ≡ is_key_of H.hash entry.now spki.now }
 {
     match read_entry(entry) {
-        Ok(Entry::Tbs(_)) => key_matches::<H>(entry, spki),
+        Ok(Entry::Tbs(tbs)) => is_key_of_tbs::<H>(&tbs, spki),
         _ => spki.is_empty(),
     }
 }
