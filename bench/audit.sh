@@ -1,24 +1,47 @@
 #!/bin/bash
-# Audits a certificate that three cosigners have signed, with keys of height 10 and width 4, over logs of 1,024, 10,000 and
-# 100,000 entries and the export of one of them, and prints seconds and the most memory held. Needs python3 and GNU time.
-# Not part of the gate.
-# Usage: bench/audit.sh [--write]   with --write the figures go into bench/audit/figures.txt
+# Audits a certificate that three cosigners have signed, with keys of height 10 and width 4, over logs of 1,024 up to 1,048,576
+# entries and the export of one of them. Beside each stands what openssl takes to hash six blocks of SHA-256 an entry, which is
+# how many an audit hashes that stands. Then audits the certificate over lists that are none of its log's: of the shortest items,
+# four bytes each, and of the longest entries. It prints seconds of the processor, the least of five runs, and the most memory
+# held. Lists behind which two strings with one hash are looked for can't be had. Needs python3, GNU time and openssl. Not part of
+# the gate.
+# Usage: bench/audit.sh [--write] [MOST]   with --write the figures go into bench/audit/figures.txt. Logs of more than MOST entries
+# are left out, and lists of more than 64 times MOST bytes
 # The variable PROGRAM names another program than that of ./mtc.
 set -eu
 root=$(cd "$(dirname "$0")/.." && pwd)
-folder=$(mktemp -d)
-trap 'rm -rf "$folder"' EXIT
+work=$(mktemp -d)
+trap 'rm -rf "$work"' EXIT
 # shellcheck source=bench/program.sh
 . "$root/bench/program.sh"
 
+write=
+if [ "${1-}" = --write ]; then
+    write=1
+    shift
+fi
+most=${1:-16777216}
 [ -n "${PROGRAM-}" ] || "$root/mtc" member "$root/examples/first.member" >/dev/null || exit 70
 program=${PROGRAM:-$root/crates/mtc_main/out/mtc_main}
-cd "$folder"
+cd "$work"
+
+# Prints a row, and keeps it: what was measured, of what, and the command with its status.
+row() {
+    local what=$1 of=$2
+    shift 2
+    least_of_five "$@" >least
+    printf '%s|%s|%s\n' "$what" "$of" "$(cat least)" | tee -a figures
+}
+
+# Backquotes stand for themselves: the page has them.
+# shellcheck disable=SC2016
+{ audited='`audit` of a certificate with 3 cosignatures'; shortest='`audit`, the shortest items'; longest='`audit`, the longest entries'; }
 { printf '[log]\nid = "32473.1"\n'; for n in 2 3 4; do
     printf '%048d' "$n" >"secret$n"
     printf '[[cosigner]]\nid = "32473.%d"\nkey = "%s"\n' "$n" "$("$program" keygen 10 4 "secret$n")"
 done; printf '[[rule]]\ncosigners = ["32473.2", "32473.3", "32473.4"]\ncount = 2\n'; } >store
-for count in 1024 10000 100000; do
+for count in 1024 10000 100000 1048576; do
+    [ "$count" -le "$most" ] || continue
     python3 "$root/bench/log/make_journal.py" "$count" journal
     "$program" consist journal 0 "$count" >advance
     "$program" subtree journal 0 1024 "$count" >subtree
@@ -31,14 +54,24 @@ for count in 1024 10000 100000; do
     "$program" export s2 >export
     "$program" cert journal 1000 0 1024 signatures >cert
     "$program" entries journal "$count" >entries
-    /usr/bin/time -q -f '%e %M' -o time "$program" audit cert store 1767225600 entries export >found
+    row "$audited" "$count entries" 0 "$program" audit cert store 1767225600 entries export
     [ "$(cat found)" = "stands 1000" ] || { echo "wrong: $count entries: $(cat found)"; exit 1; }
-    read -r seconds held < <(tail -1 time)
-    # Backquotes stand for themselves: the page has them.
-    # shellcheck disable=SC2016
-    printf '`audit` of a certificate with 3 cosignatures|%d entries|%s|%d MB\n' "$count" "$seconds" "$((held * 1024 / 1000000))" | tee -a figures
+    head -c $((count * 384)) /dev/zero >blocks
+    row "six blocks of SHA-256 an entry, by openssl" "$count entries" 0 openssl dgst -sha256 blocks
+    rm blocks
 done
-if [ "${1-}" = --write ]; then
-    mkdir -p "$root/bench/audit"
+
+# A list that isn't the log's is foreign: all of it is read, and as many of its first entries are hashed as the cosigner holds.
+for size in 1048576 67108864 1073741824; do
+    [ "$size" -le $((most * 64)) ] || continue
+    head -c "$size" /dev/zero >entries
+    row "$shortest" "$size bytes" 3 "$program" audit cert store 1767225600 entries export
+    python3 -c '
+import sys
+item = b"\xff\xff" + bytes(65535) + b"\0\0"
+sys.stdout.buffer.write(item * (int(sys.argv[1]) // len(item)))' "$size" >entries
+    row "$longest" "$(stat -c %s entries) bytes" 3 "$program" audit cert store 1767225600 entries export
+done
+if [ -n "$write" ]; then
     keep_figures audit "WORK|OF|SECONDS|MEMORY" <figures
 fi

@@ -48,4 +48,5 @@ def main():
         out.write(certificate((size - spare) // 9))
 
 
-main()
+if __name__ == "__main__":
+    main()
