@@ -1,0 +1,33 @@
+//! Cases over nodes: over logs, over cosigners, and over histories of both.
+#![tactic(auto)]
+
+#[cfg(test)]
+mod appends;
+#[cfg(test)]
+mod cosigner_openings;
+#[cfg(test)]
+mod cosigners;
+#[cfg(test)]
+mod exports;
+#[cfg(test)]
+mod failures;
+#[cfg(test)]
+mod histories;
+#[cfg(test)]
+mod journals;
+#[cfg(test)]
+mod known;
+#[cfg(test)]
+mod log_openings;
+#[cfg(test)]
+mod logs;
+#[cfg(test)]
+mod marks;
+#[cfg(test)]
+mod refusals;
+#[cfg(test)]
+mod stops;
+#[cfg(test)]
+mod tiles;
+#[cfg(test)]
+mod walks;
