@@ -12,7 +12,7 @@ use Rattle.cosigner_core.specs.declared.error.ReadExportError.TheVariants.{Memor
 use Rattle.cosigner_core.specs.declared.lists.Export.{Export}
 use Rattle.world_core.specs.Walk.{AreSteps}
 use Rattle.world_core.proofs.Premises.{export_steps, was_judged}
-use Rattle.world_tests.proofs.audits.audited.Goals as goal
+use Rattle.judge_tests.proofs.audits.audited.Goals as goal
 
 pub audit-requires-clause-judged : goal.audit-requires-clause-judged
 audit-requires-clause-judged c =

@@ -7,7 +7,7 @@ use Rattle.cosigner_core.specs.declared.error.ReadExportError.TheVariants.{Memor
 use Rattle.cosigner_core.specs.declared.step.Step.{Step}
 use Rattle.world_core.specs.Walk.{IsSign}
 use Rattle.world_core.proofs.Premises.{export_steps}
-use Rattle.world_tests.proofs.walks.walked.Goals as goal
+use Rattle.judge_tests.proofs.walks.walked.Goals as goal
 
 pub walk-requires-clause-allowed : goal.walk-requires-clause-allowed
 walk-requires-clause-allowed c =
