@@ -1,5 +1,6 @@
 //! Tests of the program over a room in memory: the words of commands, and what each command answers
-//! to its files and leaves of them. Then drills, and what is counted anew of what they hand out.
+//! to its files and leaves of them; courses of runs and stops, each beside the history that it is.
+//! Then drills, and what is counted anew of what they hand out.
 #![tactic(auto)]
 
 #[cfg(test)]
@@ -11,9 +12,27 @@ mod certificates;
 #[cfg(test)]
 mod cosigners;
 #[cfg(test)]
+mod course;
+#[cfg(test)]
+mod course_desk;
+#[cfg(test)]
+mod course_draws;
+#[cfg(test)]
+mod course_node;
+#[cfg(test)]
+mod course_plans;
+#[cfg(test)]
+mod course_records;
+#[cfg(test)]
+mod course_stops;
+#[cfg(test)]
+mod courses;
+#[cfg(test)]
 mod desk;
 #[cfg(test)]
 mod devices;
+#[cfg(test)]
+mod difference;
 #[cfg(test)]
 mod drills;
 #[cfg(test)]

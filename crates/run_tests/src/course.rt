@@ -1,12 +1,12 @@
 //! A course: runs of the program over a room, and beside them the steps of the nodes that they
 //! were. Behind each run the room is compared with the states of the history of these steps.
 
-use crate::desk::{Desk, Outlet, Ran, WHOLE};
+use crate::course_desk::{Desk, Outlet, Ran, WHOLE};
+use crate::course_draws::Draws;
+use crate::course_node::{NODES, Node, secret, starts};
+use crate::course_plans::Plan;
+use crate::course_records::{Text, kept_in, text_of};
 use crate::difference::Difference;
-use crate::draws::Draws;
-use crate::node::{NODES, Node, secret, starts};
-use crate::plans::Plan;
-use crate::records::{Text, kept_in, text_of};
 use mtc_io::Bytes;
 use node_history::{HistoryError, NodeStart, NodeState, NodeStep, history};
 use std::alloc::Global;

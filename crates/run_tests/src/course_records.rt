@@ -1,7 +1,7 @@
 //! The records of journals beside those of a node's state, and what is printed of them.
 
+use crate::course_node::Node;
 use crate::difference::Difference;
-use crate::node::Node;
 use disk_core::MemDisk;
 use journal_core::Opening;
 use mtc_io::Bytes;

@@ -1,7 +1,7 @@
 //! What a course and its history differ in.
 
 ghost use Rattle.std.specs.Prelude.{◌≡◌};
-ghost use Rattle.course_tests.specs.declared.difference.Difference.TheVariants.{Memory as NoMemory};
+ghost use Rattle.run_tests.specs.declared.difference.Difference.TheVariants.{Memory as NoMemory};
 
 use mtc_io::Memory;
 use std::alloc::{AllocError, AllocFailed};

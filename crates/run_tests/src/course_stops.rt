@@ -1,11 +1,11 @@
 //! Stops: what the journals hold behind one says which step it was, and the next run opens them.
 
 use crate::course::Course;
-use crate::desk::WHOLE;
+use crate::course_desk::WHOLE;
+use crate::course_node::{NODES, Node};
+use crate::course_plans::Plan;
+use crate::course_records::{ENTRY, count, kept_in};
 use crate::difference::Difference;
-use crate::node::{NODES, Node};
-use crate::plans::Plan;
-use crate::records::{ENTRY, count, kept_in};
 
 impl Course {
     // Whether the journal holds the pending record of its state.

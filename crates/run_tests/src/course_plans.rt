@@ -1,10 +1,10 @@
 //! Which command comes next, and the record that it asks for.
 
 use crate::course::Course;
-use crate::desk::WHOLE;
+use crate::course_desk::WHOLE;
+use crate::course_node::Node;
+use crate::course_records::{ADVANCE, ENTRY, LANDMARK, SIGN, TILES, count, last_size};
 use crate::difference::Difference;
-use crate::node::Node;
-use crate::records::{ADVANCE, ENTRY, LANDMARK, SIGN, TILES, count, last_size};
 use mtc_io::Bytes;
 use std::alloc::Global;
 
