@@ -1,11 +1,12 @@
 //! Files that are opened as cosigners', or refused.
 
-use crate::cosigners::{disk, disk_behind, held, of_eight, open, sign_all};
+use crate::cosigners::{disk_behind, held, of_eight, open, sign_all};
+use crate::journals::{changed, disk};
 use cosigner_core::CosignerOpenError;
 use disk_core::MemDisk;
 use hss_core::SigBuf;
 use journal_core::OpenError;
-use mtc_io::{Bytes, Memory};
+use mtc_io::Memory;
 use std::alloc::Global;
 use std::test::Fail;
 
@@ -17,15 +18,6 @@ fn signed(alloc: Global) -> Result<Option<MemDisk>, Memory> {
     let signed = sign_all(&mut cosigner, &mut SigBuf::new()).is_ok();
     let disk = disk_behind(cosigner);
     Ok(if signed { Some(disk) } else { None })
-}
-
-// The bytes with another one at a place.
-fn changed(alloc: Global, bytes: &[u8], place: usize, byte: u8) -> Result<Bytes, Memory> {
-    let mut bytes = Vec::from_slice(alloc, bytes)?;
-    if let Some(old) = bytes.get_mut(place) {
-        *old = byte;
-    }
-    Ok(Bytes::from_vec(bytes))
 }
 
 // How many entries are held by the cosigner on a disk, or why it is refused.

@@ -1,5 +1,6 @@
 //! Cosigners over disks in memory, for the cases beside.
 
+use crate::journals::disk;
 use crate::known::{
     Known, LOG, NEW, NODE_4_TO_6, NODE_4_TO_8, NODE_6_TO_8, PUBLIC, ROOT_OF_4, ROOT_OF_8,
 };
@@ -10,7 +11,7 @@ use cosigner_core::{
 use disk_core::{Disk, Fuse, MemDisk};
 use hss_core::{LmsType, OtsType, SECRET_LEN, Secret, SigBuf};
 use journal_core::{Refused, StartError};
-use mtc_io::{Bytes, Memory};
+use mtc_io::Memory;
 use std::alloc::Global;
 use tls_wire::AnchorId;
 use tree_core::{Sha, TreeHash};
@@ -18,19 +19,6 @@ use tree_core::{Sha, TreeHash};
 pub(crate) type MemCosigner = Cosigner<Sha, MemDisk>;
 
 pub(crate) type FusedCosigner = Cosigner<Sha, Fuse<MemDisk>>;
-
-pub(crate) fn disk(alloc: Global, bytes: &[u8], failing: &[u64]) -> Result<MemDisk, Memory> {
-    disk_of(alloc, Bytes::copy_of(alloc, bytes)?, failing)
-}
-
-fn disk_of(alloc: Global, bytes: Bytes, failing: &[u64]) -> Result<MemDisk, Memory> {
-    Ok(MemDisk::over(alloc, bytes, Vec::from_slice(alloc, failing)?))
-}
-
-/// What a crash leaves of a disk by this pick.
-pub(crate) fn left(disk: &MemDisk, pick: u64) -> Result<MemDisk, Memory> {
-    disk.lend()?.crash(pick)
-}
 
 pub(crate) fn open(alloc: Global, disk: MemDisk) -> Result<MemCosigner, CosignerOpenError> {
     match MemCosigner::open(alloc, disk) {

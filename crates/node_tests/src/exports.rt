@@ -1,9 +1,9 @@
 //! Exports: what is written, what is read again, and what is refused.
 
 use crate::cosigners::{
-    MemCosigner, cosigner_in, disk, disk_behind, ids, is_known, of_eight, opened, sign_all,
-    sign_two,
+    MemCosigner, cosigner_in, disk_behind, ids, is_known, of_eight, opened, sign_all, sign_two,
 };
+use crate::journals::disk;
 use crate::known::{Known, LOG, PUBLIC};
 use cosigner_core::{
     CosignerSettings, Export, ExportError, ReadExportError, Step, pack, read_export,

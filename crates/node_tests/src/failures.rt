@@ -1,8 +1,9 @@
 //! Disks that fail, and machines that stop.
 
 use crate::cosigners::{
-    MemCosigner, disk, disk_behind, has_the_key, index_of, left, of_eight, open, opened, sign_all,
+    MemCosigner, disk_behind, has_the_key, index_of, of_eight, open, opened, sign_all,
 };
+use crate::journals::{disk, left};
 use crate::known::NEW;
 use cosigner_core::{CosignError, CosignerOpenError};
 use disk_core::MemDisk;

@@ -1,9 +1,10 @@
 //! Cosigners whose disk stops, as the machine does, at each call that changes it.
 
 use crate::cosigners::{
-    FusedCosigner, MemCosigner, advance_to_4, advance_to_8, begin, cosigner_in, disk, disk_behind,
-    has_the_key, held, index_of, left as image, of_eight, open, sign_all,
+    FusedCosigner, MemCosigner, advance_to_4, advance_to_8, begin, cosigner_in, disk_behind,
+    has_the_key, held, index_of, of_eight, open, sign_all,
 };
+use crate::journals::{disk, left as image};
 use crate::known::NEW;
 use cosigner_core::CosignerOpenError;
 use disk_core::{Fuse, MemDisk};

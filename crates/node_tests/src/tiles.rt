@@ -124,15 +124,11 @@ fn calls_of_opening(alloc: Global, journal: &MemDisk, tiles: &[u8]) -> Result<Op
     Ok(None)
 }
 
+// The length is asked for, and both tiles are read.
 #[test]
 fn a_file_of_tiles_may_fail(rt: HostRuntime) -> Result<(), Fail> {
     let (journal, tiles) = files(rt.alloc(), 512)?.ok_or("refused")?;
-    assert!(rt;
-        matches!(
-            calls_of_opening(rt.alloc(), &journal, tiles.bytes())?,
-            Some(1..)
-        )
-    );
+    assert!(rt; calls_of_opening(rt.alloc(), &journal, tiles.bytes())? == Some(3));
     Ok(())
 }
 

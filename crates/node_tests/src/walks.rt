@@ -1,9 +1,10 @@
 //! A cosigner from its first record to its last one-time key.
 
 use crate::cosigners::{
-    MemCosigner, advance_to_4, advance_to_8, begin, cosigner_in, disk, disk_behind, has_the_key,
-    held, is_known, of_eight, opened, sign_32, sign_all, sign_two,
+    MemCosigner, advance_to_4, advance_to_8, begin, cosigner_in, disk_behind, has_the_key, held,
+    is_known, of_eight, opened, sign_32, sign_all, sign_two,
 };
+use crate::journals::disk;
 use crate::known::{
     JOURNALS, LAST_JOURNAL, LAST_SIGNATURE, LOG, NEW, PUBLIC, ROOT_OF_4, ROOT_OF_8, SIGNATURES,
 };

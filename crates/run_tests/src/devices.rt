@@ -211,11 +211,12 @@ const LANDMARK: Appending = Appending {
 // journal; the record is written and synced, and so is its gate.
 const CALLS: u64 = 8;
 
-// The status, where the answer and the length of the journal are as they have to be: the journal
-// has its old records, or these and the new one.
+// The status, where the answer and the length of the journal are as they have to be: behind status
+// 0 the journal has the new record, and behind 5 its old ones, or these and the new one.
 fn status_of(answer: &Answer, length: usize, appending: &Appending) -> Option<u8> {
-    let is_said = answer.is(5, b"", appending.failed) || answer.is(0, appending.said, b"");
-    if is_said && (length == 36 || length == appending.length) {
+    let is_done = answer.is(0, appending.said, b"") && length == appending.length;
+    let is_old_or_new = length == 36 || length == appending.length;
+    if is_done || is_old_or_new && answer.is(5, b"", appending.failed) {
         Some(answer.status)
     } else {
         None

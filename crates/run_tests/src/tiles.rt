@@ -5,8 +5,8 @@ use crate::texts::Unread;
 use std::alloc::Global;
 
 // The journal of log 32473.1 with 2 active landmarks and at most 1,024 entries, its header and its
-// first record without the gate behind it; the record of an entry; and that of 256 stored tiles'
-// entries. The expected values are those of an implementation that was written apart from the
+// first record without the gate behind it; the record of an entry; and that of the tiles that 256
+// entries fill. The expected values are those of an implementation that was written apart from the
 // program.
 const NAMES: &str = r#"
 name SETTINGS 6d74632d6a6f75726e616c2f76310a00010000000e010481fd59010000000200000400

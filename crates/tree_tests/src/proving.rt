@@ -209,6 +209,16 @@ fn given(
 #[test]
 fn a_proof_gives_the_hash_of_a_subtree_that_is_not_known(rt: HostRuntime) {
     assert!(rt; given(4, 6, 8, false, &INNER) == Some((N4_6, N0_8)));
+    assert!(rt; given(4, 6, 8, true, &PROOF) == Some((N4_6, N0_8)));
+}
+
+// Proofs of another length; and one of an interval that begins above 0 and goes beyond a split.
+#[test]
+fn a_proof_of_no_subtree_gives_nothing(rt: HostRuntime) {
+    assert!(rt; given(4, 6, 8, false, &PROOF) == None);
+    assert!(rt; given(4, 6, 8, true, &PROOF[..1]) == None);
+    assert!(rt; given(4, 6, 8, true, &[]) == None);
+    assert!(rt; given(4, 6, 8, true, &INNER) == None);
     assert!(rt; given(1, 3, 4, true, &[N0_1, N2_4]) == None);
 }
 
