@@ -56,8 +56,14 @@ def check_errors():
                         yield f"{crate.name}: {lines[0].strip()[:50]} lists {', '.join(named)}; {enum} has another order"
 
 
+def promised(source):
+    """The contracts of a file, without the values of its constants."""
+    return re.sub(r"\bconst (\w+: [^=;]*)=[^;]*;", r"const \1;", ledger.contract_of(source))
+
+
 def fault_of(crate, edit):
-    """Why an edit can't be made, or nothing. Its changes are made one behind the other, as `rt` makes them."""
+    """Why an edit can't be made or shows nothing, or nothing. Its changes are made one behind the other, as `rt` makes
+    them."""
     texts = {}
     for file, old, new in ledger.changes_of(edit):
         path = crate.folder / file
@@ -67,6 +73,9 @@ def fault_of(crate, edit):
         if old == new:
             return f"it changes nothing in {file}"
         texts[file] = text.replace(old, new)
+    for file, text in texts.items():
+        if not file.startswith("src/") or promised(text) != promised((crate.folder / file).read_text()):
+            return f"it changes a contract, a definition or a proof in {file}, and not bodies alone"
     return None if texts else "it has no change"
 
 
@@ -89,7 +98,7 @@ def counts_wrong(name):
 
 
 def check_edits():
-    """each edit of the two folders can be made: what it takes away stands once in its file; a crate has few"""
+    """each edit can be made: what it takes away stands once in its file; it changes bodies alone; a crate has few"""
     for name, crate in CRATES.items():
         names = set()
         for edit in ledger.edits_of(name):

@@ -101,10 +101,10 @@ def imported(group, words):
             yield f"use {head}{item}"
 
 
-def contract_of(file):
+def contract_of(source):
     """What callers of a file's functions can rely on: all of it but comments, bodies, proofs, hints and unused imports."""
-    bare = blanked(file.text)
-    text = without(file.text, bodies_of(bare))
+    bare = blanked(source)
+    text = without(source, bodies_of(bare))
     text = TOKEN.sub(lambda match: "" if match[0].startswith("/") else match[0], text)
     text = HINT.sub("", text)
     imports = IMPORT.findall(text)
@@ -136,7 +136,7 @@ def sum_of(*texts):
 def contract_sum(name):
     """The sum of what a crate promises: signatures, clauses, types, ghost items, and specs/."""
     crate = CRATES[name]
-    texts = [f"{file.path.relative_to(crate.folder)} {contract_of(file)}" for file in crate.files]
+    texts = [f"{file.path.relative_to(crate.folder)} {contract_of(file.text)}" for file in crate.files]
     return sum_of(*texts, specs_of(crate))
 
 
