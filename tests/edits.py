@@ -316,7 +316,10 @@ def told(copy, crate):
     print(f"{crate}: {len(results)} edits, {by_search} refused by a search, {by_hand} by a proof by hand,",
           f"{missed} not; {seconds() - before:.0f} processor seconds, {time.monotonic() - begun:.0f} by the clock",
           flush=True)
-    if missed or ledger.line_of(crate) != copy.lines[crate]:
+    if ledger.line_of(crate) != copy.lines[crate]:
+        print(f"{crate}: its edits changed while they were tried")
+        return False
+    if missed:
         return False
     ledger.write(crate, by_search, by_hand)
     return True
@@ -341,7 +344,7 @@ def main(words):
         missed = [name for name in names if not told(copy, name)]
     finally:
         copy.remove()
-    sys.exit(f"not all edits were refused on a clause: {', '.join(missed)}" if missed else 0)
+    sys.exit(f"no line is written of {', '.join(missed)}" if missed else 0)
 
 
 if __name__ == "__main__":
