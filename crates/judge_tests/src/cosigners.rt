@@ -243,10 +243,12 @@ fn rules_of(alloc: Global, words: &str) -> Result<Rules, Fail> {
 
 // A store of three cosigners with these rules, which trusts the hash that ends with this byte.
 fn store_with(alloc: Global, keys: &[Key], words: &str, last: &str) -> Result<Store, Fail> {
+    let cosigners = cosigners_of(alloc, keys)?;
+    let rules = rules_of(alloc, words)?;
     let subtrees = trusted_in(alloc, last)?;
     let mut store = store_of(alloc, "32473.1", subtrees.as_slice(), &[])?;
-    store.cosigners = cosigners_of(alloc, keys)?;
-    store.rules = rules_of(alloc, words)?;
+    store.cosigners = cosigners;
+    store.rules = rules;
     Ok(store)
 }
 
@@ -291,13 +293,29 @@ fn judged(alloc: Global, certificate: &[u8], store: &Store) -> Result<String, Fa
     }
 }
 
+// The certificate with the signatures of these letters.
+fn signed(alloc: Global, keys: &mut Vec<Key>, letters: &str) -> Result<Vec<u8>, Fail> {
+    let signatures = signatures_of(alloc, keys, letters)?;
+    certificate_of(alloc, signatures.as_slice())
+}
+
+// The judgement by a store with these rules, which trusts the hash that ends with this byte.
+fn judged_by(
+    alloc: Global,
+    certificate: &[u8],
+    keys: &[Key],
+    rules: &str,
+    last: &str,
+) -> Result<String, Fail> {
+    let store = store_with(alloc, keys, rules, last)?;
+    judged(alloc, certificate, &store)
+}
+
 fn is_judged(alloc: Global, keys: &mut Vec<Key>, line: &str) -> Result<bool, Fail> {
     let mut words = line.split(' ');
-    let signatures = signatures_of(alloc, keys, words.next().unwrap_or(""))?;
-    let certificate = certificate_of(alloc, signatures.as_slice())?;
+    let certificate = signed(alloc, keys, words.next().unwrap_or(""))?;
     let (rules, last) = (words.next().unwrap_or(""), words.next().unwrap_or(""));
-    let store = store_with(alloc, keys.as_slice(), rules, last)?;
-    let found = judged(alloc, certificate.as_slice(), &store)?;
+    let found = judged_by(alloc, certificate.as_slice(), keys.as_slice(), rules, last)?;
     Ok(Some(found.as_str()) == words.next())
 }
 
