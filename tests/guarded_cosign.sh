@@ -1,0 +1,167 @@
+#!/bin/bash
+# Tries tools/guarded_cosign.sh over the built program: it signs as `mtc` does, and refuses a journal that was put back from an
+# old copy, one with a changed byte that `mtc` takes for a shorter journal, and whatever it can't keep an export of.
+# Usage: tests/guarded_cosign.sh [PROGRAM]    another build of the program
+set -u
+root=$(cd "$(dirname "$0")/.." && pwd)
+folder=$(mktemp -d)
+trap 'rm -rf "$folder"' EXIT
+[ $# -gt 0 ] || "$root/mtc" member "$root/examples/first.member" >/dev/null || exit 70
+program=$(readlink -f "${1-$root/crates/mtc_main/out/mtc_main}")
+cd "$folder" || exit 2
+mkdir kept
+export MTC=$program
+wrong=0
+count=0
+
+# What the script did has to be this: its status, how many bytes it printed, and its first line on standard error.
+guarded() {
+    local wanted=$1 found
+    shift
+    "$root/tools/guarded_cosign.sh" "$@" >out 2>err
+    found="$? $(wc -c <out) $(head -1 err)"
+    count=$((count + 1))
+    # shellcheck disable=SC2053
+    if [[ $found != $wanted ]]; then
+        echo "wrong: $*: $found in place of $wanted"
+        wrong=1
+    fi
+}
+
+# Two files have to be the same, or two numbers.
+same() {
+    count=$((count + 1))
+    if ! cmp -s "$1" "$2" && [ "$1" != "$2" ]; then
+        echo "wrong: $1 and $2 differ: $3"
+        wrong=1
+    fi
+}
+
+# The program, behind these lines.
+stand_in() {
+    printf '#!/bin/bash\n%s\nexec "%s" "$@"\n' "$1" "$program" >stand_in
+    chmod +x stand_in
+}
+
+log() {
+    "$program" "$@" || echo "wrong: $*: $?"
+}
+
+printf 'not_before = "2026-01-01T00:00:00Z"\nnot_after = "2026-01-08T00:00:00Z"\ndns = ["a.example"]\nkey = "%s"\n' \
+    MCowBQYDK2VwAyEAAAAAAAAAAAAAAAAAAAAAAAAAAAAAAAAAAAAAAAAAAAA= >r
+printf %048d 0 >secret
+log init-log j 32473.1 2 64 >/dev/null
+for _ in 1 2 3; do log issue j r >/dev/null; done
+log consist j 0 4 >advance
+log subtree j 0 4 4 >subtree
+for s in s twin; do log init-cosigner $s 32473.2 32473.1 5 8 secret >/dev/null; done
+head -c -1 s >cut
+log advance twin advance >advanced
+log cosign twin subtree >signature0
+log cosign twin subtree >signature1
+log cosign twin subtree >signature2
+
+# Words, and the first run.
+guarded "64 0 *begin, advance or cosign"
+guarded "64 0 *cosign JOURNAL KEPT REQUEST" cosign s kept/s
+guarded "64 0 *none is no file" begin none kept/none
+guarded "64 0 *s is a journal" begin s s
+cp s k.new
+guarded "64 0 *k.new is a journal" begin k.new k
+guarded "64 0 *k.new is a journal" begin s k
+same k.new s "a journal is never written over"
+cp s before
+guarded "21 0 *kept/s isn't there*" cosign s kept/s subtree
+guarded "21 0 *kept/s isn't there*" advance s kept/s advance
+: >kept/s
+guarded "21 0 *kept/s isn't there*" cosign s kept/s subtree
+same s before "without a kept export nothing is done"
+rm kept/s
+guarded "0 0 " begin s kept/s
+guarded "21 0 *kept/s is there*" begin s kept/s
+
+# It does what the program does, and keeps the export.
+guarded "0 $(wc -c <advanced) " advance s kept/s advance
+same out advanced "what advance prints"
+guarded "0 $(wc -c <signature0) " cosign s kept/s subtree
+same out signature0 "the first signature"
+log export s >export
+same kept/s export "the kept export"
+cp s old
+guarded "4 0 mtc: advance: NotNewer 4" advance s kept/s advance
+guarded "7 0 mtc: cosign: none: Absent" cosign s kept/s none
+guarded "0 $(wc -c <signature1) " cosign s kept/s subtree
+same out signature1 "the second signature"
+
+# An old copy, and a gate that is closed again: the program takes both, and would sign with a key that has signed.
+cp s new
+cp kept/s newest
+cp old s
+guarded "20 0 *has lost records*" cosign s kept/s subtree
+guarded "20 0 *has lost records*" advance s kept/s advance
+same s old "a journal that was put back gets no record"
+same kept/s newest "the kept export stays"
+cp new s
+gate=$((16 + 5 + $(od -An -tu4 --endian=big -j17 -N4 s)))
+same "$(od -An -tu1 -j$gate -N1 s | tr -d ' ')" 1 "the gate of record 1 is open"
+printf '\0' | dd of=s bs=1 seek=$gate conv=notrunc status=none
+"$program" export s >export || echo "wrong: export: $?"
+same "$(head -c "$(wc -c <export)" newest | cmp - export; echo $?)" 0 "a closed gate is a shorter journal to the program"
+cp s closed
+guarded "20 0 *has lost records*" cosign s kept/s subtree
+same s closed "a journal with a closed gate gets no record"
+cp new s
+head -c -1 newest >kept/s
+printf x >>kept/s
+guarded "20 0 *has lost records*" cosign s kept/s subtree
+cp newest kept/s
+guarded "0 $(wc -c <signature2) " cosign s kept/s subtree
+same out signature2 "the third signature, of the journal that was there"
+
+# It is put back between the look and the command: nothing is handed out.
+export MTC=./stand_in
+cp s new
+stand_in '[ "$1" != cosign ] || cat old >s'
+guarded "20 0 *has lost records*" cosign s kept/s subtree
+cp new s
+# What is kept is taken away or emptied meanwhile: nothing is handed out either.
+cp s new
+cp kept/s newest
+for line in '[ "$1" != cosign ] || rm kept/s' '[ "$1" != cosign ] || : >kept/s'; do
+    stand_in "$line"
+    guarded "21 0 *kept/s isn't there*" cosign s kept/s subtree
+    cp new s
+    cp newest kept/s
+done
+# The export behind the command fails: nothing is handed out, and the next run goes on with the next key.
+stand_in 'if [ "$1" = cosign ]; then touch fails; elif [ -e fails ]; then rm fails; exit 5; fi'
+guarded "5 0 " cosign s kept/s subtree
+export MTC=$program
+log cosign twin subtree >signature3
+log cosign twin subtree >signature4
+guarded "0 $(wc -c <signature4) " cosign s kept/s subtree
+same out signature4 "the fifth signature"
+
+# Another run, and a place that takes no export.
+cp s new
+(flock 9 && exec sleep 60) 9>>s.guard &
+holder=$!
+until ! flock -n s.guard true; do sleep 0.1; done
+guarded "22 0 *another run has s" cosign s kept/s subtree
+kill $holder
+wait $holder 2>/dev/null
+until flock -n s.guard true; do sleep 0.1; done
+ln -s s other
+(flock 9 && exec sleep 60) 9>>kept/s.guard &
+holder=$!
+until ! flock -n kept/s.guard true; do sleep 0.1; done
+guarded "22 0 *another run has kept/s" cosign other kept/s subtree
+kill $holder
+wait $holder 2>/dev/null
+mkdir kept/s.new
+guarded "23 0 *s.new*" cosign s kept/s subtree
+rmdir kept/s.new
+same s new "nothing is signed where no export can be kept"
+
+[ $wrong -ne 0 ] || echo "ok: tools/guarded_cosign.sh keeps what it promises: $count comparisons"
+exit $wrong
