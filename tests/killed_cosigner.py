@@ -31,12 +31,15 @@ class Cosigned(Folder):
         for _ in range(3):
             self.run(["issue", "j", "r"])
         size = self.size()
-        self.write("secret", bytes(range(48)))
         self.write("advance", self.said(["consist", "j", "0", str(size)]))
         self.write("subtree", self.said(["subtree", "j", "0", str(size), str(size)]))
 
     def new_cosigner(self, journal):
-        self.said(["init-cosigner", journal, COSIGNER, LOG, "5", "8", "secret"])
+        """Its secret comes through a pipe, so that no file but the journal has it."""
+        words = ["init-cosigner", journal, COSIGNER, LOG, "5", "8", "/dev/stdin"]
+        status, _, err = self.run(words, before=["sh", "-c", 'head -c 48 /dev/urandom | "$0" "$@"'])
+        if status != 0:
+            raise RuntimeError(f"{words}: status {status} {err}")
         self.said(["advance", journal, "advance"])
 
     def numbers(self, journal):
