@@ -121,6 +121,8 @@ tile k|7|-|mtc: tile: k: Absent
 tile j r|1|-|mtc: tile: WrongCount 2 1
 tile j.tiles|1|-|mtc: tile: TilesName 1
 init-log j.tiles 32473.1 2 64|1|-|mtc: init-log: TilesName 1
+init-log j.tiles 1 4 1|1|-|mtc: init-log: BadNumber 4
+init-log j.tiles 01 4 64|1|-|mtc: init-log: BadId 2
 init-cosigner w.tiles 32473.2 32473.1 5 4 secret|1|-|mtc: init-cosigner: TilesName 1
 init-log m 32473.1 2 64|0|d2ef99de8024e444|
 light-cert m 1|4|-|mtc: light-cert: NoSuchEntry

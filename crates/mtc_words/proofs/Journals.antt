@@ -6,6 +6,7 @@ use Rattle.std.proofs.lemmas.Bool.Decides.{Decides-eqb}
 use Rattle.std.proofs.lemmas.Slice.Eq.{ends_is}
 use Rattle.byte_forms.specs.Types.{Text}
 use Rattle.byte_forms.specs.Readings.{◌>>=◌}
+use Rattle.byte_forms.proofs.Steps.{bind_ok}
 use Rattle.mtc_words.specs.declared.error.WordError.{WordError}
 use Rattle.mtc_words.specs.declared.error.WordError.TheVariants.{TilesName}
 use Rattle.mtc_words.specs.declared.name.Name.{Name}
@@ -125,8 +126,10 @@ named : (o : Option Name) (ws : List Text) (c : CommandValue) → command_named 
 named None ws c e = absurd (cc)
 named (Some name) ws c e =
     let counted = answered (word_fault (word_count name) ws) _ c e in
-    let own = answered (journal_fault name ws) _ c counted.1 in
-    subst Own (sym (from_words name ws c own.1)) (passed name ws own.0)
+    let made = bind_ok (command_from name ws)
+    (λ (d : CommandValue). unless_fault (journal_fault name ws) (alone d)) c counted.1 in
+    let own = answered (journal_fault name ws) (alone made.0) c made.2 in
+    subst Own (sym (from_words name ws c (made.1 ∙ own.1))) (passed name ws own.0)
 
 -- Where words are a command, no journal of it has the name of a tile file.
 pub journals_have_own_names : (ws : List Text) (c : CommandValue) → command_of ws ≡ Ok c

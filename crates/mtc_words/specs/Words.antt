@@ -133,11 +133,11 @@ abbrev pub unless_fault : {A : Type 0} → Option WordError → Result A WordErr
 unless_fault (Some fault) wanted = Err fault
 unless_fault None wanted = wanted
 
--- What the words behind a name say.
+-- What the words behind a name say. The name of a journal is tested last.
 abbrev pub command_named : Option Name → List Text → Result CommandValue WordError
 command_named None ws = Err UnknownCommand
 command_named (Some name) ws = unless_fault (word_fault (word_count name) ws)
-    (unless_fault (journal_fault name ws) (command_from name ws))
+    (command_from name ws >>= λ command. unless_fault (journal_fault name ws) (Ok command))
 
 -- What words say.
 unfoldable pub command_of : List Text → Result CommandValue WordError

@@ -18,15 +18,15 @@ pub enum WordError {
     /// There are more or fewer words behind the command than it wants.
     #[error("{have} words where {want} are wanted")]
     WrongCount { have: usize, want: usize },
-    /// The word of this number is a journal, and ends in `.tiles`, as the name of a tile file does.
-    #[error("word {0} is the name of a tile file")]
-    TilesName(usize),
     /// The word of this number is no number, or lies outside its range.
     #[error("word {0} is no number of its range")]
     BadNumber(usize),
     /// The word of this number is no anchor id.
     #[error("word {0} is no id")]
     BadId(usize),
+    /// The word of this number is a journal, and ends in `.tiles`, as the name of a tile file does.
+    #[error("word {0} is the name of a tile file")]
+    TilesName(usize),
     /// Memory was refused.
     #[error("out of memory")]
     Memory,

@@ -69,9 +69,9 @@ fn journal_fault(name: Name, words: &[String]) -> Option<WordError>
 
 /// Reads the words of a command. Refuses, the first that holds: `NoCommand`, `UnknownCommand`,
 /// `BadWord` with the number of the first word that is empty or begins with a hyphen, `WrongCount`,
-/// `TilesName` where a journal ends in `.tiles` (input files may), `BadNumber` with the number of
-/// the first number word that is none, or lies outside its range, `BadId` with that of the first id
-/// word that is no anchor id.
+/// `BadNumber` with the number of the first number word that is none, or lies outside its range,
+/// `BadId` with that of the first id word that is no anchor id, `TilesName` where a journal ends in
+/// `.tiles` (input files may).
 #[tactic(auto, unfolding(crate::specs::Words::command_of))]
 pub fn read_words<'a>(alloc: Global, words: &'a [String]) -> Result<Command<'a>, WordError>
     ensures exact { Answers WordError.Memory
@@ -87,9 +87,10 @@ pub fn read_words<'a>(alloc: Global, words: &'a [String]) -> Result<Command<'a>,
     if let Some(why) = fault(rest, wanted_count(name)) {
         return Err(why);
     }
+    let command = build(alloc, name, rest)?;
     match journal_fault(name, rest) {
         Some(why) => Err(why),
-        None => build(alloc, name, rest),
+        None => Ok(command),
     }
 }
 

@@ -52,8 +52,11 @@ tile => WrongCount 0 1
 tile -j => BadWord 1
 tile j.tiles => TilesName 1
 tile .tiles => TilesName 1
-init-log j.tiles 01 2 1 => TilesName 1
-entries j.tiles x => TilesName 1
+init-log j.tiles 01 2 1 => BadNumber 4
+init-log j.tiles 01 2 64 => BadId 2
+init-log j.tiles 32473.1 2 64 => TilesName 1
+entries j.tiles x => BadNumber 2
+entries j.tiles 1 => TilesName 1
 entries jtiles x => BadNumber 2
 export s.tiles => TilesName 1
 cosign s.tiles r => TilesName 1
@@ -108,7 +111,7 @@ fn words_are_refused_by_their_first_fault(rt: HostRuntime) {
         assert!(rt; is_refused(rt.alloc(), line) == Some(true), "{line}");
         count = count.saturating_add(1);
     }
-    assert!(rt; count == 53);
+    assert!(rt; count == 56);
 }
 
 #[test]
