@@ -1,8 +1,10 @@
 -- A cosigner keeps the ids and the key with which it began, and a Sign adds its number.
 use Rattle.std.proofs.Common.{◌≡◌, ℕ, ◌+◌, ◌^◌, ◌<◌, Bool, true, false, not, nat_lt, List, []}
 use Rattle.std.proofs.Common.{◌∷◌, ◌++◌, Option, None, Some, Ok, Err, option_map, refl, sym, ap}
-use Rattle.std.proofs.Common.{◌∙◌, arith}
+use Rattle.std.proofs.Common.{◌∙◌, arith, append_assoc, length}
 use Rattle.std.proofs.lemmas.Bool.{ltb-true}
+use Rattle.std.proofs.lemmas.Grind.{flat_map-append}
+use Rattle.std.specs.Int.{w32}
 use Rattle.std.specs.Prelude.{if◌then◌else◌}
 use Rattle.std.specs.Str.{bytes_eq}
 use Rattle.byte_forms.specs.Readings.{◌>>=◌, some_or}
@@ -10,12 +12,15 @@ use Rattle.byte_forms.specs.Types.{HashFunction, Text}
 use Rattle.byte_forms.proofs.Steps.{bind_ok, ok_is, some_or_ok}
 use Rattle.hss_core.specs.Hss.{one_level_public}
 use Rattle.journal_core.specs.Folds.{state_behind, taken_from}
+use Rattle.journal_core.proofs.Folds.{state_more}
 use Rattle.lms_core.specs.Heights.{height}
 use Rattle.lms_core.specs.declared.heights.LmsType.{LmsType}
 use Rattle.lms_core.specs.declared.heights.LmsType.TheVariants.{H5, H10, H15, H20, H25}
+use Rattle.tls_wire.specs.Spelling.{vector}
 use Rattle.tree_core.specs.Subtree.{is_subtree}
 use Rattle.cosigner_core.specs.Checkpoints.{has_subtree}
 use Rattle.cosigner_core.specs.Counts.{index_before, indices_in, indices_of}
+use Rattle.cosigner_core.specs.Exports.{export_text, front_text, records_text}
 use Rattle.cosigner_core.specs.Folds.{CosignerState, after_step, begun_cosigner, cosigner_fold}
 use Rattle.cosigner_core.specs.Folds.{cosigner_of}
 use Rattle.cosigner_core.specs.Folds.{key_count, new_cosigner, next_state, progress_of}
@@ -80,6 +85,35 @@ of_first h settings public first bodies s begins is =
       same.1,
       ap one_level_public same.2 ∙ begins.1.1,
     )
+
+-- ---- the exports of a list and of a longer one
+
+same_front : (id own log own_log key own_key : Text) → id ≡ own → log ≡ own_log → key ≡ own_key
+    → front_text own own_log own_key ≡ front_text id log key
+same_front id own log own_log key own_key one two three =
+    ap (λ (x : Text). front_text x own_log own_key) (sym one)
+    ∙ (ap (λ (x : Text). front_text id x own_key) (sym two)
+    ∙ ap (λ (x : Text). front_text id log x) (sym three))
+
+none_made : (k : ℕ) (s : CosignerState) → Err k ≡ Ok s → ⊥
+none_made k s is = cc
+
+-- the export of more records begins with that of the first of them
+pub export_grows : (h : HashFunction) (list more : List Text) (s t : CosignerState)
+    → cosigner_of h list ≡ Ok s → cosigner_of h (list ++ more) ≡ Ok t
+    → export_text s list ++ records_text more ≡ export_text t (list ++ more)
+unfolding state_behind
+export_grows h [] more s t is whole = absurd (none_made 0 s is)
+export_grows h (first ∷ bodies) more s t is whole =
+    let same = same_cosigner h (length (first ∷ bodies)) s t more
+    (sym (state_more (cosigner_fold h) (first ∷ bodies) more s is) ∙ whole) in
+    append_assoc (front_text s.id s.log (one_level_public s.key.key)) (records_text bodies)
+    (records_text more)
+    ∙ (ap (λ (x : Text). front_text s.id s.log (one_level_public s.key.key) ++ x)
+    (sym (flat_map-append (vector w32) bodies more))
+    ∙ ap (λ (x : Text). x ++ records_text (bodies ++ more))
+    (same_front t.id s.id t.log s.log (one_level_public t.key.key) (one_level_public s.key.key)
+    same.0 same.1 (ap one_level_public same.2)))
 
 -- ---- a Sign that is added
 
@@ -148,9 +182,6 @@ indices_on (x ∷ bodies) body index start end hash proof is =
     before_more None xs n = refl
     before_more (Some (Advance size root proof)) xs n = refl
     before_more (Some (Sign index start end hash proof)) xs n = refl
-
-none_made : (k : ℕ) (s : CosignerState) → Err k ≡ Ok s → ⊥
-none_made k s is = cc
 
 pub number_added : (h : HashFunction) (list : List Text) (s : CosignerState) (body : Text)
     (index start end : ℕ) (hash : Text) (proof : List Text) → cosigner_of h list ≡ Ok s
