@@ -284,19 +284,38 @@ took_dec (Some old) (Some new) = elim (leb_tells (length new) (length old)) [
   | inr more ↦ inl (omega (arith, more.1))
 ]
 
--- whether a command did its work, or a byte of it went out
-pub heard_dec : (status : ℕ) (old new : Option (List ℕ)) → ((status ≡ 0) ⊎ TookSome old new)
-    ⊎ ((status ≡ 0) ⊎ TookSome old new → ⊥)
-heard_dec status old new = elim (eqb_tells status 0) [
-  | inl zero_ ↦ inl (inl zero_.1)
-  | inr other ↦ elim (took_dec old new) [
-    | inl took ↦ inl (inr took)
-    | inr none ↦ inr (λ heard. elim heard [
-      | inl zero_ ↦ other.1 zero_
-      | inr took ↦ none took
-    ])
-  ]
+-- whether standard output failed that doesn't tell what it took
+lost_dec : (status : ℕ) (old : Option (List ℕ)) → ((status ≡ 6) × (old ≡ None))
+    ⊎ ((status ≡ 6) × (old ≡ None) → ⊥)
+lost_dec status None = elim (eqb_tells status 6) [
+  | inl six ↦ inl (six.1, refl)
+  | inr other ↦ inr (λ lost. other.1 lost.0)
 ]
+lost_dec status (Some xs) = inr (λ lost. let wrong : Some xs ≡ None = lost.1 in absurd cc)
+
+either_dec : {P Q : Type 0} → P ⊎ (P → ⊥) → Q ⊎ (Q → ⊥) → (P ⊎ Q) ⊎ (P ⊎ Q → ⊥)
+either_dec {P} {Q} (inl p) q = inl (inl p)
+either_dec {P} {Q} (inr none) (inl q) = inl (inr q)
+either_dec {P} {Q} (inr none) (inr other) = inr (λ any. elim any [
+  | inl p ↦ none p
+  | inr q ↦ other q
+])
+
+-- A run with this status did its work, or a byte of it may have gone out.
+abbrev pub Heard : ℕ → Option (List ℕ) → Option (List ℕ) → Type 0
+Heard status old new = (status ≡ 0) ⊎ (TookSome old new ⊎ ((status ≡ 6) × (old ≡ None)))
+
+-- whether it is so
+pub heard_dec : (status : ℕ) (old new : Option (List ℕ)) → Heard status old new
+    ⊎ (Heard status old new → ⊥)
+heard_dec status old new = either_dec (zero_dec status)
+    (either_dec (took_dec old new) (lost_dec status old))
+  where
+    zero_dec : (n : ℕ) → (n ≡ 0) ⊎ (n ≡ 0 → ⊥)
+    zero_dec n = elim (eqb_tells n 0) [
+      | inl zero_ ↦ inl zero_.1
+      | inr other ↦ inr other.1
+    ]
 
 -- what the room tells of a file stands for what all images stand for
 pub file_stands : {D : Type 0} (g : Ghosts D) (n : HistoryState) (first : List ℕ)

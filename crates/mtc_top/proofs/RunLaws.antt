@@ -33,7 +33,7 @@ use Rattle.mtc_top.specs.Run.{journals, Answered, HasRun}
 use Rattle.mtc_top.specs.RunLaws.{FrontsAreRuns, RunShows, RunSteps, is_heard}
 use Rattle.mtc_top.proofs.Runs.{reply_code}
 use Rattle.mtc_top.proofs.Commands.{spoken_records}
-use Rattle.mtc_top.proofs.Nodes.{kept_ends, failed_ends, made_ends, heard_dec, file_stands}
+use Rattle.mtc_top.proofs.Nodes.{Heard, kept_ends, failed_ends, made_ends, heard_dec, file_stands}
 use Rattle.mtc_top.proofs.Nodes.{none_stands, some_image}
 use Rattle.mtc_top.proofs.Opened.{IsNewAt, spoken_new}
 
@@ -53,11 +53,12 @@ front_some : (old new : Option (List ℕ)) (text : List ℕ) → AppendsPrefix o
 front_some old new [] front took = absurd (front_none old new front took)
 front_some old new (x ∷ xs) front took = omega arith
 
--- a run with such a status of which no byte went out isn't heard
-unheard : (status n : ℕ) (old new : Option (List ℕ)) → status ≡ n → 0 < n
-    → (TookSome old new → ⊥) → (status ≡ 0) ⊎ TookSome old new → ⊥
-unheard status n old new is some none (inl zero_) = omega (arith, is, some, zero_)
-unheard status n old new is some none (inr took) = none took
+-- a run with such a status that appended nothing isn't heard
+pub unheard : (status n : ℕ) (old new : Option (List ℕ)) → status ≡ n → 0 < n → n ≢ 6
+    → Appends old new [] → Heard status old new → ⊥
+unheard status n old new is some other none (inl zero_) = omega (arith, is, some, zero_)
+unheard status n old new is some other none (inr (inl took)) = took_none old new none took
+unheard status n old new is some other none (inr (inr lost)) = other (sym is ∙ lost.0)
 
 -- a front of a front
 take_both : (j k : ℕ) (l : List ℕ) → (n : ℕ) × (take j (take k l) ≡ take n l)
@@ -112,12 +113,16 @@ module _ {R S D O E : Type 0} (h : List ℕ → List ℕ) (rooms : Rooms R S D) 
     (outs : Sinks O) (errs : Sinks E) (words : List (List ℕ))
     (old new : R) (out out' : O) (err err' : E) (status : ℕ)
     (run : HasRun h rooms disks outs errs words old new out out' err err' status) where
-  -- where a byte went out neither the room nor memory ended it
-  pub not_failed : TookSome (outs.taken out) (outs.taken out') → status ≢ 5
-  not_failed some is = took_none _ _ (run.room_failed is).text some
+  -- where it was heard neither the room nor memory ended it
+  pub not_failed : is_heard h rooms disks outs errs words old new out out' err err' status
+      → status ≢ 5
+  not_failed any is = unheard status 5 _ _ is (omega arith) (λ six. omega (arith, six))
+      (run.room_failed is).text any
 
-  pub not_wanting : TookSome (outs.taken out) (outs.taken out') → status ≢ 8
-  not_wanting some is = took_none _ _ (run.no_memory is).text some
+  pub not_wanting : is_heard h rooms disks outs errs words old new out out' err err' status
+      → status ≢ 8
+  not_wanting any is = unheard status 8 _ _ is (omega arith) (λ six. omega (arith, six))
+      (run.no_memory is).text any
 
   pub run_shows : RunShows h rooms disks outs errs words old new out out' err err' status
   run_shows = record {
@@ -146,14 +151,14 @@ module _ {R S D O E : Type 0} (h : List ℕ → List ℕ) (rooms : Rooms R S D) 
             a.reply status (a.code not6) not0 not3 not10 (a.text not6))
       ]
     ];
-    heard = λ some. run.answered (not_failed some) (not_wanting some);
+    heard = λ any. run.answered (not_failed any) (not_wanting any);
   }
 
   -- ---- a front of what went out
 
   module _ (some : TookSome (outs.taken out) (outs.taken out')) where
     abbrev heard_all : Answered h rooms disks outs errs words old new out out' err err' status
-    heard_all = run.answered (not_failed some) (not_wanting some)
+    heard_all = run_shows.heard (inr (inl some))
 
     silent_none : status ≢ 0 → status ≢ 3 → status ≢ 6 → status ≢ 10 → ⊥
     silent_none not0 not3 not6 not10 =
@@ -161,7 +166,7 @@ module _ {R S D O E : Type 0} (h : List ℕ → List ℕ) (rooms : Rooms R S D) 
 
     spoken_words : IsErr (command_of words) → ⊥
     spoken_words bad =
-        let one = run.first bad (not_wanting some) in
+        let one = run.first bad (not_wanting (inr (inl some))) in
         silent_none (λ is. omega (arith, one, is)) (λ is. omega (arith, one, is))
         (λ is. omega (arith, one, is)) (λ is. omega (arith, one, is))
 
@@ -302,13 +307,12 @@ module _ {R S D O E : Type 0} (h : List ℕ → List ℕ) (rooms : Rooms R S D) 
     run_steps tells = elim (eqb_tells status 8) [
       | inl is8 ↦
           (let r = run.no_memory is8.1 in
-          each_so _ Steps (kept_steps is8.1 (unheard status 8 _ _ is8.1 (omega arith)
-          (took_none _ _ r.text))) js (r.made tells))
+          each_so _ Steps (kept_steps is8.1 (λ any. not_wanting any is8.1)) js (r.made tells))
       | inr not8 ↦ elim (eqb_tells status 5) [
         | inl is5 ↦
             (let r = run.room_failed is5.1 in
-            both_so _ _ Steps (failed_steps is5.1 (unheard status 5 _ _ is5.1 (omega arith)
-            (took_none _ _ r.text))) js (r.made tells) (knows tells))
+            both_so _ _ Steps (failed_steps is5.1 (λ any. not_failed any is5.1)) js
+            (r.made tells) (knows tells))
         | inr not5 ↦ answered_steps tells ((run.answered not5.1 not8.1).made tells)
       ]
     ]

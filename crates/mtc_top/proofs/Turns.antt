@@ -1,6 +1,6 @@
 -- What is known of one run of a course.
 use Rattle.std.proofs.Common.{◌≡◌, ◌≢◌, ◌⊎◌, inl, inr, ℕ, true, false, Bool, List, [], ◌∷◌}
-use Rattle.std.proofs.Common.{◌++◌, Option, None, Some, refl, sym, subst, ap, ◌∙◌, arith}
+use Rattle.std.proofs.Common.{◌++◌, ◌<◌, Option, None, Some, refl, sym, subst, ap, ◌∙◌, arith}
 use Rattle.std.proofs.Common.{true≢false, length, length-append}
 use Rattle.std.proofs.lemmas.Bool.Decides.{eqb_tells}
 use Rattle.std.proofs.lemmas.Slice.Eq.{bytes_eq-Decides}
@@ -36,7 +36,7 @@ use Rattle.mtc_top.specs.Facts.{facts}
 use Rattle.mtc_top.specs.Nodes.{records_left}
 use Rattle.mtc_top.proofs.Nodes.{no_file_stands, one_list, some_image}
 use Rattle.mtc_top.proofs.Opened.{Finds, IsFound, IsNewAt, spoken_finds, spoken_new}
-use Rattle.mtc_top.proofs.RunLaws.{front_none, run_steps, took_none}
+use Rattle.mtc_top.proofs.RunLaws.{front_none, run_steps, unheard}
 
 -- ---- the journals of a run
 
@@ -76,7 +76,7 @@ pub now_of : {D : Type 0} (g : Disks D) → OnlyNow g → (x : Option D) (c : Li
 now_of g only None c is = is
 now_of g only (Some d) c is = only d c is
 
--- ---- a run that did its work, or of which a byte went out
+-- ---- a run that did its work, or of which a byte may have gone out
 
 -- a refusal has another status than 0
 no_stop : (why : Stopped) → stopped_code why ≡ 0 → ⊥
@@ -87,16 +87,12 @@ module _ {R S D O E : Type 0} (h : HashFunction) (rooms : Rooms R S D) (disks : 
     (outs : Sinks O) (errs : Sinks E) (old : R) (turn : Turn R O E)
     (run : HasTurned h rooms disks outs errs old turn) (heard : IsHeard outs turn) where
   heard_not5 : turn.status ≢ 5
-  heard_not5 five = elim heard [
-    | inl zero_ ↦ omega (arith, zero_, five)
-    | inr took ↦ took_none _ _ (run.room_failed five).text took
-  ]
+  heard_not5 five = unheard turn.status 5 _ _ five (omega arith) (λ six. omega (arith, six))
+      (run.room_failed five).text heard
 
   heard_not8 : turn.status ≢ 8
-  heard_not8 eight = elim heard [
-    | inl zero_ ↦ omega (arith, zero_, eight)
-    | inr took ↦ took_none _ _ (run.no_memory eight).text took
-  ]
+  heard_not8 eight = unheard turn.status 8 _ _ eight (omega arith) (λ six. omega (arith, six))
+      (run.no_memory eight).text heard
 
   pub heard_run : Answered h rooms disks outs errs turn.words old turn.room turn.out
       turn.out_after turn.err turn.err_after turn.status
@@ -121,8 +117,14 @@ module _ {R S D O E : Type 0} (h : HashFunction) (rooms : Rooms R S D) (disks : 
   not_refused why file reason is = elim heard [
     | inl zero_ ↦ no_stop why (ap status_of (sym is)
         ∙ sym (heard_run.code (λ six. omega (arith, zero_, six))) ∙ zero_)
-    | inr took ↦ front_none _ _ (subst (λ (r : Reply).
-        PrintsFront outs turn.out turn.out_after (out_of r)) is heard_run.front) took
+    | inr any ↦ elim any [
+      | inl took ↦ front_none _ _ (subst (λ (r : Reply).
+          PrintsFront outs turn.out turn.out_after (out_of r)) is heard_run.front) took
+      | inr lost ↦
+          (let empty : 0 < 0
+          = subst (λ (r : Reply). 0 < length (out_of r)) is (heard_run.some lost.0) in
+          omega (arith, empty))
+    ]
   ]
 
   -- the run has held its records with the one that it added

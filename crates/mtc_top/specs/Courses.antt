@@ -1,7 +1,7 @@
 -- Courses: what happens to a room, one run after the other, with stops of the machine between the
 -- runs and in the middle of one, with programs that are killed, and with other files that change
 -- between runs.
-use Rattle.std.specs.Prelude.{◌≡◌, ◌≢◌, ◌⊎◌, ℕ, List, [], ◌∷◌, ◌++◌, Some}
+use Rattle.std.specs.Prelude.{◌≡◌, ◌≢◌, ◌⊎◌, ℕ, List, [], ◌∷◌, ◌++◌, None, Some}
 use Rattle.byte_forms.specs.Types.{HashFunction, Text}
 use Rattle.disk_core.specs.declared.disk.Disk.{Ghosts as Disks}
 use Rattle.journal_core.specs.Format.{StandsFor}
@@ -57,9 +57,11 @@ AreAmong (journal ∷ rest) name did =
     ((journal.0 ≡ name) × (journal.1 ≡ did)) ⊎ AreAmong rest name did
 
 module _ {R O E : Type 0} (outs : Sinks O) (turn : Turn R O E) where
-  -- The run did its work, or a byte of it went out, over an output that tells what it took.
+  -- The run did its work, or a byte of it may have gone out: the output tells that it took one; or
+  -- it failed (status 6), and doesn't tell what it took.
   abbrev pub IsHeard : Type 0
-  IsHeard = (turn.status ≡ 0) ⊎ TookSome (outs.taken turn.out) (outs.taken turn.out_after)
+  IsHeard = (turn.status ≡ 0) ⊎ (TookSome (outs.taken turn.out) (outs.taken turn.out_after)
+      ⊎ ((turn.status ≡ 6) × (outs.taken turn.out ≡ None)))
 
   -- A front of this text went out: the whole with status 0, and with 6 what came before standard
   -- output failed.
@@ -172,8 +174,8 @@ module _ {R S D O E : Type 0} (h : HashFunction) (rooms : Rooms R S D) (disks : 
   WasHeld name old (died turn new ∷ links) list = WasHeld name new links list
   WasHeld name old (writes new ∷ links) list = WasHeld name new links list
 
-  -- The run added this record behind those, and it did its work or a byte went out: the record is
-  -- handed out.
+  -- The run added this record behind those, and it did its work or a byte may have gone out: the
+  -- record is handed out.
   abbrev pub HandsOut : Text → R → Turn R O E → List Text → Text → Type 0
   HandsOut name old turn list body = DidWith old turn name (appended list body) × IsHeard outs turn
 

@@ -64,7 +64,7 @@ abbrev pub NotHanded : Journaled → Type 0 → Type 0
 NotHanded did heard = (body : Text) → IsRecord did body → heard → ⊥
 
 -- The ends that a status allows. A record is handed out exactly where the command was heard: it did
--- its work, or a byte of it went out.
+-- its work, or a byte of it may have gone out.
 abbrev pub MayEnd : Journaled → ℕ → Type 0 → End → Type 0
 MayEnd did status heard same = IsEarly status × NotHanded did heard
 MayEnd did status heard (stopped kept) = NotHanded did heard

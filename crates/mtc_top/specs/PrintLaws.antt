@@ -92,7 +92,7 @@ module _ {R S D O E : Type 0} (h : HashFunction) (rooms : Rooms R S D) (disks : 
   Says other old turn = (name : Text) (list : List Text)
       → HasHeld h rooms disks outs errs name old turn list → IsLog h list
 
-  -- So it is of each run by this command that did its work, or of which a byte went out.
+  -- So it is of each run by this command that did its work, or of which a byte may have gone out.
   abbrev pub OfHeard : CommandValue → (R → Turn R O E → Type 0) → R → Turn R O E → Type 0
   OfHeard command P old turn = command_of turn.words ≡ Ok command → IsHeard outs turn → P old turn
 
@@ -108,9 +108,9 @@ module _ {R S D O E : Type 0} (h : HashFunction) (rooms : Rooms R S D) (disks : 
   SignaturesArePrinted = (name file : Text)
       → OfEachRun (OfHeard (cosign name file) (HasCosigned name file))
 
-  -- Each run that did its work, or of which a byte went out, has a command, and so it is of it. Of
-  -- the commands that open a cosigner's journal, or are given a secret file as such, only `cosign`
-  -- says a signature by it.
+  -- Each run that did its work, or of which a byte may have gone out, has a command, and so it is
+  -- of it. Of the commands that open a cosigner's journal, or are given a secret file as such, only
+  -- `cosign` says a signature by it.
   abbrev pub OnlyCosignSigns : Type 0
   OnlyCosignSigns = (old : R) (turn : Turn R O E) → rooms.tells old
       → HasTurned h rooms disks outs errs old turn → IsHeard outs turn

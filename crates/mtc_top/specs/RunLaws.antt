@@ -24,9 +24,10 @@ module _ {R S D O E : Type 0} (h : HashFunction) (rooms : Rooms R S D) (disks : 
   abbrev pub took : Type 0
   took = TookSome (outs.taken out) (outs.taken out')
 
-  -- It did its work, or a byte of it went out.
+  -- It did its work, or a byte of it may have gone out: one did; or standard output failed, and
+  -- doesn't tell what it took.
   abbrev pub is_heard : ℕ → Type 0
-  is_heard status = (status ≡ 0) ⊎ took
+  is_heard status = (status ≡ 0) ⊎ (took ⊎ ((status ≡ 6) × (outs.taken out ≡ None)))
 
   -- What follows of each run.
   pub record RunShows (status : ℕ) : Type 0 where
@@ -39,8 +40,9 @@ module _ {R S D O E : Type 0} (h : HashFunction) (rooms : Rooms R S D) (disks : 
     -- A refusal, a failure of the room and want of memory print nothing.
     pub silent : status ≢ 0 → status ≢ 3 → status ≢ 6 → status ≢ 10
         → Prints outs out out' []
-    -- Of what goes out something is known from its first byte on.
-    pub heard : took → Answered h rooms disks outs errs words old new out out' err err' status
+    -- Of what goes out something is known from its first byte on, also of what may have gone out.
+    pub heard : is_heard status
+        → Answered h rooms disks outs errs words old new out out' err err' status
 
   -- The images of a name's file: before the run, after it, and at any moment since it began.
   abbrev pub images_before : Text → Images
@@ -65,7 +67,7 @@ module _ {R S D O E : Type 0} (h : HashFunction) (rooms : Rooms R S D) (disks : 
         → IfSome (rooms.file new name) (StandsForNode n first)
     -- Time goes on.
     pub later : moment_at disks (rooms.device old name) ≤ moment_at disks (rooms.device new name)
-    -- Where it did its work or a byte went out, each image holds the record.
+    -- Where it did its work or a byte may have gone out, each image holds the record.
     pub recorded : (list : List Text) (body : Text) → did ≡ appended list body
         → is_heard status → (c : Text) → images_after name c → StandsFor c (list ++ body ∷ [])
     -- A new journal that was made is that of a node that has begun with this record, and no more.

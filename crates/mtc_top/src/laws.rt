@@ -18,7 +18,7 @@ use mtc_room::Room;
 use tree_core::TreeHash;
 
 /// What follows of each run: how it may end, and that it is steps of each node whose journal it
-/// works on. Where a byte went out each image holds the record behind which it went.
+/// works on. Where a byte may have gone out each image holds the record behind which it went.
 pub fn runs_are_steps<H: TreeHash, R: Room, O: Sink, E: Sink>()
     ensures shows { RunsShow H.hash R.Room R.Dsk.Disk O.Sink E.Sink }
     ensures steps { RunsAreSteps H.hash R.Room R.Dsk.Disk O.Sink E.Sink }
@@ -54,10 +54,11 @@ pub fn no_one_time_key_signs_twice<H: TreeHash, R: Room, O: Sink, E: Sink>()
     ensures messages { KeysSignOneMessage H.hash R.Room R.Dsk.Disk O.Sink E.Sink }
 {}
 
-/// Where a run that added a record did its work, or a byte of it went out, it ended with another
-/// status than 5 and 8. So its record is among those that the run found or added, and each image
-/// that a crash may leave afterwards stands for records. These begin with those that were there,
-/// and that one.
+/// Where a run that added a record did its work, or a byte of it may have gone out, it ended with
+/// another status than 5 and 8. A byte may have gone out where standard output took one, or failed
+/// and doesn't tell what it took. So its record is among those that the run found or added, and
+/// each image that a crash may leave afterwards stands for records. These begin with those that
+/// were there, and that one.
 pub fn what_was_handed_out_stands<H: TreeHash, R: Room, O: Sink, E: Sink>()
     ensures held { HandedOutWasHeld H.hash R.Room R.Dsk.Disk O.Sink E.Sink }
     ensures stand { HandedOutStand H.hash R.Room R.Dsk.Disk O.Sink E.Sink }
@@ -120,16 +121,17 @@ pub fn audits_stand<H: TreeHash, R: Room, O: Sink, E: Sink>()
     ensures stand { AuditsStand H.hash R.Room R.Dsk.Disk O.Sink E.Sink }
 {}
 
-/// From the first byte on that goes out of `issue` or `cosign`, and with status 0, its record was
-/// added, and its request is what the file says that its words name. What goes out of `issue` is
-/// the index of the entry, which counts those before it. What goes out of `cosign` is the signature
-/// by the one-time key whose number the record has, over the interval and the hash of the request.
-/// It is the whole with status 0; with 6, the one other status, it is a front. Words that are no
-/// command do no work, and nothing goes out. Of the commands that open a cosigner's journal, or are
-/// given a secret file as such, only `cosign` says a signature by it. `advance` says the size in
-/// its request. `export` says the ids, the public key and the records behind the first of those
-/// that it read, and `init-cosigner` and `keygen` the public key of the secret file. Each journal
-/// that another command opens or makes is a log's. Of what goes out of those nothing is said.
+/// From the first byte on that may have gone out of `issue` or `cosign`, and with status 0, its
+/// record was added, and its request is what the file says that its words name. What goes out of
+/// `issue` is the index of the entry, which counts those before it. What goes out of `cosign` is
+/// the signature by the one-time key whose number the record has, over the interval and the hash of
+/// the request. It is the whole with status 0; with 6, the one other status, it is a front. Words
+/// that are no command do no work, and nothing goes out. Of the commands that open a cosigner's
+/// journal, or are given a secret file as such, only `cosign` says a signature by it. `advance`
+/// says the size in its request. `export` says the ids, the public key and the records behind the
+/// first of those that it read, and `init-cosigner` and `keygen` the public key of the secret file.
+/// Each journal that another command opens or makes is a log's. Of what goes out of those nothing
+/// is said.
 pub fn printed_texts_are_of_their_records<H: TreeHash, R: Room, O: Sink, E: Sink>()
     ensures indices { IndicesArePrinted H.hash R.Room R.Dsk.Disk O.Sink E.Sink }
     ensures signatures { SignaturesArePrinted H.hash R.Room R.Dsk.Disk O.Sink E.Sink }
@@ -137,9 +139,10 @@ pub fn printed_texts_are_of_their_records<H: TreeHash, R: Room, O: Sink, E: Sink
 {}
 
 /// So it is in each course of a journal, and what is said of the record stays so. Each entry of
-/// which a byte of the index went out is in each log that may be recovered at the end of the
-/// course, at that index and with its key. Each image of the journal stands for records, and where
-/// a byte of a signature went out these begin with those that were there and the signature's.
+/// which a byte of the index may have gone out is in each log that may be recovered at the end of
+/// the course, at that index and with its key. Each image of the journal stands for records, and
+/// where a byte of a signature may have gone out these begin with those that were there and the
+/// signature's.
 pub fn printed_texts_stand<H: TreeHash, R: Room, O: Sink, E: Sink>()
     ensures entries { IssuedEntriesStand H.hash R.Room R.Dsk.Disk O.Sink E.Sink }
     ensures signatures { SignaturesStand H.hash R.Room R.Dsk.Disk O.Sink E.Sink }
