@@ -167,7 +167,10 @@ module _ {R S D O E : Type 0} (h : HashFunction) (rooms : Rooms R S D) (disks : 
         record {
           list = node.records;
           recovered = recovered;
+          state = opened.0;
+          state_is = stands.1;
           text = text;
+          text_is = refl;
           printed = printed_so h rooms disks outs errs new turn run heard text meets;
           export = export_of opened.0 again.0;
           read = again.2;

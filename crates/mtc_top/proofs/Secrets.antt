@@ -176,7 +176,7 @@ module _ {R S D O E : Type 0} (h : HashFunction) (rooms : Rooms R S D) (disks : 
         (held_rules h rooms disks outs errs image only told bytes name old turn list tells run
         held))
 
-    says_so : (command : CommandValue) → Speaks command
+    pub says_so : (command : CommandValue) → Speaks command
         → Says h rooms disks outs errs command old turn
     says_so (cosign name file) spoken =
         signatures_printed h rooms disks outs errs told bytes name file old turn tells run spoken

@@ -127,7 +127,19 @@ module _ {R S D O E : Type 0} (h : HashFunction) (rooms : Rooms R S D) (disks : 
     ]
   ]
 
-  -- the run has held its records with the one that it added
+  -- the run has held the records that it found
+  pub heard_read : (name : List ℕ) (list : List (List ℕ))
+      → DidWith h rooms disks outs errs old turn name (reads list)
+      → HasHeld h rooms disks outs errs name old turn list
+  heard_read name list did = record {
+    did = reads list;
+    among = did;
+    held = refl;
+    no_failure = heard_not5;
+    no_want = heard_not8;
+  }
+
+  -- or its records with the one that it added
   pub heard_held : (name : List ℕ) (list : List (List ℕ)) (body : List ℕ)
       → DidWith h rooms disks outs errs old turn name (appended list body)
       → HasHeld h rooms disks outs errs name old turn (list ++ body ∷ [])

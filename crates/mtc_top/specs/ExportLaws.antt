@@ -7,16 +7,20 @@ use Rattle.mtc_room.specs.declared.room.Room.{Ghosts as Rooms}
 use Rattle.mtc_words.specs.Commands.{export}
 use Rattle.mtc_words.specs.Words.{command_of}
 use Rattle.cosigner_core.specs.ExportReading.{export_in, export_progress}
+use Rattle.cosigner_core.specs.Exports.{export_text}
+use Rattle.cosigner_core.specs.Folds.{CosignerState, cosigner_of}
 use Rattle.cosigner_core.specs.Records.{step_in}
 use Rattle.cosigner_core.specs.Progress.{steps_in}
 use Rattle.cosigner_core.specs.declared.lists.Export.{Export}
 use Rattle.cosigner_core.specs.declared.progress.Progress.{Progress}
 use Rattle.cosigner_core.specs.declared.settings.CosignerSettings.{CosignerSettings}
 use Rattle.cosigner_core.specs.declared.step.Step.{Step}
+use Rattle.mtc_answers.specs.Made.{reads}
 use Rattle.node_history.specs.declared.start.NodeStart.TheVariants.{Cosigner}
 use Rattle.mtc_top.specs.CourseLaws.{OfCourses}
-use Rattle.mtc_top.specs.Courses.{Link, Turn, HasPrinted, HasTurned, IsHeard, IsRecovered}
-use Rattle.mtc_top.specs.Courses.{WasHeld}
+use Rattle.mtc_top.specs.Courses.{DidWith, Link, Turn, HasPrinted, HasTurned, IsHeard, IsRecovered}
+use Rattle.mtc_top.specs.Courses.{OfEachTurn, WasHeld}
+use Rattle.mtc_top.specs.PrintLaws.{OfHeard}
 
 module _ {R S D O E : Type 0} (h : HashFunction) (rooms : Rooms R S D) (disks : Disks D)
     (outs : Sinks O) (errs : Sinks E) where
@@ -27,7 +31,10 @@ module _ {R S D O E : Type 0} (h : HashFunction) (rooms : Rooms R S D) (disks : 
       (links : List (Link R O E)) (old : R) (turn : Turn R O E) : Type 0 where
     pub list : List Text
     pub recovered : IsRecovered h rooms disks outs errs name old list
+    pub state : CosignerState
+    pub state_is : cosigner_of h list ≡ Ok state
     pub text : Text
+    pub text_is : text ≡ export_text state list
     pub printed : HasPrinted outs turn text
     pub export : Export
     pub read : export_in h text ≡ Ok (Some export)
@@ -42,10 +49,31 @@ module _ {R S D O E : Type 0} (h : HashFunction) (rooms : Rooms R S D) (disks : 
         → step_in body ≡ Some step → Contains export.steps step
 
   -- So it is of each run of `export` behind a course of a cosigner's journal that did its work, or
-  -- of which a byte went out.
+  -- of which a byte may have gone out.
   abbrev pub ExportsHoldTheSteps : Type 0
   ExportsHoldTheSteps = OfCourses h rooms disks outs errs (λ name start first old links new.
       (settings : CosignerSettings) (public : Text) → start ≡ Cosigner settings public
       → (turn : Turn R O E) → HasTurned h rooms disks outs errs new turn
       → command_of turn.words ≡ Ok (export name) → IsHeard outs turn
       → HasExported settings public name old links new turn)
+
+  -- The earlier run read these records and printed their export, and what the later one printed
+  -- begins with that. Of a run that ended with status 0 it is the whole text.
+  pub record HasMoreThan (name : Text) (old : R) (earlier later : Turn R O E) : Type 0 where
+    pub list : List Text
+    pub read : DidWith h rooms disks outs errs old earlier name (reads list)
+    pub state : CosignerState
+    pub state_is : cosigner_of h list ≡ Ok state
+    pub more : Text
+    pub before : HasPrinted outs earlier (export_text state list)
+    pub now : HasPrinted outs later (export_text state list ++ more)
+
+  -- So it is of each run of `export` behind a course of a cosigner's journal, and of each before it
+  -- in the course, that did its work, or of which a byte may have gone out.
+  abbrev pub ExportsOnlyGrow : Type 0
+  ExportsOnlyGrow = OfCourses h rooms disks outs errs (λ name start first old links new.
+      (settings : CosignerSettings) (public : Text) → start ≡ Cosigner settings public
+      → (turn : Turn R O E) → HasTurned h rooms disks outs errs new turn
+      → command_of turn.words ≡ Ok (export name) → IsHeard outs turn
+      → OfEachTurn h rooms disks outs errs (OfHeard h rooms disks outs errs (export name)
+      (λ before earlier. HasMoreThan name before earlier turn)) old links)

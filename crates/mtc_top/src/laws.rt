@@ -6,7 +6,7 @@ ghost use Rattle.mtc_top.specs.CourseLaws.{AddedEntriesStand, CoursesAreHistorie
 ghost use Rattle.mtc_top.specs.CourseLaws.{HandedOutStand, HandedOutWasHeld, JournalsAreOfNodes};
 ghost use Rattle.mtc_top.specs.CourseLaws.{JournalsAreRead};
 ghost use Rattle.mtc_top.specs.CourseLaws.{KeysSignOnce, KeysSignOneMessage, RecoveredListsGrow};
-ghost use Rattle.mtc_top.specs.ExportLaws.{ExportsHoldTheSteps};
+ghost use Rattle.mtc_top.specs.ExportLaws.{ExportsHoldTheSteps, ExportsOnlyGrow};
 ghost use Rattle.mtc_top.specs.PrintLaws.{IndicesArePrinted, IssuedEntriesStand, OnlyCosignSigns};
 ghost use Rattle.mtc_top.specs.PrintLaws.{SignaturesArePrinted, SignaturesStand};
 ghost use Rattle.mtc_top.specs.RoomLaws.{JournalsAreOneHistory};
@@ -106,6 +106,15 @@ pub fn misread_files_are_inputs<H: TreeHash, R: Room, O: Sink, E: Sink>()
 /// one, and so each that was handed out.
 pub fn exports_hold_what_went_out<H: TreeHash, R: Room, O: Sink, E: Sink>()
     ensures { ExportsHoldTheSteps H.hash R.Room R.Dsk.Disk O.Sink E.Sink }
+{}
+
+/// What a run of `export` prints behind a course of a cosigner's journal begins with what each run
+/// of `export` in that course printed, which is the export of the records that this run read. Of
+/// each it is the whole text with status 0, and a front of it with 6. So no course leads to a
+/// journal whose export doesn't begin with an earlier one: an old copy was put back, or the journal
+/// was damaged.
+pub fn exports_only_grow<H: TreeHash, R: Room, O: Sink, E: Sink>()
+    ensures { ExportsOnlyGrow H.hash R.Room R.Dsk.Disk O.Sink E.Sink }
 {}
 
 /// A run of `audit` that ends with another status than 5, 6 and 8 prints that the entry stands, or
