@@ -11,7 +11,6 @@ use Rattle.journal_core.specs.Folds.{state_behind}
 use Rattle.journal_core.specs.Format.{StandsFor}
 use Rattle.cosigner_core.specs.Folds.{CosignerState, cosigner_of}
 use Rattle.cosigner_core.specs.Records.{sign_record}
-use Rattle.cosigner_core.specs.declared.requests.AdvanceRequest.{AdvanceRequest}
 use Rattle.cosigner_core.specs.declared.requests.SubtreeRequest.{SubtreeRequest}
 use Rattle.cosigner_core.specs.declared.step.Step.TheVariants.{Sign}
 use Rattle.cosigner_core.proofs.Spelled.{step_again}
@@ -19,7 +18,7 @@ use Rattle.drill_nodes.specs.CosignerCalls.{IsNumbered, IsSignature, body_called
 use Rattle.drill_nodes.specs.CosignerNodes.{HasMore, HasRecorded, HasSign, HasSigned, IsAsBefore}
 use Rattle.drill_nodes.specs.CosignerNodes.{IsBehindCall, IsLeftBy, IsReopened, most_of}
 use Rattle.drill_nodes.specs.declared.cosigner_calls.CosignerCall.{CosignerCall}
-use Rattle.drill_nodes.specs.declared.cosigner_calls.CosignerCall.TheVariants.{Advance, Cosign}
+use Rattle.drill_nodes.specs.declared.cosigner_calls.CosignerCall.TheVariants.{Cosign}
 use Rattle.drill_nodes.specs.declared.turns.Stop.{Stop}
 
 -- the cosigner that is opened again is one of the two, and the latter where the call was done
@@ -42,32 +41,6 @@ reopened_by h call s t before after images bytes out done left image opened =
       signed = left.signed;
       numbered = left.numbered;
     }
-
--- a cosigner that holds no more than before is that from before
-pub not_advanced : (r : AdvanceRequest) (s t : CosignerState) (before after : List Text)
-    (out : Text) (done : Bool)
-    → IsReopened (Advance r) s t before after out done → s.held.size < r.size
-    → t.held.size ≤ s.held.size → t ≡ s
-not_advanced r s t before after out done is larger few =
-    elim is.either [
-      | inl same ↦ same.0
-      | inr grown ↦
-          let wrong : t.held.size ≡ r.size = ap (λ (u : CosignerState). u.held.size) grown.0 in
-          absurd (omega arith)
-    ]
-
--- a cosigner that holds more than before is that which the call makes
-pub has_advanced : (r : AdvanceRequest) (s t : CosignerState) (before after : List Text)
-    (out : Text) (done : Bool)
-    → IsReopened (Advance r) s t before after out done → s.held.size < t.held.size
-    → t ≡ cosigner_behind s (Advance r)
-has_advanced r s t before after out done is more =
-    elim is.either [
-      | inl same ↦
-          let wrong : t.held.size ≡ s.held.size = ap (λ (u : CosignerState). u.held.size) same.0 in
-          absurd (omega arith)
-      | inr grown ↦ grown.0
-    ]
 
 -- ---- records
 
@@ -148,40 +121,43 @@ some_most None = omega arith
 some_most (Some stop) = omega arith
 
 -- a cosigner that signs once
-pub signed_once : (r : SubtreeRequest) (turn : Option Stop) (s : CosignerState) (out : Text)
-    → IsSignature s (Cosign r) out
-    → HasSigned (Cosign r) turn s (cosigner_behind s (Cosign r)) out
-signed_once r turn s out signed =
+pub signed_once : (r : SubtreeRequest) (turn : Option Stop) (s t : CosignerState) (out : Text)
+    → t ≡ cosigner_behind s (Cosign r) → IsSignature s (Cosign r) out
+    → HasSigned (Cosign r) turn s t out
+signed_once r turn s t out is signed =
     let most = some_most turn in
-    record {
+    subst (λ (x : CosignerState). HasSigned (Cosign r) turn s x out) (sym is) (record {
       id = refl;
       log = refl;
       held = refl;
       key = refl;
       more = omega arith;
-      few = omega arith;
+      few = omega (arith, most);
       signed = signed;
-    }
+    })
 
 -- a cosigner that signs again behind a stop, and may have signed in it
-pub signed_again : (r : SubtreeRequest) (stop : Stop) (s t : CosignerState)
-    (before after : List Text) (out given : Text) (done : Bool)
-    → IsReopened (Cosign r) s t before after out done → IsSignature t (Cosign r) given
-    → HasSigned (Cosign r) (Some stop) s (cosigner_behind t (Cosign r)) given
-signed_again r stop s t before after out given done is signed =
+pub signed_again : (r : SubtreeRequest) (turn : Option Stop) (stop : Stop) (s t u : CosignerState)
+    (before after : List Text) (out given : Text) (done : Bool) → turn ≡ Some stop
+    → IsReopened (Cosign r) s t before after out done → u ≡ cosigner_behind t (Cosign r)
+    → IsSignature t (Cosign r) given → HasSigned (Cosign r) turn s u given
+signed_again r turn stop s t u before after out given done stopped is behind signed =
+    let next : (x : CosignerState) → t ≡ x → u ≡ cosigner_behind x (Cosign r) =
+    λ x same. behind ∙ ap (λ (y : CosignerState). cosigner_behind y (Cosign r)) same in
+    let by : (x : CosignerState) → t ≡ x → IsSignature x (Cosign r) given =
+    λ x same. subst (λ (y : CosignerState). IsSignature y (Cosign r) given) same signed in
+    let most : most_of turn ≡ 2 = ap most_of stopped in
     elim is.either [
-      | inl same ↦ subst (λ (u : CosignerState). IsSignature u (Cosign r) given
-          → HasSigned (Cosign r) (Some stop) s (cosigner_behind u (Cosign r)) given) (sym same.0)
-          (signed_once r (Some stop) s given) signed
-      | inr grown ↦ subst (λ (u : CosignerState). IsSignature u (Cosign r) given
-          → HasSigned (Cosign r) (Some stop) s (cosigner_behind u (Cosign r)) given) (sym grown.0)
-          (λ is. record {
+      | inl same ↦ signed_once r turn s u given (next s same.0) (by s same.0)
+      | inr grown ↦
+          subst (λ (x : CosignerState). HasSigned (Cosign r) turn s x given)
+          (sym (next (cosigner_behind s (Cosign r)) grown.0)) (record {
             id = refl;
             log = refl;
             held = refl;
             key = refl;
             more = omega arith;
-            few = omega arith;
-            signed = is;
-          }) signed
+            few = omega (arith, most);
+            signed = by (cosigner_behind s (Cosign r)) grown.0;
+          })
     ]

@@ -46,6 +46,11 @@ module _ {H : Type 0} {hashes : Hashes H} where
   abbrev pub stops_by : List (CosignerNode H hashes) → ℕ
   stops_by nodes = sum_by cosigner_stops nodes
 
+  -- how much of the log the first of them holds, or 0 where there is none
+  abbrev pub held_first : List (CosignerNode H hashes) → ℕ
+  held_first [] = 0
+  held_first (node ∷ nodes) = (cosigner_shown node).held.size
+
   -- how many one-time keys of all are used
   abbrev pub keys_used : List (CosignerNode H hashes) → ℕ
   keys_used nodes = sum_by (λ node. (cosigner_shown node).key.next) nodes

@@ -1,13 +1,11 @@
 //! The cosigners of a drill.
 
-ghost use Rattle.std.specs.Prelude.{◌≡◌, ◌<◌, ◌+◌, List, [], ◌∷◌, ◌++◌, length, Ok, IfOk};
+ghost use Rattle.std.specs.Prelude.{◌≡◌, ◌<◌, ◌+◌, List, [], ◌∷◌, length, Ok, IfOk};
 ghost use Rattle.byte_forms.specs.Types.{Text};
 ghost use Rattle.disk_core.specs.Memory.{bytes_of, images_of};
 ghost use Rattle.journal_core.specs.Format.{StandsFor};
 ghost use Rattle.cosigner_core.specs.Folds.{CosignerState, cosigner_of, holding, new_cosigner};
-ghost use Rattle.drill_nodes.specs.CosignerCalls.{IsCosignerWith, IsNumbered, IsSignature};
-ghost use Rattle.drill_nodes.specs.CosignerCalls.{body_called};
-ghost use Rattle.drill_nodes.specs.CosignerCalls.{cosigner_behind};
+ghost use Rattle.drill_nodes.specs.CosignerCalls.{IsCosignerWith};
 ghost use Rattle.drill_nodes.specs.CosignerNodes.{HasMore, HasRecorded, HasSigned, IsLeftBy};
 ghost use Rattle.drill_nodes.specs.CosignerNodes.{IsReopened};
 ghost use Rattle.drill_nodes.specs.CosignerNodes.{cosigner_settings, secret_of};
@@ -70,9 +68,10 @@ fn fused<H: TreeHash>(
         (λ x. IsCosignerWith H.hash (cosigner_shown node) (records_shown node) x.0) }
     ensures stops { IfOk result (λ x. length x.1.made.items ≡ cosigner_stops node) }
 {
-    let fuse = Fuse::new(node.cosigner.into_disk(), passes);
+    let (disk, stops) = node.into_disk();
+    let fuse = Fuse::new(disk, passes);
     let cosigner = open_cosigner(alloc, fuse)?;
-    Ok((cosigner, node.stops))
+    Ok((cosigner, stops))
 }
 
 // What a call leaves of the device behind the fuse, and whether it was done. It may find no memory.
@@ -136,23 +135,6 @@ impl<H: TreeHash> CosignerNode<H> {
                 Ok(node)
             }
             Err(_) => Err(Memory),
-        }
-    }
-
-    // The call without a stop.
-    fn done(mut self, call: &CosignerCall<'_>, out: &mut SigBuf) -> Result<CosignerNode<H>, Memory>
-        ensures state { IfOk result (λ it. cosigner_shown it
-            ≡ cosigner_behind (cosigner_shown self) call.now) }
-        ensures records { IfOk result (λ it. records_shown it
-            ≡ records_shown self ++ body_called (cosigner_shown self) call.now ∷ []) }
-        ensures signed { IfOk result (λ it. IsSignature (cosigner_shown self) call.now out.new) }
-        ensures numbered { IfOk result (λ it. IsNumbered (cosigner_shown self) call.now) }
-        ensures stops { IfOk result (λ it. cosigner_stops it ≡ cosigner_stops self) }
-    {
-        if call_cosigner(&mut self.cosigner, call, out)? {
-            Ok(self)
-        } else {
-            Err(Memory)
         }
     }
 

@@ -1,9 +1,9 @@
 //! The cosigners of a drill, one behind the other.
 
-ghost use Rattle.std.specs.Prelude.{◌≡◌, ◌<◌, ◌≤◌, ◌+◌, ◌^◌, ℕ, [], ◌∷◌, length, IfOk, OnOk};
+ghost use Rattle.std.specs.Prelude.{◌≡◌, ◌<◌, ◌≤◌, ◌+◌, ◌^◌, [], ◌∷◌, length, IfOk, OnOk};
 ghost use Rattle.std.specs.List.{AllByRecursion, sum_by};
 ghost use Rattle.drill_nodes.specs.Cosigners.{HaveSigned, IsAdvanced, IsNewNode, IsSigned, Paired};
-ghost use Rattle.drill_nodes.specs.Cosigners.{keys_used, stops_by};
+ghost use Rattle.drill_nodes.specs.Cosigners.{held_first, keys_used, stops_by};
 ghost use Rattle.drill_nodes.specs.CosignerViews.{IsDiskOf, IsExportOf, IsStill, cosigner_shown};
 ghost use Rattle.drill_nodes.specs.Disks.{signs_on};
 ghost use Rattle.drill_nodes.specs.Rounds.{stops_in};
@@ -61,8 +61,7 @@ impl<H: TreeHash> Cosigners<H> {
     /// How much of the log the first of them holds.
     pub fn held(&self) -> u64
         requires { 0 < length self.now.nodes.items }
-        ensures { (size : ℕ) → AllByRecursion (λ node. (cosigner_shown node).held.size < size)
-            self.now.nodes.items → result < size }
+        ensures { result ≡ held_first self.now.nodes.items }
     {
         self.nodes[0].cosigner.held().0
     }
@@ -103,7 +102,6 @@ impl<H: TreeHash> Cosigners<H> {
         turns: &Turns,
         signatures: &mut Bytes,
     ) -> Result<(), Memory>
-        requires sized { length hash ≡ 32 }
         requires few { length proof.now ≤ 128 }
         requires turns { length turns.now ≡ length self.old.nodes.items }
         ensures each { OnOk result
@@ -146,10 +144,7 @@ impl<H: TreeHash> Cosigners<H> {
         requires { stops_by self.now.nodes.items ≤ 2 ^ 32 }
         ensures { result ≡ stops_by self.now.nodes.items }
     {
-        self.nodes
-            .iter()
-            .map(|node| node.stops.made.len() as u64)
-            .sum()
+        self.nodes.iter().map(|node| node.stops.count()).sum()
     }
 
     /// How many of the calls that were stopped did not answer Ok.

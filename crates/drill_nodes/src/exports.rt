@@ -33,8 +33,8 @@ impl<H: TreeHash> CosignerNode<H> {
     }
 }
 
-// What is read of the export of a cosigner.
-fn kept_in<H: TreeHash>(alloc: Global, bytes: &[u8]) -> Result<Export, Memory>
+/// What is read of the export of a cosigner. A file that is none is answered as want of memory.
+pub fn kept_in<H: TreeHash>(alloc: Global, bytes: &[u8]) -> Result<Export, Memory>
     ensures { IfOk result (λ kept. export_in H.hash bytes.now ≡ Ok (Some kept)) }
 {
     match read_export::<H>(alloc, bytes) {
@@ -89,6 +89,7 @@ pub(crate) fn handed_out<H: TreeHash>(
 {
     let mut node = node;
     let count = signatures(alloc, &mut node)?;
-    let disk = whole(node.cosigner.into_disk())?;
+    let (disk, _stops) = node.into_disk();
+    let disk = whole(disk)?;
     Ok((disk, count))
 }

@@ -10,6 +10,9 @@ use tls_wire::AnchorId;
 /// The log is `32473.1`.
 pub const LOG: u8 = 1;
 
+/// The id of the log.
+pub(crate) const LOG_ID: [u8; 4] = [0x81, 0xFD, 0x59, LOG];
+
 /// The anchor id `32473.N`, where N is below 128.
 pub fn id_of(alloc: Global, last: u8) -> Result<AnchorId, Memory>
     ensures { IfOk result (λ id. id ≡ id_of last) }

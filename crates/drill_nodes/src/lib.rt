@@ -21,7 +21,7 @@ mod turns;
 pub use cosigner_node::CosignerNode;
 pub use cosigners::{Cosigners, Devices};
 pub use dice::Dice;
-pub use exports::whole;
+pub use exports::{kept_in, whole};
 pub use ids::{LOG, id_of};
 pub use round::Round;
 pub use stops::Stops;

@@ -1,14 +1,16 @@
 //! What one cosigner does in a round.
 
-ghost use Rattle.std.specs.Prelude.{◌≡◌, ◌<◌, ◌≤◌, ◌+◌, [], ◌∷◌, length, IfOk};
+ghost use Rattle.std.specs.Prelude.{◌≡◌, ◌<◌, ◌≤◌, ◌+◌, ◌^◌, ◌++◌, [], ◌∷◌, length, IfOk};
+ghost use Rattle.std.specs.Prelude.{OnOk};
 ghost use Rattle.tls_wire.specs.Spelling.{AreHashes};
+ghost use Rattle.mtc_proof.specs.Proofs.{signature_text};
 ghost use Rattle.drill_nodes.specs.Cosigners.{IsAdvanced, IsPut, IsSigned};
 ghost use Rattle.drill_nodes.specs.CosignerNodes.{most_of};
 ghost use Rattle.drill_nodes.specs.CosignerViews.{cosigner_shown, cosigner_stops};
 ghost use Rattle.drill_nodes.specs.Rounds.{stops_in};
 
 use crate::cosigner_node::CosignerNode;
-use crate::ids::{LOG, id_of};
+use crate::ids::LOG_ID;
 use crate::turns::Turn;
 use cosigner_core::{AdvanceRequest, SubtreeRequest};
 use hss_core::SigBuf;
@@ -17,13 +19,32 @@ use std::alloc::Global;
 use tls_wire::{put_vec8, put_vec16};
 use tree_core::TreeHash;
 
-// The type of a proof makes its hashes as long as hashes are: the clause says it, and the call does
-// nothing.
-fn are_hashes(proof: &[[u8; 32]])
+// The types of a hash and of a proof make hashes as long as hashes are: the clauses say it, and the
+// call does nothing.
+fn are_hashes(hash: &[u8; 32], proof: &[[u8; 32]])
     requires { length proof.now ≤ 128 }
-    ensures { AreHashes proof.now }
+    ensures one { length hash.now ≡ 32 }
+    ensures all { AreHashes proof.now }
 {
     let _few = proof.len();
+}
+
+// Puts a signature of the cosigner behind the others.
+fn put_signature<H: TreeHash>(
+    node: &CosignerNode<H>,
+    signature: &SigBuf,
+    signatures: &mut Bytes,
+) -> Result<(), Memory>
+    requires { length signature.now < 2 ^ 16 }
+    ensures { OnOk result (signatures.new ≡ signatures.old
+        ++ signature_text (record {
+          cosigner = (cosigner_shown node.now).id;
+          signature = signature.now;
+        })) }
+{
+    put_vec8(signatures, node.cosigner.id().as_bytes())?;
+    put_vec16(signatures, signature.as_slice())?;
+    Ok(())
 }
 
 /// The cosigner holds the root of a larger log.
@@ -40,9 +61,9 @@ pub(crate) fn advanced<H: TreeHash>(
     ensures stops { IfOk result
         (λ it. cosigner_stops it ≡ cosigner_stops node + stops_in (turn ∷ [])) }
 {
-    let id = id_of(alloc, LOG)?;
+    let log = LOG_ID;
     let request = AdvanceRequest {
-        log: id.as_bytes(),
+        log: &log,
         size,
         root,
         proof,
@@ -61,8 +82,7 @@ pub(crate) fn signed<H: TreeHash>(
     turn: Turn,
     signatures: &mut Bytes,
 ) -> Result<CosignerNode<H>, Memory>
-    requires sized { length hash ≡ 32 }
-    requires few { length proof.now ≤ 128 }
+    requires { length proof.now ≤ 128 }
     ensures state { IfOk result (IsSigned size hash node) }
     ensures put { IfOk result (λ it. IsPut size hash node signatures.old signatures.new) }
     ensures keys { IfOk result (λ it. (cosigner_shown it).key.next
@@ -70,18 +90,17 @@ pub(crate) fn signed<H: TreeHash>(
     ensures stops { IfOk result
         (λ it. cosigner_stops it ≡ cosigner_stops node + stops_in (turn ∷ [])) }
 {
-    let id = id_of(alloc, LOG)?;
+    let log = LOG_ID;
     let request = SubtreeRequest {
-        log: id.as_bytes(),
+        log: &log,
         start: 0,
         end: size,
         hash,
         proof,
     };
-    are_hashes(request.proof);
+    are_hashes(&request.hash, request.proof);
     let mut out = SigBuf::new();
     let node = node.cosign(alloc, &request, turn, &mut out)?;
-    put_vec8(signatures, node.cosigner.id().as_bytes())?;
-    put_vec16(signatures, out.as_slice())?;
+    put_signature(&node, &out, signatures)?;
     Ok(node)
 }

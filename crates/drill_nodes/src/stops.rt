@@ -16,10 +16,14 @@ pub struct Stops {
 }
 
 impl Stops {
-    ghost use Rattle.std.specs.Prelude.{◌≡◌, ◌+◌, [], length, OnOk};
+    ghost use Rattle.std.specs.Prelude.{◌≡◌, [], ◌∷◌, ◌++◌, length, if◌then◌else◌, OnOk};
+    ghost use Rattle.mtc_io.specs.Counts.{with_count};
 
+    /// None so far.
     pub fn new(alloc: Global) -> Stops
-        ensures { result.made.items ≡ [] }
+        ensures made { result.made.items ≡ [] }
+        ensures unfinished { result.unfinished ≡ 0 }
+        ensures recovered { result.recovered ≡ 0 }
     {
         Stops {
             made: Vec::new(alloc),
@@ -30,7 +34,10 @@ impl Stops {
 
     /// One stop more, in a call that answered Ok or didn't.
     pub fn add(&mut self, stop: Stop, answered: bool) -> Result<(), Memory>
-        ensures { OnOk result (length self.new.made.items ≡ length self.old.made.items + 1) }
+        ensures made { OnOk result (self.new.made.items ≡ self.old.made.items ++ stop ∷ []) }
+        ensures unfinished { OnOk result (self.new.unfinished
+            ≡ (if answered then self.old.unfinished else with_count self.old.unfinished 1)) }
+        ensures recovered { self.new.recovered ≡ self.old.recovered }
     {
         self.made.push(stop)?;
         if !answered {
@@ -39,9 +46,18 @@ impl Stops {
         Ok(())
     }
 
+    /// How many were made.
+    pub fn count(&self) -> u64
+        ensures { result ≡ length self.now.made.items }
+    {
+        self.made.len() as u64
+    }
+
     /// The record of a call that was stopped is there.
     pub fn recover(&mut self)
-        ensures { self.new.made ≡ self.old.made }
+        ensures made { self.new.made ≡ self.old.made }
+        ensures unfinished { self.new.unfinished ≡ self.old.unfinished }
+        ensures recovered { self.new.recovered ≡ with_count self.old.recovered 1 }
     {
         self.recovered = self.recovered.saturating_add(1);
     }

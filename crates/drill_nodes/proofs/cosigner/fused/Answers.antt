@@ -9,7 +9,7 @@ use Rattle.drill_nodes.proofs.cosigner.fused.Goals as goal
 pub returns-clause-state : goal.returns-clause-state
 returns-clause-state g c =
     let same : c.new-fuse.result.disk ≡ cosigner_disk c.args.node.cosigner =
-    c.new-fuse.ensures.disk ∙ c.into_disk.ensures in
+    c.new-fuse.ensures.disk ∙ c.into_disk-disk.ensures.disk in
     let stands : IsCosignerDisk g.H.TreeHash.hash (cosigner_shown c.args.node)
     c.new-fuse.result.disk =
     subst (λ (d : MemDisk). IsCosignerDisk g.H.TreeHash.hash (cosigner_shown c.args.node) d)

@@ -2,8 +2,24 @@ use Rattle.std.proofs.Common.{[], ◌∷◌, arith}
 use Rattle.drill_nodes.specs.CosignerViews.{cosigner_shown, records_shown}
 use Rattle.drill_nodes.specs.declared.cosigner_calls.CosignerCall.TheVariants.{Cosign}
 use Rattle.drill_nodes.proofs.CosignerStops.{more_twice, recorded_last, reopened_more}
+use Rattle.drill_nodes.proofs.CosignerStops.{signed_again, signed_once}
 use Rattle.drill_nodes.proofs.MadeStops.{none_stopped, one_stopped}
 use Rattle.drill_nodes.proofs.cosigner_node.CosignerNode.cosign.Goals as goal
+
+pub returns-in_default-clause-state : goal.returns-in_default-clause-state
+returns-in_default-clause-state g c =
+    signed_once _ _ _ _ _ c.in_ok-signed.ensures.state c.in_ok-signed.ensures.signed
+
+pub returns-then-done-clause-state : goal.returns-then-done-clause-state
+returns-then-done-clause-state g c =
+    signed_once _ _ _ _ _ (c.in_ok-node.ensures.state.all c.if-done.true).0
+    (c.in_ok-node.ensures.state.signed c.if-done.true)
+
+pub returns-in_ok-again-clause-state : goal.returns-in_ok-again-clause-state
+returns-in_ok-again-clause-state g c =
+    signed_again _ _ c.in-Some.stop _ (cosigner_shown c.in_ok-node.node) _
+    (records_shown c.args.self) (records_shown c.in_ok-node.node) _ _ c.in_ok-node.done c.in-Some.is
+    c.in_ok-node.ensures.state c.in_ok-again.ensures.state c.in_ok-again.ensures.signed
 
 pub returns-in_default-clause-grows : goal.returns-in_default-clause-grows
 returns-in_default-clause-grows g c = (_ ∷ [], c.in_ok-signed.ensures.records)

@@ -1,4 +1,4 @@
-use Rattle.std.proofs.Common.{◌≡◌, ◌∙◌, List, [], ◌∷◌, ◌++◌, Some, sym, subst, ap}
+use Rattle.std.proofs.Common.{◌≡◌, ◌∙◌, List, [], ◌∷◌, ◌++◌, Some, sym, subst, ap, refl}
 use Rattle.byte_forms.specs.Types.{Text}
 use Rattle.disk_core.specs.Memory.{bytes_of}
 use Rattle.cosigner_core.specs.Folds.{CosignerState}
@@ -13,8 +13,8 @@ use Rattle.drill_nodes.proofs.cosigner_node.CosignerNode.done.Goals as goal
 some_is : (xs ys : List Text) → Some xs ≡ Some ys → xs ≡ ys
 some_is xs ys e = cc
 
-pub invariant_of-self : goal.invariant_of-self
-invariant_of-self g c =
+pub invariant_of-result : goal.invariant_of-result
+invariant_of-result g c =
     let called = c.in_ok-call_cosigner.ensures in
     let grown = called.grown c.if-branch.true in
     let disk = cosigner_disk c.call_cosigner.new.cosigner in
@@ -42,3 +42,15 @@ returns-then-branch-clause-records g c =
     (called.kept c.if-branch.true)
     ∙ ap (λ (xs : List Text). xs ++ body ∷ [])
     (some_is list (records_shown c.args.self) c.args.self.settled)
+
+pub returns-then-branch-clause-state : goal.returns-then-branch-clause-state
+returns-then-branch-clause-state g c = (c.in_ok-call_cosigner.ensures.grown c.if-branch.true).state
+
+pub returns-then-branch-clause-signed : goal.returns-then-branch-clause-signed
+returns-then-branch-clause-signed g c = c.in_ok-call_cosigner.ensures.signed c.if-branch.true
+
+pub returns-then-branch-clause-numbered : goal.returns-then-branch-clause-numbered
+returns-then-branch-clause-numbered g c = c.in_ok-call_cosigner.ensures.numbered c.if-branch.true
+
+pub returns-then-branch-clause-stops : goal.returns-then-branch-clause-stops
+returns-then-branch-clause-stops g c = refl
