@@ -10,6 +10,10 @@ mod files;
 #[cfg(test)]
 mod journals;
 #[cfg(test)]
+mod noted;
+#[cfg(test)]
+mod others;
+#[cfg(test)]
 mod readings;
 #[cfg(test)]
 mod rooms;

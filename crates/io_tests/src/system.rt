@@ -1,8 +1,8 @@
 //! The room of real files.
 
 use disk_core::{Disk, FileDisk};
-use mtc_files::FileRoom;
-use mtc_io::{Bytes, ReadError, Source, read_all};
+use mtc_files::{FileRoom, Held};
+use mtc_io::{Bytes, Failed, ReadError, Source, read_all};
 use mtc_room::{Room, RoomError};
 use std::alloc::Global;
 use std::fs::{self, File, TryLockError};
@@ -12,7 +12,10 @@ use std::rt::Files;
 use std::test::Fail;
 
 // Why a room doesn't lend an input file of that name; none where it does.
-fn source_refusal<R: Files<File = File>>(files: &R, name: &str) -> Option<RoomError> {
+fn source_refusal<R: Files>(files: &R, name: &str) -> Option<RoomError>
+where
+    R::File: Held,
+{
     let mut room = FileRoom::new(files);
     match room.source(name) {
         Ok(source) => {
@@ -24,7 +27,10 @@ fn source_refusal<R: Files<File = File>>(files: &R, name: &str) -> Option<RoomEr
 }
 
 // The same of a journal.
-fn disk_refusal<R: Files<File = File>>(files: &R, name: &str) -> Option<RoomError> {
+pub fn disk_refusal<R: Files>(files: &R, name: &str) -> Option<RoomError>
+where
+    R::File: Held,
+{
     let mut room = FileRoom::new(files);
     match room.disk(name) {
         Ok(disk) => {
@@ -36,7 +42,10 @@ fn disk_refusal<R: Files<File = File>>(files: &R, name: &str) -> Option<RoomErro
 }
 
 // The same of a new journal.
-fn fresh_refusal<R: Files<File = File>>(files: &R, name: &str) -> Option<RoomError> {
+pub fn fresh_refusal<R: Files>(files: &R, name: &str) -> Option<RoomError>
+where
+    R::File: Held,
+{
     let mut room = FileRoom::new(files);
     match room.fresh(name) {
         Ok(disk) => {
@@ -44,6 +53,21 @@ fn fresh_refusal<R: Files<File = File>>(files: &R, name: &str) -> Option<RoomErr
             None
         }
         Err(why) => Some(why),
+    }
+}
+
+// The same of a file of tiles, which fails alone.
+pub fn scratch_refusal<R: Files>(files: &R, name: &str) -> Option<RoomError>
+where
+    R::File: Held,
+{
+    let mut room = FileRoom::new(files);
+    match room.scratch(name) {
+        Ok(disk) => {
+            room.keep(name, disk);
+            None
+        }
+        Err(Failed) => Some(RoomError::Failed),
     }
 }
 
@@ -186,10 +210,28 @@ fn is_lent_alone<R: Files<File = File>>(files: &R, name: &str) -> bool {
     found == [None, Some(RoomError::Failed), Some(RoomError::Exists)]
 }
 
-// Whether a journal isn't lent that another opening has locked.
+// Whether a room fails at a journal or a file of tiles for a lock.
+fn meets_lock<R: Files<File = File>>(files: &R, name: &str) -> [bool; 2] {
+    let mut room = FileRoom::new(files);
+    if let Ok(disk) = room.disk(name) {
+        room.keep(name, disk);
+    }
+    let as_journal = room.met_lock();
+    let mut room = FileRoom::new(files);
+    if let Ok(disk) = room.scratch(name) {
+        room.keep(name, disk);
+    }
+    [as_journal, room.met_lock()]
+}
+
+// Whether a file isn't lent that another opening has locked, as a journal or for tiles, and that
+// is told; behind the lock it isn't.
 fn is_refused<R: Files<File = File>>(files: &R, name: &str) -> io::Result<bool> {
     let other = open_to_write(files, name)?;
-    Ok(other.try_lock().is_ok() && !lends(files, name))
+    let is_told = other.try_lock().is_ok() && !lends(files, name);
+    let locked = meets_lock(files, name) == [true, true];
+    drop(other);
+    Ok(is_told && locked && meets_lock(files, name) == [false, false])
 }
 
 // Whether another opening can't lock a file.

@@ -5,13 +5,12 @@ ghost use Rattle.mtc_io.specs.Counts.{Rose, with_count};
 ghost use Rattle.mtc_room.specs.Room.{Lending};
 ghost use Rattle.disk_core.specs.File.{file_faults, file_moment};
 
-use crate::journal::{
-    create_empty, lock_and_sync, lock_and_sync_tiles, open_or_create, open_to_write,
-};
+use crate::held::Held;
+use crate::journal::{create_journal, hold_journal, hold_new, hold_tiles, open_to_write};
 use disk_core::{Disk, FileDisk};
 use mtc_io::{Failed, Source, StdSource};
 use mtc_room::{Room, RoomError};
-use std::fs::{self, File};
+use std::fs;
 use std::io::{self, ErrorKind};
 use std::rt::Files;
 
@@ -23,6 +22,7 @@ pub struct FileRoom<'a, R> {
     files: &'a R,
     lent: u64,
     faults: u64,
+    met_lock: bool,
 }
 
 // Whether the system has no file of that name, also where the name goes on behind a file.
@@ -30,7 +30,10 @@ fn is_absent(why: &io::Error) -> bool {
     matches!(why.kind(), ErrorKind::NotFound | ErrorKind::NotADirectory)
 }
 
-impl<'a, R: Files<File = File>> FileRoom<'a, R> {
+impl<'a, R: Files> FileRoom<'a, R>
+where
+    R::File: Held,
+{
     /// A room with nothing out, and no fault so far.
     pub fn new(files: &'a R) -> FileRoom<'a, R>
         ensures lent { ⟦<FileRoom<'a, R> as Room>⟧.lent result ≡ 0 }
@@ -40,7 +43,13 @@ impl<'a, R: Files<File = File>> FileRoom<'a, R> {
             files,
             lent: 0,
             faults: 0,
+            met_lock: false,
         }
+    }
+
+    /// Whether it has failed at a file that is locked by another opening.
+    pub fn met_lock(&self) -> bool {
+        self.met_lock
     }
 
     // An error of the system that no answer of a room's stands for: a fault.
@@ -56,7 +65,7 @@ impl<'a, R: Files<File = File>> FileRoom<'a, R> {
     }
 
     // Lends a journal that this process holds, or counts the fault.
-    fn lend(&mut self, held: io::Result<File>) -> Result<FileDisk, RoomError>
+    fn lend(&mut self, held: io::Result<R::File>) -> Result<FileDisk<R::File>, RoomError>
         requires { self.old.lent < 2 ^ 32 }
         ensures lending { Lending self.old.lent self.new.lent
             self.old.faults self.new.faults result }
@@ -69,15 +78,21 @@ impl<'a, R: Files<File = File>> FileRoom<'a, R> {
                 self.lent += 1;
                 Ok(FileDisk::new(file))
             }
-            Err(_) => Err(self.fail()),
+            Err(why) => {
+                self.met_lock = self.met_lock || why.kind() == ErrorKind::WouldBlock;
+                Err(self.fail())
+            }
         }
     }
 }
 
-impl<'a, R: Files<File = File>> Room for FileRoom<'a, R> {
+impl<'a, R: Files> Room for FileRoom<'a, R>
+where
+    R::File: Held,
+{
     type Src = StdSource<R::File>;
 
-    type Dsk = FileDisk;
+    type Dsk = FileDisk<R::File>;
 
     ghost tells = { λ _. ⊥ };
 
@@ -100,10 +115,10 @@ impl<'a, R: Files<File = File>> Room for FileRoom<'a, R> {
         }
     }
 
-    fn disk(&mut self, name: &str) -> Result<FileDisk, RoomError> {
+    fn disk(&mut self, name: &str) -> Result<FileDisk<R::File>, RoomError> {
         match open_to_write(self.files, name) {
             Ok(file) => {
-                let held = lock_and_sync(self.files, file, name);
+                let held = hold_journal(self.files, file, name);
                 self.lend(held)
             }
             Err(why) if is_absent(&why) => Err(RoomError::Absent),
@@ -111,11 +126,11 @@ impl<'a, R: Files<File = File>> Room for FileRoom<'a, R> {
         }
     }
 
-    fn fresh(&mut self, name: &str) -> Result<FileDisk, RoomError> {
-        match create_empty(self.files, name) {
+    fn fresh(&mut self, name: &str) -> Result<FileDisk<R::File>, RoomError> {
+        match create_journal(self.files, name) {
             Ok(file) => {
                 // A file that isn't held stays: its name may lead to another command's by now.
-                let held = lock_and_sync(self.files, file, name);
+                let held = hold_new(self.files, file, name);
                 self.lend(held)
             }
             Err(why) if why.kind() == ErrorKind::AlreadyExists => Err(RoomError::Exists),
@@ -123,11 +138,8 @@ impl<'a, R: Files<File = File>> Room for FileRoom<'a, R> {
         }
     }
 
-    fn scratch(&mut self, name: &str) -> Result<FileDisk, Failed> {
-        let held = match open_or_create(self.files, name) {
-            Ok(file) => lock_and_sync_tiles(self.files, file, name),
-            Err(why) => Err(why),
-        };
+    fn scratch(&mut self, name: &str) -> Result<FileDisk<R::File>, Failed> {
+        let held = hold_tiles(self.files, name);
         match self.lend(held) {
             Ok(disk) => Ok(disk),
             Err(_) => Err(Failed),
@@ -139,7 +151,7 @@ impl<'a, R: Files<File = File>> Room for FileRoom<'a, R> {
         self.lent -= 1;
     }
 
-    fn keep(&mut self, _name: &str, disk: FileDisk) {
+    fn keep(&mut self, _name: &str, disk: FileDisk<R::File>) {
         self.faults = self.faults.saturating_add(disk.faults());
         self.lent -= 1;
     }

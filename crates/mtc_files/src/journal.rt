@@ -1,17 +1,29 @@
 //! The file of a journal, and that of its tiles: how each is opened, made, locked and synced.
 
+use crate::held::Held;
 use journal_core::{HEADER, LONGEST_WRITE};
-use std::fs::{self, File, OpenFile};
+use std::fs::{self, File, Metadata, OpenFile};
 use std::io::{self, ErrorKind};
-use std::os::fd::AsRawFd;
 use std::os::unix::fs::{FileExt, MetadataExt, OpenOptionsExt};
 use std::path::Path;
 use std::rt::Files;
 
 // The mode of a new file: it is read and written by its owner alone.
 const OWNER_ALONE: u32 = 0o600;
+// What others than the owner may do by a mode.
+const OTHERS: u32 = 0o077;
 // The descriptors of the standard streams are those up to this one, that of standard error.
 const LAST_STREAM: i32 = 2;
+// The system takes names of so many bytes, of which those of a journal leave some to the name of
+// its file of tiles.
+const LONGEST_NAME: usize = 255;
+
+const TILES_END: usize = ".tiles".len();
+// The first record of a journal begins with its tag, behind the header, a gate and a length. That
+// of a cosigner has a secret in it.
+const TAG: usize = HEADER.len() + 5;
+
+const COSIGNER_TAG: u8 = 0x11;
 // So many bytes at the end of a journal are written again at each opening, in pieces: all that a
 // command may have written behind the last sync that answered Ok. Behind that sync it writes one
 // record, and no more where a call fails. No write is longer than a journal's longest, of 131,094
@@ -24,14 +36,116 @@ const PIECES: u64 = ((LONGEST_WRITE + PIECE - 1) / PIECE) as u64;
 
 const PIECE: usize = 4096;
 
+// What a file is by its first bytes.
+#[derive(Clone, Copy, PartialEq)]
+enum Kind {
+    Cosigner,
+    OtherJournal,
+    NoJournal,
+}
+
 /// Opens a file that exists, to read and to write.
 pub fn open_to_write<R: Files>(files: &R, name: &str) -> io::Result<R::File> {
     File::options().read(true).write(true).open(files, name)
 }
 
-/// Makes an empty file that its owner alone may read and write, and opens it for both. A name that
-/// has a file, or a link, is refused.
-pub fn create_empty<R: Files>(files: &R, name: &str) -> io::Result<R::File> {
+/// Makes the empty file of a new journal. A name that has a file, or a link, is refused, and so is
+/// one that leaves no room for the name of its file of tiles.
+pub fn create_journal<R: Files>(files: &R, name: &str) -> io::Result<R::File> {
+    if leaves_room_for_tiles(name) {
+        return create_empty(files, name);
+    }
+    fs::symlink_metadata(files, name)?;
+    Err(io::Error::from(ErrorKind::AlreadyExists))
+}
+
+/// Locks the open file of a journal for this process alone, without waiting, and makes it ready to
+/// be opened: syncs the folder of its name, and writes its end again, so that the sync with which
+/// it is opened carries these bytes to the disk also where the sync of an earlier command failed.
+/// The name has to lead to the file that was locked, a plain one. The journal of a cosigner, which has a secret
+/// in it, is refused where its mode lets others than its owner do anything. A file that doesn't
+/// begin as a journal isn't written. The lock is held until the file is closed.
+pub fn hold_journal<R: Files>(files: &R, file: R::File, name: &str) -> io::Result<R::File>
+where
+    R::File: Held,
+{
+    let file = lock(file)?;
+    let found = file.metadata()?;
+    if !is_plain(&fs::metadata(files, name)?, &found) {
+        return Err(io::Error::from(ErrorKind::NotFound));
+    }
+    let kind = kind_of(&file, found.len())?;
+    if kind == Kind::Cosigner && found.mode() & OTHERS != 0 {
+        return Err(io::Error::from(ErrorKind::PermissionDenied));
+    }
+    if kind != Kind::NoJournal {
+        write_end_again(&file, found.len())?;
+    }
+    sync_folder(files, name)?;
+    Ok(file)
+}
+
+/// Locks a new file likewise, and syncs it and the folder of its name, so that the file is on the
+/// disk before it is written. The name has to be that of the file itself, and no link to it.
+pub fn hold_new<R: Files>(files: &R, file: R::File, name: &str) -> io::Result<R::File>
+where
+    R::File: Held,
+{
+    let file = lock(file)?;
+    if !is_plain(&fs::symlink_metadata(files, name)?, &file.metadata()?) {
+        return Err(io::Error::from(ErrorKind::NotFound));
+    }
+    file.sync_all()?;
+    sync_folder(files, name)?;
+    Ok(file)
+}
+
+/// Opens the file of tiles of this name and locks it likewise, or makes an empty one where there is
+/// none, as a new journal's. A link isn't followed: it is refused, and no file is made where it
+/// leads. One that is there isn't synced, nor written again: its folder is that of its journal,
+/// what the journal relies on was synced before its record, and what wasn't is written by the next
+/// one that stores tiles.
+pub fn hold_tiles<R: Files>(files: &R, name: &str) -> io::Result<R::File>
+where
+    R::File: Held,
+{
+    match fs::symlink_metadata(files, name) {
+        Ok(found) if found.is_symlink() => Err(io::Error::from(ErrorKind::AlreadyExists)),
+        Ok(_) => hold_old_tiles(files, open_to_write(files, name)?, name),
+        Err(why) if why.kind() == ErrorKind::NotFound => {
+            hold_new(files, create_empty(files, name)?, name)
+        }
+        Err(why) => Err(why),
+    }
+}
+
+// Locks a file of tiles that was there. It isn't to begin as a journal: no tile is ever written
+// over one. Who holds a journal is looked at behind that, so that it is told as one.
+fn hold_old_tiles<R: Files>(files: &R, file: R::File, name: &str) -> io::Result<R::File>
+where
+    R::File: Held,
+{
+    refuse_journal(&file, file.metadata()?.len())?;
+    let file = lock(file)?;
+    let found = file.metadata()?;
+    if !is_plain(&fs::symlink_metadata(files, name)?, &found) {
+        return Err(io::Error::from(ErrorKind::NotFound));
+    }
+    refuse_journal(&file, found.len())?;
+    Ok(file)
+}
+
+// Whether a name leaves room for `.tiles` behind it.
+fn leaves_room_for_tiles(name: &str) -> bool {
+    match Path::new(name).file_name() {
+        Some(last) => last.len() <= LONGEST_NAME - TILES_END,
+        None => true,
+    }
+}
+
+// Makes an empty file that its owner alone may read and write, and opens it for both. A name that
+// has a file, or a link, is refused.
+fn create_empty<R: Files>(files: &R, name: &str) -> io::Result<R::File> {
     File::options()
         .read(true)
         .write(true)
@@ -40,67 +154,55 @@ pub fn create_empty<R: Files>(files: &R, name: &str) -> io::Result<R::File> {
         .open(files, name)
 }
 
-/// Opens a file to read and to write, or makes an empty one where there is none, which its owner
-/// alone may read and write.
-pub fn open_or_create<R: Files>(files: &R, name: &str) -> io::Result<R::File> {
-    File::options()
-        .read(true)
-        .write(true)
-        .create(true)
-        .mode(OWNER_ALONE)
-        .open(files, name)
-}
-
-/// Locks an open file for this process alone, without waiting, and syncs it and the folder of its
-/// name. The name has to lead to the file that was locked. The end of a journal is written again
-/// before the sync, so that it carries these bytes to the disk also where the sync of an earlier
-/// command failed. The lock is held until the file is closed.
-pub fn lock_and_sync<R: Files<File = File>>(files: &R, file: File, name: &str) -> io::Result<File> {
-    let file = lock(files, file, name)?;
-    sync_with_end(&file)?;
-    sync_folder(files, name)?;
+// Locks an open file for this process alone, without waiting. A standard stream that was closed at
+// the start leaves its descriptor to the file that is opened next: what is meant for the stream is
+// not to land in that file.
+fn lock<F: Held + Drop>(file: F) -> io::Result<F> {
+    let file = if file.descriptor() <= LAST_STREAM {
+        file.try_clone()?
+    } else {
+        file
+    };
+    file.try_hold()?;
     Ok(file)
 }
 
-/// Locks the file of tiles as [`lock_and_sync`] does that of a journal, and syncs it and the folder
-/// of its name. Nothing of it is written again: what a journal relies on was synced before its
-/// record, and what wasn't is written by the next one that stores tiles.
-pub fn lock_and_sync_tiles<R: Files<File = File>>(
-    files: &R,
-    file: File,
-    name: &str,
-) -> io::Result<File> {
-    let file = lock(files, file, name)?;
-    file.sync_all()?;
-    sync_folder(files, name)?;
-    Ok(file)
+// Whether what a name leads to is this open file, and no folder, pipe or device.
+fn is_plain(named: &Metadata, open: &Metadata) -> bool {
+    open.is_file() && named.dev() == open.dev() && named.ino() == open.ino()
 }
 
-// Locks an open file for this process alone, without waiting. The name has to lead to it.
-fn lock<R: Files<File = File>>(files: &R, file: File, name: &str) -> io::Result<File> {
-    let file = move_off_streams(file)?;
-    file.try_lock()?;
-    if !leads_to(files, name, &file)? {
-        return Err(io::Error::from(ErrorKind::NotFound));
+// What a file of so many bytes is by its first ones. The bytes of a record stand in its file before
+// its gate is opened.
+fn kind_of(file: &impl FileExt, length: u64) -> io::Result<Kind> {
+    let mut first = [0; TAG + 1];
+    let size = length.min(first.len() as u64) as usize;
+    if size < HEADER.len() {
+        return Ok(Kind::NoJournal);
     }
-    Ok(file)
+    file.read_exact_at(&mut first[..size], 0)?;
+    Ok(if !first.starts_with(&HEADER) {
+        Kind::NoJournal
+    } else if first[TAG] == COSIGNER_TAG {
+        Kind::Cosigner
+    } else {
+        Kind::OtherJournal
+    })
 }
 
-/// Writes the end of a journal again, and then syncs the file, so that the sync carries these bytes
-/// too. A file that doesn't begin as a journal is synced alone.
-pub fn sync_with_end<F: OpenFile + FileExt>(file: &F) -> io::Result<()> {
-    write_end_again(file)?;
-    file.sync_all()
-}
-
-// Writes the last bytes of a journal again, as they are read, up to the end that it has now. A
-// system may take a page for written whose sync has failed, and keep it in memory: behind this the
-// next sync has to write it, or fails.
-fn write_end_again<F: OpenFile + FileExt>(file: &F) -> io::Result<()> {
-    let length = file.metadata()?.len();
-    if !begins_as_journal(file, length)? {
-        return Ok(());
+// A file of tiles is no journal.
+fn refuse_journal(file: &impl FileExt, length: u64) -> io::Result<()> {
+    if kind_of(file, length)? == Kind::NoJournal {
+        Ok(())
+    } else {
+        Err(io::Error::from(ErrorKind::InvalidData))
     }
+}
+
+// Writes the last bytes of a journal of so many bytes again, as they are read. A system may take a
+// page for written whose sync has failed, and keep it in memory: behind this the next sync has to
+// write it, or fails.
+fn write_end_again(file: &impl FileExt, length: u64) -> io::Result<()> {
     let mut place = length.saturating_sub(TAIL);
     let mut piece = [0; PIECE];
     for _ in 0..PIECES {
@@ -112,34 +214,8 @@ fn write_end_again<F: OpenFile + FileExt>(file: &F) -> io::Result<()> {
     Ok(())
 }
 
-// A standard stream that was closed at the start leaves its descriptor to the file that is opened
-// next. What is meant for the stream is not to land in that file.
-fn move_off_streams(file: File) -> io::Result<File> {
-    if file.as_raw_fd() <= LAST_STREAM {
-        file.try_clone()
-    } else {
-        Ok(file)
-    }
-}
-
-// Whether a name leads to this open file.
-fn leads_to<R: Files>(files: &R, name: &str, file: &File) -> io::Result<bool> {
-    let (named, open) = (fs::metadata(files, name)?, file.metadata()?);
-    Ok(named.dev() == open.dev() && named.ino() == open.ino())
-}
-
-// Whether the file begins with the header: no other file is written.
-fn begins_as_journal(file: &impl FileExt, length: u64) -> io::Result<bool> {
-    let mut first = [0; HEADER.len()];
-    if length < HEADER.len() as u64 {
-        return Ok(false);
-    }
-    file.read_exact_at(&mut first, 0)?;
-    Ok(first == HEADER)
-}
-
 // Syncs the folder in which the name stands.
-fn sync_folder<R: Files<File = File>>(files: &R, name: &str) -> io::Result<()> {
+fn sync_folder<R: Files>(files: &R, name: &str) -> io::Result<()> {
     let folder = match Path::new(name).parent() {
         Some(folder) if folder != Path::new("") => folder,
         _ => Path::new("."),

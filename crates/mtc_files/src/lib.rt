@@ -2,7 +2,8 @@
 #![tactic(auto)]
 
 mod file_room;
+mod held;
 mod journal;
 
 pub use file_room::FileRoom;
-pub use journal::sync_with_end;
+pub use held::Held;
