@@ -10,6 +10,8 @@ mod files;
 #[cfg(test)]
 mod journals;
 #[cfg(test)]
+mod lines;
+#[cfg(test)]
 mod noted;
 #[cfg(test)]
 mod others;
