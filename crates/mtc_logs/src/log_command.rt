@@ -3,8 +3,7 @@
 
 ghost use Rattle.std.specs.Prelude.{◌≡◌, ◌≢◌, ◌<◌, ◌+◌, ◌^◌, ℕ, [], ◌∷◌};
 ghost use Rattle.disk_core.specs.Moments.{Looks};
-ghost use Rattle.frame_pool.specs.Frames.{HoldsKey};
-ghost use Rattle.frame_pool.specs.declared.key.TileKey.{TileKey as Key};
+ghost use Rattle.frame_pool.specs.Frames.{IsNew};
 ghost use Rattle.mtc_answers.specs.Answers.{stop_ending, ending_of, tiles_name};
 ghost use Rattle.mtc_answers.specs.Served.{HasServedBeside, LooksBeside};
 ghost use Rattle.mtc_answers.specs.Valid.{KeepsValid, ServesValidlyTiled};
@@ -57,8 +56,8 @@ fn refuse_log<'a>(journal: &'a str, why: LogOpenError) -> Stop<'a>
     }
 }
 
-// Opens the log on the device of its journal and on that of its tiles, with a pool whose frames
-// hold nothing, and works on it.
+// Opens the log on the device of its journal and on that of its tiles, with a pool of 64 frames
+// that hold nothing, and works on it.
 fn on_devices<'a, H: TreeHash, D: Disk>(
     alloc: Global,
     disk: D,
@@ -67,7 +66,7 @@ fn on_devices<'a, H: TreeHash, D: Disk>(
     journal: &'a str,
     work: Work,
 ) -> (D, D, Result<Answer, Stop<'a>>)
-    requires { (slot : ℕ) (key : Key) → HoldsKey pool slot key → ⊥ }
+    requires { IsNew 64 pool }
     ensures serves { HasWorkedTiledOn D.Disk journal.now (log_bytes_say H.hash journal.now work)
         disk result.0 tiles result.1 (ending_of result.2) }
     ensures valid { ServesValidlyTiled D.Disk (IsLog H.hash)
@@ -97,7 +96,7 @@ fn on_journal<'a, H: TreeHash, R: Room>(
 ) -> Result<Answer, Stop<'a>>
     requires lent { R.lent room.old + 1 < 2 ^ 32 }
     requires named { name.now ≡ tiles_name journal.now }
-    requires empty { (slot : ℕ) (key : Key) → HoldsKey pool slot key → ⊥ }
+    requires frames { IsNew 64 pool }
     ensures serves { HasServedBeside R.Room R.Dsk.Disk (journal.now ∷ tiles_name journal.now ∷ [])
         journal.now (tiles_name journal.now)
         (log_outcome H.hash journal.now (R.file room.old journal.now)

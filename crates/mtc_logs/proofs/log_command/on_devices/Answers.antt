@@ -1,4 +1,4 @@
-use Rattle.std.proofs.Common.{subst, sym}
+use Rattle.std.proofs.Common.{◌∙◌, ◌≡◌, None, Some, subst, sym}
 use Rattle.issuance_log.specs.Shown.{shown_with}
 use Rattle.issuance_log.specs.Words.{log_disk, log_records, log_tiles_disk, view_of}
 use Rattle.mtc_answers.specs.Answers.{Ending, ending_of}
@@ -9,6 +9,11 @@ use Rattle.disk_core.proofs.Moments.{looked_on}
 use Rattle.mtc_logs.specs.Works.{IsLog, log_bytes_say, found_log, log_says}
 use Rattle.mtc_logs.proofs.Opened.{found_tiles, refused_says}
 use Rattle.mtc_logs.proofs.log_command.on_devices.Goals as goal
+
+pub open-requires : goal.open-requires
+open-requires g c = λ slot key holds.
+    let none : None ≡ Some key = sym (c.requires.empty slot) ∙ holds.held in
+    absurd cc
 
 pub returns-in-Ok-clause-serves : goal.returns-in-Ok-clause-serves
 returns-in-Ok-clause-serves g c =

@@ -1,4 +1,4 @@
-use Rattle.std.proofs.Common.{[], ◌∷◌, ◌∙◌, ◌≡◌, None, Some, sym}
+use Rattle.std.proofs.Common.{[], ◌∷◌, ◌∙◌}
 use Rattle.std.proofs.lemmas.Result.{err_from_is_err_and}
 use Rattle.mtc_answers.specs.Answers.{no_memory, tiles_name}
 use Rattle.mtc_answers.proofs.Served.{stopped}
@@ -58,9 +58,7 @@ pub on_journal-requires : goal.on_journal-requires
 on_journal-requires g c = record {
   lent = c.requires;
   named = c.deref.ensures ∙ c.in_ok-name.ensures;
-  empty = λ slot key holds.
-      let none : None ≡ Some key = sym (c.in_ok-pool.ensures.empty slot) ∙ holds.held in
-      absurd cc;
+  frames = c.in_ok-pool.ensures;
 }
 
 pub returns-clause-serves : goal.returns-clause-serves
