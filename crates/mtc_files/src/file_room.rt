@@ -1,6 +1,6 @@
 //! The files of the system as a room.
 
-ghost use Rattle.std.specs.Prelude.{◌≡◌, ◌≤◌, ◌<◌, ◌^◌, None, IfOk, IfErr};
+ghost use Rattle.std.specs.Prelude.{◌≡◌, ◌+◌, ◌≤◌, ◌<◌, ◌^◌, None, IfOk, IfErr};
 ghost use Rattle.mtc_io.specs.Counts.{Rose, with_count};
 ghost use Rattle.mtc_room.specs.Room.{Lending};
 ghost use Rattle.disk_core.specs.File.{file_faults, file_moment};
@@ -9,7 +9,7 @@ use crate::held::Held;
 use crate::journal::{create_journal, hold_journal, hold_new, hold_tiles, open_to_write};
 use disk_core::{Disk, FileDisk};
 use mtc_io::{Failed, Source, StdSource};
-use mtc_room::{Room, RoomError};
+use mtc_room::{Cause, Room, RoomError};
 use std::fs;
 use std::io::{self, ErrorKind};
 use std::rt::Files;
@@ -22,7 +22,16 @@ pub struct FileRoom<'a, R> {
     files: &'a R,
     lent: u64,
     faults: u64,
-    met_lock: bool,
+    cause: Cause,
+}
+
+// What the system says of an error: a lock that isn't to be had at once would block.
+fn cause_of(why: &io::Error) -> Cause {
+    if why.kind() == ErrorKind::WouldBlock {
+        Cause::Locked
+    } else {
+        Cause::Failed
+    }
 }
 
 // Whether the system has no file of that name, also where the name goes on behind a file.
@@ -43,17 +52,12 @@ where
             files,
             lent: 0,
             faults: 0,
-            met_lock: false,
+            cause: Cause::Failed,
         }
     }
 
-    /// Whether it has failed at a file that is locked by another opening.
-    pub fn met_lock(&self) -> bool {
-        self.met_lock
-    }
-
     // An error of the system that no answer of a room's stands for: a fault.
-    fn fail(&mut self) -> RoomError
+    fn fail(&mut self, why: &io::Error) -> RoomError
         ensures error { result ≡ RoomError.Failed }
         ensures lent { self.new.lent ≡ self.old.lent }
         ensures later { self.old.faults ≤ self.new.faults }
@@ -61,7 +65,21 @@ where
         ensures counted { self.new.faults ≡ with_count self.old.faults 1 }
     {
         self.faults = self.faults.saturating_add(1);
+        self.cause = cause_of(why);
         RoomError::Failed
+    }
+
+    // Takes an object back that counted so many faults. No lock is the cause of these.
+    fn take_back(&mut self, faults: u64)
+        requires { 0 < self.old.lent }
+        ensures out { self.new.lent + 1 ≡ self.old.lent }
+        ensures count { self.new.faults ≡ with_count self.old.faults faults }
+    {
+        if faults > 0 {
+            self.cause = Cause::Failed;
+        }
+        self.faults = self.faults.saturating_add(faults);
+        self.lent -= 1;
     }
 
     // Lends a journal that this process holds, or counts the fault.
@@ -78,10 +96,7 @@ where
                 self.lent += 1;
                 Ok(FileDisk::new(file))
             }
-            Err(why) => {
-                self.met_lock = self.met_lock || why.kind() == ErrorKind::WouldBlock;
-                Err(self.fail())
-            }
+            Err(why) => Err(self.fail(&why)),
         }
     }
 }
@@ -104,6 +119,8 @@ where
 
     ghost lent = { λ r. r.lent };
 
+    ghost why = { λ r. r.cause };
+
     fn source(&mut self, name: &str) -> Result<StdSource<R::File>, RoomError> {
         match fs::open(self.files, name) {
             Ok(file) => {
@@ -111,7 +128,7 @@ where
                 Ok(StdSource::new(file))
             }
             Err(why) if is_absent(&why) => Err(RoomError::Absent),
-            Err(_) => Err(self.fail()),
+            Err(why) => Err(self.fail(&why)),
         }
     }
 
@@ -122,7 +139,7 @@ where
                 self.lend(held)
             }
             Err(why) if is_absent(&why) => Err(RoomError::Absent),
-            Err(_) => Err(self.fail()),
+            Err(why) => Err(self.fail(&why)),
         }
     }
 
@@ -134,7 +151,7 @@ where
                 self.lend(held)
             }
             Err(why) if why.kind() == ErrorKind::AlreadyExists => Err(RoomError::Exists),
-            Err(_) => Err(self.fail()),
+            Err(why) => Err(self.fail(&why)),
         }
     }
 
@@ -146,14 +163,16 @@ where
         }
     }
 
+    fn cause(&self) -> Cause {
+        self.cause
+    }
+
     fn done(&mut self, source: StdSource<R::File>) {
-        self.faults = self.faults.saturating_add(source.faults());
-        self.lent -= 1;
+        self.take_back(source.faults());
     }
 
     fn keep(&mut self, _name: &str, disk: FileDisk<R::File>) {
-        self.faults = self.faults.saturating_add(disk.faults());
-        self.lent -= 1;
+        self.take_back(disk.faults());
     }
 
     ghost told_file = { λ _ _ told. absurd told };

@@ -6,10 +6,12 @@
 //! that an answer that names a fault has one.
 #![tactic(auto)]
 
+mod cause;
 mod error;
 mod memory;
 mod room;
 
+pub use cause::Cause;
 pub use error::RoomError;
 pub use memory::MemRoom;
 pub use room::Room;

@@ -9,7 +9,7 @@ ghost use Rattle.disk_core.specs.Same.{SameDevice};
 ghost use Rattle.disk_core.specs.Memory.{bytes_of, calls_of, failing_of, made_of, faults_of};
 ghost use Rattle.disk_core.specs.Memory.{starved_of, images_of, IsFresh};
 
-use crate::RoomError;
+use crate::{Cause, RoomError};
 use crate::room::Room;
 use disk_core::{Disk, MemDisk};
 use mtc_io::{Bytes, Failed, MemSource, Memory};
@@ -204,6 +204,7 @@ impl Room for MemRoom {
     ghost use Rattle.mtc_room.specs.MemoryLaws.{told_in};
     ghost use Rattle.mtc_room.specs.Room.{Lending, LendsOrFails, Stays, AllStay, OthersStay};
     ghost use Rattle.mtc_room.specs.Room.{LendsBytes};
+    ghost use Rattle.mtc_room.specs.declared.cause.Cause.TheVariants.{Failed};
 
     type Src = MemSource;
 
@@ -218,6 +219,8 @@ impl Room for MemRoom {
     ghost faults = { λ r. (state r).faults };
 
     ghost lent = { λ r. (state r).lent };
+
+    ghost why = { λ _. Failed };
 
     ghost told_file = { λ m name _. told_in (disk_in m name) };
 
@@ -349,6 +352,11 @@ impl Room for MemRoom {
             Ok(disk) => Ok(disk),
             Err(_) => Err(Failed),
         }
+    }
+
+    // No other process reaches a room in memory.
+    fn cause(&self) -> Cause {
+        Cause::Failed
     }
 
     fn done(&mut self, source: MemSource)

@@ -5,7 +5,7 @@ ghost use Rattle.std.specs.Prelude.{OnOk, OnErr, IsErrOf};
 ghost use Rattle.std.specs.Option.{IsSomeAnd};
 ghost use Rattle.byte_forms.specs.Types.{Text};
 
-use crate::RoomError;
+use crate::{Cause, RoomError};
 use disk_core::Disk;
 use mtc_io::{Failed, Source};
 
@@ -15,6 +15,7 @@ pub trait Room {
     ghost use Rattle.disk_core.specs.Same.{SameDevice};
     ghost use Rattle.mtc_room.specs.Room.{Lending, LendsOrFails, Stays, AllStay, OthersStay};
     ghost use Rattle.mtc_room.specs.Room.{LendsBytes, TellsFile};
+    ghost use Rattle.mtc_room.specs.declared.cause.Cause.{Cause};
 
     /// What gives a file's bytes.
     type Src: Source;
@@ -37,6 +38,9 @@ pub trait Room {
 
     /// How many lent objects are out.
     ghost lent: { Self → ℕ };
+
+    /// What it says of its last fault.
+    ghost why: { Self → Cause };
 
     /// Lends the bytes of a file that exists. `Absent` comes exactly where there is none, and
     /// `Failed` only with a fault of the room; `Exists` never comes. The lent source has no fault
@@ -125,6 +129,10 @@ pub trait Room {
         ensures time { IfOk result (λ d. tells self.old → file self.old name.now ≡ None
             → Self.Dsk.moment d ≡ 0) }
         ensures begins { IfOk result (λ d. Self.Dsk.faults d ≡ 0) };
+
+    /// Why it failed last, where it failed at all. The line of a failed command has this word.
+    fn cause(&self) -> Cause
+        ensures { result ≡ why self.now };
 
     /// Takes a source back, and adds its faults to its own.
     fn done(&mut self, source: Self::Src)

@@ -20,7 +20,7 @@ use Rattle.mtc_answers.specs.declared.answer.Stopped.TheVariants.{Missing, Beyon
 use Rattle.mtc_answers.specs.Works.{TellsNew}
 use Rattle.mtc_answers.proofs.Served.{each_so, each_is}
 use Rattle.mtc_io.proofs.Streams.{prefix_whole}
-use Rattle.mtc_top.specs.Concluded.{Wrote, Lost, Told, Concludes}
+use Rattle.mtc_top.specs.Concluded.{Wrote, Lost, Told, Concludes, word_of}
 use Rattle.mtc_top.specs.Facts.{Facts, facts}
 use Rattle.mtc_top.specs.Run.{HasRun}
 
@@ -163,7 +163,8 @@ module _ {R S D O E : Type 0} (h : List ℕ → List ℕ) (rooms : Rooms R S D) 
   -- the room failed
   run_failed : (file : List ℕ) (status : ℕ) → Valid → Looked → New (room_failed file)
       → Did (room_failed file)
-      → Told outs errs (known_word words) out out' err err' 5 (Some file) (codes "Failed") status
+      → Told outs errs (known_word words) out out' err err' 5 (Some file) (word_of (rooms.why new))
+          status
       → Run status
   run_failed file status valid looked began done told = record {
     only = λ one. absurd (omega (arith, told.is, one));
@@ -214,7 +215,7 @@ module _ {R S D O E : Type 0} (h : List ℕ → List ℕ) (rooms : Rooms R S D) 
   }
 
   pub has_run : (ending : Ending) (status : ℕ) → Did ending → Valid → Looked → New ending
-      → Concludes outs errs (known_word words) out out' err err' ending status
+      → Concludes outs errs (known_word words) out out' err err' ending (rooms.why new) status
       → HasRun h rooms disks outs errs words old new out out' err err' status
   has_run (replied (said kind text)) status done valid looked began ends = elim ends [
     | inl wrote ↦ run_wrote (said kind text) status valid looked began done wrote

@@ -5,6 +5,8 @@ use Rattle.byte_forms.specs.Types.{Text}
 use Rattle.mtc_io.specs.Counts.{Rose}
 use Rattle.mtc_io.specs.Streams.{AppendsPrefix}
 use Rattle.mtc_io.specs.declared.sink.Sink.{Ghosts as Sinks}
+use Rattle.mtc_room.specs.declared.cause.Cause.{Cause}
+use Rattle.mtc_room.specs.declared.cause.Cause.TheVariants.{Locked, Failed}
 use Rattle.mtc_answers.specs.Answers.{Ending, Reply, replied, room_failed, no_memory, said, refused}
 use Rattle.mtc_answers.specs.Answers.{status_of, out_of, err_of}
 use Rattle.mtc_answers.specs.Lines.{line_of, WritesLine}
@@ -20,6 +22,11 @@ PrintsFront outs out out' text = AppendsPrefix (outs.taken out) (outs.taken out'
 abbrev pub Reports : {E : Type 0} → Sinks E → E → E → Text → Type 0
 Reports errs err err' line = WritesLine (Rose (errs.faults err) (errs.faults err'))
     (errs.taken err) (errs.taken err') line
+
+-- What the line says of a room's failure.
+abbrev pub word_of : Cause → Text
+word_of Locked = codes "Locked"
+word_of Failed = codes "Failed"
 
 module _ {O E : Type 0} (outs : Sinks O) (errs : Sinks E) (command : Text)
     (out out' : O) (err err' : E) where
@@ -43,8 +50,11 @@ module _ {O E : Type 0} (outs : Sinks O) (errs : Sinks E) (command : Text)
     pub nothing : Prints outs out out' []
     pub line : Reports errs err err' (line_of command file reason)
 
-  abbrev pub Concludes : Ending → ℕ → Type 0
-  Concludes (replied (said kind text)) status = Wrote (said kind text) status ⊎ Lost text status
-  Concludes (replied (refused why file reason)) status = Wrote (refused why file reason) status
-  Concludes (room_failed file) status = Told 5 (Some file) (codes "Failed") status
-  Concludes no_memory status = Told 8 None (codes "Memory") status
+  -- How it ended; and why the room failed last, where that is how.
+  abbrev pub Concludes : Ending → Cause → ℕ → Type 0
+  Concludes (replied (said kind text)) cause status =
+      Wrote (said kind text) status ⊎ Lost text status
+  Concludes (replied (refused why file reason)) cause status =
+      Wrote (refused why file reason) status
+  Concludes (room_failed file) cause status = Told 5 (Some file) (word_of cause) status
+  Concludes no_memory cause status = Told 8 None (codes "Memory") status

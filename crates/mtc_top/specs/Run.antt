@@ -17,7 +17,7 @@ use Rattle.mtc_answers.specs.Served.{Journals, OfEach, LeavesEach, done_with, Gi
 use Rattle.mtc_answers.specs.Valid.{KeepsValid}
 use Rattle.mtc_answers.specs.Wanted.{Meets}
 use Rattle.mtc_answers.specs.Works.{TellsNew}
-use Rattle.mtc_top.specs.Concluded.{Prints, PrintsFront, Reports}
+use Rattle.mtc_top.specs.Concluded.{Prints, PrintsFront, Reports, word_of}
 use Rattle.mtc_top.specs.Facts.{Facts, facts}
 
 module _ {R S D O E : Type 0} (h : HashFunction) (rooms : Rooms R S D) (disks : Disks D)
@@ -60,14 +60,16 @@ module _ {R S D O E : Type 0} (h : HashFunction) (rooms : Rooms R S D) (disks : 
     pub lost : status ≡ 6
         → Reports errs err err' (line_of (known_word words) None (codes "OutputFailed"))
 
-  -- The room failed: nothing went out, and the line names a file of the command. A journal that was
-  -- there has its record or not; of a new one nothing is said.
+  -- The room failed: nothing went out, and the line names a file of the command, with the word by
+  -- which the room says why. A journal that was there has its record or not; of a new one nothing is
+  -- said.
   pub record RoomFailed : Type 0 where
     pub cause : Rose (rooms.faults old) (rooms.faults new)
     pub text : Prints outs out out' []
     pub file : Text
     pub named : IsNamed (asked.journals ++ (asked.besides ++ asked.inputs)) file
-    pub line : Reports errs err err' (line_of (known_word words) (Some file) (codes "Failed"))
+    pub line : Reports errs err err'
+        (line_of (known_word words) (Some file) (word_of (rooms.why new)))
     pub made : Left MayHaveMade
     pub began : Began (room_failed file)
 

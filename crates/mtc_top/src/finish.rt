@@ -5,11 +5,12 @@ ghost use Rattle.mtc_io.specs.Counts.{Rose};
 ghost use Rattle.mtc_answers.specs.Answers.{said, said_code, stopped_code, ending_of, more_text};
 ghost use Rattle.mtc_answers.specs.Answers.{reason_text, tiles_name};
 ghost use Rattle.mtc_answers.specs.Lines.{line_of, of_command, WritesLine};
-ghost use Rattle.mtc_top.specs.Concluded.{Wrote, Lost, Concludes};
+ghost use Rattle.mtc_top.specs.Concluded.{Wrote, Lost, Concludes, word_of};
 
 use itoa::Buffer;
 use mtc_answers::{Answer, More, Reason, Said, Stop, Stopped};
 use mtc_io::{Failed, Sink, write_all, write_pieces};
+use mtc_room::Cause;
 
 const ROOM_FAILED: u8 = 5;
 
@@ -36,6 +37,15 @@ fn code_stopped(why: Stopped) -> u8
         Stopped::NotAllowed => 4,
         Stopped::Missing => 7,
         Stopped::Beyond => 9,
+    }
+}
+
+fn word_of(cause: Cause) -> &'static str
+    ensures { result.now ≡ word_of cause }
+{
+    match cause {
+        Cause::Locked => "Locked",
+        Cause::Failed => "Failed",
     }
 }
 
@@ -133,15 +143,16 @@ fn write_answer<O: Sink, E: Sink>(command: &str, out: &mut O, err: &mut E, answe
     }
 }
 
-// Writes what a command ended with, and answers the status.
+// Writes what a command ended with, and answers the status. Where the room failed, that is why.
 pub fn conclude<O: Sink, E: Sink>(
     command: &str,
     ended: Result<Answer, Stop>,
+    cause: Cause,
     out: &mut O,
     err: &mut E,
 ) -> u8
     ensures { Concludes O.Sink E.Sink command.now out.old out.new err.old err.new
-        (ending_of ended.entry) result }
+        (ending_of ended.entry) cause result }
 {
     match ended {
         Ok(answer) => write_answer(command, out, err, &answer),
@@ -150,11 +161,11 @@ pub fn conclude<O: Sink, E: Sink>(
             code_stopped(refusal.why)
         }
         Err(Stop::Room(file)) => {
-            write_line(err, command, Some(file), Reason::named("Failed"));
+            write_line(err, command, Some(file), Reason::named(word_of(cause)));
             ROOM_FAILED
         }
         Err(Stop::Tiles(journal)) => {
-            write_tiles_line(err, command, journal, Reason::named("Failed"));
+            write_tiles_line(err, command, journal, Reason::named(word_of(cause)));
             ROOM_FAILED
         }
         Err(

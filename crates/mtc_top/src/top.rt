@@ -144,5 +144,5 @@ pub fn run<H: TreeHash, R: Room, O: Sink, E: Sink>(
         room.old room.new out.old out.new err.old err.new result }
 {
     let ended = answer::<H, R>(alloc, words, room);
-    conclude(command_word(words), ended, out, err)
+    conclude(command_word(words), ended, room.cause(), out, err)
 }
