@@ -3,6 +3,7 @@
 
 Usage: bench/gate_costs.py [COMMAND WORD..]              runs rt ci, or this command, and prints the table
        bench/gate_costs.py --write rt ci --anew          puts it into docs/GATE.md, and its sums into README
+       bench/gate_costs.py --write rt ci                 the same, where the kit keeps nothing and knows no --anew
        bench/gate_costs.py --above NAME                  what a change of a crate costs, by the table of GATE
        bench/gate_costs.py --again                       makes what follows from that table's numbers anew
 
@@ -257,9 +258,15 @@ def run(command):
     return ran.returncode, costs, round((seconds_used() - used) / 60), by_clock(time.time() - began)
 
 
+def from_nothing():
+    """The words of the whole gate from nothing: a kit that keeps what has passed has a word for it."""
+    told = subprocess.run(["rt", "help"], stdout=subprocess.PIPE, stderr=subprocess.STDOUT, text=True, check=False).stdout
+    return ["rt", "ci", "--anew"] if "--anew" in told else ["rt", "ci"]
+
+
 def main(command, writes):
-    if writes and command != ["rt", "ci", "--anew"]:
-        sys.exit("only the run of rt ci --anew is written: it takes nothing that is kept, and leaves no crate out")
+    if writes and command != from_nothing():
+        sys.exit(f"only the run of {' '.join(from_nothing())} is written: it takes nothing that is kept, and leaves no crate out")
     status, costs, whole, clock = run(command)
     rows = list(measured_rows(costs))
     told = "\n".join([*table(rows), "", summary(rows, whole, clock)])

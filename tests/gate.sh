@@ -42,6 +42,9 @@ done <<'TABLE'
 0|must-fail edits: 13 refused|ok|0||1|nothing was left out
 0|no edits|ok|0||1|nothing was left out
 0|an edit: refused, as it must be (only because a file names it); must-fail edits: 3 refused|ok|0||1|nothing was left out
+0|must-fail a/one.edit: refused, as it must be; must-fail a/two.edit: refused, as it must be: src/lib.rt; must-fail b/one.edit: refused, as it must be|ok|0||0|nothing was left out
+0|must-fail a/one.edit: refused, as it must be; must-fail a/two.edit: BAD EDIT: no such text; must-fail b/one.edit: refused, as it must be|ok|0||1|nothing was left out
+0|must-fail a/one.edit: refused, as it must be; must-fail a/one.edit: refused, as it must be; must-fail b/one.edit: refused, as it must be|ok|0||1|nothing was left out
 0|must-fail edits: 3 refused|wrong: one|1||1|nothing was left out
 0|must-fail edits: 3 refused|left out: order: there is no strace|0||0|left out: order: there is no strace
 0|must-fail edits: 3 refused|left out: order: there is no strace|0|MTC_ALL=1|1|left out: order: there is no strace
