@@ -16,4 +16,5 @@ returns-clause-moments g c = λ place piece old new there run.
 
 pub returns-clause-byte : goal.returns-clause-byte
 returns-clause-byte g c = λ place piece old new k within has follows.
-    each_has_still place piece (g.D.Disk.may_leave old) (g.D.Disk.may_leave new) k follows within has
+    each_has_still place piece (g.D.Disk.may_leave old) (g.D.Disk.may_leave new) k follows within
+    has
