@@ -10,6 +10,7 @@ mod LeftBehind
 mod LightAccepted
 mod ListedItems
 mod Looked
+mod Numbers
 mod Opened
 mod OwnSubtrees
 mod PlayedRounds

@@ -17,7 +17,7 @@ use Rattle.drill_nodes.specs.CosignerNodes.{IsCosignerDisk}
 use Rattle.drill_nodes.specs.CosignerViews.{IsExportOf, IsStill, cosigner_shown, cosigner_stops}
 use Rattle.drill_nodes.specs.CosignerViews.{records_shown}
 use Rattle.drill_nodes.specs.Cosigners.{HasRecordedAll, IsAdvanced, IsSignatureBy, IsSigned, Paired}
-use Rattle.drill_nodes.specs.Cosigners.{keys_used, stops_by}
+use Rattle.drill_nodes.specs.Cosigners.{held_first, keys_used, stops_by}
 use Rattle.std.proofs.lemmas.List.Sums.{sum_by-cons}
 use Rattle.drill_nodes.specs.declared.cosigner_node.CosignerNode.{CosignerNode}
 use Rattle.drill_nodes.proofs.CosignerStops.{more_twice}
@@ -157,6 +157,13 @@ module _ {H : Type 0} {hashes : Hashes H} where
   hold_less few more [] less all = tt
   hold_less few more (n ∷ ns) less all =
       let here = all.0 in (omega (arith, here, less), hold_less few more ns less all.1)
+
+  -- what the first of them holds is no more either
+  pub first_few : (most : ℕ) (nodes : List (CosignerNode H hashes)) (held : ℕ)
+      → held ≡ held_first nodes → 0 < length nodes
+      → AllByRecursion (λ node. (cosigner_shown node).held.size < most) nodes → held ≤ most
+  first_few most [] held is some all = absurd (omega (arith, some))
+  first_few most (n ∷ ns) held is some all = let here = all.0 in omega (arith, is, here)
 
   -- what the cosigners of a drill hold
   pub hold_that : (h : HashFunction) (number count : ℕ) (d : Drill) (arcs : List ℕ)

@@ -1,4 +1,4 @@
--- What calls that add a record make of a log and of a cosigner.
+-- What calls that add a record make of a log.
 use Rattle.std.specs.Prelude.{◌≡◌, ℕ, true, false, List, [], ◌∷◌, ◌++◌, length, IfSome, Ok, Bool}
 use Rattle.std.specs.Prelude.{Some, option_map}
 use Rattle.byte_forms.specs.Types.{Text, HashFunction}

@@ -1,4 +1,4 @@
--- The nodes of a drill.
+-- The log of a drill on its devices.
 use Rattle.std.specs.Prelude.{◌≡◌, ◌⊎◌, List, [], ◌∷◌, ◌++◌, Ok}
 use Rattle.std.proofs.Props.{props}
 use Rattle.byte_forms.specs.Types.{Text, HashFunction}

@@ -25,7 +25,7 @@ fn log_out<H: TreeHash>(node: LogNode<H>) -> Result<(MemDisk, u64, u64), Memory>
 {
     let entries = size_of(&node.log);
     let landmarks = node.log.marks().len() as u64;
-    let (journal, _tiles) = node.log.into_disks();
+    let (journal, _tiles, _stops) = node.into_disks();
     let disk = whole(journal)?;
     Ok((disk, entries, landmarks))
 }
@@ -36,7 +36,7 @@ impl<H: TreeHash> FleetNodes<H> {
         requires { all_stops self.now ≤ 2 ^ 32 }
         ensures { result ≡ all_stops self.now }
     {
-        let log = self.log.stops.made.len() as u64;
+        let log = self.log.stops.count();
         log + self.cosigners.stops()
     }
 

@@ -9,18 +9,18 @@ ghost use Rattle.fleet.specs.Nodes.{log_seen};
 
 use crate::log_node::size_of;
 use crate::requests::NOT_BEFORE;
+use crate::tree::hash_of;
 use authority_core::{entries_say_what_was_asked, light_cert};
 use cert_names::log_name;
 use disk_core::MemDisk;
 use drill_nodes::{LOG, id_of};
 use issuance_log::Log;
 use landmarks::{Landmarks, active, of_marks, subtrees};
-use mtc_io::{Failed, Memory};
+use mtc_io::Memory;
 use policy_core::{Cosigners, Revoked, Rules, Store, Subtrees, Trusted};
 use relying_party::judge;
 use std::alloc::Global;
 use tree_core::{Cover, Span, TreeHash, subtree_ok};
-use tree_proofs::node_of;
 
 // A subtree of the log with its hash.
 fn trusted<H: TreeHash>(log: &mut Log<H, MemDisk, MemDisk>, span: Span) -> Result<Trusted, Memory>
@@ -31,15 +31,12 @@ fn trusted<H: TreeHash>(log: &mut Log<H, MemDisk, MemDisk>, span: Span) -> Resul
     if !subtree_ok(span.start, span.end) || size_of(log) < span.end {
         return Err(Memory);
     }
-    log.sound();
-    match node_of(log, span.start, span.end) {
-        Ok(hash) => Ok(Trusted {
-            start: span.start,
-            end: span.end,
-            hash,
-        }),
-        Err(Failed) => Err(Memory),
-    }
+    let hash = hash_of(log, span.start, span.end)?;
+    Ok(Trusted {
+        start: span.start,
+        end: span.end,
+        hash,
+    })
 }
 
 // Puts the subtrees of a cover behind others.

@@ -54,11 +54,11 @@ fn fused<H: TreeHash>(
     ensures state { IfOk result (λ x. IsLogWith H.hash (log_shown node) x.0) }
     ensures stops { IfOk result (λ x. length x.1.made.items ≡ log_stops node) }
 {
-    let (disk, tiles) = node.log.into_disks();
+    let (disk, tiles, stops) = node.into_disks();
     let fuse = Fuse::new(disk, passes);
     let log = open_log(alloc, fuse, tiles)?;
     log.sound();
-    Ok((log, node.stops))
+    Ok((log, stops))
 }
 
 // What a call leaves of the device behind the fuse, and of that of the tiles, and whether it was
@@ -130,19 +130,6 @@ impl<H: TreeHash> LogNode<H> {
         match call {
             LogCall::Issue(_) => size_of(&self.log),
             LogCall::Mark => self.log.marks().len() as u64,
-        }
-    }
-
-    // The call without a stop.
-    fn done(mut self, alloc: Global, call: &LogCall) -> Result<LogNode<H>, Memory>
-        ensures state { IfOk result (λ it.
-            log_shown it ≡ log_called H.hash (log_shown self) call.now) }
-        ensures stops { IfOk result (λ it. log_stops it ≡ log_stops self) }
-    {
-        if call_log(alloc, &mut self.log, call)? {
-            Ok(self)
-        } else {
-            Err(Memory)
         }
     }
 

@@ -1,7 +1,8 @@
 //! Hashes and proofs over the entries of a log.
 
-ghost use Rattle.std.specs.Prelude.{◌≡◌, ◌<◌, ◌≤◌, length, IfOk};
+ghost use Rattle.std.specs.Prelude.{◌≡◌, ◌≤◌, true, length, IfOk};
 ghost use Rattle.tree_core.specs.Path.{part_of};
+ghost use Rattle.tree_core.specs.Subtree.{is_subtree};
 ghost use Rattle.tree_core.specs.Tree.{tree_hash};
 ghost use Rattle.issuance_log.specs.Words.{LogStays};
 ghost use Rattle.fleet.specs.Nodes.{log_seen};
@@ -13,16 +14,20 @@ use mtc_io::{Failed, Memory};
 use tree_core::TreeHash;
 use tree_proofs::{Path, consist, node_of};
 
-// The hash of the subtree of the first entries, so many of them.
-fn hash_of<H: TreeHash>(log: &mut Log<H, MemDisk, MemDisk>, size: u64) -> Result<[u8; 32], Memory>
-    requires some { 0 < size }
-    requires within { size ≤ length (log_seen log.old).entries }
+/// The hash of a subtree.
+pub(crate) fn hash_of<H: TreeHash>(
+    log: &mut Log<H, MemDisk, MemDisk>,
+    start: u64,
+    end: u64,
+) -> Result<[u8; 32], Memory>
+    requires valid { is_subtree start end ≡ true }
+    requires within { end ≤ length (log_seen log.old).entries }
     ensures hash { IfOk result (λ x. x
-        ≡ tree_hash H.hash (part_of (log_seen log.old).entries 0 size)) }
+        ≡ tree_hash H.hash (part_of (log_seen log.old).entries start end)) }
     ensures stays { LogStays log.old log.new }
 {
     log.sound();
-    match node_of(log, 0, size) {
+    match node_of(log, start, end) {
         Ok(hash) => Ok(hash),
         Err(Failed) => Err(Memory),
     }
@@ -34,7 +39,7 @@ fn root_of<H: TreeHash>(log: &mut Log<H, MemDisk, MemDisk>) -> Result<[u8; 32], 
     ensures stays { LogStays log.old log.new }
 {
     let size = size_of(log);
-    let root = hash_of(log, size)?;
+    let root = hash_of(log, 0, size)?;
     Ok(root)
 }
 

@@ -9,3 +9,9 @@ returns-clause-judged g c = was_judged g.H.TreeHash.hash c.args.bytes.now c.args
     c.in-Ok.accepted (parts c.in-Ok-parse.cert) (proof_parts c.in-Ok-read_proof.proof)
     (λ i. (c.type_inv.bytes i).fits) (sym c.in-Ok.ensures) c.in-Ok-parse.ensures.exact
     c.in-Ok-read_proof.ensures.exact
+
+pub returns-clause-accepted : goal.returns-clause-accepted
+returns-clause-accepted g c = sym c.in-Ok.ensures
+
+pub returns-clause-read : goal.returns-clause-read
+returns-clause-read g c = c.in-Ok-parse.ensures.exact

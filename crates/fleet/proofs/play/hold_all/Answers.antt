@@ -1,16 +1,40 @@
-use Rattle.std.proofs.Common.{◌<◌, ℕ, length, sym, subst, arith}
+use Rattle.std.proofs.Common.{◌<◌, ◌∙◌, ℕ, length, refl, sym, subst}
 use Rattle.std.specs.List.{AllByRecursion}
 use Rattle.byte_forms.specs.Types.{Hash}
 use Rattle.drill_nodes.specs.Cosigners.{IsAdvanced, Paired}
 use Rattle.drill_nodes.specs.CosignerViews.{cosigner_shown}
 use Rattle.fleet.specs.LogNodes.{log_shown}
 use Rattle.fleet.specs.Played.{log_root}
+use Rattle.fleet.proofs.Looked.{seen_stays, still_stands}
+use Rattle.fleet.proofs.Turns.{first_few}
 use Rattle.fleet.proofs.play.hold_all.Goals as goal
 
 pub root_and_proof-requires : goal.root_and_proof-requires
 root_and_proof-requires g c =
-    let less = c.held-held.ensures (length (log_shown c.args.log.now).entries) c.requires.larger in
-    omega (arith, less)
+    first_few (length (log_shown c.args.log.now).entries) c.args.cosigners.now.nodes.items
+    c.held-held.result c.held-held.ensures c.requires.some c.requires.larger
+
+pub invariant_of-log : goal.invariant_of-log
+invariant_of-log g c = record {
+  sound = c.root_and_proof.ensures.stays.broken ∙ c.args.log.now.sound;
+  stands = still_stands g.H.TreeHash.hash c.args.log.now.log c.root_and_proof.new.log
+      c.root_and_proof.ensures.stays c.args.log.now.stands;
+}
+
+pub returns-in_err-root-clause-same : goal.returns-in_err-root-clause-same
+returns-in_err-root-clause-same g c =
+    record { shown = seen_stays _ _ c.root_and_proof.ensures.stays; stops = refl }
+
+pub returns-in_err-advance-clause-same : goal.returns-in_err-advance-clause-same
+returns-in_err-advance-clause-same g c =
+    record { shown = seen_stays _ _ c.root_and_proof.ensures.stays; stops = refl }
+
+pub returns-clause-same : goal.returns-clause-same
+returns-clause-same g c =
+    record { shown = seen_stays _ _ c.root_and_proof.ensures.stays; stops = refl }
+
+pub returns-clause-stops : goal.returns-clause-stops
+returns-clause-stops g c = c.in_ok-advance.ensures.stops
 
 pub advance-requires-clause-larger : goal.advance-requires-clause-larger
 advance-requires-clause-larger g c =

@@ -1,14 +1,45 @@
-use Rattle.std.proofs.Common.{◌∙◌, ℕ, length, ap, subst}
+use Rattle.std.proofs.Common.{◌∙◌, ℕ, length, refl, subst}
 use Rattle.byte_forms.specs.Types.{Hash}
-use Rattle.collide.proofs.Extracting.{tree_hash-sized}
 use Rattle.drill_nodes.specs.Cosigners.{HaveSigned, IsSigned, Paired}
 use Rattle.fleet.specs.LogNodes.{log_shown}
 use Rattle.fleet.specs.Played.{log_root}
+use Rattle.fleet.proofs.Looked.{seen_stays, still_stands}
+use Rattle.fleet.proofs.Numbers.{no_more}
 use Rattle.fleet.proofs.play.sign_all.Goals as goal
 
-pub cosign-requires-clause-sized : goal.cosign-requires-clause-sized
-cosign-requires-clause-sized g c = ap length c.in_ok-hash.ensures.hash
-    ∙ tree_hash-sized g.H.TreeHash.hash g.met.H.TreeHash.sized (log_shown c.args.log.now).entries
+pub root_and_proof-requires : goal.root_and_proof-requires
+root_and_proof-requires g c = no_more _ _ c.size_of-size.ensures.value
+
+pub invariant_of-log : goal.invariant_of-log
+invariant_of-log g c = record {
+  sound = c.root_and_proof.ensures.stays.broken ∙ c.args.log.now.sound;
+  stands = still_stands g.H.TreeHash.hash c.args.log.now.log c.root_and_proof.new.log
+      c.root_and_proof.ensures.stays c.args.log.now.stands;
+}
+
+pub cosign-requires-clause-few : goal.cosign-requires-clause-few
+cosign-requires-clause-few g c = c.as_slice.ensures.few
+
+pub cosign-requires-clause-turns : goal.cosign-requires-clause-turns
+cosign-requires-clause-turns g c = c.requires
+
+pub returns-in_err-hash-clause-same : goal.returns-in_err-hash-clause-same
+returns-in_err-hash-clause-same g c =
+    record { shown = seen_stays _ _ c.root_and_proof.ensures.stays; stops = refl }
+
+pub returns-in_err-cosign-clause-same : goal.returns-in_err-cosign-clause-same
+returns-in_err-cosign-clause-same g c =
+    record { shown = seen_stays _ _ c.root_and_proof.ensures.stays; stops = refl }
+
+pub returns-clause-same : goal.returns-clause-same
+returns-clause-same g c =
+    record { shown = seen_stays _ _ c.root_and_proof.ensures.stays; stops = refl }
+
+pub returns-clause-keys : goal.returns-clause-keys
+returns-clause-keys g c = c.in_ok-cosign.ensures.keys
+
+pub returns-clause-stops : goal.returns-clause-stops
+returns-clause-stops g c = c.in_ok-cosign.ensures.stops
 
 pub returns-clause-each : goal.returns-clause-each
 returns-clause-each g c =

@@ -2,8 +2,16 @@ use Rattle.std.proofs.Common.{◌∙◌, ℕ, ap}
 use Rattle.tree_core.specs.Path.{part_of}
 use Rattle.tree_core.specs.Tree.{tree_hash}
 use Rattle.fleet.specs.Nodes.{log_seen}
-use Rattle.fleet.proofs.FirstEntries.{all_of}
+use Rattle.fleet.proofs.FirstEntries.{all_of, first_subtree}
+use Rattle.fleet.proofs.Numbers.{no_more}
 use Rattle.fleet.proofs.tree.root_of.Goals as goal
+
+pub hash_of-requires-clause-valid : goal.hash_of-requires-clause-valid
+hash_of-requires-clause-valid g c =
+    first_subtree c.size_of-size.result c.size_of-size.ensures.some
+
+pub hash_of-requires-clause-within : goal.hash_of-requires-clause-within
+hash_of-requires-clause-within g c = no_more _ _ c.size_of-size.ensures.value
 
 pub returns-clause-hash : goal.returns-clause-hash
 returns-clause-hash g c =

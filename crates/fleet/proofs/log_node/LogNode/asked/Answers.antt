@@ -17,7 +17,7 @@ returns-then-before-count-clause-stops g c =
     let stopped = c.in_ok-node.ensures.stops in
     let one = one_stopped c.args.turn c.in-Some.stop c.in-Some.is in
     let same : length c.recover.new.self.made.items ≡ length c.in_ok-node.node.stops.made.items =
-    ap (λ v. length v.items) c.recover.ensures in
+    ap (λ v. length v.items) c.recover.ensures.made in
     omega (arith, stopped, one, same)
 
 pub returns-in_ok-again-clause-state : goal.returns-in_ok-again-clause-state
