@@ -3,13 +3,22 @@
 //! standard streams.
 #![tactic(auto)]
 
-use mtc_files::FileRoom;
+ghost use Rattle.std.specs.Prelude.{◌≡◌, map, string_bytes};
+ghost use Rattle.std.specs.Process.{exit_status};
+ghost use Rattle.mtc_top.specs.Run.{HasRun};
+
+use disk_core::{Disk, FileDisk};
+use mtc_files::{FileRoom, LineSink};
 use mtc_io::{Sink, StdSink, write_all};
-use mtc_top::run;
+use mtc_top::{Room, run};
+use std::alloc::Global;
 use std::env::Env;
+use std::fs::File;
+use std::io::{Stderr, Stdout};
 use std::process::ExitCode;
+use std::rt::Files;
 use std::{env, io};
-use tree_core::Sha;
+use tree_core::{Sha, TreeHash};
 
 const BAD_WORDS: u8 = 1;
 
@@ -35,15 +44,38 @@ fn refuse(err: &mut impl Sink, why: &io::Error) -> u8 {
     }
 }
 
+// Does what the words say with SHA-256, over the system's files and the standard streams.
+fn act<'a, R: Files<File = File>>(
+    alloc: Global,
+    words: &[String],
+    room: &mut FileRoom<'a, R>,
+    out: &mut StdSink<Stdout>,
+    err: &mut LineSink<Stderr>,
+) -> ExitCode
+    requires { ⟦<FileRoom<'a, R> as Room>⟧.lent room.old ≡ 0 }
+    ensures { HasRun ⟦<Sha as TreeHash>⟧.hash ⟦<FileRoom<'a, R> as Room>⟧
+        ⟦<FileDisk<File> as Disk>⟧ ⟦<StdSink<Stdout> as Sink>⟧ ⟦<LineSink<Stderr> as Sink>⟧
+        (map string_bytes words.now) room.old room.new out.old out.new err.old err.new
+        (exit_status result) }
+{
+    ExitCode::from(run::<Sha, _, _, _>(alloc, words, room, out, err))
+}
+
 fn main(rt: HostRuntime) -> ExitCode {
-    let mut err = StdSink::new(rt.stderr());
-    let status = match words_behind_name(&rt) {
+    let mut err = LineSink::new(rt.stderr());
+    let code = match words_behind_name(&rt) {
         Ok(words) => {
             let mut room = FileRoom::new(&rt);
             let mut out = StdSink::new(rt.stdout());
-            run::<Sha, _, _, _>(rt.alloc(), &words, &mut room, &mut out, &mut err)
+            let code = act(rt.alloc(), &words, &mut room, &mut out, &mut err);
+            // Which of its failures it was the room alone knows.
+            if room.met_lock() {
+                err.tell_lock();
+            }
+            code
         }
-        Err(why) => refuse(&mut err, &why),
+        Err(why) => ExitCode::from(refuse(&mut err, &why)),
     };
-    ExitCode::from(status)
+    let _ = err.finish();
+    code
 }
