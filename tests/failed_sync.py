@@ -28,11 +28,10 @@ NEW_LOG = ["init-log", "j", "32473.1", "2", "100000"]
 # What makes a file system, and how many bytes it needs.
 SYSTEMS = {"ext2": (["mkfs.ext2", "-q"], 32 << 20), "ext4": (["mkfs.ext4", "-q"], 32 << 20),
            "xfs": (["mkfs.xfs", "-q"], 400 << 20)}
-# The syncs of a command that adds a record to a log: those of its journal and the folder, of its file of tiles and the folder,
-# and of the journal once more; that of the record, that of its gate. `tile` makes two between, about the writes of the tiles.
-# `init-log` makes two at its opening, so its fourth is that of the gate. A cosigner has no file of tiles: of `cosign` the fifth
-# is that of the gate.
-RECORD, GATE, TILES, FIRST, SIGNED = 6, 7, 7, 4, 5
+# The syncs of a command that adds a record: those of the folder and of its journal, that of the record, that of its gate. A
+# `tile` that makes the file of tiles syncs this and the folder before the journal is opened, and makes two between, about the
+# writes of the tiles. `init-log` makes two at its opening, so its fourth is that of the gate too.
+RECORD, GATE, TILES, FIRST = 3, 4, 6, 4
 PAGE = 4096
 # How many one-time keys a cosigner of height 5 has.
 KEYS = 32
@@ -221,7 +220,7 @@ def check_key(program, disk):
             break
     os.sync()
     words = ["cosign", "s", "part"]
-    yield from unlike("the cosign that is stopped", stopped(program, disk, SIGNED, words), (5, "", "mtc: cosign: s: Failed\n"))
+    yield from unlike("the cosign that is stopped", stopped(program, disk, GATE, words), (5, "", "mtc: cosign: s: Failed\n"))
     # The system's memory has the record, and the disk hasn't.
     yield from unlike("the keys behind a power cut now", disk.cut(lambda copy: used(program, copy)), [*range(keys)])
     yield from unlike("the key of the next signature", signed(program, disk.path), keys + 1)

@@ -22,8 +22,9 @@ from files.streams import Judged
 CHECKS = [
     (Scene, commands.check_listed), (Scene, locks.check_locks), (Folder, names.check_refusals),
     (Scene, names.check_links), (Scene, names.check_linked_folders), (Scene, names.check_hard_links),
-    (Scene, names.check_tiles_that_lead_back),
-    (Scene, names.check_long_names), (Folder, locks.check_modes), (Scene, streams.check_streams),
+    (Scene, names.check_tiles_that_lead_back), (Scene, names.check_tiles_of_others),
+    (Scene, names.check_long_names), (Folder, locks.check_modes), (Scene, locks.check_others), (Scene, streams.check_streams),
+    (Scene, streams.check_lines),
     (Scene, streams.check_readers), (Judged, streams.check_pipes), (Scene, streams.check_no_files),
     (Scene, order.check_order), (Folder, order.check_tail), (Folder, order.check_replaced),
     (Scene, faults.check_faults), (Scene, faults.check_append), (Scene, faults.check_first_append),

@@ -3,7 +3,7 @@
 import signal
 
 from .commands import ADDING, BEGINNING, OPENING, added, asked
-from .folder import failed, unlike
+from .folder import failed, locked, unlike
 from .tracing import appending, at_fault, opening, wants_trace
 
 LOCKS = ["flock:error=EAGAIN", "flock:error=ENOLCK"]
@@ -38,6 +38,11 @@ def some(faults):
     return [fault for fault in faults if fault not in writes[2:-1]]
 
 
+def told(command, fault, file):
+    """How a command ends at a fault. EAGAIN is what the system answers where another process has the lock."""
+    return (locked if "EAGAIN" in fault else failed)(command.name, file)
+
+
 def check_faults(scene, _kills):
     """A call that fails at opening is status 5 and names its file: an old journal keeps its bytes, a new file has none"""
     wants_trace(scene)
@@ -45,12 +50,12 @@ def check_faults(scene, _kills):
         reads = [(f"pread64:error=EIO:when={number}", command.journal) for number in (1, 2)]
         for fault, file in [*some(opening_faults(scene, command)), *reads]:
             scene.restore()
-            yield from unlike(f"{command.name} {fault}", at_fault(scene, command.words, fault), failed(command.name, file))
+            yield from unlike(f"{command.name} {fault}", at_fault(scene, command.words, fault), told(command, fault, file))
             yield from unlike(f"files behind {command.name} {fault}", scene.changed(), [])
     for command in BEGINNING:
         for fault, file in opening_faults(scene, command):
             scene.restore()
-            yield from unlike(f"{command.name} {fault}", at_fault(scene, command.words, fault), failed(command.name, file))
+            yield from unlike(f"{command.name} {fault}", at_fault(scene, command.words, fault), told(command, fault, file))
             yield from unlike(f"files behind {command.name} {fault}", (scene.changed(), scene.bytes("new")), (["new"], b""))
 
 

@@ -41,8 +41,9 @@ class Folder:
             os.chown(path, NOBODY, NOBODY)
 
     def write(self, file, text):
-        """Makes a file of the program's user."""
+        """Makes a file of the program's user, whose alone it is: it may be a cosigner's journal."""
         (self.path / file).write_bytes(text)
+        (self.path / file).chmod(0o600)
         self.own(self.path / file)
 
     def request(self, file, name):
@@ -118,6 +119,11 @@ def unlike(what, found, wanted):
         yield f"{what}: {found!r:.900} in place of {wanted!r:.900}"
 
 
-def failed(command, file):
+def failed(command, file, name="Failed"):
     """How a command ends where the system failed at this file."""
-    return 5, "", f"mtc: {command}: {file}: Failed\n"
+    return 5, "", f"mtc: {command}: {file}: {name}\n"
+
+
+def locked(command, file):
+    """How it ends where another process has locked the file."""
+    return failed(command, file, "Locked")

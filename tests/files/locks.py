@@ -3,7 +3,7 @@
 import fcntl
 
 from .commands import COMMANDS, COSIGNER, LOG, OPENING, SIGN, records
-from .folder import NEW_LOG, ended, failed, unlike
+from .folder import NEW_LOG, ended, failed, locked, unlike
 
 ROUNDS = 60
 AT_ONCE = 4
@@ -22,13 +22,13 @@ def check_locks(scene, _kills):
             for how in (fcntl.LOCK_EX, fcntl.LOCK_SH):
                 with held(scene, file) as lock:
                     fcntl.flock(lock, how)
-                    yield from unlike(f"{command.name} of {file}", scene.run(command.words), failed(command.name, file))
+                    yield from unlike(f"{command.name} of {file}", scene.run(command.words), locked(command.name, file))
             yield from unlike(f"files behind {command.name} of {file}", scene.changed(), [])
     scene.restore()
     (scene.path / "j.tiles").unlink()
     with held(scene, "j") as lock:
         fcntl.flock(lock, fcntl.LOCK_EX)
-        yield from unlike("issue", scene.run("issue j r"), failed("issue", "j"))
+        yield from unlike("issue", scene.run("issue j r"), locked("issue", "j"))
     yield from unlike("a file of tiles beside a locked journal", scene.bytes("j.tiles"), None)
     for command in COMMANDS:
         scene.restore()
@@ -68,6 +68,21 @@ def check_modes(folder, _kills):
     yield from unlike("issue", folder.run("issue d/j r"), (0, "issued 1\n", ""))
 
 
+def check_others(scene, _kills):
+    """A cosigner's journal with which others may do anything is `Failed`, of each command on it, and stays; a log's is opened"""
+    for command in OPENING:
+        for bits in (0o040, 0o020, 0o010, 0o004, 0o002, 0o001, 0o066):
+            scene.restore()
+            (scene.path / command.journal).chmod(0o600 | bits)
+            status, out, err = scene.run(command.words)
+            if command.is_of_log:
+                yield from unlike(f"{command.name} with mode {bits:o}", (status, err), (0, ""))
+            else:
+                yield from unlike(f"{command.name} with mode {bits:o}", (status, out, err), failed(command.name, "s"))
+                yield from unlike(f"files behind {command.name}", scene.changed(), [])
+            (scene.path / command.journal).chmod(0o600)
+
+
 def acknowledged(out):
     """The index in what `issue` printed, None where it isn't whole."""
     name, _, index = out.rstrip("\n").partition(" ")
@@ -82,7 +97,7 @@ def misplaced(entries, told):
 
 
 def check_at_once(folder, _kills):
-    """Of `issue` given several times at once, each is acknowledged under its own index, or answers status 5"""
+    """Of `issue` given several times at once, each is acknowledged under its own index, or is `Locked`"""
     folder.new_log()
     told, tries = [], 0
     for number in range(ROUNDS):
@@ -96,7 +111,7 @@ def check_at_once(folder, _kills):
             index = acknowledged(ending[1])
             if index is not None:
                 told.append((index, name))
-            yield from unlike(name, ending, failed("issue", "j") if index is None else (0, f"issued {index}\n", ""))
+            yield from unlike(name, ending, locked("issue", "j") if index is None else (0, f"issued {index}\n", ""))
         yield from unlike(f"one was acknowledged in round {number}", len(told) > before, True)
     size = folder.size()
     yield from unlike("the size and the indexes", sorted(index for index, _ in told), [*range(1, size)])
@@ -111,7 +126,7 @@ def number_in(signature):
 
 
 def check_keys_at_once(scene, _kills):
-    """Of `cosign` given several times at once, each signs with a one-time key of its own, or answers status 5 with nothing printed"""
+    """Of `cosign` given several times at once, each signs with a one-time key of its own, or is `Locked` with nothing printed"""
     # Of the keys of height 10 those of width 1 are made soonest.
     scene.said(f"init-cosigner tall {COSIGNER} {LOG} 10 1 secret")
     scene.said("advance tall first")
@@ -122,7 +137,7 @@ def check_keys_at_once(scene, _kills):
             if (status, err) == (0, "") and out:
                 told.append(number_in(out.encode("latin-1")))
             else:
-                yield from unlike("cosign", (status, out, err), failed("cosign", "tall"))
+                yield from unlike("cosign", (status, out, err), locked("cosign", "tall"))
         yield from unlike(f"one was acknowledged in round {number}", len(told) > before, True)
     signed = [int.from_bytes(body[1:5], "big") for body in records(scene.bytes("tall")) if body[0] == SIGN]
     yield from unlike("the one-time keys of the signatures", sorted(told), [*range(len(told))])

@@ -1,15 +1,17 @@
 """Names of journals: what is refused, links, and long names."""
 
 import fcntl
+import os
 import shutil
+from pathlib import Path
 
 from .commands import COMMANDS, COSIGNER, LOG, records
-from .folder import failed, unlike
+from .folder import failed, locked, unlike
 from .tracing import traced, wants_trace
 
-# The longest name of a file on Linux's file systems, and the longest of a log whose file of tiles can stand beside it.
+# The longest name of a file on Linux's file systems, and the longest of a new journal, beside which a file of tiles can stand.
 LONGEST = 255
-LONGEST_LOG = LONGEST - len(".tiles")
+LONGEST_NEW = LONGEST - len(".tiles")
 
 
 def check_refusals(folder, _kills):
@@ -43,6 +45,9 @@ def check_refusals(folder, _kills):
         wanted = (status, "", f"mtc: {command}: {file}: {name}\n")
         yield from unlike(words, folder.run([command, *rest]), wanted)
     yield from unlike("a word that isn't UTF-8", folder.run([b"member", b"\xff"]), (1, "", "mtc: NotUtf8\n"))
+    for words in range(1, 40):
+        wanted = (1, "", f"mtc: checkpoint: WrongCount {words} 1\n") if words > 1 else (7, "", "mtc: checkpoint: w: Absent\n")
+        yield from unlike(f"{words} words", folder.run(["checkpoint", *["w"] * words]), wanted)
     yield from unlike("the copy", folder.bytes("copy"), before)
     yield from unlike("the folder", folder.names(), names)
 
@@ -64,7 +69,7 @@ def check_links(scene, _kills):
     before = records(scene.bytes("d/j"))
     with open(scene.path / "d/j", "rb") as held:
         fcntl.flock(held, fcntl.LOCK_EX)
-        yield from unlike("a locked file", scene.run("issue j r"), failed("issue", "j"))
+        yield from unlike("a locked file", scene.run("issue j r"), locked("issue", "j"))
     yield from unlike("cosign", scene.run("cosign s part")[0], 0)
     for words, says in (("issue j r", "issued 257\n"), ("tile j", "tiled 256\n"), ("advance s forward", "advanced 257\n")):
         yield from unlike(words, scene.run(words), (0, says, ""))
@@ -94,7 +99,7 @@ def check_hard_links(scene, _kills):
         with open(scene.path / name, "rb") as held:
             fcntl.flock(held, fcntl.LOCK_EX)
             command = {"other": "checkpoint", "more": "export"}[other]
-            yield from unlike(f"{other} while {name} is locked", scene.run([command, other]), failed(command, other))
+            yield from unlike(f"{other} while {name} is locked", scene.run([command, other]), locked(command, other))
     yield from unlike("issue", scene.run("issue other r"), (0, "issued 257\n", ""))
     yield from unlike("issue by the first name", scene.run("issue j r"), (0, "issued 258\n", ""))
     yield from unlike("advance", scene.run("advance more forward"), (0, "advanced 257\n", ""))
@@ -112,11 +117,48 @@ def check_tiles_that_lead_back(scene, _kills):
             yield from unlike(command.name, (scene.run(command.words), scene.bytes("j") == before), (wanted, True))
 
 
+def other_tiles(scene):
+    """Ways in which a log's file of tiles is another file."""
+    for file in ("s", "k"):
+        yield f"a symbolic link to {file}", lambda tiles: tiles.symlink_to(scene.path / file)
+        yield f"a hard link to {file}", lambda tiles: tiles.hardlink_to(scene.path / file)
+        yield f"{file} itself", lambda tiles: (scene.path / file).rename(tiles)
+    for file in ("full", "none", "nowhere"):
+        yield f"a symbolic link to {file}", lambda tiles: tiles.symlink_to(file)
+    yield "a FIFO", os.mkfifo
+
+
+def led_to(scene, make):
+    """Makes `j.tiles` lead to another file, and answers what all files are then."""
+    # Nothing is restored through a link.
+    (scene.path / "j.tiles").unlink(missing_ok=True)
+    scene.restore()
+    (scene.path / "j.tiles").unlink()
+    make(scene.path / "j.tiles")
+    if not (scene.path / "j.tiles").is_symlink():
+        scene.own(scene.path / "j.tiles")
+    return scene.files()
+
+
+def check_tiles_of_others(scene, _kills):
+    """A file of tiles that is a journal, a symbolic link or a FIFO is `Failed` of each command on the log, and no file is changed by it"""
+    scene.said("init-log k 32473.1 2 9")
+    scene.write("full", bytes(8192))
+    scene.kept = scene.files()
+    for what, make in other_tiles(scene):
+        before = led_to(scene, make)
+        for command in (command for command in COMMANDS if command.tiles):
+            found, wanted = scene.run(command.words), failed(command.name, command.tiles)
+            yield from unlike(f"{command.name}, {what}", (found, scene.files() == before), (wanted, True))
+    yield from unlike("a file that a link leads to", (scene.path / "nowhere").exists(), False)
+
+
 def without_room(scene):
-    """A log whose name leaves no room for that of its tiles is made, and answers no command until it is renamed."""
-    for length in (LONGEST_LOG + 1, LONGEST):
+    """A log whose name leaves no room for that of its tiles answers no command until it is renamed."""
+    for length in (LONGEST_NEW + 1, LONGEST):
         log = "m" * length
-        yield from unlike(f"init-log, {length} bytes", scene.run(f"init-log {log} 32473.1 2 9"), (0, "log 32473.1\n", ""))
+        yield from unlike("init-log", scene.run("init-log made 32473.1 2 9"), (0, "log 32473.1\n", ""))
+        (scene.path / "made").rename(scene.path / log)
         before = scene.bytes(log)
         for command in (command for command in COMMANDS if command.tiles):
             found = scene.run([command.name, log, *command.words[2:]])
@@ -127,17 +169,22 @@ def without_room(scene):
 
 
 def check_long_names(scene, _kills):
-    """A name is as long as the system takes it, and that of a log leaves room for its tiles; a longer one is `Failed`"""
+    """The name of a new journal leaves room for that of a file of tiles, and a longer one is `Failed` and makes no file"""
     yield from without_room(scene)
-    log, cosigner, over = "l" * LONGEST_LOG, "c" * LONGEST, "o" * (LONGEST + 1)
+    log, cosigner, moved, over = "l" * LONGEST_NEW, "c" * LONGEST_NEW, "d" * LONGEST, "o" * (LONGEST + 1)
     new = f"{COSIGNER} {LOG} 5 4 secret"
     for words, says in ((f"init-log {log} 32473.1 2 9", "log 32473.1\n"), (f"issue {log} r", "issued 1\n")):
         yield from unlike(words, scene.run(words), (0, says, ""))
     yield from unlike("the file of tiles", scene.bytes(f"{log}.tiles"), b"")
     for words in (f"init-cosigner {cosigner} {new}", f"export {cosigner}"):
         yield from unlike(words, scene.run(words)[0], 0)
+    # One that was renamed is opened all the same.
+    (scene.path / cosigner).rename(scene.path / moved)
+    yield from unlike("export of the renamed one", scene.run(f"export {moved}")[0], 0)
+    yield from unlike("a new one there", scene.run(f"init-log {moved} 32473.1 2 9"), (7, "", f"mtc: init-log: {moved}: Exists\n"))
     before = scene.names()
-    for words in (f"init-log {over} 32473.1 2 9", f"init-cosigner {over} {new}", f"checkpoint {over}", f"export {over}",
-                  f"member {over}"):
-        yield from unlike(words, scene.run(words), failed(words.split()[0], over))
+    longer = ["n" * (LONGEST_NEW + 1), "n" * LONGEST, over]
+    for words in (*[f"init-log {name} 32473.1 2 9" for name in longer], *[f"init-cosigner {name} {new}" for name in longer],
+                  f"checkpoint {over}", f"export {over}", f"member {over}"):
+        yield from unlike(words, scene.run(words), failed(*words.split()[:2]))
     yield from unlike("the folder", scene.names(), before)

@@ -51,6 +51,27 @@ def check_streams(scene, _kills):
     os.close(broken)
 
 
+# Names that would end a line, or steer a terminal, and how they stand in one.
+STEERING = {"bad\nmtc: issue: j: Done": "bad\\x0amtc: issue: j: Done", "\n": "\\x0a", "\x1b[2Jx\r\t\x7f": "\\x1b[2Jx\\x0d\\x09\\x7f",
+            "c\x9b1m": "c\\xc2\\x9b1m", "a \\ b \xa0\xc2": "a \\ b \xa0\xc2"}
+# A line that is longer than what goes out at once: so many commands write so many lines of that length at once.
+WRITERS, LINES = 4, 100
+
+
+def check_lines(scene, _kills):
+    """A line on standard error is one write, and stays one line whatever the name in it"""
+    for name, shown in STEERING.items():
+        line = f"mtc: show: {shown}: Absent\n".encode().decode("latin-1")
+        yield from unlike(f"show {name!r}", scene.run(["show", name]), (7, "", line))
+    name = "n" * 200
+    loop = f"for i in $(seq {LINES}); do ./mtc show {name}; done"
+    with open(scene.path / "errs", "ab") as errs:
+        for process in [scene.start([], before=["sh", "-c", loop], stderr=errs) for _ in range(WRITERS)]:
+            process.communicate()
+    lines = scene.bytes("errs").decode().splitlines()
+    yield from unlike("the lines of commands at once", lines, [f"mtc: show: {name}: Absent"] * (WRITERS * LINES))
+
+
 def left_by_its_reader(scene, words):
     """What a reader has of a command's output that goes away then, and how the command ends."""
     process = scene.start(words.split())

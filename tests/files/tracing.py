@@ -14,7 +14,8 @@ CALLS = ("flock,fsync,fdatasync,sync_file_range,syncfs,sync,pwrite64,pwritev,pwr
 # The last bytes of a journal are written again in pieces.
 PIECE, PIECES = 4096, 33
 TAIL = PIECES * PIECE
-HEADER_BYTES = 16
+# So many of the first bytes tell whose journal a file is.
+FRONT_BYTES = 22
 
 
 def wants_trace(folder):
@@ -72,7 +73,7 @@ def tail_pages(length):
 
 def tail_calls(length):
     """The calls that write the end of a journal of so many bytes again, piece by piece."""
-    yield "pread64", HEADER_BYTES, 0
+    yield "pread64", min(FRONT_BYTES, length), 0
     for place in tail_pages(length):
         size = min(PIECE, length - place)
         yield "pread64", size, place
@@ -80,13 +81,15 @@ def tail_calls(length):
 
 
 def opening(scene, command):
-    """The calls of a command until its journal is open: locks, its end written again, and syncs. So many have its page."""
+    """The calls of a command until its journal is open: locks, its end written again, and syncs. So many have its page. A file of
+    tiles that is made is synced, with its folder."""
     journal, tiles = command.journal, command.tiles
     if command.begins:
         return [f"flock {journal}", f"fsync {journal}", "fsync ."]
     pages = len(tail_pages(len(scene.kept[journal])))
-    tiled = [f"flock {tiles}", f"fsync {tiles}", "fsync ."] if tiles else []
-    return [f"flock {journal}", *[f"pwrite64 {journal}"] * pages, f"fsync {journal}", "fsync .", *tiled, f"fsync {journal}"]
+    made = [f"fsync {tiles}", "fsync ."] if tiles not in scene.kept else []
+    tiled = [f"flock {tiles}", *made] if tiles else []
+    return [f"flock {journal}", *[f"pwrite64 {journal}"] * pages, "fsync .", *tiled, f"fsync {journal}"]
 
 
 def appending(command):
