@@ -2,7 +2,7 @@
 # How long commands take over a log of 1,024 entries and three cosigners with keys of height 10 and width 4,
 # and the most memory that they hold: `verify` of a certificate with three signatures, `advance` and `cosign`
 # of a new cosigner, opening a cosigner whose one-time keys have all signed, so that `cosign` is refused, and its
-# export. And how long three of the five syncs of `advance` or `cosign` take by themselves, in a folder of the same disk.
+# export. And how long three of the four syncs of `advance` or `cosign` take by themselves, in a folder of the same disk.
 # Needs python3 and GNU time. Not part of the gate.
 # Usage: bench/cosigners.sh [--write]   with --write the figures go into bench/cosigners/figures.txt
 # The variable PROGRAM names another program than that of ./mtc.
@@ -36,7 +36,7 @@ measured() {
     measured 0 '`cosign`, with its key of height 10' 'a new cosigner' cosign s subtree
     measured 4 'opening a cosigner' '1024 signatures' cosign full subtree
     measured 0 '`export`' '1024 signatures' export full
-    printf '%s|%s|%s|\n' 'three of the five syncs of `advance` or `cosign`, the least and the most of 25 rounds' 'a small file' \
+    printf '%s|%s|%s|\n' 'three of the four syncs of `advance` or `cosign`, the least and the most of 25 rounds' 'a small file' \
         "$("$root/bench/cosigners/syncs.py" "$folder")" | tee -a figures
 }
 if [ "${1-}" = --write ]; then
