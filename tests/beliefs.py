@@ -34,7 +34,7 @@ TRAITS = ("mtc_room/src/room.rt", "disk_core/src/disk.rt", "mtc_io/src/source.rt
 # these standards and formats, and behind none of them stands one of its level.
 WHOLE = r"the_whole_\w+"
 LEVEL = ("node_history", "mtc_top")
-MOST = 60
+MOST = 61
 STANDARDS = {
     "the words for bytes, readings and forms": ("byte_forms",),
     "files and streams ([OPERATIONS](OPERATIONS.md))": ("mtc_io", "disk_core", "mtc_room"),

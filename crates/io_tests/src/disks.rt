@@ -83,7 +83,10 @@ fn bytes_that_are_written_again_stay(rt: HostRuntime) -> Result<(), Fail> {
         (11, b"efgh", b"abcdefghef"),
     ];
     for (pick, piece, image) in images {
-        assert!(rt; is_left_of_four(rt.alloc(), piece, pick, image)?, "by pick {pick}");
+        assert!(rt;
+            is_left_of_four(rt.alloc(), piece, pick, image)?,
+            "by pick {pick}"
+        );
     }
     Ok(())
 }

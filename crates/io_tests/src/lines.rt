@@ -76,43 +76,6 @@ fn a_line_is_one_write_and_stays_one_line(rt: HostRuntime) {
     }
 }
 
-// What goes out of a line where a lock was met.
-fn written_of_lock(alloc: Global, pieces: &[&[u8]]) -> Vec<u8> {
-    let mut line = sink(alloc, false);
-    let _ = write_pieces(&mut line, pieces);
-    line.tell_lock();
-    line.finish().bytes
-}
-
-#[test]
-fn a_lock_is_told_in_the_place_of_a_failure(rt: HostRuntime) {
-    let cases: [(&[&[u8]], &[u8]); 4] = [
-        (
-            &[b"mtc: tile: j: ", b"Failed", b"\n"],
-            b"mtc: tile: j: Locked\n|",
-        ),
-        (
-            &[b"mtc: tile: Failed: ", b"Failed", b"\n"],
-            b"mtc: tile: Failed: Locked\n|",
-        ),
-        (
-            &[b"mtc: tile: j: OutputFailed", b"\n"],
-            b"mtc: tile: j: OutputFailed\n|",
-        ),
-        (
-            &[b"mtc: tile: Failed\n: Absent", b"\n"],
-            b"mtc: tile: Failed\\x0a: Absent\n|",
-        ),
-    ];
-    for (pieces, wanted) in cases {
-        assert!(rt;
-            written_of_lock(rt.alloc(), pieces).as_slice() == wanted,
-            "{}",
-            wanted.len()
-        );
-    }
-}
-
 // A piece of so many bytes.
 fn long(alloc: Global, length: usize) -> Result<Vec<u8>, Memory> {
     Ok(vec![in alloc; b'n'; length]?)

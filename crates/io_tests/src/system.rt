@@ -3,7 +3,7 @@
 use disk_core::{Disk, FileDisk};
 use mtc_files::{FileRoom, Held};
 use mtc_io::{Bytes, Failed, ReadError, Source, read_all};
-use mtc_room::{Room, RoomError};
+use mtc_room::{Cause, Room, RoomError};
 use std::alloc::Global;
 use std::fs::{self, File, TryLockError};
 use std::io;
@@ -210,18 +210,18 @@ fn is_lent_alone<R: Files<File = File>>(files: &R, name: &str) -> bool {
     found == [None, Some(RoomError::Failed), Some(RoomError::Exists)]
 }
 
-// Whether a room fails at a journal or a file of tiles for a lock.
-fn meets_lock<R: Files<File = File>>(files: &R, name: &str) -> [bool; 2] {
+// Why a room failed at a journal, and at a file of tiles, if it did.
+fn causes<R: Files<File = File>>(files: &R, name: &str) -> [Cause; 2] {
     let mut room = FileRoom::new(files);
     if let Ok(disk) = room.disk(name) {
         room.keep(name, disk);
     }
-    let as_journal = room.met_lock();
+    let of_journal = room.cause();
     let mut room = FileRoom::new(files);
     if let Ok(disk) = room.scratch(name) {
         room.keep(name, disk);
     }
-    [as_journal, room.met_lock()]
+    [of_journal, room.cause()]
 }
 
 // Whether a file isn't lent that another opening has locked, as a journal or for tiles, and that
@@ -229,9 +229,9 @@ fn meets_lock<R: Files<File = File>>(files: &R, name: &str) -> [bool; 2] {
 fn is_refused<R: Files<File = File>>(files: &R, name: &str) -> io::Result<bool> {
     let other = open_to_write(files, name)?;
     let is_told = other.try_lock().is_ok() && !lends(files, name);
-    let locked = meets_lock(files, name) == [true, true];
+    let locked = causes(files, name) == [Cause::Locked, Cause::Locked];
     drop(other);
-    Ok(is_told && locked && meets_lock(files, name) == [false, false])
+    Ok(is_told && locked && causes(files, name) == [Cause::Failed, Cause::Failed])
 }
 
 // Whether another opening can't lock a file.

@@ -62,9 +62,9 @@ pub fn create_journal<R: Files>(files: &R, name: &str) -> io::Result<R::File> {
 /// Locks the open file of a journal for this process alone, without waiting, and makes it ready to
 /// be opened: syncs the folder of its name, and writes its end again, so that the sync with which
 /// it is opened carries these bytes to the disk also where the sync of an earlier command failed.
-/// The name has to lead to the file that was locked, a plain one. The journal of a cosigner, which has a secret
-/// in it, is refused where its mode lets others than its owner do anything. A file that doesn't
-/// begin as a journal isn't written. The lock is held until the file is closed.
+/// The name has to lead to the file that was locked, a plain one. The journal of a cosigner, which
+/// has a secret in it, is refused where its mode lets others than its owner do anything. A file
+/// that doesn't begin as a journal isn't written. The lock is held until the file is closed.
 pub fn hold_journal<R: Files>(files: &R, file: R::File, name: &str) -> io::Result<R::File>
 where
     R::File: Held,

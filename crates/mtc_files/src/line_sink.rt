@@ -78,17 +78,6 @@ impl<W: Write> Line<W> {
         Ok(())
     }
 
-    // Puts one word in the place of another of its length, with which the line ends.
-    fn reword(&mut self, old: &[u8], new: &[u8]) {
-        if self.is_ended && self.held.as_slice().ends_with(old) {
-            self.held
-                .truncate(self.held.len().saturating_sub(old.len()));
-            for byte in new {
-                let _ = self.held.try_push(*byte);
-            }
-        }
-    }
-
     // Writes the line.
     fn finish(&mut self) -> io::Result<()> {
         if self.is_ended {
@@ -126,14 +115,6 @@ impl<W: Write> LineSink<W> {
             },
             faults: 0,
         }
-    }
-
-    /// Puts `Locked` in the place of the `Failed` with which the line ends.
-    pub fn tell_lock(&mut self)
-        ensures { ⟦<LineSink<W> as Sink>⟧.faults self.new
-            ≡ ⟦<LineSink<W> as Sink>⟧.faults self.old }
-    {
-        self.line.reword(b" Failed", b" Locked");
     }
 
     /// Writes what was gathered. An error is told to nobody: there is no other place for the line.

@@ -1,7 +1,7 @@
 //! The commands on a log that has a journal: the journal and the file of its tiles are lent,
 //! opened, worked on and put back.
 
-ghost use Rattle.std.specs.Prelude.{◌≡◌, ◌≢◌, ◌<◌, ◌+◌, ◌^◌, ℕ, [], ◌∷◌};
+ghost use Rattle.std.specs.Prelude.{◌≡◌, ◌≢◌, ◌<◌, ◌+◌, ◌^◌, [], ◌∷◌};
 ghost use Rattle.disk_core.specs.Moments.{Looks};
 ghost use Rattle.frame_pool.specs.Frames.{IsNew};
 ghost use Rattle.mtc_answers.specs.Answers.{stop_ending, ending_of, tiles_name};

@@ -67,12 +67,7 @@ fn main(rt: HostRuntime) -> ExitCode {
         Ok(words) => {
             let mut room = FileRoom::new(&rt);
             let mut out = StdSink::new(rt.stdout());
-            let code = act(rt.alloc(), &words, &mut room, &mut out, &mut err);
-            // Which of its failures it was the room alone knows.
-            if room.met_lock() {
-                err.tell_lock();
-            }
-            code
+            act(rt.alloc(), &words, &mut room, &mut out, &mut err)
         }
         Err(why) => ExitCode::from(refuse(&mut err, &why)),
     };

@@ -9,8 +9,8 @@ ghost use Rattle.disk_core.specs.Same.{SameDevice};
 ghost use Rattle.disk_core.specs.Memory.{bytes_of, calls_of, failing_of, made_of, faults_of};
 ghost use Rattle.disk_core.specs.Memory.{starved_of, images_of, IsFresh};
 
-use crate::{Cause, RoomError};
 use crate::room::Room;
+use crate::{Cause, RoomError};
 use disk_core::{Disk, MemDisk};
 use mtc_io::{Bytes, Failed, MemSource, Memory};
 use std::alloc::Global;

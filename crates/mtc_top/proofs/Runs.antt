@@ -164,7 +164,7 @@ module _ {R S D O E : Type 0} (h : List ℕ → List ℕ) (rooms : Rooms R S D) 
   run_failed : (file : List ℕ) (status : ℕ) → Valid → Looked → New (room_failed file)
       → Did (room_failed file)
       → Told outs errs (known_word words) out out' err err' 5 (Some file) (word_of (rooms.why new))
-          status
+      status
       → Run status
   run_failed file status valid looked began done told = record {
     only = λ one. absurd (omega (arith, told.is, one));

@@ -61,8 +61,8 @@ module _ {R S D O E : Type 0} (h : HashFunction) (rooms : Rooms R S D) (disks : 
         → Reports errs err err' (line_of (known_word words) None (codes "OutputFailed"))
 
   -- The room failed: nothing went out, and the line names a file of the command, with the word by
-  -- which the room says why. A journal that was there has its record or not; of a new one nothing is
-  -- said.
+  -- which the room says why. A journal that was there has its record or not; of a new one nothing
+  -- is said.
   pub record RoomFailed : Type 0 where
     pub cause : Rose (rooms.faults old) (rooms.faults new)
     pub text : Prints outs out out' []
