@@ -133,6 +133,9 @@ class Copy:
                 if (ROOT / "crates" / crate / part).is_dir():
                     shutil.copytree(ROOT / "crates" / crate / part, self.room / "begun" / crate / part)
             self.renew(crate)
+            # What `rt check` kept of the crate and of its library: a kit may keep that nowhere else.
+            if (ROOT / "crates" / crate / "out").is_dir():
+                linked(ROOT / "crates" / crate / "out", self.folder(crate) / "out")
 
     def folder(self, crate):
         return self.room / "crates" / crate
