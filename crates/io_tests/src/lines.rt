@@ -35,43 +35,38 @@ fn sink(alloc: Global, is_full: bool) -> LineSink<Barred> {
     })
 }
 
-// What goes out of a line in such pieces.
-fn written(alloc: Global, pieces: &[&[u8]]) -> Vec<u8> {
+// What goes out of a line in such pieces, which stand between signs of plus.
+fn written(alloc: Global, pieces: &str) -> Vec<u8> {
     let mut line = sink(alloc, false);
-    let _ = write_pieces(&mut line, pieces);
+    for piece in pieces.split('+') {
+        let _ = write_all(&mut line, piece.as_bytes());
+    }
     line.finish().bytes
 }
 
 #[test]
 fn a_line_is_one_write_and_stays_one_line(rt: HostRuntime) {
-    let cases: [(&[&[u8]], &[u8]); 9] = [
+    let cases: [(&str, &str); 9] = [
+        ("mtc: +show+: +f+: +Absent+\n", "mtc: show: f: Absent\n|"),
+        ("mtc: Memory\n", "mtc: Memory\n|"),
+        ("a\nmtc: b+\n", "a\\x0amtc: b\n|"),
+        ("\n+: Absent+\n", "\\x0a: Absent\n|"),
+        ("\n+\n", "\\x0a\n|"),
+        ("\x1b[2J\r\t\0\x7f+\n", "\\x1b[2J\\x0d\\x09\\x00\\x7f\n|"),
         (
-            &[b"mtc: ", b"show", b": ", b"f", b": ", b"Absent", b"\n"],
-            b"mtc: show: f: Absent\n|",
-        ),
-        (&[b"mtc: Memory\n"], b"mtc: Memory\n|"),
-        (&[b"a\nmtc: b", b"\n"], b"a\\x0amtc: b\n|"),
-        (&[b"\n", b": Absent", b"\n"], b"\\x0a: Absent\n|"),
-        (&[b"\n", b"\n"], b"\\x0a\n|"),
-        (
-            &[b"\x1b[2J\r\t\0\x7f", b"\n"],
-            b"\\x1b[2J\\x0d\\x09\\x00\\x7f\n|",
+            "x\u{80}\u{9b}\u{9f}\u{a0}y\u{c2}+\n",
+            "x\\xc2\\x80\\xc2\\x9b\\xc2\\x9f\u{a0}y\u{c2}\n|",
         ),
         (
-            &["x\u{80}\u{9b}\u{9f}\u{a0}y\u{c2}".as_bytes(), b"\n"],
-            "x\\xc2\\x80\\xc2\\x9b\\xc2\\x9f\u{a0}y\u{c2}\n|".as_bytes(),
+            "a \\ b \"\u{2026}\u{1f600}~+\n",
+            "a \\ b \"\u{2026}\u{1f600}~\n|",
         ),
-        (
-            &["a \\ b \"\u{2026}\u{1f600}~".as_bytes(), b"\n"],
-            "a \\ b \"\u{2026}\u{1f600}~\n|".as_bytes(),
-        ),
-        (&[b"no newline"], b"no newline|"),
+        ("no newline", "no newline|"),
     ];
     for (pieces, wanted) in cases {
         assert!(rt;
-            written(rt.alloc(), pieces).as_slice() == wanted,
-            "{}",
-            wanted.len()
+            written(rt.alloc(), pieces).as_slice() == wanted.as_bytes(),
+            "{wanted}"
         );
     }
 }
@@ -84,7 +79,9 @@ fn long(alloc: Global, length: usize) -> Result<Vec<u8>, Memory> {
 // How many bytes go out of a line with a name of so many, and how many writes that takes.
 fn counted(alloc: Global, length: usize) -> Result<(usize, usize), Memory> {
     let name = long(alloc, length)?;
-    let bytes = written(alloc, &[name.as_slice(), b"\n"]);
+    let mut line = sink(alloc, false);
+    let _ = write_pieces(&mut line, &[name.as_slice(), b"\n"]);
+    let bytes = line.finish().bytes;
     let writes = bytes.iter().filter(|byte| **byte == b'|').count();
     Ok((bytes.len().saturating_sub(writes), writes))
 }
