@@ -7,7 +7,7 @@ use cert_fields::parse;
 use cert_names::log_name;
 use cosigner_core::read_export;
 use entry_list::read_items;
-use hss_core::{Key, LmsType, OtsType, SigBuf};
+use hss_core::{Key, LmsType, OtsType, SECRET_LEN, Secret, SigBuf};
 use mtc_io::{Bytes, Memory};
 use mtc_proof::{InputBuf, read_proof, signature_input};
 use policy_core::{Cosigners, Known, Places, Revoked, Rule, Rules, Store, Subtrees, Trusted};
@@ -74,7 +74,8 @@ fn id_of(alloc: Global, number: u8) -> Option<AnchorId> {
 
 // The key of the cosigner with this number.
 fn key_of(alloc: Global, number: u8) -> Option<Key> {
-    Key::make(alloc, LmsType::H5, OtsType::W4, &[number; 48], 0).ok()
+    let secret = Secret::from_slice(&[number; SECRET_LEN])?;
+    Key::make(alloc, LmsType::H5, OtsType::W4, &secret, 0).ok()
 }
 
 // What the cosigner 32473.2 signs of the first two entries.

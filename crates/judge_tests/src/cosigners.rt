@@ -2,18 +2,25 @@
 
 use crate::judgements::{CERTIFICATE, FIRST, TRUSTED, anchor, answer, piece, store_of, trusted_in};
 use crate::texts::joined_bytes;
-use hss_core::{Key, LmsType, OtsType, SigBuf};
+use hss_core::{Key, LmsType, OtsType, SECRET_LEN, Secret, SigBuf};
+use mtc_io::Memory;
 use mtc_proof::{InputBuf, signature_input};
 use policy_core::{By, Cosigners, Known, Places, Rule, Rules, Store};
 use std::alloc::Global;
 use std::test::Fail;
 use tls_wire::AnchorId;
 
-// The keys of the cosigners with the numbers 2 to 4, each of a secret that is made of its number.
+// The key of the cosigner with this number, of a secret that is made of it.
+fn key_of(alloc: Global, number: u8) -> Result<Key, Memory> {
+    let secret = Secret::from_slice(&[number; SECRET_LEN]).ok_or(Memory)?;
+    Key::make(alloc, LmsType::H5, OtsType::W4, &secret, 0)
+}
+
+// The keys of the cosigners with the numbers 2 to 4.
 fn keys_of(alloc: Global) -> Result<Vec<Key>, Fail> {
     let mut keys = Vec::new(alloc);
     for number in 2..5u8 {
-        keys.push(Key::make(alloc, LmsType::H5, OtsType::W4, &[number; 48], 0)?)?;
+        keys.push(key_of(alloc, number)?)?;
     }
     Ok(keys)
 }
