@@ -16,9 +16,9 @@ use std::os::unix::fs::FileExt;
 /// An open file. It tells nothing of its bytes, nor of what a crash leaves but that it is bytes:
 /// that the operating system keeps the rules of [`Disk`] until a sync of the file fails is taken on
 /// trust. Behind a sync that failed the file is lost, since the system may have forgotten what it
-/// couldn't write: each later call fails, and reaches no file. The file is to be opened anew, and
-/// what is read of it to be written again. It keeps the known length, a clock and a count of its
-/// faults.
+/// couldn't write: each later call fails, and, as is tested, reaches no file. The file is to be
+/// opened anew, and what is read of it to be written again. It keeps the known length, a clock and
+/// a count of its faults.
 #[derive(Debug, Drop)]
 pub struct FileDisk<F = File> {
     file: F,
@@ -54,7 +54,7 @@ impl<F: OpenFile + FileExt> FileDisk<F> {
         self.faults
     }
 
-    /// The file, for another use.
+    /// The file, for another use. Behind a failed sync that is no disk again: it is opened anew.
     pub fn into_inner(self) -> F
         ensures { result ≡ open_file self }
     {

@@ -12,8 +12,8 @@ use crate::disk::Disk;
 use mtc_io::Failed;
 
 /// Writes, and syncs. At Ok a crash leaves what a read gives; at any moment of the call it leaves
-/// an image from before, or one that this write has torn. Whatever it answers, the known length
-/// comes no further than the end of these bytes.
+/// an image from before, or one that this write has torn. Whatever it answers, it brings the known
+/// length no further than the end of these bytes.
 pub fn write_synced<D: Disk>(disk: &mut D, place: u64, bytes: &[u8]) -> Result<(), Failed>
     requires place { place ≤ D.known disk.old }
     requires end { place + length bytes.now < 2 ^ 63 }

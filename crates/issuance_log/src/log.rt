@@ -235,7 +235,7 @@ impl<H: TreeHash, D: Disk, T: Disk> Log<H, D, T> {
     /// multiple of 256 that isn't above the size, which it answers. The next opening adopts them.
     /// At any moment a crash leaves the tiles that it would have left before. Where it leaves the
     /// new record it leaves all tiles of the new size, unless an append had failed before. Whatever
-    /// it answers, the known length of their disk comes no further than the end of these tiles.
+    /// it answers, it brings the known length of their disk no further than the end of these tiles.
     ///
     /// Errors, in the order of the tests: `NothingNew` where this number isn't above the last size
     /// of tiles; `Memory`; `Failed` of the disk of the tiles; and what [`Journal::append`] refuses.

@@ -17,8 +17,8 @@ pub fn a_file_stands_for_one_list_at_most()
         → StandsFor bytes other → one ≡ other }
 {}
 
-/// What is written again of a file, as the end of a journal is before it is read, puts no record at
-/// stake: however that write is torn, the file stands for the records that it stood for.
+/// One write over a file of what it has there puts no record at stake: however it is torn, the file
+/// stands for the records that it stood for.
 pub fn records_stay_that_are_written_again()
     ensures { (place : ℕ) (piece old new : Text) (list : List Text) → StandsFor old list
         → part place (length piece) old ≡ piece → Torn place piece old new → StandsFor new list }

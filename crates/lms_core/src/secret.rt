@@ -8,8 +8,8 @@ use std::marker::Model;
 /// The bytes of a secret: 16 of identifier and 32 of seed.
 pub const SECRET_LEN: usize = 48;
 
-/// The secret of a private key. It moves: it can't be copied, compared or printed. Contracts see
-/// its bytes.
+/// The secret of a private key. It moves: the type has no copy, comparison or print, and
+/// [`Secret::as_bytes`] alone hands out its bytes. Contracts see these.
 #[derive(Drop)]
 pub struct Secret {
     bytes: [u8; SECRET_LEN],

@@ -216,8 +216,8 @@ impl<H: TreeHash, T: Disk> Tiles<H, T> {
 
     /// Writes each tile that the first `size` leaves fill and that is not stored yet, and makes
     /// all certain. At any moment a crash leaves what it might have left before, but for what lies
-    /// behind the stored tiles. Whatever it answers, the known length comes no further than the end
-    /// of the tiles of `size` leaves. It adopts none, and takes no memory.
+    /// behind the stored tiles. Whatever it answers, it brings the known length no further than the
+    /// end of the tiles of `size` leaves. It adopts none, and takes no memory.
     pub fn store(&mut self, size: u64) -> Result<(), Failed>
         requires { size ≤ tiles_count self.old }
         ensures list { tiles_leaves self.new ≡ tiles_leaves self.old }
