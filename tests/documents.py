@@ -26,7 +26,7 @@ CHECKS = [
     citations.check_names, citations.check_promises, citations.check_definitions, citations.check_meanings,
     citations.check_architecture, citations.check_commands, citations.check_refusals,
     citations.check_order, check_beliefs, house.check_lengths, house.check_errors,
-    house.check_columns, house.check_imports, house.check_heads, house.check_edits, ledger.check_ledger,
+    house.check_columns, house.check_imports, house.check_heads, house.check_vocabulary, house.check_edits, ledger.check_ledger,
     pages.check_paths,
 ]
 

@@ -1,10 +1,10 @@
-"""Checks of the sources: lengths, columns, heads of files, names that are imported and not used, edits."""
+"""Checks of the sources: lengths, columns, heads of files, words of comments, names that are imported and not used, edits."""
 
 import re
 
 from . import ledger
 from .citations import CRATES
-from .pages import shown
+from .pages import blocks_of, pages, private_words_in, shown
 from .sources import ROOT
 
 LIMITS = ROOT / "tests" / "limits.txt"
@@ -163,7 +163,24 @@ def bare_heads():
             yield name, f"{shown(path)}: {head[:60]}"
 
 
-LIMITED = {"lengths": long_parts, "columns": wide_lines, "imports": unused_names, "heads": bare_heads}
+COMMENT = {".rt": re.compile(r"//[/!]?(.*)"), ".antt": re.compile(r"(?:^|\s)--( .*)")}
+
+
+def private_words():
+    """(page or crate, what) for each private word in a page, and in a comment of src or specs."""
+    for page in pages():
+        if page.name != "GLOSSARY.md":
+            for line, text in blocks_of(page):
+                yield from ((page.name, f"{shown(page, line)}: {word}; {plain}") for word, plain in private_words_in(text))
+    for name, path in code_files("src", "specs"):
+        for number, line in enumerate(path.read_text().split("\n"), 1):
+            comment = COMMENT[path.suffix].search(line)
+            for word, plain in private_words_in(comment.group(1)) if comment else ():
+                yield name, f"{shown(path, number)}: {word}; {plain}"
+
+
+LIMITED = {"lengths": long_parts, "columns": wide_lines, "imports": unused_names, "heads": bare_heads,
+           "vocabulary": private_words}
 
 
 def by_crate(check):
@@ -204,6 +221,11 @@ def check_imports():
 def check_heads():
     """files of src begin with a sentence on what they are"""
     yield from over_limit("heads")
+
+
+def check_vocabulary():
+    """pages and comments use the field's words"""
+    yield from over_limit("vocabulary")
 
 
 def lower_limits():
