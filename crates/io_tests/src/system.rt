@@ -224,8 +224,8 @@ fn causes<R: Files<File = File>>(files: &R, name: &str) -> [Cause; 2] {
     [of_journal, room.cause()]
 }
 
-// Why a room failed that met a lock at a journal, and then takes a folder back that can't be read.
-fn causes_behind_lock<R: Files<File = File>>(files: &R, name: &str) -> [Cause; 2] {
+// Why a room failed at a journal that is locked, and then at a folder that can't be read.
+fn causes_after_lock<R: Files<File = File>>(files: &R, name: &str) -> [Cause; 2] {
     let mut room = FileRoom::new(files);
     if let Ok(disk) = room.disk(name) {
         room.keep(name, disk);
@@ -240,12 +240,12 @@ fn causes_behind_lock<R: Files<File = File>>(files: &R, name: &str) -> [Cause; 2
 }
 
 // Whether a file isn't lent that another opening has locked, as a journal or for tiles, and that
-// is told; behind the lock it isn't.
+// is reported; once the lock is gone it is lent.
 fn is_refused<R: Files<File = File>>(files: &R, name: &str) -> io::Result<bool> {
     let other = open_to_write(files, name)?;
     let is_told = other.try_lock().is_ok() && !lends(files, name);
     let locked = causes(files, name) == [Cause::Locked, Cause::Locked]
-        && causes_behind_lock(files, name) == [Cause::Locked, Cause::Failed];
+        && causes_after_lock(files, name) == [Cause::Locked, Cause::Failed];
     drop(other);
     Ok(is_told && locked && causes(files, name) == [Cause::Failed, Cause::Failed])
 }
